@@ -1,0 +1,9 @@
+pub mod Calls
+pub mod Causes
+pub mod FileCounts
+pub mod MemFiles
+pub mod MemSource
+pub mod MemSink
+pub mod Over
+pub mod Streams
+pub mod Told

@@ -1,0 +1,192 @@
+ghost use Rattle.std.specs.Prelude.{◌≡◌, ◌++◌, OnOk};
+
+use super::*;
+use std::io::{ErrorKind, Read, Write};
+use std::process::Abort;
+use std::test::Fail;
+use std::{fs, io};
+
+/// The answers of reads into four bytes, from "hello".
+const READS: [(usize, u64, [Result<&[u8], Failed>; 4]); 4] = [
+    (9, 9, [Ok(b"hell"), Ok(b"o"), Ok(b""), Ok(b"")]),
+    (2, 1, [Ok(b"he"), Err(Failed), Ok(b"ll"), Ok(b"o")]),
+    (3, 2, [Ok(b"hel"), Ok(b"lo"), Err(Failed), Ok(b"")]),
+    (0, 0, [Err(Failed), Ok(b"h"), Ok(b"e"), Ok(b"l")]),
+];
+
+fn check_reads(rt: &impl Abort, source: &mut MemSource, answers: &[Result<&[u8], Failed>]) {
+    for answer in answers {
+        let mut buffer = [0; 4];
+        let got = source.read(&mut buffer);
+        assert_eq!(rt; got.map(|n| &buffer[..n]), *answer);
+    }
+}
+
+#[test]
+fn a_source_gives_pieces_and_fails_where_listed(rt: HostRuntime) -> Result<(), Fail> {
+    for (piece, failing, answers) in &READS {
+        let bytes = b"hello".to_vec(rt.alloc())?;
+        let failing = [*failing].to_vec(rt.alloc())?;
+        check_reads(&rt, &mut MemSource::new(bytes, *piece, failing), answers);
+    }
+    Ok(())
+}
+
+/// The answers of a write of "hello", of a flush, and of two more writes of "hello"; and what was
+/// written.
+const WRITES: [(usize, usize, u64, [Result<usize, Failed>; 4], &[u8]); 4] = [
+    (15, 9, 9, [Ok(5), Ok(0), Ok(5), Ok(5)], b"hellohellohello"),
+    (15, 2, 1, [Ok(2), Err(Failed), Ok(2), Ok(2)], b"hehehe"),
+    (7, 9, 0, [Err(Failed), Ok(0), Ok(5), Ok(2)], b"hellohe"),
+    (1, 0, 9, [Ok(1), Ok(0), Err(Failed), Err(Failed)], b"h"),
+];
+
+fn check_writes(rt: &impl Abort, sink: &mut MemSink, answers: &[Result<usize, Failed>; 4]) {
+    assert_eq!(rt; sink.write(b"hello"), answers[0]);
+    assert_eq!(rt; sink.flush().map(|_| 0), answers[1]);
+    assert_eq!(rt; sink.write(b"hello"), answers[2]);
+    assert_eq!(rt; sink.write(b"hello"), answers[3]);
+}
+
+#[test]
+fn a_sink_takes_pieces_while_it_has_room_and_fails_where_listed(
+    rt: HostRuntime,
+) -> Result<(), Fail> {
+    for (room, piece, failing, answers, written) in &WRITES {
+        let failing = [*failing].to_vec(rt.alloc())?;
+        let mut sink = MemSink::new(rt.alloc(), *room, *piece, failing)?;
+        check_writes(&rt, &mut sink, answers);
+        assert_eq!(rt; sink.written(), *written);
+    }
+    Ok(())
+}
+
+// What a generic call says of the sink's bytes, the sink itself tells.
+fn append(sink: &mut MemSink, bytes: &[u8]) -> Result<(), Failed>
+    ensures { OnOk result (sink.new.written ≡ sink.old.written ++ bytes.now) }
+{
+    write_whole(sink, bytes)
+}
+
+#[test]
+fn a_whole_is_written_in_pieces(rt: HostRuntime) -> Result<(), Fail> {
+    let mut sink = MemSink::new(rt.alloc(), 8, 3, Vec::new(rt.alloc()))?;
+    assert_eq!(rt; append(&mut sink, b"hello"), Ok(()));
+    assert_eq!(rt; sink.written(), b"hello".as_slice());
+    assert_eq!(rt; append(&mut sink, b"hello"), Err(Failed));
+    assert_eq!(rt; sink.written(), b"hellohel".as_slice());
+    Ok(())
+}
+
+/// The answers of reads of files: `a` holds "hello", `b` nothing, and the read of number 3 fails.
+const FILES: [(&str, usize, Result<&[u8], FileFault>); 6] = [
+    ("a", 5, Ok(b"hello")),
+    ("a", 4, Err(FileFault::TooLarge)),
+    ("b", 0, Ok(b"")),
+    ("b", 5, Err(FileFault::Failed)),
+    ("c", 5, Err(FileFault::Failed)),
+    ("a", 9, Ok(b"hello")),
+];
+
+fn check_files<F: Files>(
+    rt: &(impl Abort + AllocGlobal),
+    files: &mut F,
+    rows: &[(&str, usize, Result<&[u8], FileFault>)],
+) {
+    for (name, limit, answer) in rows {
+        match files.read_all(rt.alloc(), *name, *limit) {
+            Ok(bytes) => assert_eq!(rt; Ok(bytes.as_slice()), *answer, "{name}"),
+            Err(e) => assert_eq!(rt; Err(e), *answer, "{name}"),
+        }
+    }
+}
+
+#[test]
+fn files_in_memory_are_read_by_name(rt: HostRuntime) -> Result<(), Fail> {
+    let mut files = MemFiles::new(rt.alloc());
+    files.put("a", b"in place of this")?;
+    files.put("b", b"")?;
+    files.put("a", b"hello")?;
+    files.fail_at(3)?;
+    check_files(&rt, &mut files, &FILES);
+    Ok(())
+}
+
+#[test]
+fn files_of_the_system_are_read_by_path(rt: HostRuntime) -> Result<(), Fail> {
+    fs::write(&rt, "host_io_hello", b"hello")?;
+    let mut files = DirFiles::new(&rt);
+    let rows: [(&str, usize, Result<&[u8], FileFault>); 6] = [
+        ("host_io_hello", 5, Ok(b"hello")),
+        ("./host_io_hello", 4, Err(FileFault::TooLarge)),
+        ("/dev/null", 0, Ok(b"")),
+        ("/dev/zero", 65536, Err(FileFault::TooLarge)),
+        (".", 5, Err(FileFault::Failed)),
+        ("host_io_missing", 5, Err(FileFault::Failed)),
+    ];
+    check_files(&rt, &mut files, &rows);
+    fs::remove_file(&rt, "host_io_hello")?;
+    Ok(())
+}
+
+#[test]
+fn the_streams_of_the_system_are_read_and_written(rt: HostRuntime) {
+    let mut buffer = [0; 4];
+    assert_eq!(rt; StdSource::new(rt.stdin()).read(&mut buffer), Ok(0));
+    let mut output = StdSink::new(rt.stdout());
+    assert_eq!(rt; write_whole(&mut output, b"to standard output\n"), Ok(()));
+    assert_eq!(rt; output.flush(), Ok(()));
+    let mut errors = StdSink::new(rt.stderr());
+    assert_eq!(rt; write_whole(&mut errors, b"to standard error\n"), Ok(()));
+    assert_eq!(rt; errors.flush(), Ok(()));
+}
+
+// A stream whose calls answer these in turn, the last first, and then fail.
+#[derive(Drop)]
+struct Answers(Vec<Option<usize>>);
+
+impl Answers {
+    fn next(&mut self) -> io::Result<usize> {
+        match self.0.pop() {
+            Some(Some(n)) => Ok(n),
+            Some(None) => Err(io::Error::from(ErrorKind::Interrupted)),
+            None => Err(io::Error::from(ErrorKind::BrokenPipe)),
+        }
+    }
+}
+
+impl Read for Answers {
+    fn read(&mut self, buffer: &mut [u8]) -> io::Result<usize> {
+        let n = self.next()?;
+        Ok(n.min(buffer.len()))
+    }
+}
+
+impl Write for Answers {
+    fn write(&mut self, piece: &[u8]) -> io::Result<usize> {
+        let n = self.next()?;
+        Ok(n.min(piece.len()))
+    }
+
+    fn flush(&mut self) -> io::Result<()> {
+        self.next()?;
+        Ok(())
+    }
+}
+
+#[test]
+fn an_interrupted_call_is_tried_again(rt: HostRuntime) -> Result<(), Fail> {
+    let answers = [Some(3), None, None].to_vec(rt.alloc())?;
+    let mut source = StdSource::new(Answers(answers));
+    let mut buffer = [0; 4];
+    assert_eq!(rt; source.read(&mut buffer), Ok(3));
+    assert_eq!(rt; source.read(&mut buffer), Err(Failed));
+
+    let answers = [Some(1), None, Some(0), Some(2), None].to_vec(rt.alloc())?;
+    let mut sink = StdSink::new(Answers(answers));
+    assert_eq!(rt; sink.write(b"hello"), Ok(2));
+    assert_eq!(rt; sink.write(b"hello"), Err(Failed));
+    assert_eq!(rt; sink.flush(), Ok(()));
+    assert_eq!(rt; sink.flush(), Err(Failed));
+    Ok(())
+}
