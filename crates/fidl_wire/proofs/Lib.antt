@@ -1,0 +1,15 @@
+pub mod Blanks
+pub mod Bodies
+pub mod Cells
+pub mod Endings
+pub mod Members
+pub mod Objects
+pub mod Parts
+pub mod Rows
+pub mod Sizes
+pub mod Slices
+pub mod Spelled
+pub mod Steps
+pub mod TableCells
+pub mod Vectors
+pub mod WholeTables

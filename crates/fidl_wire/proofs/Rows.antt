@@ -1,0 +1,75 @@
+-- The numbers of the rows.
+use Rattle.std.proofs.Common.{◌≡◌, ◌≢◌, [], ◌∷◌, refl, ap, inl, inr, ℕ, ◌<◌, List, get_or, take, length, sym, ◌∙◌, arith}
+use Rattle.std.proofs.lemmas.List.{get_or-take, length-take-le}
+use Rattle.std.proofs.lemmas.Bool.{cases_lt}
+use Rattle.fidl_names.specs.declared.methods.Method.{Method}
+use Rattle.fidl_names.specs.declared.methods.Method.TheVariants as method
+use Rattle.fidl_wire.specs.Names.{row_of, row_count, event_row, ordinal_at, method_ordinal, event_ordinal, AreDistinct}
+use Rattle.fidl_wire.specs.Collisions.{IsEarlier}
+
+-- each method has a row above the event's
+pub row_of-lt : (m : Method) → row_of m < event_row
+row_of-lt method.Clone = omega arith
+row_of-lt _ = omega arith
+
+-- what is found in a row is the ordinal of the row's name
+pub found_row : (numbers : List ℕ) (number row : ℕ) → ((k : ℕ) → k < row_count → get_or numbers k 0 ≡ ordinal_at k) → row < event_row →
+    IsEarlier (take event_row numbers) number row → ordinal_at row ≡ number
+found_row numbers number row named below found =
+    sym (named row (omega arith)) ∙ sym (get_or-take event_row numbers row 0 below) ∙ found.equal
+
+-- what is in no row is no method's ordinal
+pub no_row : (numbers : List ℕ) (number : ℕ) → ((k : ℕ) → k < row_count → get_or numbers k 0 ≡ ordinal_at k) → length numbers ≡ row_count →
+    ((k : ℕ) → k < length (take event_row numbers) → get_or (take event_row numbers) k 0 ≢ number) → (m : Method) → method_ordinal m ≢ number
+no_row numbers number named size none m e =
+    let below : row_of m < event_row = row_of-lt m in
+    let len : length (take event_row numbers) ≡ event_row = length-take-le event_row numbers (omega arith) in
+    none (row_of m) (omega arith) (get_or-take event_row numbers (row_of m) 0 below ∙ named (row_of m) (omega arith) ∙ e)
+
+-- the methods in the order of their rows
+abbrev methods : List Method
+methods =
+    method.Clone ∷ method.Close ∷ method.Query ∷ method.GetAttributes ∷ method.Sync ∷ method.OpenPath ∷ method.ReadDirents ∷ method.Rewind ∷ method.GetToken ∷ method.Rename ∷ method.Link ∷ method.Unlink ∷ method.Watch ∷ method.Read ∷ method.ReadAt ∷ method.Write ∷ method.WriteAt ∷ method.Seek ∷ method.Resize ∷ method.EchoString ∷ []
+
+method_in : (m : Method) → get_or methods (row_of m) method.Clone ≡ m
+method_in method.Clone = refl
+method_in method.Close = refl
+method_in method.Query = refl
+method_in method.GetAttributes = refl
+method_in method.Sync = refl
+method_in method.OpenPath = refl
+method_in method.ReadDirents = refl
+method_in method.Rewind = refl
+method_in method.GetToken = refl
+method_in method.Rename = refl
+method_in method.Link = refl
+method_in method.Unlink = refl
+method_in method.Watch = refl
+method_in method.Read = refl
+method_in method.ReadAt = refl
+method_in method.Write = refl
+method_in method.WriteAt = refl
+method_in method.Seek = refl
+method_in method.Resize = refl
+method_in method.EchoString = refl
+
+-- a row is one method's
+row_of-injective : (m n : Method) → row_of m ≡ row_of n → m ≡ n
+row_of-injective m n e = sym (method_in m) ∙ ap (λ (row : ℕ). get_or methods row method.Clone) e ∙ method_in n
+
+-- methods with equal ordinals are one
+pub method_ordinal-injective : AreDistinct → (m n : Method) → method_ordinal m ≡ method_ordinal n → m ≡ n
+method_ordinal-injective apart m n e =
+    let m_row : row_of m < event_row = row_of-lt m in
+    let n_row : row_of n < event_row = row_of-lt n in
+    elim (cases_lt (row_of m) (row_of n)) [
+      | inl below ↦ absurd (apart (row_of m) (row_of n) below (omega arith) e)
+      | inr above ↦ elim (cases_lt (row_of n) (row_of m)) [
+        | inl below ↦ absurd (apart (row_of n) (row_of m) below (omega arith) (sym e))
+        | inr equal ↦ row_of-injective m n (omega arith)
+      ]
+    ]
+
+-- no method has the event's ordinal
+pub event_apart : AreDistinct → (m : Method) → method_ordinal m ≢ event_ordinal
+event_apart apart m e = apart (row_of m) event_row (row_of-lt m) (omega arith) e

@@ -1,0 +1,34 @@
+-- What holds of every layout, every message and all handles.
+use Rattle.std.specs.Prelude.{◌≡◌, ℕ, List, ◌++◌, length, Ok}
+use Rattle.fidl_names.specs.declared.methods.Handle.{Handle}
+use Rattle.fidl_wire.specs.Layout.{Layout, Content}
+use Rattle.fidl_wire.specs.Reading.{body_of}
+use Rattle.fidl_wire.specs.Grammar.{IsSpelled}
+use Rattle.fidl_wire.specs.Spelling.{FitsBody, body_bytes, body_handles}
+
+-- what bytes and handles spell is read
+abbrev pub ReadsWhatIsSpelled : Type 0
+ReadsWhatIsSpelled =
+    (layout : Layout) (content : Content) (message : List ℕ) (handles : List Handle) → IsSpelled layout content message handles → body_of layout message handles ≡ Ok content
+
+-- what is read is spelled
+abbrev pub SpelledWhereRead : Type 0
+SpelledWhereRead =
+    (layout : Layout) (content : Content) (message : List ℕ) (handles : List Handle) → body_of layout message handles ≡ Ok content → IsSpelled layout content message handles
+
+-- bytes and handles spell at most one value
+abbrev pub SpelledOnce : Type 0
+SpelledOnce =
+    (layout : Layout) (a b : Content) (message : List ℕ) (handles : List Handle) → IsSpelled layout a message handles → IsSpelled layout b message handles → a ≡ b
+
+-- the one spelling of a value, behind any header, is spelled by the grammar
+abbrev pub SpellingIsSpelled : Type 0
+SpellingIsSpelled =
+    (layout : Layout) (content : Content) (header : List ℕ) → length header ≡ 16 → FitsBody layout content →
+    IsSpelled layout content (header ++ body_bytes layout content) (body_handles layout content)
+
+-- and it reads as that value
+abbrev pub SpellingIsRead : Type 0
+SpellingIsRead =
+    (layout : Layout) (content : Content) (header : List ℕ) → length header ≡ 16 → FitsBody layout content →
+    body_of layout (header ++ body_bytes layout content) (body_handles layout content) ≡ Ok content

@@ -1,0 +1,13 @@
+pub mod Numbers
+pub mod Headers
+pub mod Names
+pub mod Written
+pub mod Layout
+pub mod Cursor
+pub mod Reading
+pub mod Collisions
+pub mod Faults
+pub mod Epitaphs
+pub mod Grammar
+pub mod Laws
+pub mod Spelling

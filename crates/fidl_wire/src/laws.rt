@@ -1,0 +1,21 @@
+//! Laws of the format, for every layout. They compute nothing: what they say is in their clauses.
+
+ghost use Rattle.fidl_wire.specs.Laws.{ReadsWhatIsSpelled, SpelledWhereRead, SpelledOnce, SpellingIsSpelled, SpellingIsRead};
+
+/// A body is read as a value exactly where the message's bytes and handles spell that value, each
+/// cell at its place and with nothing left over.
+pub fn body_is_read_where_spelled()
+    ensures reads { ReadsWhatIsSpelled }
+    ensures spelled { SpelledWhereRead }
+{}
+
+/// Bytes and handles spell at most one value of a layout.
+pub fn body_is_spelled_once()
+    ensures { SpelledOnce }
+{}
+
+/// What is written for a value, behind any header, is spelled by the grammar and reads as it.
+pub fn spelling_is_read()
+    ensures spelled { SpellingIsSpelled }
+    ensures read { SpellingIsRead }
+{}

@@ -1,0 +1,31 @@
+//! FIDL wire format, version 2: headers, fields, epitaphs and the ordinals of names.
+#![tactic(auto)]
+
+mod cursor;
+mod envelopes;
+mod epitaphs;
+mod faults;
+mod hashing;
+mod headers;
+mod kinds;
+mod laws;
+mod numbers;
+mod ordinals;
+mod output;
+mod padding;
+mod tables;
+mod texts;
+
+pub use cursor::{Body, Branch};
+pub use epitaphs::{epitaph, read_epitaph};
+pub use faults::{WireFault, WireWhat};
+pub use fidl_names::{Handle, Method, NoMemory, Status};
+pub use hashing::ordinal;
+pub use headers::Header;
+pub use kinds::HandleKind;
+pub use laws::{body_is_read_where_spelled, body_is_spelled_once, spelling_is_read};
+pub use ordinals::{OrdinalFault, Ordinals};
+pub use output::Out;
+
+#[cfg(test)]
+mod tests;

@@ -1,0 +1,185 @@
+ghost use Rattle.std.specs.Prelude.{◌≡◌, ◌≢◌, ◌<◌, ◌≤◌, ℕ, length, slice_index, IfSome, IsNone, IfErr, OnOk, Some, MatchOption};
+ghost use Rattle.fidl_names.specs.declared.methods.Method.{Method};
+ghost use Rattle.fidl_wire.specs.Names.{row_of, name_at, ordinal_at, row_count, event_row, method_ordinal, event_ordinal, AreDistinct};
+ghost use Rattle.fidl_wire.specs.Faults.{IsFirst};
+ghost use Rattle.fidl_wire.specs.Collisions.{IsFirstEqual, AreApart, IsEarlier};
+
+use crate::hashing::ordinal;
+use fidl_names::Method;
+
+/// The methods, and the event `OnRepresentation` behind them.
+const ROWS: usize = 21;
+
+const EVENT_ROW: usize = 20;
+
+/// Two names have equal ordinals.
+#[derive(Clone, Copy, Debug, PartialEq, Eq)]
+pub enum OrdinalFault {
+    /// The rows of the first two: of all such pairs the one with the least second row, and then
+    /// the least first row.
+    Collision(u32, u32),
+}
+
+/// The ordinals of the methods and of the event, no two of them equal.
+#[derive(Clone, Copy, Debug)]
+pub struct Ordinals {
+    numbers: [u64; ROWS],
+    ghost distinct: { AreDistinct },
+    ghost size: { length numbers ≡ row_count },
+    ghost named: { (row : ℕ) → row < row_count → slice_index numbers row ≡ ordinal_at row },
+}
+
+impl Ordinals {
+    /// Hashes the names. It takes no memory.
+    pub fn new() -> Result<Ordinals, OrdinalFault>
+        ensures distinct { OnOk result AreDistinct }
+        ensures collision { IfErr result IsFirst }
+    {
+        let mut numbers = [0; ROWS];
+        for row in 0..ROWS {
+            numbers[row] = ordinal(full_name(row));
+        }
+        match first_equal(&numbers) {
+            None => Ok(Ordinals { numbers }),
+            Some((i, j)) => Err(OrdinalFault::Collision(i as u32, j as u32)),
+        }
+    }
+
+    /// The method of an ordinal; `None` exactly where no method has it.
+    pub fn method(&self, ordinal: u64) -> Option<Method>
+        ensures found { IfSome result (λ m. method_ordinal m ≡ ordinal) }
+        ensures only { (m : Method) → method_ordinal m ≡ ordinal → result ≡ Some m }
+        ensures none { IsNone result → (m : Method) → method_ordinal m ≢ ordinal }
+    {
+        let row = place_of(&self.numbers[..EVENT_ROW], ordinal)?;
+        Some(method_at(row))
+    }
+
+    /// The ordinal of a method.
+    pub fn of(&self, method: Method) -> u64
+        ensures { result ≡ method_ordinal method }
+    {
+        self.numbers[row_of(method)]
+    }
+
+    /// The ordinal of `OnRepresentation`.
+    pub fn event(&self) -> u64
+        ensures value { result ≡ event_ordinal }
+        ensures apart { (m : Method) → method_ordinal m ≢ result }
+    {
+        self.numbers[EVENT_ROW]
+    }
+}
+
+/// The first place of a number.
+fn place_of(numbers: &[u64], number: u64) -> Option<usize>
+    ensures { MatchOption result ((k : ℕ) → k < length numbers.now → slice_index numbers.now k ≢ number) (λ i. IsEarlier numbers.now number i) }
+{
+    for (i, other) in numbers.iter().enumerate() {
+        if *other == number {
+            return Some(i);
+        }
+    }
+    None
+}
+
+/// The first two places with equal numbers, by the second and then by the first.
+fn first_equal(numbers: &[u64]) -> Option<(usize, usize)>
+    ensures { MatchOption result (AreApart numbers.now (length numbers.now)) (λ p. IsFirstEqual numbers.now p.0 p.1) }
+{
+    for row in 0..numbers.len() {
+        if let Some(earlier) = place_of(&numbers[..row], numbers[row]) {
+            return Some((earlier, row));
+        }
+    }
+    None
+}
+
+/// The full name in a row.
+#[tactic(auto, unfolding(crate::specs::Names::full_names))]
+fn full_name(row: usize) -> &'static [u8]
+    requires { row < row_count }
+    ensures { result.now ≡ name_at row }
+{
+    match row {
+        0 => b"fuchsia.unknown/Cloneable.Clone",
+        1 => b"fuchsia.unknown/Closeable.Close",
+        2 => b"fuchsia.unknown/Queryable.Query",
+        3 => b"fuchsia.io/Node.GetAttributes",
+        4 => b"fuchsia.io/Node.Sync",
+        5 => b"fuchsia.io/Directory.Open",
+        6 => b"fuchsia.io/Directory.ReadDirents",
+        7 => b"fuchsia.io/Directory.Rewind",
+        8 => b"fuchsia.io/Directory.GetToken",
+        9 => b"fuchsia.io/Directory.Rename",
+        10 => b"fuchsia.io/Directory.Link",
+        11 => b"fuchsia.io/Directory.Unlink",
+        12 => b"fuchsia.io/Directory.Watch",
+        13 => b"fuchsia.io/Readable.Read",
+        14 => b"fuchsia.io/File.ReadAt",
+        15 => b"fuchsia.io/Writable.Write",
+        16 => b"fuchsia.io/File.WriteAt",
+        17 => b"fuchsia.io/File.Seek",
+        18 => b"fuchsia.io/File.Resize",
+        19 => b"fuchsia.examples/Echo.EchoString",
+        _ => b"fuchsia.io/Node.OnRepresentation",
+    }
+}
+
+/// The row of a method.
+fn row_of(method: Method) -> usize
+    ensures row { result ≡ row_of method }
+    ensures bound { result < event_row }
+{
+    match method {
+        Method::Clone => 0,
+        Method::Close => 1,
+        Method::Query => 2,
+        Method::GetAttributes => 3,
+        Method::Sync => 4,
+        Method::OpenPath => 5,
+        Method::ReadDirents => 6,
+        Method::Rewind => 7,
+        Method::GetToken => 8,
+        Method::Rename => 9,
+        Method::Link => 10,
+        Method::Unlink => 11,
+        Method::Watch => 12,
+        Method::Read => 13,
+        Method::ReadAt => 14,
+        Method::Write => 15,
+        Method::WriteAt => 16,
+        Method::Seek => 17,
+        Method::Resize => 18,
+        Method::EchoString => 19,
+    }
+}
+
+/// The method in a row.
+fn method_at(row: usize) -> Method
+    requires { row < event_row }
+    ensures { row_of result ≡ row }
+{
+    match row {
+        0 => Method::Clone,
+        1 => Method::Close,
+        2 => Method::Query,
+        3 => Method::GetAttributes,
+        4 => Method::Sync,
+        5 => Method::OpenPath,
+        6 => Method::ReadDirents,
+        7 => Method::Rewind,
+        8 => Method::GetToken,
+        9 => Method::Rename,
+        10 => Method::Link,
+        11 => Method::Unlink,
+        12 => Method::Watch,
+        13 => Method::Read,
+        14 => Method::ReadAt,
+        15 => Method::Write,
+        16 => Method::WriteAt,
+        17 => Method::Seek,
+        18 => Method::Resize,
+        _ => Method::EchoString,
+    }
+}

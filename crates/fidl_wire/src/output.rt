@@ -1,0 +1,163 @@
+ghost use Rattle.std.specs.Prelude.{◌≡◌, ◌+◌, ◌≤◌, List, [], ◌∷◌, ◌++◌, length, IfOk};
+ghost use Rattle.std.specs.Int.{w32, cast_unsigned};
+ghost use Rattle.fidl_wire.specs.Headers.{header_bytes, flags_of};
+ghost use Rattle.fidl_wire.specs.Numbers.{number_bytes, padding_after, padded};
+ghost use Rattle.fidl_wire.specs.Written.{Written, most_bytes, most_handles, padded_bytes};
+
+use crate::headers::{FLEXIBLE_BIT, Header, MAGIC, VERSION_BIT};
+use byteorder::{ByteOrder, LittleEndian};
+use fidl_names::{Handle, NoMemory};
+use std::alloc::Global;
+use std::marker::Model;
+
+/// The most bytes of a message.
+pub const MAX_BYTES: usize = 65_536;
+
+/// The most handles of a message.
+pub const MAX_HANDLES: usize = 64;
+
+/// A message that is being written, of at most 65,536 bytes and 64 handles. The room for all of
+/// them is reserved when it is made, so that no other call takes memory. The caller of each call
+/// that appends knows that the message still fits.
+#[derive(Drop)]
+pub struct Out {
+    bytes: Vec<u8>,
+    handles: Vec<Handle>,
+}
+
+impl Model for Out {
+    ghost use Rattle.std.specs.Prelude.{length, vec_capacity};
+    ghost use Rattle.fidl_wire.specs.Written.{Written, HasRoom};
+
+    ghost Value = { Written };
+
+    ghost view = { λ o. record { bytes = o.bytes.items; handles = o.handles.items } };
+
+    ghost invariant = { λ o. HasRoom (length o.bytes.items) (vec_capacity o.bytes) (length o.handles.items) (vec_capacity o.handles) };
+}
+
+/// The dynamic flags of a header.
+fn dynamic_flags(flexible: bool) -> u8
+    ensures { result ≡ flags_of flexible }
+{
+    if flexible { FLEXIBLE_BIT } else { 0 }
+}
+
+impl Out {
+    /// An empty message, with room for the longest one.
+    pub fn new(alloc: Global) -> Result<Out, NoMemory>
+        ensures empty { IfOk result (λ out. out ≡ record { bytes = []; handles = [] }) }
+        ensures len { IfOk result (λ out. length out.bytes ≡ 0) }
+    {
+        Ok(Out {
+            bytes: Vec::with_capacity(alloc, MAX_BYTES)?,
+            handles: Vec::with_capacity(alloc, MAX_HANDLES)?,
+        })
+    }
+
+    /// Appends a header.
+    pub fn begin(&mut self, header: Header)
+        requires { length self.old.bytes + 16 ≤ most_bytes }
+        ensures bytes { self.new.bytes ≡ self.old.bytes ++ header_bytes header }
+        ensures len { length self.new.bytes ≡ length self.old.bytes + 16 }
+        ensures handles { self.new.handles ≡ self.old.handles }
+    {
+        self.put_u32(header.txid);
+        self.append(&[VERSION_BIT, 0, dynamic_flags(header.flexible), MAGIC]);
+        self.put_u64(header.ordinal);
+    }
+
+    /// Appends four bytes.
+    #[tactic(auto, unfolding(crate::specs::Numbers::number_bytes))]
+    pub fn put_u32(&mut self, v: u32)
+        requires { length self.old.bytes + 4 ≤ most_bytes }
+        ensures bytes { self.new.bytes ≡ self.old.bytes ++ number_bytes 4 v }
+        ensures len { length self.new.bytes ≡ length self.old.bytes + 4 }
+        ensures handles { self.new.handles ≡ self.old.handles }
+    {
+        let mut word = [0; 4];
+        LittleEndian::write_u32(&mut word, v);
+        self.append(&word);
+    }
+
+    /// Appends four bytes, the number's bits.
+    pub fn put_i32(&mut self, v: i32)
+        requires { length self.old.bytes + 4 ≤ most_bytes }
+        ensures bytes { self.new.bytes ≡ self.old.bytes ++ number_bytes 4 (cast_unsigned w32 v) }
+        ensures len { length self.new.bytes ≡ length self.old.bytes + 4 }
+        ensures handles { self.new.handles ≡ self.old.handles }
+    {
+        self.put_u32(v.cast_unsigned());
+    }
+
+    /// Appends eight bytes.
+    #[tactic(auto, unfolding(crate::specs::Numbers::number_bytes))]
+    pub fn put_u64(&mut self, v: u64)
+        requires { length self.old.bytes + 8 ≤ most_bytes }
+        ensures bytes { self.new.bytes ≡ self.old.bytes ++ number_bytes 8 v }
+        ensures len { length self.new.bytes ≡ length self.old.bytes + 8 }
+        ensures handles { self.new.handles ≡ self.old.handles }
+    {
+        let mut word = [0; 8];
+        LittleEndian::write_u64(&mut word, v);
+        self.append(&word);
+    }
+
+    /// Appends the bytes of an out-of-line object, and the zeros that bring their number to a
+    /// multiple of eight.
+    #[tactic(auto, unfolding(crate::specs::Numbers::padding_after))]
+    pub fn put_bytes(&mut self, v: &[u8])
+        requires { length self.old.bytes + padded (length v.now) ≤ most_bytes }
+        ensures bytes { self.new.bytes ≡ self.old.bytes ++ padded_bytes v.now }
+        ensures len { length self.new.bytes ≡ length self.old.bytes + padded (length v.now) }
+        ensures handles { self.new.handles ≡ self.old.handles }
+    {
+        let zeros = [0; 8];
+        self.append(v);
+        self.append(&zeros[..(8 - v.len() % 8) % 8]);
+    }
+
+    /// Appends a handle.
+    pub fn put_handle(&mut self, h: Handle)
+        requires { length self.old.handles + 1 ≤ most_handles }
+        ensures handles { self.new.handles ≡ self.old.handles ++ h ∷ [] }
+        ensures len { length self.new.handles ≡ length self.old.handles + 1 }
+        ensures bytes { self.new.bytes ≡ self.old.bytes }
+    {
+        self.handles.push(h).unwrap();
+    }
+
+    /// Empties it.
+    pub fn clear(&mut self)
+        ensures empty { self.new ≡ record { bytes = []; handles = [] } }
+        ensures len { length self.new.bytes ≡ 0 }
+    {
+        self.bytes.clear();
+        self.handles.clear();
+    }
+
+    /// The bytes that were written.
+    pub fn as_bytes(&self) -> &[u8]
+        ensures bytes { result.now ≡ self.now.bytes }
+        ensures bound { length result.now ≤ most_bytes }
+    {
+        self.bytes.as_slice()
+    }
+
+    /// The handles that were written.
+    pub fn handles(&self) -> &[Handle]
+        ensures handles { result.now ≡ self.now.handles }
+        ensures bound { length result.now ≤ most_handles }
+    {
+        self.handles.as_slice()
+    }
+
+    fn append(&mut self, part: &[u8])
+        requires { length self.old.bytes + length part.now ≤ most_bytes }
+        ensures bytes { self.new.bytes ≡ self.old.bytes ++ part.now }
+        ensures len { length self.new.bytes ≡ length self.old.bytes + length part.now }
+        ensures handles { self.new.handles ≡ self.old.handles }
+    {
+        self.bytes.extend_from_slice(part).unwrap();
+    }
+}
