@@ -1,0 +1,9 @@
+pub mod Words
+pub mod Spelled
+pub mod Streams
+pub mod Feeding
+pub mod Runs
+pub mod Counting
+pub mod Made
+pub mod Tabled
+pub mod Travelling

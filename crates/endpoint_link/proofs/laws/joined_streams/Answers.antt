@@ -1,0 +1,13 @@
+use Rattle.endpoint_link.proofs.Runs as runs
+use Rattle.endpoint_link.proofs.Streams as streams
+use Rattle.endpoint_link.proofs.laws.joined_streams.Goals as goal
+
+pub returns : goal.returns
+returns c = record {
+  one = runs.one_frame;
+  joined = runs.joined;
+  bad_behind = runs.bad_behind;
+  bad_stays = runs.bad_stays;
+  frames_stay = streams.frames_stay;
+  short = streams.partial_short;
+}

@@ -1,0 +1,10 @@
+pub mod Numbers
+pub mod Frames
+pub mod Views
+pub mod Laws
+pub mod Deframing
+pub mod Gathering
+pub mod Numbering
+pub mod Tables
+pub mod Standings
+pub mod Admission

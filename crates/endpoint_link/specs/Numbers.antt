@@ -1,0 +1,24 @@
+-- Numbers of 16 and 32 bits in bytes, the low byte first, and lists of them one after another.
+use Rattle.std.specs.Prelude.{◌<◌, ℕ, zero, suc, List, [], ◌∷◌, drop, All}
+use Rattle.byteorder.specs.Endian.{little_bytes, little_number}
+
+-- numbers that are bytes
+abbrev pub AreBytes : List ℕ → Type 0
+AreBytes b = All (λ x. x < 256) b
+
+-- a number of 32 bits
+unfoldable pub word_of : ℕ → List ℕ
+word_of x = little_bytes 4 x
+
+-- the number of 16 bits in front
+unfoldable pub half_in : List ℕ → ℕ
+half_in b = little_number 2 b
+
+-- the number of 32 bits in front
+unfoldable pub word_in : List ℕ → ℕ
+word_in b = little_number 4 b
+
+-- the first so many numbers of 32 bits
+abbrev pub words_in : ℕ → List ℕ → List ℕ
+words_in zero b = []
+words_in (suc n) b = word_in b ∷ words_in n (drop 4 b)

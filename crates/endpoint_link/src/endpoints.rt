@@ -1,0 +1,351 @@
+// The endpoints of the link: which numbers are used, and which frames are admitted.
+
+ghost use Rattle.std.specs.Prelude.{◌≡◌, ◌≢◌, ◌≤◌, ◌<◌, ◌+◌, ◌-◌, ◌⊎◌, ℕ, true, false, [], All, Some, IsTrue, length, drop, count_by, IfOk, OnOk, OnErr, MatchOption};
+ghost use Rattle.std.specs.FinMap as map;
+ghost use Rattle.endpoint_link.specs.Numbering.{is_client, among};
+ghost use Rattle.endpoint_link.specs.Tables.{AreDistinct};
+ghost use Rattle.endpoint_link.specs.Standings.{standing_of, holds, is_used, is_live, next_token_of, Starts, Sends, hung_up, ended, given, gone};
+ghost use Rattle.endpoint_link.specs.Admission.{look_ups, by_standing, may_travel, all_may_travel, is_full, too_many, refusal_by, admission, Admits};
+ghost use Rattle.endpoint_link.specs.Frames.{goes_to};
+ghost use Rattle.endpoint_link.specs.declared.kinds.Side.TheVariants as side;
+ghost use Rattle.endpoint_link.specs.Views.{frame_of, handle_numbers};
+
+use crate::frame::{FrameView, HandleBytes};
+use crate::kinds::{AdmitFault, FrameKind, Refusal, Standing, TokenFault};
+use crate::standings::{Standings, is_client};
+use crate::tokens::Tokens;
+use fidl_names::NoMemory;
+use std::alloc::Global;
+use std::marker::Model;
+
+/// Entries that wait at most.
+pub const MAX_WAITING: u32 = 4096;
+
+/// Live endpoints at most, mount ends included.
+pub const MAX_LIVE: usize = 65536;
+
+/// All endpoints and tokens of the link, and how many entries wait.
+#[derive(Drop)]
+pub struct Endpoints {
+    standings: Standings,
+    tokens: Tokens,
+    waiting: u32,
+    servers: u32,
+}
+
+impl Model for Endpoints {
+    ghost use Rattle.std.specs.Prelude.{length};
+    ghost use Rattle.std.specs.FinMap as map;
+    ghost use Rattle.endpoint_link.specs.Standings.{Known, known_code};
+    ghost use Rattle.endpoint_link.specs.Tables.{KeepsApart};
+
+    ghost Value = { Known };
+
+    ghost coded = { known_code };
+
+    ghost view = { λ e. record {
+      standings = map.from_entries e.standings.entries;
+      live = e.standings.live;
+      tokens = map.from_entries e.tokens.entries;
+      out = length e.tokens.entries;
+      next = e.tokens.next;
+      waiting = e.waiting;
+      servers = e.servers;
+    } };
+
+    ghost invariant = { λ e. KeepsApart e.standings.entries e.tokens.entries e.tokens.next };
+}
+
+/// Whether a number that stands so was used.
+fn is_used(standing: Standing) -> bool
+    ensures { result ≡ is_used standing }
+{
+    match standing {
+        Standing::Unused => false,
+        Standing::Live | Standing::HungUp | Standing::Dead => true,
+    }
+}
+
+/// The refusal of a frame on an endpoint that stands so.
+fn by_standing(standing: Standing) -> Option<Refusal>
+    ensures { result ≡ by_standing standing }
+{
+    match standing {
+        Standing::Unused => Some(Refusal::BadHandle),
+        Standing::Live => None,
+        Standing::HungUp | Standing::Dead => Some(Refusal::PeerClosed),
+    }
+}
+
+/// Whether a number is among the handles from a place on.
+fn stands_from(handles: HandleBytes<'_>, from: usize, number: u32) -> bool
+    requires { from ≤ length (handle_numbers handles) }
+    ensures { result ≡ among number (drop from (handle_numbers handles.entry)) }
+{
+    for i in from..handles.len() {
+        if handles.at(i) == number {
+            return true;
+        }
+    }
+    false
+}
+
+/// How many of the handles are clients' numbers.
+fn count_clients(handles: HandleBytes<'_>) -> usize
+    ensures { result ≡ count_by is_client (handle_numbers handles.entry) }
+{
+    let mut count = 0;
+    for i in 0..handles.len() {
+        if is_client(handles.at(i)) {
+            count += 1;
+        }
+    }
+    count
+}
+
+/// The private steps of admission.
+impl Endpoints {
+    /// Whether the clients hold this token.
+    fn holds(&self, token: u32) -> bool
+        ensures { result ≡ holds self.now token }
+    {
+        self.tokens.holds(token)
+    }
+
+    /// Whether a handle is a client number that was never used, or a token that is held.
+    fn may_travel(&self, handle: u32) -> bool
+        ensures { result ≡ may_travel (look_ups self.now) handle }
+    {
+        if is_client(handle) && !is_used(self.standing(handle)) {
+            return true;
+        }
+        self.holds(handle)
+    }
+
+    /// Whether each handle may travel, and none stands twice.
+    fn all_may_travel(&self, handles: HandleBytes<'_>) -> bool
+        ensures { result ≡ all_may_travel (look_ups self.now) (handle_numbers handles.entry) }
+    {
+        for i in 0..handles.len() {
+            let handle = handles.at(i);
+            if !self.may_travel(handle) || stands_from(handles, i + 1, handle) {
+                return false;
+            }
+        }
+        true
+    }
+
+    fn is_full(&self) -> bool
+        ensures { result ≡ is_full (look_ups self.now) }
+    {
+        self.waiting >= MAX_WAITING
+    }
+
+    fn too_many(&self, handles: HandleBytes<'_>) -> bool
+        ensures { result ≡ too_many (look_ups self.now) (handle_numbers handles.entry) }
+    {
+        self.standings.live() + count_clients(handles) > MAX_LIVE
+    }
+
+    fn message_refusal(&self, endpoint: u32, handles: HandleBytes<'_>) -> Option<Refusal>
+        ensures { result ≡ refusal_by FrameKind.Message (look_ups self.now) endpoint (handle_numbers handles.entry) }
+    {
+        if let Some(why) = by_standing(self.standing(endpoint)) {
+            return Some(why);
+        }
+        if !is_client(endpoint) {
+            return Some(Refusal::BadHandle);
+        }
+        if !self.all_may_travel(handles) {
+            return Some(Refusal::BadHandle);
+        }
+        if self.is_full() {
+            return Some(Refusal::ShouldWait);
+        }
+        if self.too_many(handles) {
+            return Some(Refusal::NoResources);
+        }
+        None
+    }
+
+    fn close_refusal(&self, endpoint: u32) -> Option<Refusal>
+        ensures { result ≡ refusal_by FrameKind.Close (look_ups self.now) endpoint [] }
+    {
+        if let Some(why) = by_standing(self.standing(endpoint)) {
+            return Some(why);
+        }
+        if !is_client(endpoint) {
+            return Some(Refusal::BadHandle);
+        }
+        if self.is_full() {
+            return Some(Refusal::ShouldWait);
+        }
+        None
+    }
+
+    fn turn_refusal(&self, server: u32) -> Option<Refusal>
+        ensures { result ≡ refusal_by FrameKind.Turn (look_ups self.now) server [] }
+    {
+        if server >= self.servers {
+            return Some(Refusal::BadHandle);
+        }
+        None
+    }
+
+    /// The first refusal of a frame.
+    fn refusal(&self, frame: FrameView<'_>) -> Option<Refusal>
+        ensures { result ≡ admission (look_ups self.now) (frame_of frame.entry) }
+    {
+        match frame.kind {
+            FrameKind::Message => self.message_refusal(frame.endpoint, frame.handles),
+            FrameKind::Close => self.close_refusal(frame.endpoint),
+            FrameKind::Turn => self.turn_refusal(frame.endpoint),
+            FrameKind::Pick => by_standing(self.standing(frame.endpoint)),
+            FrameKind::Refused => None,
+        }
+    }
+
+    /// Lets a message with these handles wait.
+    fn take_message(&mut self, handles: HandleBytes<'_>) -> Result<(), AdmitFault>
+        requires travel { all_may_travel (look_ups self.old) (handle_numbers handles) ≡ true }
+        requires few { self.old.live + count_by is_client (handle_numbers handles) ≤ 65536 }
+        requires room { self.old.waiting < 4096 }
+        ensures answer { (result ≡ Ok tt) ⊎ (result ≡ Err AdmitFault.NoMemory) }
+        ensures sent { OnOk result (Sends self.old (handle_numbers handles.entry) self.new) }
+        ensures unchanged { OnErr result (self.new ≡ self.old) }
+        ensures memory { handle_numbers handles.entry ≡ [] → result ≢ Err AdmitFault.NoMemory }
+    {
+        self.standings.make_all(handles)?;
+        self.tokens.send_all(handles);
+        self.waiting += 1;
+        Ok(())
+    }
+
+    /// Lets a hang-up wait.
+    fn take_close(&mut self, endpoint: u32)
+        requires live { standing_of self.old endpoint ≡ Standing.Live }
+        requires room { self.old.waiting < 4096 }
+        ensures { self.new ≡ hung_up self.old endpoint }
+    {
+        self.standings.change(endpoint, Standing::HungUp);
+        self.waiting += 1;
+    }
+}
+
+impl Endpoints {
+    /// The link's beginning: the first connections and so many mount ends are live.
+    pub fn new(
+        alloc: Global,
+        firsts: &[u32],
+        mounts: u32,
+        servers: u32,
+    ) -> Result<Endpoints, NoMemory>
+        requires clients { All (λ n. is_client n ≡ true) firsts.now }
+        requires distinct { AreDistinct firsts.now }
+        requires few { length firsts.now + mounts ≤ 65536 }
+        ensures { IfOk result (Starts firsts.now mounts servers) }
+    {
+        let mut standings = Standings::new(alloc);
+        standings.make_firsts(firsts)?;
+        standings.make_mounts(mounts)?;
+        Ok(Endpoints {
+            standings,
+            tokens: Tokens::new(alloc),
+            waiting: 0,
+            servers,
+        })
+    }
+
+    /// Admits a frame, or refuses it: a refused frame makes nothing and keeps its tokens held. Only a Message with
+    /// handles may want memory, and what it wants comes after all refusals.
+    pub fn admit(&mut self, frame: FrameView<'_>) -> Result<(), AdmitFault>
+        requires { IsTrue (goes_to side.ToServers frame.kind) }
+        ensures first { MatchOption (admission (look_ups self.old) (frame_of frame.entry))
+            ((result ≡ Ok tt) ⊎ (result ≡ Err AdmitFault.NoMemory))
+            (λ why. result ≡ Err (AdmitFault.Refused why)) }
+        ensures admitted { OnOk result (Admits self.old (frame_of frame.entry) self.new) }
+        ensures unchanged { OnErr result (self.new ≡ self.old) }
+        ensures memory { (frame_of frame.entry).handles ≡ [] → result ≢ Err AdmitFault.NoMemory }
+    {
+        if let Some(why) = self.refusal(frame) {
+            return Err(AdmitFault::Refused(why));
+        }
+        match frame.kind {
+            FrameKind::Message => self.take_message(frame.handles),
+            FrameKind::Close => {
+                self.take_close(frame.endpoint);
+                Ok(())
+            }
+            FrameKind::Turn | FrameKind::Pick | FrameKind::Refused => Ok(()),
+        }
+    }
+
+    /// How a number stands.
+    pub fn standing(&self, endpoint: u32) -> Standing
+        ensures { result ≡ standing_of self.now endpoint }
+    {
+        self.standings.at(endpoint)
+    }
+
+    /// An entry that waited was served.
+    pub fn served(&mut self)
+        requires { 0 < self.old.waiting }
+        ensures { self.new ≡ record self.old { waiting = self.old.waiting - 1 } }
+    {
+        self.waiting -= 1;
+    }
+
+    /// So many entries that waited were dropped.
+    pub fn dropped(&mut self, n: u32)
+        requires { n ≤ self.old.waiting }
+        ensures { self.new ≡ record self.old { waiting = self.old.waiting - n } }
+    {
+        self.waiting -= n;
+    }
+
+    /// An entry was forwarded, and waits.
+    pub fn forwarded_one(&mut self)
+        requires { self.old.waiting < 4096 }
+        ensures { self.new ≡ record self.old { waiting = self.old.waiting + 1 } }
+    {
+        self.waiting += 1;
+    }
+
+    /// A live endpoint died.
+    pub fn ended(&mut self, endpoint: u32)
+        requires { is_live (standing_of self.old endpoint) ≡ true }
+        ensures { self.new ≡ ended self.old endpoint }
+    {
+        self.standings.change(endpoint, Standing::Dead);
+    }
+
+    /// The number that the next token gets: none where 4,096 tokens are held or travel, or where the last number was
+    /// given.
+    pub fn next_token(&self) -> Option<u32>
+        ensures { result ≡ next_token_of self.now }
+    {
+        self.tokens.next()
+    }
+
+    /// Gives the next token to the clients.
+    pub fn give_token(&mut self) -> Result<u32, TokenFault>
+        ensures number { MatchOption (next_token_of self.old) (result ≡ Err TokenFault.Full)
+            (λ n. (result ≡ Ok n) ⊎ (result ≡ Err TokenFault.NoMemory)) }
+        ensures given { OnOk result (self.new ≡ given self.old) }
+        ensures err { OnErr result (self.new ≡ self.old) }
+    {
+        let Some(number) = self.tokens.next() else {
+            return Err(TokenFault::Full);
+        };
+        self.tokens.give()?;
+        Ok(number)
+    }
+
+    /// A token that travelled is gone.
+    pub fn token_gone(&mut self, token: u32)
+        requires { map.get self.old.tokens token ≡ Some false }
+        ensures { self.new ≡ gone self.old token }
+    {
+        self.tokens.forget(token);
+    }
+}

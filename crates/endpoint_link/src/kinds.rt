@@ -1,0 +1,110 @@
+// The small types of the link.
+
+ghost use Rattle.std.specs.Prelude.{◌≡◌};
+
+use fidl_names::NoMemory;
+
+/// What a frame is for.
+#[derive(Clone, Copy, Debug, PartialEq, Eq)]
+pub enum FrameKind {
+    Message,
+    Close,
+    Turn,
+    Pick,
+    Refused,
+}
+
+/// Why a fixed part is bad.
+#[derive(Clone, Copy, Debug, PartialEq, Eq)]
+pub enum FrameReason {
+    /// No kind of this side has that number.
+    Kind,
+    /// The zero field isn't zero.
+    Zero,
+    /// More than 64 handles.
+    Handles,
+    /// More than 65,536 bytes.
+    Bytes,
+    /// The kind doesn't have so many handles or bytes.
+    Shape,
+}
+
+/// Which way a stream of frames goes.
+#[derive(Clone, Copy, Debug, PartialEq, Eq)]
+pub enum Side {
+    /// To the servers: no Refused frames.
+    ToServers,
+    /// Either way: every kind.
+    Any,
+}
+
+/// Whether waiting entries are served after each frame, or by Turn and Pick frames alone.
+#[derive(Clone, Copy, Debug, PartialEq, Eq)]
+pub enum Mode {
+    Auto,
+    Given,
+}
+
+/// A bad fixed part: the offset of its first byte in the stream, and the first reason against it.
+#[derive(Clone, Copy, Debug, PartialEq, Eq)]
+pub struct LinkFault {
+    pub at: u64,
+    pub reason: FrameReason,
+}
+
+/// How an endpoint's number stands.
+#[derive(Clone, Copy, Debug, PartialEq, Eq)]
+pub enum Standing {
+    /// It was never used.
+    Unused,
+    /// It is bound at a server, or travels in a waiting message.
+    Live,
+    /// It is live, and the client that held it sent Close.
+    HungUp,
+    /// It was live once.
+    Dead,
+}
+
+/// Why a frame isn't admitted.
+#[derive(Clone, Copy, Debug, PartialEq, Eq)]
+pub enum Refusal {
+    PeerClosed,
+    BadHandle,
+    ShouldWait,
+    NoResources,
+}
+
+/// What `admit` answers of a frame that it didn't admit.
+#[derive(Clone, Copy, Debug, PartialEq, Eq)]
+pub enum AdmitFault {
+    Refused(Refusal),
+    NoMemory,
+}
+
+impl From<NoMemory> for AdmitFault {
+    ghost use Rattle.endpoint_link.specs.declared.kinds.AdmitFault.TheVariants as admit_fault;
+
+    ghost from_gives = { λ _ fault. fault ≡ admit_fault.NoMemory };
+
+    fn from(_e: NoMemory) -> AdmitFault {
+        AdmitFault::NoMemory
+    }
+}
+
+/// What `give_token` answers where it gives none.
+#[derive(Clone, Copy, Debug, PartialEq, Eq)]
+pub enum TokenFault {
+    /// So many tokens are held or travel as can, or the last number was given.
+    Full,
+    NoMemory,
+}
+
+impl From<NoMemory> for TokenFault {
+    ghost use Rattle.endpoint_link.specs.declared.kinds.TokenFault.TheVariants as token_fault;
+
+    ghost from_gives = { λ _ fault. fault ≡ token_fault.NoMemory };
+
+    fn from(_e: NoMemory) -> TokenFault {
+        TokenFault::NoMemory
+    }
+}

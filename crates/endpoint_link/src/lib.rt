@@ -1,0 +1,29 @@
+// The link: frames in any cut, and endpoints with their admission.
+#![tactic(auto)]
+
+mod deframer;
+mod endpoints;
+mod fixed;
+mod frame;
+mod kinds;
+mod laws;
+mod outbox;
+mod reading;
+mod standings;
+mod tokens;
+
+pub use deframer::Deframer;
+pub use endpoints::{Endpoints, MAX_LIVE, MAX_WAITING};
+pub use fixed::{FIXED_LEN, MAX_BYTES, MAX_FRAME_LEN, MAX_HANDLES};
+pub use frame::{FrameView, HandleBytes, Reading};
+pub use kinds::{
+    AdmitFault, FrameKind, FrameReason, LinkFault, Mode, Refusal, Side, Standing, TokenFault,
+};
+pub use laws::{in_any_cut, joined_streams, one_reading, sound_fixed_parts};
+pub use outbox::{FrameRoom, Outbox, spelled_len, write_frame};
+pub use reading::frame_at;
+
+#[cfg(test)]
+mod admission_tests;
+#[cfg(test)]
+mod frame_tests;

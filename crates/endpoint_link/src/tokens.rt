@@ -1,0 +1,112 @@
+// The tokens that are held by the clients or travel in waiting messages.
+
+ghost use Rattle.std.specs.Prelude.{◌≡◌, ◌≤◌, ◌<◌, ◌+◌, ◌^◌, ◌||◌, if◌then◌else◌, ℕ, true, false, [], Some, None, IsSome, OnOk, OnErr, unwrap_or, length, nat_le};
+ghost use Rattle.endpoint_link.specs.Tables.{value_at, ChangesAt};
+ghost use Rattle.endpoint_link.specs.Numbering.{is_client, among};
+
+use crate::frame::HandleBytes;
+use crate::standings::is_client;
+use fidl_names::NoMemory;
+use std::alloc::Global;
+use std::collections::BTreeMap;
+use std::marker::Model;
+
+/// The tokens that are out: whether each is held, or else travels.
+#[derive(Drop)]
+pub(crate) struct Tokens {
+    table: BTreeMap<u32, bool>,
+    next: u64,
+}
+
+impl Model for Tokens {
+    ghost use Rattle.endpoint_link.specs.Tables.{Numbered, KeepsNumbers};
+
+    ghost Value = { Numbered };
+
+    ghost view = { λ t. record { entries = t.table.entries; next = t.next } };
+
+    ghost invariant = { λ t. KeepsNumbers t.table.entries t.next };
+}
+
+impl Tokens {
+    ghost use Rattle.endpoint_link.specs.Views.{handle_numbers};
+    ghost use Rattle.endpoint_link.specs.Tables.{Travels};
+
+    pub(crate) fn new(alloc: Global) -> Tokens
+        ensures entries { result.entries ≡ [] }
+        ensures next { result.next ≡ 0x80000000 }
+    {
+        Tokens {
+            table: BTreeMap::new(alloc),
+            next: 0x8000_0000,
+        }
+    }
+
+    /// Whether the clients hold this token.
+    pub(crate) fn holds(&self, number: u32) -> bool
+        ensures { result ≡ unwrap_or (value_at self.now.entries number) false }
+    {
+        self.table.get(&number).copied().unwrap_or(false)
+    }
+
+    /// The number that the next token gets: none where 4,096 tokens are out, or the last number was given.
+    pub(crate) fn next(&self) -> Option<u32>
+        ensures { result ≡ (if nat_le 4096 (length self.now.entries) || nat_le 0x100000000 self.now.next
+            then None else Some self.now.next) }
+    {
+        if self.table.len() >= 4096 || self.next > 0xFFFF_FFFF {
+            return None;
+        }
+        Some(self.next as u32)
+    }
+
+    /// Gives the next token.
+    pub(crate) fn give(&mut self) -> Result<(), NoMemory>
+        requires { self.old.next < 2 ^ 32 }
+        ensures given { OnOk result (ChangesAt self.old.next (Some true) self.old.entries self.new.entries) }
+        ensures count { OnOk result (length self.new.entries ≡ length self.old.entries + 1) }
+        ensures next { OnOk result (self.new.next ≡ self.old.next + 1) }
+        ensures err { OnErr result (self.new ≡ self.old) }
+    {
+        self.table.insert(self.next as u32, true)?;
+        self.next += 1;
+        Ok(())
+    }
+
+    /// Lets a token travel.
+    fn send(&mut self, number: u32)
+        requires { IsSome (value_at self.old.entries number) }
+        ensures changed { ChangesAt number (Some false) self.old.entries self.new.entries }
+        ensures count { length self.new.entries ≡ length self.old.entries }
+        ensures next { self.new.next ≡ self.old.next }
+    {
+        if self.table.insert(number, false).is_err() {
+            unreachable!();
+        }
+    }
+
+    /// Lets the tokens among the handles travel.
+    pub(crate) fn send_all(&mut self, handles: HandleBytes<'_>)
+        requires { (q : ℕ) → is_client q ≡ false → among q (handle_numbers handles) ≡ true → IsSome (value_at self.old.entries q) }
+        ensures changed { Travels (handle_numbers handles.entry) self.old.entries self.new.entries }
+        ensures count { length self.new.entries ≡ length self.old.entries }
+        ensures next { self.new.next ≡ self.old.next }
+    {
+        for i in 0..handles.len() {
+            let number = handles.at(i);
+            if !is_client(number) {
+                self.send(number);
+            }
+        }
+    }
+
+    /// Forgets a token that is out.
+    pub(crate) fn forget(&mut self, number: u32)
+        requires { IsSome (value_at self.old.entries number) }
+        ensures changed { ChangesAt number None self.old.entries self.new.entries }
+        ensures count { length self.new.entries + 1 ≡ length self.old.entries }
+        ensures next { self.new.next ≡ self.old.next }
+    {
+        self.table.remove(&number);
+    }
+}
