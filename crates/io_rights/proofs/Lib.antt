@@ -1,0 +1,2 @@
+pub mod OperationSets
+pub mod LetterTexts

@@ -1,0 +1,4 @@
+pub mod Operations
+pub mod Needs
+pub mod Letters
+pub mod EachNumber

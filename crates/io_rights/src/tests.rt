@@ -1,0 +1,109 @@
+use crate::{Operation, Rights, laws_of_rights, needed, read_rights};
+use fidl_names::Method;
+use std::alloc::{AllocError, Global};
+use std::test::Fail;
+
+// The text of the rights with these bits, from the order of the letters alone.
+fn text_of(alloc: Global, bits: u16) -> Result<Vec<u8>, AllocError> {
+    let mut text = Vec::new(alloc);
+    let mut left = bits;
+    for letter in b"crwxguetm" {
+        if left % 2 == 1 {
+            text.push(*letter)?;
+        }
+        left /= 2;
+    }
+    if text.is_empty() {
+        text.push(b'-')?;
+    }
+    Ok(text)
+}
+
+#[test]
+fn each_set_has_its_text(rt: HostRuntime) -> Result<(), Fail> {
+    for bits in 0..512u16 {
+        let text = text_of(rt.alloc(), bits)?;
+        let rights = Rights::from_bits(bits).ok_or("these are bits of rights")?;
+        assert_eq!(rt; rights.bits(), bits);
+        assert!(rt;
+            rights.letters().as_bytes() == text.as_slice(),
+            "letters of {bits}"
+        );
+        assert_eq!(rt; read_rights(&text), Some(rights));
+    }
+    assert_eq!(rt; Rights::from_bits(512), None);
+    Ok(())
+}
+
+#[test]
+fn other_texts_are_refused(rt: HostRuntime) {
+    let texts: [&[u8]; 19] = [
+        b"",
+        b"rc",
+        b"rr",
+        b"z",
+        b"r-",
+        b"-r",
+        b"--",
+        b"R",
+        b"r ",
+        b" r",
+        b"wr",
+        b"crwxguetmm",
+        b"crwxguetmc",
+        b"mt",
+        b"rg ",
+        b"r,g",
+        b"\xc3\xa9",
+        b"0",
+        b"cm\n",
+    ];
+    for text in texts {
+        assert_eq!(rt; read_rights(text), None);
+    }
+}
+
+#[test]
+fn each_method_has_its_right(rt: HostRuntime) {
+    let table: [(Method, &[u8]); 20] = [
+        (Method::Clone, b""),
+        (Method::Close, b""),
+        (Method::Query, b""),
+        (Method::GetAttributes, b"g"),
+        (Method::Sync, b""),
+        (Method::OpenPath, b""),
+        (Method::ReadDirents, b"e"),
+        (Method::Rewind, b""),
+        (Method::GetToken, b"m"),
+        (Method::Rename, b"m"),
+        (Method::Link, b"m"),
+        (Method::Unlink, b"m"),
+        (Method::Watch, b"e"),
+        (Method::Read, b"r"),
+        (Method::ReadAt, b"r"),
+        (Method::Write, b"w"),
+        (Method::WriteAt, b"w"),
+        (Method::Seek, b""),
+        (Method::Resize, b"w"),
+        (Method::EchoString, b"c"),
+    ];
+    for (method, text) in table {
+        assert_eq!(rt; needed(method), read_rights(text), "{method:?}");
+    }
+}
+
+#[test]
+fn sets_meet_and_join(rt: HostRuntime) -> Result<(), Fail> {
+    let read = Rights::of(Operation::ReadBytes);
+    let write = Rights::of(Operation::WriteBytes);
+    let both = read.join(write);
+    assert_eq!(rt; both.bits(), 6);
+    assert_eq!(rt; both.meet(write), write);
+    assert!(rt; read.within(both) && !both.within(read));
+    assert!(rt; both.allows(Operation::WriteBytes) && !read.allows(Operation::WriteBytes));
+    assert!(rt; Rights::none().within(read) && read.within(Rights::all()));
+    let text = format!(in rt.alloc(); "{} {}", both.letters(), Rights::none().letters())?;
+    assert_eq!(rt; text.as_str(), "rw -");
+    laws_of_rights();
+    Ok(())
+}
