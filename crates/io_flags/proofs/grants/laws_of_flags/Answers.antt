@@ -1,0 +1,14 @@
+-- The laws, from the lemmas on words and limits.
+use Rattle.io_flags.proofs.FlagWords.{same_flags}
+use Rattle.io_flags.proofs.GrantLemmas.{granted-law, onward-fault, onward-explicit, onward-asked}
+use Rattle.io_flags.proofs.grants.laws_of_flags.Goals as goal
+
+pub returns : goal.returns
+returns c =
+    record {
+      same_flags = same_flags;
+      granted = granted-law;
+      onward_fault = onward-fault;
+      onward_explicit = onward-explicit;
+      onward_asked = onward-asked;
+    }

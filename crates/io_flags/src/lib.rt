@@ -1,0 +1,16 @@
+// The flags of an Open: which words are right, and which rights they ask for and get.
+#![tactic(auto)]
+
+mod check;
+mod faults;
+mod grants;
+mod names;
+mod words;
+
+pub use check::OpenFlags;
+pub use faults::FlagFault;
+pub use grants::{asked, explicit, forwarded, grant, laws_of_flags};
+pub use names::Flag;
+
+#[cfg(test)]
+mod tests;
