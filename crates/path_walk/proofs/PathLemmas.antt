@@ -1,0 +1,423 @@
+-- Texts, the names between their slashes, and the first fault.
+use Rattle.std.proofs.Common.{◌≡◌, ℕ, ◌+◌, ◌<◌, ◌≤◌, ◌==◌, Bool, true, false, not, List, [], ◌∷◌, ◌++◌, length, get_or, take, drop, Option, Some, None, refl, sym, ap, ◌∙◌, subst, rules, nat_lt, arith, inl, inr, length-append}
+use Rattle.std.specs.Prelude.{All, IsUtf8, Result, Ok, Err, MatchResult, is_err, unwrap_or}
+use Rattle.std.specs.List.{slice_split, join_with_byte, position_or_len, slice_get}
+use Rattle.std.specs.Str.{bytes_eq, is_utf8}
+use Rattle.std.specs.Cmp.Lexicographic.{same_text}
+use Rattle.std.proofs.lemmas.Bool.{cases_Bool, cases_lt, or_parts, or_from, ltb-false, le-ltb, ne_eqb, eqb-true, not_from_false, false_from_ne_true}
+use Rattle.std.proofs.lemmas.List.Elements.{All-nil, All-cons, All-head, All-tail, All-from_get_or}
+use Rattle.std.proofs.lemmas.List.Folds.{list_any-append, list_any_none}
+use Rattle.std.proofs.lemmas.List.Splits.{slice_split_none, slice_split_at, slice_split_first, join_with_byte-slice_split, length-slice_split}
+use Rattle.std.proofs.lemmas.List.Sums.{fails_before_first, passes_at_first, position_or_len_is}
+use Rattle.std.proofs.lemmas.List.{take-append-drop, length-drop, length-take, get_or-take}
+use Rattle.std.proofs.Math.Seq.{take-length}
+use Rattle.std.proofs.lemmas.Str.{IsUtf8-from_is_utf8, is_utf8-from_IsUtf8, IsUtf8-drop, IsCharBoundary-after_ascii, IsUtf8-from_ascii}
+use Rattle.memchr.specs.Find.{IsFirstByte, is_byte}
+use Rattle.path_walk.specs.declared.faults.PathFault.{PathFault}
+use Rattle.path_walk.specs.declared.faults.PathFault.TheVariants as fault
+use Rattle.path_walk.specs.Names.{Rule, first_broken, slash, dot, holds, name_fault, IsName}
+use Rattle.path_walk.specs.Paths.{text_of, IsPath, names_of, text_rules, first_bad_name, path_fault}
+use Rattle.path_walk.proofs.NameLemmas.{broken_none, not_broken, broken, or_at_some, or_at_none, or_none_left, or_none_right, name-some, name-no_zero, name-no_slash, empty_is_no_name, dot_is_no_name}
+
+abbrev pub is_slash : ℕ → Bool
+is_slash byte = byte == slash
+
+abbrev pub pieces : List ℕ → List (List ℕ)
+pieces text = slice_split is_slash text
+
+-- ---- names with and without a fault
+
+pub no_bad_name : (names : List (List ℕ)) → first_bad_name names ≡ None → All IsName names
+no_bad_name [] e = All-nil IsName
+no_bad_name (name ∷ names) e =
+    All-cons IsName name names (or_none_left _ _ e) (no_bad_name names (or_none_right _ _ e))
+
+pub first_bad_name-none : (names : List (List ℕ)) → All IsName names → first_bad_name names ≡ None
+first_bad_name-none [] h = refl
+first_bad_name-none (name ∷ names) h =
+    or_at_none _ _ (All-head IsName name names h) ∙ first_bad_name-none names (All-tail IsName name names h)
+
+-- ---- a text without a byte, and its parts
+
+pub holds-front : (byte : ℕ) (a b : List ℕ) → holds byte (a ++ b) ≡ false → holds byte a ≡ false
+holds-front byte a b h = (or_parts (holds byte a) (holds byte b) (sym (list_any-append (λ x. x == byte) a b) ∙ h)).0
+
+pub holds-back : (byte : ℕ) (a b : List ℕ) → holds byte (a ++ b) ≡ false → holds byte b ≡ false
+holds-back byte a b h = (or_parts (holds byte a) (holds byte b) (sym (list_any-append (λ x. x == byte) a b) ∙ h)).1
+
+all_other : (byte : ℕ) (text : List ℕ) → holds byte text ≡ false → All (λ b. (b == byte) ≡ false) text
+all_other byte [] h = All-nil (λ b. (b == byte) ≡ false)
+all_other byte (b ∷ text) h =
+    let both = or_parts (b == byte) (holds byte text) h in
+    All-cons (λ x. (x == byte) ≡ false) b text both.0 (all_other byte text both.1)
+
+-- ---- the names of a text
+
+pub same_bytes : (a b : List ℕ) → bytes_eq a b ≡ true → a ≡ b
+same_bytes a b e = same_text a b (sym e)
+
+text_of-some : (name : List ℕ) (names : List (List ℕ)) → text_of (name ∷ names) ≡ join_with_byte slash (name ∷ names)
+unfolding text_of
+text_of-some name names = refl
+
+pub pieces-single : (name : List ℕ) → holds slash name ≡ false → pieces name ≡ name ∷ []
+pieces-single name h = slice_split_none is_slash name (all_other slash name h)
+
+pub pieces-join : (name : List ℕ) (names : List (List ℕ)) → All IsName (name ∷ names) → pieces (join_with_byte slash (name ∷ names)) ≡ name ∷ names
+pieces-join name [] h = pieces-single name (name-no_slash name (All-head IsName name [] h))
+pieces-join name (next ∷ names) h =
+    slice_split_at is_slash name slash (join_with_byte slash (next ∷ names))
+    (all_other slash name (name-no_slash name (All-head IsName name (next ∷ names) h)))
+    refl
+    ∙ ap (λ rest. name ∷ rest) (pieces-join next names (All-tail IsName name (next ∷ names) h))
+
+pub names_of-dot : names_of dot ≡ []
+unfolding names_of
+names_of-dot = refl
+
+pub names_of-other : (text : List ℕ) → bytes_eq text dot ≡ false → names_of text ≡ pieces text
+unfolding names_of
+names_of-other text e = rw e refl
+
+-- names joined are no dot
+joined_is_no_dot : (name : List ℕ) (names : List (List ℕ)) → All IsName (name ∷ names) → bytes_eq (join_with_byte slash (name ∷ names)) dot ≡ false
+joined_is_no_dot name names h =
+    elim (cases_Bool (bytes_eq (join_with_byte slash (name ∷ names)) dot)) [
+      | inl same ↦
+          let one : name ∷ names ≡ dot ∷ [] =
+          sym (pieces-join name names h) ∙ ap pieces (same_bytes (join_with_byte slash (name ∷ names)) dot same) in
+          absurd (dot_is_no_name (All-head IsName dot [] (subst (All IsName) one h)))
+      | inr other ↦ other
+    ]
+
+names_of-text_of-nil : names_of (text_of []) ≡ []
+unfolding text_of
+names_of-text_of-nil = names_of-dot
+
+pub names_of-text_of : (names : List (List ℕ)) → All IsName names → names_of (text_of names) ≡ names
+names_of-text_of [] h = names_of-text_of-nil
+names_of-text_of (name ∷ names) h =
+    ap names_of (text_of-some name names)
+    ∙ names_of-other (join_with_byte slash (name ∷ names)) (joined_is_no_dot name names h)
+    ∙ pieces-join name names h
+
+text_of-nil : text_of [] ≡ dot
+unfolding text_of
+text_of-nil = refl
+
+text_of-joined : (names : List (List ℕ)) → 0 < length names → text_of names ≡ join_with_byte slash names
+text_of-joined [] h = absurd (omega arith)
+text_of-joined (name ∷ names) h = text_of-some name names
+
+text_of-pieces : (text : List ℕ) → text_of (pieces text) ≡ text
+text_of-pieces text =
+    text_of-joined (pieces text) (rw (length-slice_split is_slash text) (omega arith))
+    ∙ join_with_byte-slice_split slash text
+
+pub text_of-names_of : (text : List ℕ) → text_of (names_of text) ≡ text
+text_of-names_of text =
+    elim (cases_Bool (bytes_eq text dot)) [
+      | inl same ↦
+          let is_dot : text ≡ dot = same_bytes text dot same in
+          ap (λ t. text_of (names_of t)) is_dot ∙ ap text_of names_of-dot ∙ text_of-nil ∙ sym is_dot
+      | inr other ↦ ap text_of (names_of-other text other) ∙ text_of-pieces text
+    ]
+
+-- ---- the parts of a text with no fault
+
+pub record TextParts (text : List ℕ) : Type 0 where
+  pub some : (length text == 0) ≡ false
+  pub short : nat_lt 4095 (length text) ≡ false
+  pub utf8 : is_utf8 text ≡ true
+  pub no_zero : holds 0 text ≡ false
+  pub names : All IsName (names_of text)
+
+from_not : (b : Bool) → not b ≡ false → b ≡ true
+from_not true e = refl
+from_not false e = cc
+
+to_not : (b : Bool) → b ≡ true → not b ≡ false
+to_not true e = refl
+to_not false e = cc
+
+abbrev rule_some : List ℕ → Rule
+rule_some text = (length text == 0, fault.Empty)
+
+abbrev rule_short : List ℕ → Rule
+rule_short text = (nat_lt 4095 (length text), fault.TooLong)
+
+abbrev rule_utf8 : List ℕ → Rule
+rule_utf8 text = (not (is_utf8 text), fault.NotUtf8)
+
+abbrev rule_zero : List ℕ → Rule
+rule_zero text = (holds 0 text, fault.ZeroByte)
+
+pub parts_of : (text : List ℕ) → first_broken (text_rules text) ≡ None → All IsName (names_of text) → TextParts text
+parts_of text e h =
+    let one = broken_none (rule_some text) (rule_short text ∷ rule_utf8 text ∷ rule_zero text ∷ []) e in
+    let two = broken_none (rule_short text) (rule_utf8 text ∷ rule_zero text ∷ []) one.1 in
+    let three = broken_none (rule_utf8 text) (rule_zero text ∷ []) two.1 in
+    let four = broken_none (rule_zero text) [] three.1 in
+    record { some = one.0; short = two.0; utf8 = from_not (is_utf8 text) three.0; no_zero = four.0; names = h }
+
+pub parts : (text : List ℕ) → path_fault text ≡ None → TextParts text
+unfolding path_fault
+parts text e = parts_of text (or_none_left _ _ e) (no_bad_name (names_of text) (or_none_right _ _ e))
+
+-- a text whose first broken rule is the third, or the fourth
+pub text-not_utf8 : (text : List ℕ) → (length text == 0) ≡ false → nat_lt 4095 (length text) ≡ false → is_utf8 text ≡ false → first_broken (text_rules text) ≡ Some fault.NotUtf8
+text-not_utf8 text some short utf8 =
+    not_broken (rule_some text) (rule_short text ∷ rule_utf8 text ∷ rule_zero text ∷ []) some
+    ∙ not_broken (rule_short text) (rule_utf8 text ∷ rule_zero text ∷ []) short
+    ∙ broken (rule_utf8 text) (rule_zero text ∷ []) (not_from_false (is_utf8 text) utf8)
+
+pub text-zero : (text : List ℕ) → (length text == 0) ≡ false → nat_lt 4095 (length text) ≡ false → is_utf8 text ≡ true → holds 0 text ≡ true → first_broken (text_rules text) ≡ Some fault.ZeroByte
+text-zero text some short utf8 no_zero =
+    not_broken (rule_some text) (rule_short text ∷ rule_utf8 text ∷ rule_zero text ∷ []) some
+    ∙ not_broken (rule_short text) (rule_utf8 text ∷ rule_zero text ∷ []) short
+    ∙ not_broken (rule_utf8 text) (rule_zero text ∷ []) (to_not (is_utf8 text) utf8)
+    ∙ broken (rule_zero text) [] no_zero
+
+pub text-none : (text : List ℕ) → (length text == 0) ≡ false → nat_lt 4095 (length text) ≡ false → is_utf8 text ≡ true → holds 0 text ≡ false → first_broken (text_rules text) ≡ None
+text-none text some short utf8 no_zero =
+    not_broken (rule_some text) (rule_short text ∷ rule_utf8 text ∷ rule_zero text ∷ []) some
+    ∙ not_broken (rule_short text) (rule_utf8 text ∷ rule_zero text ∷ []) short
+    ∙ not_broken (rule_utf8 text) (rule_zero text ∷ []) (to_not (is_utf8 text) utf8)
+    ∙ not_broken (rule_zero text) [] no_zero
+
+-- what a call of `from_utf8` tells
+pub utf8_at_ok : {T E : Type 0} (r : Result T E) (bytes : List ℕ) (P : T → Type 0) (Q : E → Type 0) → MatchResult r (λ s. P s × IsUtf8 bytes) (λ e. (IsUtf8 bytes → ⊥) × Q e) → is_err r ≡ false → is_utf8 bytes ≡ true
+utf8_at_ok (Ok s) bytes P Q h e = is_utf8-from_IsUtf8 bytes h.1
+utf8_at_ok (Err f) bytes P Q h e = cc
+
+pub utf8_at_err : {T E : Type 0} (r : Result T E) (bytes : List ℕ) (P : T → Type 0) (Q : E → Type 0) → MatchResult r (λ s. P s × IsUtf8 bytes) (λ e. (IsUtf8 bytes → ⊥) × Q e) → is_err r ≡ true → is_utf8 bytes ≡ false
+utf8_at_err (Ok s) bytes P Q h e = cc
+utf8_at_err (Err f) bytes P Q h e =
+    false_from_ne_true (is_utf8 bytes) (λ yes. h.0 (IsUtf8-from_is_utf8 bytes yes))
+
+pub from_parts : (text : List ℕ) → TextParts text → path_fault text ≡ None
+unfolding path_fault
+from_parts text p = or_at_none _ _ (text-none text p.some p.short p.utf8 p.no_zero) ∙ first_bad_name-none (names_of text) p.names
+
+-- ---- the grammar and the first fault
+
+pub path_sound : (text : List ℕ) → path_fault text ≡ None → IsPath text (names_of text)
+path_sound text e =
+    let p = parts text e in
+    record {
+      spelled = sym (text_of-names_of text);
+      valid = p.names;
+      short = ltb-false 4095 (length text) p.short;
+      utf8 = IsUtf8-from_is_utf8 text p.utf8;
+    }
+
+no_zero-joined : (name : List ℕ) (names : List (List ℕ)) → All IsName (name ∷ names) → holds 0 (join_with_byte slash (name ∷ names)) ≡ false
+no_zero-joined name [] h = name-no_zero name (All-head IsName name [] h)
+no_zero-joined name (next ∷ names) h =
+    list_any-append (λ x. x == 0) name (slash ∷ join_with_byte slash (next ∷ names))
+    ∙ or_from _ _
+    (name-no_zero name (All-head IsName name (next ∷ names) h))
+    (no_zero-joined next names (All-tail IsName name (next ∷ names) h))
+
+some-joined : (name : List ℕ) (names : List (List ℕ)) → All IsName (name ∷ names) → 0 < length (join_with_byte slash (name ∷ names))
+some-joined name [] h = name-some name (All-head IsName name [] h)
+some-joined name (next ∷ names) h =
+    rw (length-append name (slash ∷ join_with_byte slash (next ∷ names)))
+    (let some : 0 < length name = name-some name (All-head IsName name (next ∷ names) h) in omega arith)
+
+no_zero-text : (names : List (List ℕ)) → All IsName names → holds 0 (text_of names) ≡ false
+unfolding text_of
+no_zero-text [] h = refl
+no_zero-text (name ∷ names) h = no_zero-joined name names h
+
+some-text : (names : List (List ℕ)) → All IsName names → 0 < length (text_of names)
+unfolding text_of
+some-text [] h = omega arith
+some-text (name ∷ names) h = some-joined name names h
+
+pub path_complete : (text : List ℕ) (names : List (List ℕ)) → IsPath text names → (path_fault text ≡ None) × (names_of text ≡ names)
+path_complete text names p =
+    let same : names_of text ≡ names = ap names_of p.spelled ∙ names_of-text_of names p.valid in
+    let some : 0 < length text = subst (λ t. 0 < length t) (sym p.spelled) (some-text names p.valid) in (
+      from_parts text
+          (record {
+            some = ne_eqb (length text) 0 (λ e. omega arith);
+            short = le-ltb 4095 (length text) p.short;
+            utf8 = is_utf8-from_IsUtf8 text p.utf8;
+            no_zero = ap (holds 0) p.spelled ∙ no_zero-text names p.valid;
+            names = subst (All IsName) (sym same) p.valid;
+          }),
+      same,
+    )
+
+pub path_unique : (a b : List (List ℕ)) → All IsName a → All IsName b → text_of a ≡ text_of b → a ≡ b
+path_unique a b p q same = sym (names_of-text_of a p) ∙ ap names_of same ∙ names_of-text_of b q
+
+-- ---- the first name and what follows it
+
+pub slash_after : (text : List ℕ) → position_or_len is_slash text < length text → pieces text ≡ take (position_or_len is_slash text) text ∷ pieces (drop (position_or_len is_slash text + 1) text)
+slash_after text within = slice_split_first is_slash text 0 within
+
+pub no_slash_after : (text : List ℕ) → position_or_len is_slash text ≡ length text → pieces text ≡ text ∷ []
+no_slash_after text e =
+    slice_split_none is_slash text
+    (All-from_get_or (λ x. is_slash x ≡ false) text 0
+    (λ k h. fails_before_first is_slash text k 0 (omega arith)))
+
+pub front_no_slash : (text : List ℕ) → holds slash (take (position_or_len is_slash text) text) ≡ false
+front_no_slash text =
+    let p = position_or_len is_slash text in
+    list_any_none is_slash (take p text)
+    (All-from_get_or (λ x. is_slash x ≡ false) (take p text) 0
+    (λ k h.
+    let lt : k < p = omega (arith, length-take p text) in
+    rw (get_or-take p text k 0 lt) (fails_before_first is_slash text k 0 lt)))
+
+not_dot_at_slash : (text : List ℕ) → position_or_len is_slash text < length text → bytes_eq text dot ≡ false
+not_dot_at_slash text within =
+    elim (cases_Bool (bytes_eq text dot)) [
+      | inl same ↦
+          absurd
+          (let at_end = subst (λ t. position_or_len is_slash t < length t) (same_bytes text dot same) within in
+          let small : 1 < 1 = at_end in omega arith)
+      | inr other ↦ other
+    ]
+
+-- names that are all valid come from a text with a byte, other than `.`
+pieces_some : (text : List ℕ) → All IsName (pieces text) → 0 < length text
+pieces_some [] h = absurd (empty_is_no_name (All-head IsName [] [] h))
+pieces_some (byte ∷ text) h = omega arith
+
+pieces_no_dot : (text : List ℕ) → All IsName (pieces text) → bytes_eq text dot ≡ false
+pieces_no_dot text h =
+    elim (cases_Bool (bytes_eq text dot)) [
+      | inl same ↦
+          absurd (dot_is_no_name (All-head IsName dot [] (subst (λ t. All IsName (pieces t)) (same_bytes text dot same) h)))
+      | inr other ↦ other
+    ]
+
+-- what follows the first slash of a path is a path, of the names but the first
+pub after_slash : (text : List ℕ) → path_fault text ≡ None → position_or_len is_slash text < length text → (path_fault (drop (position_or_len is_slash text + 1) text) ≡ None) × (names_of (drop (position_or_len is_slash text + 1) text) ≡ drop 1 (names_of text))
+after_slash text e within =
+    let p = position_or_len is_slash text in
+    let after = drop (p + 1) text in
+    let of_text : TextParts text = parts text e in
+    let cut : names_of text ≡ take p text ∷ pieces after =
+    names_of-other text (not_dot_at_slash text within) ∙ slash_after text within in
+    let valid : All IsName (pieces after) =
+    All-tail IsName (take p text) (pieces after) (subst (All IsName) cut of_text.names) in
+    let some : 0 < length after = pieces_some after valid in
+    let other : bytes_eq after dot ≡ false = pieces_no_dot after valid in
+    let same : names_of after ≡ pieces after = names_of-other after other in
+    let at : get_or text p 0 ≡ slash = eqb-true (get_or text p 0) slash (passes_at_first is_slash text 0 within) in
+    let low : get_or text p 0 < 128 = omega arith in
+    let long : length text ≤ 4095 = ltb-false 4095 (length text) of_text.short in
+    let text_utf8 : IsUtf8 text = IsUtf8-from_is_utf8 text of_text.utf8 in (
+      from_parts after
+          (record {
+            some = ne_eqb (length after) 0 (λ none. omega arith);
+            short = le-ltb 4095 (length after) (omega (arith, length-drop (p + 1) text));
+            utf8 =
+                is_utf8-from_IsUtf8 after
+                (IsUtf8-drop text (p + 1) text_utf8 (IsCharBoundary-after_ascii text p text_utf8 within low));
+            no_zero =
+                holds-back 0 (take (p + 1) text) after (ap (holds 0) (take-append-drop (p + 1) text) ∙ of_text.no_zero);
+            names = subst (All IsName) (sym same) valid;
+          }),
+      same ∙ sym (ap (drop 1) cut),
+    )
+
+-- the place that a search for a slash finds
+pub first_slash : (text : List ℕ) (found : Option ℕ) → IsFirstByte (is_byte 47) text found → unwrap_or found (length text) ≡ position_or_len is_slash text
+first_slash text None h =
+    sym (position_or_len_is is_slash text (length text) 0 (omega arith) (λ k lt. false_from_ne_true (is_slash (get_or text k 0)) (λ yes. h k (omega arith) lt yes)) (λ lt. absurd (omega arith)))
+first_slash text (Some at) h =
+    let within : at < length text = h.0.high in
+    sym
+    (position_or_len_is is_slash text at 0 (omega arith)
+    (λ k lt. false_from_ne_true (is_slash (get_or text k 0)) (λ yes. h.0.before k (omega arith) lt yes))
+    (λ lt. h.1))
+
+-- ---- what the calls on a path give
+
+pub names_of-at_dot : (text : List ℕ) → bytes_eq text dot ≡ true → names_of text ≡ []
+names_of-at_dot text same = ap names_of (same_bytes text dot same) ∙ names_of-dot
+
+pub path_fault-dot : path_fault dot ≡ None
+path_fault-dot =
+    from_parts dot
+    (record { some = refl; short = refl; utf8 = is_utf8-from_IsUtf8 dot (IsUtf8-from_ascii dot (search rules)); no_zero = refl; names = subst (All IsName) (sym names_of-dot) (All-nil IsName) })
+
+-- the names from the first on
+pub pieces-cut : (text : List ℕ) (end : ℕ) → end ≡ position_or_len is_slash text → end ≤ length text → (rest : List (List ℕ)) × (pieces text ≡ take end text ∷ rest)
+pieces-cut text end e h =
+    elim (cases_lt end (length text)) [
+      | inl within ↦ (
+        pieces (drop (end + 1) text),
+        rw e (slash_after text (subst (λ k. k < length text) e within)),
+      )
+      | inr past ↦
+          let at_end : end ≡ length text = omega arith in
+          ([], no_slash_after text (sym e ∙ at_end) ∙ ap (λ name. name ∷ []) (sym (rw at_end (take-length text))))
+    ]
+
+pub head_of : (text : List ℕ) (end : ℕ) → bytes_eq text dot ≡ false → end ≡ position_or_len is_slash text → end ≤ length text → slice_get (names_of text) 0 ≡ Some (take end text)
+head_of text end other e h =
+    let cut = pieces-cut text end e h in
+    ap (λ names. slice_get names 0) (names_of-other text other ∙ cut.1)
+
+pub head_name : (text : List ℕ) (end : ℕ) → path_fault text ≡ None → bytes_eq text dot ≡ false → end ≡ position_or_len is_slash text → end ≤ length text → IsName (take end text)
+head_name text end sound other e h =
+    let cut = pieces-cut text end e h in
+    All-head IsName (take end text) cut.0
+    (subst (All IsName) (names_of-other text other ∙ cut.1) (parts text sound).names)
+
+pub rest_at_end : (text : List ℕ) → position_or_len is_slash text ≡ length text → drop 1 (names_of text) ≡ []
+rest_at_end text e =
+    elim (cases_Bool (bytes_eq text dot)) [
+      | inl same ↦ ap (drop 1) (names_of-at_dot text same)
+      | inr other ↦ ap (drop 1) (names_of-other text other ∙ no_slash_after text e)
+    ]
+
+-- ---- piece by piece
+
+pub piece_bad : (text : List ℕ) (end : ℕ) (found : PathFault) → end ≡ position_or_len is_slash text → end ≤ length text → name_fault (take end text) ≡ Some found → first_bad_name (pieces text) ≡ Some found
+piece_bad text end found e h bad =
+    let cut = pieces-cut text end e h in
+    ap first_bad_name cut.1 ∙ or_at_some (name_fault (take end text)) (first_bad_name cut.0) found bad
+
+pub last_piece_good : (text : List ℕ) → position_or_len is_slash text ≡ length text → name_fault text ≡ None → first_bad_name (pieces text) ≡ None
+last_piece_good text e good =
+    ap first_bad_name (no_slash_after text e) ∙ or_at_none (name_fault text) None good
+
+pub piece_good : (text : List ℕ) (end : ℕ) → end ≡ position_or_len is_slash text → end < length text → name_fault (take end text) ≡ None → first_bad_name (pieces text) ≡ first_bad_name (pieces (drop (end + 1) text))
+piece_good text end e within good =
+    let cut : pieces text ≡ take end text ∷ pieces (drop (end + 1) text) =
+    rw e (slash_after text (subst (λ k. k < length text) e within)) in
+    ap first_bad_name cut
+    ∙ or_at_none (name_fault (take end text)) (first_bad_name (pieces (drop (end + 1) text))) good
+
+pub take_no_zero : (text : List ℕ) (n : ℕ) → holds 0 text ≡ false → holds 0 (take n text) ≡ false
+take_no_zero text n h = holds-front 0 (take n text) (drop n text) (ap (holds 0) (take-append-drop n text) ∙ h)
+
+pub drop_no_zero : (text : List ℕ) (n : ℕ) → holds 0 text ≡ false → holds 0 (drop n text) ≡ false
+drop_no_zero text n h = holds-back 0 (take n text) (drop n text) (ap (holds 0) (take-append-drop n text) ∙ h)
+
+-- ---- the first fault, from its parts
+
+pub path_fault-text : (text : List ℕ) (found : PathFault) → first_broken (text_rules text) ≡ Some found → path_fault text ≡ Some found
+unfolding path_fault
+path_fault-text text found e = or_at_some _ _ found e
+
+pub path_fault-pieces : (text : List ℕ) → first_broken (text_rules text) ≡ None → bytes_eq text dot ≡ false → path_fault text ≡ first_bad_name (pieces text)
+unfolding path_fault
+path_fault-pieces text e other = or_at_none _ _ e ∙ ap first_bad_name (names_of-other text other)
+
+pub path_fault-at_dot : (text : List ℕ) → bytes_eq text dot ≡ true → path_fault text ≡ None
+path_fault-at_dot text same = ap path_fault (same_bytes text dot same) ∙ path_fault-dot
+
+pub no_path : (text : List ℕ) (names : List (List ℕ)) (found : PathFault) → path_fault text ≡ Some found → IsPath text names → ⊥
+no_path text names found e p =
+    let none : path_fault text ≡ None = (path_complete text names p).0 in
+    let wrong : None ≡ Some found = sym none ∙ e in
+    cc

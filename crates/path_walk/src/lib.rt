@@ -1,0 +1,13 @@
+// Paths of `fuchsia.io`: lists of names, joined by slashes.
+#![tactic(auto)]
+
+mod faults;
+mod names;
+mod walk;
+
+pub use faults::PathFault;
+pub use names::check_name;
+pub use walk::{Path, path_laws};
+
+#[cfg(test)]
+mod tests;

@@ -1,0 +1,53 @@
+ghost use Rattle.std.specs.Prelude.{◌≡◌, false, [], ◌∷◌};
+ghost use Rattle.std.specs.Result.{result_err};
+ghost use Rattle.path_walk.specs.Names.{slash, holds, name_fault, length_rules, dot_rule, first_broken};
+
+use crate::faults::PathFault;
+
+const LONGEST_NAME: usize = 255;
+
+/// Tests a single name: 1 to 255 bytes without a zero byte or a `/`, and neither `.` nor `..`. The
+/// first of EmptyName, NameTooLong, ZeroByte, Slash and DotName that holds is its fault.
+pub fn check_name(text: &[u8]) -> Result<(), PathFault>
+    ensures { result_err result ≡ name_fault text.now }
+{
+    check_length(text)?;
+    if text.contains(&0) {
+        return Err(PathFault::ZeroByte);
+    }
+    if text.contains(&b'/') {
+        return Err(PathFault::Slash);
+    }
+    check_dots(text)
+}
+
+/// Tests a name that is known to hold neither a zero byte nor a slash.
+pub(crate) fn check_piece(text: &[u8]) -> Result<(), PathFault>
+    requires no_zero { holds 0 text.now ≡ false }
+    requires no_slash { holds slash text.now ≡ false }
+    ensures { result_err result ≡ name_fault text.now }
+{
+    check_length(text)?;
+    check_dots(text)
+}
+
+fn check_length(text: &[u8]) -> Result<(), PathFault>
+    ensures { result_err result ≡ first_broken (length_rules text.now) }
+{
+    if text.is_empty() {
+        return Err(PathFault::EmptyName);
+    }
+    if text.len() > LONGEST_NAME {
+        return Err(PathFault::NameTooLong);
+    }
+    Ok(())
+}
+
+fn check_dots(text: &[u8]) -> Result<(), PathFault>
+    ensures { result_err result ≡ first_broken (dot_rule text.now ∷ []) }
+{
+    if text == b".".as_slice() || text == b"..".as_slice() {
+        return Err(PathFault::DotName);
+    }
+    Ok(())
+}

@@ -1,0 +1,168 @@
+use crate::PathFault::{DotName, Empty, EmptyName, NameTooLong, NotUtf8, Slash, TooLong, ZeroByte};
+use crate::{Path, PathFault, check_name, path_laws};
+use std::alloc::{AllocError, Global};
+use std::test::Fail;
+
+// Pieces, each with the number of times that it stands there.
+type Pieces = &'static [(&'static [u8], usize)];
+
+const LONG_NAME_AND_SLASH: &[u8] =
+    b"xxxxxxxxxxxxxxxxxxxxxxxxxxxxxxxxxxxxxxxxxxxxxxxxxxxxxxxxxxxxxxxxxxxxxxxxxxxxxxxxxxxxxxxxxxxxxxxxxxxxxxxxxxxxxxxxxxxxxxxxxxxxxxxxxxxxxxxxxxxxxxxxxxxxxxxxxxxxxxxxxxxxxxxxxxxxxxxxxxxxxxxxxxxxxxxxxxxxxxxxxxxxxxxxxxxxxxxxxxxxxxxxxxxxxxxxxxxxxxxxxxxxxxxxxxxxxxx/";
+
+fn text_of(alloc: Global, pieces: Pieces) -> Result<Vec<u8>, AllocError> {
+    let mut text = Vec::new(alloc);
+    for (piece, count) in pieces {
+        for _ in 0..*count {
+            text.extend_from_slice(piece)?;
+        }
+    }
+    Ok(text)
+}
+
+// Whether these are the path's names, in order.
+fn has_names(path: Path<'_>, names: &[&[u8]]) -> bool {
+    let mut left = path;
+    for name in names {
+        if left.first() != Some(*name) {
+            return false;
+        }
+        left = left.rest();
+    }
+    left.first().is_none() && left.as_bytes() == b".".as_slice()
+}
+
+// Whether the path has so many names, each of so many bytes.
+fn has_long_names(path: Path<'_>, count: usize, length: usize) -> bool {
+    let mut left = path;
+    for _ in 0..count {
+        if left.first().is_none_or(|name| name.len() != length) {
+            return false;
+        }
+        left = left.rest();
+    }
+    left.first().is_none()
+}
+
+#[test]
+fn paths_have_their_names(rt: HostRuntime) -> Result<(), Fail> {
+    let table: [(&[u8], &[&[u8]]); 15] = [
+        (b".", &[]),
+        (b"a", &[b"a"]),
+        (b"d/f", &[b"d", b"f"]),
+        (b"a/b/c/d/e", &[b"a", b"b", b"c", b"d", b"e"]),
+        (b"...", &[b"..."]),
+        (b".a", &[b".a"]),
+        (b"a.", &[b"a."]),
+        (b"..a", &[b"..a"]),
+        (b".. ", &[b".. "]),
+        (b" ", &[b" "]),
+        (b"a\\b", &[b"a\\b"]),
+        (b"a\nb", &[b"a\nb"]),
+        (b"\x01\x7f", &[b"\x01\x7f"]),
+        (
+            b"\xc3\xa9/\xe2\x82\xac/\xf0\x9f\x98\x80",
+            &[b"\xc3\xa9", b"\xe2\x82\xac", b"\xf0\x9f\x98\x80"],
+        ),
+        (b"e\xcc\x81", &[b"e\xcc\x81"]),
+    ];
+    for (text, names) in table {
+        let path = Path::check(text).ok().ok_or("this is a path")?;
+        assert!(rt; path.as_bytes() == text);
+        assert!(rt; has_names(path, names), "the names of {text:?}");
+    }
+    path_laws();
+    Ok(())
+}
+
+#[test]
+fn long_paths_have_their_names(rt: HostRuntime) -> Result<(), Fail> {
+    let table: [(Pieces, usize, usize); 5] = [
+        (&[(b"a", 255)], 1, 255),
+        (&[(b"a", 255), (b"/", 1), (b"b", 255)], 2, 255),
+        (&[(b"\xc3\xa9", 127), (b"a", 1)], 1, 255),
+        (&[(b"m/", 2047), (b"g", 1)], 2048, 1),
+        (&[(LONG_NAME_AND_SLASH, 15), (b"x", 255)], 16, 255),
+    ];
+    for (pieces, count, length) in table {
+        let text = text_of(rt.alloc(), pieces)?;
+        let path = Path::check(&text).ok().ok_or("this is a path")?;
+        assert!(rt;
+            has_long_names(path, count, length),
+            "{count} names of {length} bytes"
+        );
+    }
+    Ok(())
+}
+
+#[test]
+fn other_texts_have_their_fault(rt: HostRuntime) -> Result<(), Fail> {
+    let table: [(Pieces, PathFault); 32] = [
+        (&[], Empty),
+        (&[(b"a/", 2047), (b"ab", 1)], TooLong),
+        (&[(b"a", 4096)], TooLong),
+        (&[(b"\xff", 4096)], TooLong),
+        (&[(b"\0", 4096)], TooLong),
+        (&[(b"\xff", 1)], NotUtf8),
+        (&[(b"a\xc0\xafb", 1)], NotUtf8),
+        (&[(b"\xed\xa0\x80", 1)], NotUtf8),
+        (&[(b"a/\xe2\x82", 1)], NotUtf8),
+        (&[(b"\0\xff", 1)], NotUtf8),
+        (&[(b"//\xff", 1)], NotUtf8),
+        (&[(b"\0", 1)], ZeroByte),
+        (&[(b"a\0b", 1)], ZeroByte),
+        (&[(b"a//\0", 1)], ZeroByte),
+        (&[(b"../\0", 1)], ZeroByte),
+        (&[(b"/", 1)], EmptyName),
+        (&[(b"/a", 1)], EmptyName),
+        (&[(b"a/", 1)], EmptyName),
+        (&[(b"a//b", 1)], EmptyName),
+        (&[(b"a", 256)], NameTooLong),
+        (&[(b"a/", 1), (b"b", 256)], NameTooLong),
+        (&[(b"\xc3\xa9", 128)], NameTooLong),
+        (&[(b"..", 1)], DotName),
+        (&[(b"./a", 1)], DotName),
+        (&[(b"a/.", 1)], DotName),
+        (&[(b"a/../b", 1)], DotName),
+        (&[(b"a/..", 1)], DotName),
+        (&[(b".//", 1)], DotName),
+        (&[(b"a//..", 1)], EmptyName),
+        (&[(b"a", 256), (b"//", 1)], NameTooLong),
+        (&[(b"../", 1), (b"a", 256)], DotName),
+        (&[(b"./", 1)], DotName),
+    ];
+    for (pieces, fault) in table {
+        let text = text_of(rt.alloc(), pieces)?;
+        assert_eq!(rt; Path::check(&text).err(), Some(fault), "{pieces:?}");
+    }
+    Ok(())
+}
+
+#[test]
+fn single_names_have_their_fault(rt: HostRuntime) -> Result<(), Fail> {
+    let table: [(Pieces, Option<PathFault>); 19] = [
+        (&[(b"a", 1)], None),
+        (&[(b"a", 255)], None),
+        (&[(b"...", 1)], None),
+        (&[(b" ", 1)], None),
+        (&[(b"\n", 1)], None),
+        (&[(b"\xc3\xa9", 1)], None),
+        (&[], Some(EmptyName)),
+        (&[(b"a", 256)], Some(NameTooLong)),
+        (&[(b"a", 5000)], Some(NameTooLong)),
+        (&[(b"\0", 1)], Some(ZeroByte)),
+        (&[(b"a/b", 1)], Some(Slash)),
+        (&[(b"/", 1)], Some(Slash)),
+        (&[(b".", 1)], Some(DotName)),
+        (&[(b"..", 1)], Some(DotName)),
+        (&[(b"\0", 256)], Some(NameTooLong)),
+        (&[(b"/", 256)], Some(NameTooLong)),
+        (&[(b"/\0", 1)], Some(ZeroByte)),
+        (&[(b"../", 1)], Some(Slash)),
+        (&[(b"./", 1)], Some(Slash)),
+    ];
+    for (pieces, fault) in table {
+        let text = text_of(rt.alloc(), pieces)?;
+        assert_eq!(rt; check_name(&text).err(), fault, "{pieces:?}");
+    }
+    Ok(())
+}
