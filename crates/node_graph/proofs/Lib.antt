@@ -1,0 +1,10 @@
+mod Begin
+mod Bytes
+mod Found
+mod Listed
+mod Ordered
+mod Needed
+mod RowLists
+mod Seats
+mod Soundness
+mod States

@@ -1,0 +1,14 @@
+use Rattle.node_graph.proofs.Soundness.{bare_sound, made_sound, written_sound, resized_sound}
+use Rattle.node_graph.proofs.laws.changes_keep_trees_sound.Goals as goal
+
+pub returns-clause-begun : goal.returns-clause-begun
+returns-clause-begun c = bare_sound
+
+pub returns-clause-made : goal.returns-clause-made
+returns-clause-made c = made_sound
+
+pub returns-clause-written : goal.returns-clause-written
+returns-clause-written c = written_sound
+
+pub returns-clause-resized : goal.returns-clause-resized
+returns-clause-resized c = resized_sound

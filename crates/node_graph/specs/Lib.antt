@@ -1,0 +1,7 @@
+pub mod Tree
+pub mod Graph
+pub mod Cell
+pub mod Codes
+pub mod Listing
+pub mod Rows
+pub use Rattle.io_rights.specs.Operations

@@ -1,0 +1,182 @@
+ghost use Rattle.std.specs.Prelude.{◌≡◌, ◌==◌, ◌||◌, ℕ, true, is_some, nat_lt, length, IfOk, IfSome, Some, count_by};
+ghost use Rattle.std.specs.Option.{option_map};
+ghost use Rattle.std.specs.FinMap as finite;
+ghost use Rattle.node_graph.specs.declared.nodes.NodeKind.TheVariants.{Directory, File};
+ghost use Rattle.node_graph.specs.Tree.{bare_tree, link_count, is_linked, is_removed};
+ghost use Rattle.node_graph.specs.Rows.{InOrder, edge_map, kept_of};
+ghost use Rattle.node_graph.specs.Graph.{number_of, Names, kind_at, bytes_at, holds_at, is_kept, seat_of, StandsFor, numbers_to};
+
+use crate::edges::{Edge, find_edge, is_cut_off, leads_to, links_to};
+use crate::nodes::{Entry, NodeKind, NodeRef};
+use crate::rows::Node;
+use fidl_names::NoMemory;
+use std::alloc::Global;
+use std::marker::Model;
+
+/// One server's tree.
+#[derive(Drop)]
+pub struct Graph {
+    pub(crate) nodes: Vec<Node>,
+    pub(crate) edges: Vec<Edge>,
+}
+
+impl Model for Graph {
+    ghost use Rattle.node_graph.specs.Graph.{Kept};
+    ghost use Rattle.node_graph.specs.Codes.{kept_code};
+    ghost use Rattle.node_graph.specs.Rows.{kept_of, AreRows};
+
+    ghost Value = { Kept };
+
+    ghost coded = { kept_code };
+
+    ghost view = { λ graph. kept_of graph.nodes.items graph.edges.items };
+
+    ghost invariant = { λ graph. AreRows graph.nodes.items graph.edges.items };
+}
+
+impl Graph {
+    /// A tree of the root alone, a directory with number 1. It grows by this allocator.
+    pub fn new(alloc: Global) -> Result<Graph, NoMemory>
+        ensures stands { IfOk result (λ graph. StandsFor graph bare_tree) }
+        ensures made { IfOk result (λ graph. graph.made ≡ 1) }
+        ensures edges { IfOk result (λ graph. graph.edges ≡ finite.empty) }
+        ensures holds { IfOk result (λ graph. (number : ℕ) → holds_at graph number ≡ 0) }
+    {
+        let mut nodes = Vec::new(alloc);
+        nodes.push(Node::new(alloc, NodeKind::Directory))?;
+        Ok(Graph {
+            nodes,
+            edges: Vec::new(alloc),
+        })
+    }
+
+    /// The root of the tree.
+    pub fn root(&self) -> NodeRef
+        ensures named { Names self.now result }
+        ensures number { number_of result ≡ 1 }
+        ensures kind { kind_at self.now 1 ≡ Some Directory }
+    {
+        let _rows = &self.nodes;
+        NodeRef {
+            place: 0,
+            number: 1,
+        }
+    }
+
+    /// The node's number: one more than the count of nodes that were made before it.
+    pub fn number(&self, node: NodeRef) -> u64
+        requires { Names self.now node }
+        ensures { result ≡ number_of node }
+    {
+        node.number
+    }
+
+    /// What the node is.
+    pub fn kind(&self, node: NodeRef) -> NodeKind
+        requires { Names self.now node }
+        ensures { kind_at self.now (number_of node) ≡ Some result }
+    {
+        self.row(node).kind()
+    }
+
+    /// How many nodes were made so far, the root included.
+    pub fn made(&self) -> u64
+        ensures { result ≡ self.now.made }
+    {
+        self.nodes.len() as u64
+    }
+
+    /// How many names lead to the node.
+    pub fn links(&self, node: NodeRef) -> u32
+        requires { Names self.now node }
+        ensures { result ≡ link_count self.now.edges (number_of node) }
+    {
+        links_to(&self.edges, node.number) as u32
+    }
+
+    /// Whether the node isn't the root and no name leads to it. Such a directory is empty for good.
+    pub fn removed(&self, node: NodeRef) -> bool
+        requires { Names self.now node }
+        ensures { result ≡ is_removed self.now.edges (number_of node) }
+    {
+        is_cut_off(&self.edges, node.number)
+    }
+
+    /// How many names there are.
+    pub fn names(&self) -> u32
+        ensures { result ≡ finite.len self.now.edges }
+    {
+        self.edges.len() as u32
+    }
+
+    /// The file's bytes.
+    pub fn bytes(&self, node: NodeRef) -> &[u8]
+        requires named { Names self.now node }
+        requires file { kind_at self.now (number_of node) ≡ Some File }
+        ensures { result.now ≡ bytes_at self.now (number_of node) }
+    {
+        self.row(node).bytes()
+    }
+
+    /// What a name in a directory leads to; `None` exactly where there is no such name.
+    pub fn lookup(&self, dir: NodeRef, name: &[u8]) -> Option<Entry>
+        requires named { Names self.now dir }
+        requires directory { kind_at self.now (number_of dir) ≡ Some Directory }
+        ensures found { option_map (λ entry. record { child = number_of entry.node; mask = entry.mask }) result ≡ finite.get self.now.edges (record { directory = number_of dir; name = name.now }) }
+        ensures kept { IfSome result (λ entry. Names self.now entry.node) }
+    {
+        match find_edge(&self.edges, dir.number, name) {
+            Some(edge) => Some(Entry {
+                node: NodeRef::to(edge.child),
+                mask: edge.mask,
+            }),
+            None => None,
+        }
+    }
+
+    /// How many nodes are the root, linked or held. These and no others have to be kept.
+    pub fn kept(&self) -> usize
+        ensures count { result ≡ count_by (is_kept self.now) (numbers_to self.now.made) }
+        ensures seated { (number : ℕ) → is_kept self.now number ≡ true → is_some (seat_of self.now number) ≡ true }
+    {
+        count_needed(&self.nodes, &self.edges)
+    }
+
+    // The node's row.
+    pub(crate) fn row(&self, node: NodeRef) -> &Node
+        requires { Names self.now node }
+        ensures kind { kind_at self.now (number_of node) ≡ Some result.now.kind }
+        ensures bytes { bytes_at self.now (number_of node) ≡ result.now.bytes }
+        ensures holds { holds_at self.now (number_of node) ≡ result.now.holds }
+    {
+        &self.nodes[node.place]
+    }
+}
+
+// How many of the nodes are the root, linked or held.
+fn count_needed(nodes: &[Node], edges: &[Edge]) -> usize
+    requires { InOrder edges.now }
+    ensures { result ≡ count_by (is_kept (kept_of nodes.now edges.now)) (numbers_to (length nodes.now)) }
+{
+    let mut count = 0;
+    for place in 0..nodes.len() {
+        if is_needed(&nodes[place], edges, place as u64 + 1) {
+            count += 1;
+        }
+    }
+    count
+}
+
+// Whether the node with this number is the root, linked or held.
+fn is_needed(node: &Node, edges: &[Edge], number: u64) -> bool
+    requires { InOrder edges.now }
+    ensures { result ≡ (number == 1 || (is_linked (edge_map edges.now) number || nat_lt 0 node.now.holds)) }
+{
+    if number == 1 {
+        return true;
+    }
+    if leads_to(edges, number) {
+        return true;
+    }
+    node.is_held()
+}

@@ -1,0 +1,47 @@
+ghost use Rattle.std.specs.Prelude.{◌≡◌, ◌≤◌, length};
+
+use crate::MAX_NAME;
+use std::marker::Model;
+
+/// A name of 1 to 255 bytes in an array, so that it takes no memory of its own. Contracts see it as
+/// its bytes.
+#[derive(Drop)]
+pub struct NameBuf {
+    bytes: [u8; MAX_NAME],
+    length: usize,
+}
+
+impl Model for NameBuf {
+    ghost use Rattle.std.specs.Prelude.{ℕ, List, take, ◌≤◌};
+    ghost use Rattle.node_graph.specs.declared.TheConstants.{MAX_NAME};
+
+    ghost Value = { List ℕ };
+
+    ghost view = { λ name. take name.length name.bytes };
+
+    ghost invariant = { λ name. (1 ≤ name.length) × (name.length ≤ MAX_NAME) };
+}
+
+impl NameBuf {
+    pub fn new(name: &[u8]) -> NameBuf
+        requires some { 1 ≤ length name.now }
+        requires few { length name.now ≤ MAX_NAME }
+        ensures { result ≡ name.now }
+    {
+        let mut bytes = [0; MAX_NAME];
+        bytes[..name.len()].copy_from_slice(name);
+        NameBuf {
+            bytes,
+            length: name.len(),
+        }
+    }
+
+    /// The name, of 1 to 255 bytes.
+    pub fn as_bytes(&self) -> &[u8]
+        ensures value { result.now ≡ self.now }
+        ensures some { 1 ≤ length result.now }
+        ensures few { length result.now ≤ MAX_NAME }
+    {
+        &self.bytes[..self.length]
+    }
+}

@@ -1,0 +1,150 @@
+ghost use Rattle.std.specs.Prelude.{◌≡◌, ◌≤◌, ◌<◌, ◌^◌, ℕ, Some, length, OnOk, IfOk};
+ghost use Rattle.node_graph.specs.declared.nodes.NodeKind.TheVariants.{Directory, File};
+ghost use Rattle.node_graph.specs.Graph.{number_of, Names, kind_at, holds_at, SameHolds};
+
+use crate::{
+    Graph, GraphFault, MAX_FILE, MAX_NAME, NameBuf, NodeKind, NodeRef, changes_keep_trees_sound,
+};
+use io_rights::{Operation, Rights};
+use std::process::Abort;
+use std::test::Fail;
+
+// A name in the root.
+fn make(
+    rt: &impl Abort,
+    graph: &mut Graph,
+    name: &[u8],
+    kind: NodeKind,
+) -> Result<NodeRef, GraphFault>
+    ensures named { IfOk result (λ node. Names graph.new node) }
+    ensures kind { IfOk result (λ node. kind_at graph.new (number_of node) ≡ Some kind) }
+    ensures holds { SameHolds graph.old graph.new }
+{
+    assert!(rt; !name.is_empty() && name.len() <= MAX_NAME && graph.made() < 1 << 63);
+    let root = graph.root();
+    graph.create(root, name, kind, Rights::of(Operation::ReadBytes))
+}
+
+// The file with a name in the root.
+fn file(rt: &impl Abort, graph: &Graph, name: &[u8]) -> NodeRef
+    ensures named { Names graph.now result }
+    ensures file { kind_at graph.now (number_of result) ≡ Some File }
+{
+    let entry = graph
+        .lookup(graph.root(), name)
+        .expect(rt, "there is such a name");
+    assert!(rt; graph.kind(entry.node) == NodeKind::File);
+    entry.node
+}
+
+#[test]
+fn nodes_are_counted_and_numbered(rt: HostRuntime) -> Result<(), Fail> {
+    let mut graph = Graph::new(rt.alloc())?;
+    assert_eq!(rt; (graph.kept(), graph.made(), graph.names()), (1, 1, 0));
+    let first = make(&rt, &mut graph, b"f", NodeKind::File)?;
+    assert_eq!(rt; graph.number(first), 2);
+    assert_eq!(rt;
+        (graph.kept(), graph.links(first), graph.removed(first)),
+        (2, 1, false)
+    );
+    graph.hold(first);
+    assert_eq!(rt; graph.kept(), 2);
+    graph.release(first);
+    assert_eq!(rt; (graph.kept(), graph.links(first)), (2, 1));
+    let second = make(&rt, &mut graph, b"g", NodeKind::File)?;
+    assert_eq!(rt; (graph.number(second), graph.kept()), (3, 3));
+    Ok(())
+}
+
+#[test]
+fn a_gap_is_filled_with_zeros(rt: HostRuntime) -> Result<(), Fail> {
+    let mut graph = Graph::new(rt.alloc())?;
+    make(&rt, &mut graph, b"f", NodeKind::File)?;
+    let node = file(&rt, &graph, b"f");
+    graph.write_at(node, 3, b"abc")?;
+    let node = file(&rt, &graph, b"f");
+    assert!(rt; graph.bytes(node) == b"\0\0\0abc".as_slice());
+    graph.write_at(node, 1, b"xy")?;
+    let node = file(&rt, &graph, b"f");
+    assert!(rt; graph.bytes(node) == b"\0xyabc".as_slice());
+    graph.resize(node, 2)?;
+    let node = file(&rt, &graph, b"f");
+    graph.resize(node, 4)?;
+    let node = file(&rt, &graph, b"f");
+    assert!(rt; graph.bytes(node) == b"\0x\0\0".as_slice());
+    graph.write_at(node, u64::MAX, b"")?;
+    let node = file(&rt, &graph, b"f");
+    assert!(rt; graph.bytes(node).len() == 4);
+    assert_eq!(rt;
+        graph.write_at(node, MAX_FILE as u64, b"a"),
+        Err(GraphFault::FileBig)
+    );
+    Ok(())
+}
+
+#[test]
+fn names_are_listed_by_their_bytes(rt: HostRuntime) -> Result<(), Fail> {
+    let mut graph = Graph::new(rt.alloc())?;
+    let made: [&[u8]; 6] = [b"b", b"\xff", b"ab", b"a", b"\x7f\xff", b"aa"];
+    for name in made {
+        make(&rt, &mut graph, name, NodeKind::Service)?;
+    }
+    let sorted: [&[u8]; 6] = [b"a", b"aa", b"ab", b"b", b"\x7f\xff", b"\xff"];
+    let numbers = [5, 7, 4, 2, 6, 3];
+    let mut listing = graph.names_after(graph.root(), None);
+    for (place, name) in sorted.iter().enumerate() {
+        let view = listing.next().ok_or("one name more")?;
+        assert!(rt;
+            view.name == *name && view.number == numbers[place],
+            "place {place}"
+        );
+        assert_eq!(rt; view.kind, NodeKind::Service);
+        let next = graph.names_after(graph.root(), Some(*name)).next();
+        let follows = if place < 5 {
+            Some(sorted[place + 1])
+        } else {
+            None
+        };
+        assert!(rt; next.map(|view| view.name) == follows, "after {place}");
+    }
+    assert!(rt; listing.next().is_none());
+    let first = graph.names_after(graph.root(), Some(b"aab")).next();
+    assert!(rt; first.map(|view| view.number) == Some(4));
+    Ok(())
+}
+
+#[test]
+fn a_walk_ends_with_a_create(rt: HostRuntime) -> Result<(), Fail> {
+    let mut graph = Graph::new(rt.alloc())?;
+    make(&rt, &mut graph, b"d", NodeKind::Directory)?;
+    let entry = graph.lookup(graph.root(), b"d").ok_or("made above")?;
+    assert_eq!(rt; entry.mask, Rights::of(Operation::ReadBytes));
+    assert_eq!(rt; graph.kind(entry.node), NodeKind::Directory);
+    assert!(rt; graph.made() < 1 << 63);
+    assert_eq!(rt; graph.lookup(entry.node, b"d"), None);
+    graph.create(entry.node, b"d", NodeKind::Mount(7), Rights::all())?;
+    assert_eq!(rt; (graph.names(), graph.made(), graph.kept()), (2, 3, 3));
+    let again = make(&rt, &mut graph, b"d", NodeKind::File);
+    assert_eq!(rt; again, Err(GraphFault::Exists));
+    changes_keep_trees_sound();
+    Ok(())
+}
+
+#[test]
+fn there_is_room_for_so_many_names(rt: HostRuntime) -> Result<(), Fail> {
+    let mut graph = Graph::new(rt.alloc())?;
+    for number in 0..4096u32 {
+        make(&rt, &mut graph, &number.to_le_bytes(), NodeKind::File)?;
+    }
+    let more = make(&rt, &mut graph, b"more", NodeKind::File);
+    assert_eq!(rt; more, Err(GraphFault::NoSpace));
+    assert_eq!(rt; (graph.names(), graph.made()), (4096, 4097));
+    Ok(())
+}
+
+#[test]
+fn a_name_is_kept_whole(rt: HostRuntime) {
+    let longest = [b'n'; MAX_NAME];
+    assert!(rt; NameBuf::new(&longest).as_bytes() == longest.as_slice());
+    assert!(rt; NameBuf::new(b"\0").as_bytes() == b"\0".as_slice());
+}
