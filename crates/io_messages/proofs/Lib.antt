@@ -1,0 +1,9 @@
+pub mod Parts
+pub mod Known
+pub mod Numbered
+pub mod RequestLaws
+pub mod Lengths
+pub mod Unions
+pub mod ReplyLaws
+pub mod Headers
+pub mod WritingLaws

@@ -1,0 +1,34 @@
+-- What holds of every message and all handles.
+use Rattle.std.specs.Prelude.{◌≡◌, ℕ, ◌^◌, ◌<◌, true, List}
+use Rattle.fidl_names.specs.declared.methods.Handle.{Handle}
+use Rattle.io_messages.specs.declared.protocols.Protocol.{Protocol}
+use Rattle.io_messages.specs.Asked.{Asked, method_of}
+use Rattle.io_messages.specs.Protocols.{has_method}
+use Rattle.io_messages.specs.Replies.{Answered, ReadsReply, ReadsEvent, kind_of}
+use Rattle.io_messages.specs.ReplyWriting.{event_bytes, branch_of_kind}
+use Rattle.io_messages.specs.Requests.{Reads, has_txid}
+use Rattle.io_messages.specs.Shapes.{is_one_way}
+use Rattle.io_messages.specs.Writing.{request_bytes, request_handles, IsRequest}
+
+-- two readings as a request are one
+abbrev pub RequestsAreReadOnce : Type 0
+RequestsAreReadOnce =
+    (p : Protocol) (bytes : List ℕ) (handles : List Handle) (t u : ℕ) (a b : Asked) → Reads p bytes handles t a → Reads p bytes handles u b → (t ≡ u) × (a ≡ b)
+
+-- two readings as a reply are one
+abbrev pub RepliesAreReadOnce : Type 0
+RepliesAreReadOnce =
+    (bytes : List ℕ) (handles : List Handle) (t u : ℕ) (a b : Answered) → ReadsReply bytes handles t a → ReadsReply bytes handles u b → (t ≡ u) × (a ≡ b)
+
+-- two readings as an event are one
+abbrev pub EventsAreReadOnce : Type 0
+EventsAreReadOnce = (bytes : List ℕ) (k l : Protocol) → ReadsEvent bytes k → ReadsEvent bytes l → k ≡ l
+
+-- what is written for a request is that request, to each protocol that has its method
+abbrev pub WrittenRequestsAreRead : Type 0
+WrittenRequestsAreRead =
+    (p : Protocol) (t : ℕ) (a : Asked) → has_method p (method_of a) ≡ true → t < 2 ^ 32 → has_txid (is_one_way (method_of a)) t ≡ true → IsRequest a → Reads p (request_bytes t a) (request_handles a) t a
+
+-- what is written for a kind is an event that tells it, or node for a service
+abbrev pub WrittenEventsAreRead : Type 0
+WrittenEventsAreRead = (k : Protocol) → ReadsEvent (event_bytes k) (kind_of (branch_of_kind k))

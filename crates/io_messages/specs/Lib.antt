@@ -1,0 +1,9 @@
+pub mod Protocols
+pub mod Asked
+pub mod Shapes
+pub mod Requests
+pub mod Replies
+pub mod Fields
+pub mod Writing
+pub mod ReplyWriting
+pub mod Laws

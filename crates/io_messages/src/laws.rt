@@ -1,0 +1,41 @@
+//! Laws of the messages. They compute nothing: what they say is in their clauses.
+
+ghost use Rattle.fidl_wire.specs.Names.{AreDistinct};
+ghost use Rattle.io_messages.specs.Laws.{RequestsAreReadOnce, RepliesAreReadOnce, EventsAreReadOnce, WrittenRequestsAreRead, WrittenEventsAreRead};
+
+use fidl_wire::{body_is_read_where_spelled, spelling_is_read};
+
+/// Bytes and handles are at most one request to a protocol, where no two names have equal ordinals.
+pub fn request_is_read_once()
+    ensures { AreDistinct → RequestsAreReadOnce }
+{
+    body_is_read_where_spelled();
+}
+
+/// Bytes and handles are at most one reply, where no two names have equal ordinals.
+pub fn reply_is_read_once()
+    ensures { AreDistinct → RepliesAreReadOnce }
+{
+    body_is_read_where_spelled();
+}
+
+/// Bytes are at most one event.
+pub fn event_is_read_once()
+    ensures { EventsAreReadOnce }
+{
+    body_is_read_where_spelled();
+}
+
+/// What is written for a request is that request, to each protocol that has its method.
+pub fn written_request_is_read()
+    ensures { WrittenRequestsAreRead }
+{
+    spelling_is_read();
+}
+
+/// What is written for a kind of node is an event that tells it; a service is told as node.
+pub fn written_event_is_read()
+    ensures { WrittenEventsAreRead }
+{
+    spelling_is_read();
+}

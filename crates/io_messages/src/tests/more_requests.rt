@@ -1,0 +1,477 @@
+//! Outside values: requests.
+use crate::tests::rows::{RequestRow, expect_requests};
+use crate::{Protocol, Request};
+use fidl_names::Handle;
+use fidl_wire::Ordinals;
+use std::test::Fail;
+
+static ROWS: [RequestRow; 34] = [
+    // write nothing
+    RequestRow {
+        protocol: Protocol::File,
+        bytes: b"\x01\x00\x00\x00\x02\x00\x00\x01\x85\x01\x3b\xc6\x28\x05\x90\x49\x00\x00\x00\x00\x00\x00\x00\x00\xff\xff\xff\xff\xff\xff\xff\xff",
+        handles: &[],
+        expected: Ok((1, Request::Write { bytes: b"" })),
+    },
+    // echo nothing
+    RequestRow {
+        protocol: Protocol::Echo,
+        bytes: b"\x01\x00\x00\x00\x02\x00\x00\x01\x16\xa6\xd9\x52\x4e\x27\xb8\x75\x00\x00\x00\x00\x00\x00\x00\x00\xff\xff\xff\xff\xff\xff\xff\xff",
+        handles: &[],
+        expected: Ok((1, Request::EchoString { value: b"" })),
+    },
+    // write 7 bytes
+    RequestRow {
+        protocol: Protocol::File,
+        bytes: b"\x01\x00\x00\x00\x02\x00\x00\x01\x85\x01\x3b\xc6\x28\x05\x90\x49\x07\x00\x00\x00\x00\x00\x00\x00\xff\xff\xff\xff\xff\xff\xff\xff\x61\x62\x63\x64\x65\x66\x67\x00",
+        handles: &[],
+        expected: Ok((1, Request::Write { bytes: b"abcdefg" })),
+    },
+    // write 8 bytes
+    RequestRow {
+        protocol: Protocol::File,
+        bytes: b"\x01\x00\x00\x00\x02\x00\x00\x01\x85\x01\x3b\xc6\x28\x05\x90\x49\x08\x00\x00\x00\x00\x00\x00\x00\xff\xff\xff\xff\xff\xff\xff\xff\x61\x62\x63\x64\x65\x66\x67\x68",
+        handles: &[],
+        expected: Ok((1, Request::Write { bytes: b"abcdefgh" })),
+    },
+    // write 9 bytes
+    RequestRow {
+        protocol: Protocol::File,
+        bytes: b"\x01\x00\x00\x00\x02\x00\x00\x01\x85\x01\x3b\xc6\x28\x05\x90\x49\x09\x00\x00\x00\x00\x00\x00\x00\xff\xff\xff\xff\xff\xff\xff\xff\x61\x62\x63\x64\x65\x66\x67\x68\x69\x00\x00\x00\x00\x00\x00\x00",
+        handles: &[],
+        expected: Ok((
+            1,
+            Request::Write {
+                bytes: b"abcdefghi",
+            },
+        )),
+    },
+    // echo of many letters
+    RequestRow {
+        protocol: Protocol::Echo,
+        bytes: b"\x01\x00\x00\x00\x02\x00\x00\x01\x16\xa6\xd9\x52\x4e\x27\xb8\x75\x0a\x00\x00\x00\x00\x00\x00\x00\xff\xff\xff\xff\xff\xff\xff\xff\x61\xc3\xa9\xe2\x82\xac\xf0\x9f\x98\x80\x00\x00\x00\x00\x00\x00",
+        handles: &[],
+        expected: Ok((
+            1,
+            Request::EchoString {
+                value: b"\x61\xc3\xa9\xe2\x82\xac\xf0\x9f\x98\x80",
+            },
+        )),
+    },
+    // echo with a zero byte
+    RequestRow {
+        protocol: Protocol::Echo,
+        bytes: b"\x01\x00\x00\x00\x02\x00\x00\x01\x16\xa6\xd9\x52\x4e\x27\xb8\x75\x03\x00\x00\x00\x00\x00\x00\x00\xff\xff\xff\xff\xff\xff\xff\xff\x61\x00\x62\x00\x00\x00\x00\x00",
+        handles: &[],
+        expected: Ok((
+            1,
+            Request::EchoString {
+                value: b"\x61\x00\x62",
+            },
+        )),
+    },
+    // echo largest character
+    RequestRow {
+        protocol: Protocol::Echo,
+        bytes: b"\x01\x00\x00\x00\x02\x00\x00\x01\x16\xa6\xd9\x52\x4e\x27\xb8\x75\x04\x00\x00\x00\x00\x00\x00\x00\xff\xff\xff\xff\xff\xff\xff\xff\xf4\x8f\xbf\xbf\x00\x00\x00\x00",
+        handles: &[],
+        expected: Ok((
+            1,
+            Request::EchoString {
+                value: b"\xf4\x8f\xbf\xbf",
+            },
+        )),
+    },
+    // write bytes that are no text
+    RequestRow {
+        protocol: Protocol::File,
+        bytes: b"\x01\x00\x00\x00\x02\x00\x00\x01\x85\x01\x3b\xc6\x28\x05\x90\x49\x02\x00\x00\x00\x00\x00\x00\x00\xff\xff\xff\xff\xff\xff\xff\xff\xff\xfe\x00\x00\x00\x00\x00\x00",
+        handles: &[],
+        expected: Ok((1, Request::Write { bytes: b"\xff\xfe" })),
+    },
+    // read flexible
+    RequestRow {
+        protocol: Protocol::File,
+        bytes: b"\x01\x00\x00\x00\x02\x00\x80\x01\x4c\x01\xb8\x91\xc6\x7f\xf2\x40\x05\x00\x00\x00\x00\x00\x00\x00",
+        handles: &[],
+        expected: Ok((1, Request::Read { count: 5 })),
+    },
+    // read other header bits
+    RequestRow {
+        protocol: Protocol::File,
+        bytes: b"\x01\x00\x00\x00\xff\xff\x3f\x01\x4c\x01\xb8\x91\xc6\x7f\xf2\x40\x05\x00\x00\x00\x00\x00\x00\x00",
+        handles: &[],
+        expected: Ok((1, Request::Read { count: 5 })),
+    },
+    // open flexible
+    RequestRow {
+        protocol: Protocol::Directory,
+        bytes: b"\x00\x00\x00\x00\x02\x00\x80\x01\xd6\x54\x7c\xff\xbb\x4f\xbc\x2f\x01\x00\x00\x00\x00\x00\x00\x00\xff\xff\xff\xff\xff\xff\xff\xff\x00\x00\x00\x00\x00\x00\x00\x00\x00\x00\x00\x00\x00\x00\x00\x00\xff\xff\xff\xff\xff\xff\xff\xff\xff\xff\xff\xff\x00\x00\x00\x00\x2e\x00\x00\x00\x00\x00\x00\x00",
+        handles: &[Handle::Endpoint(2)],
+        expected: Ok((
+            0,
+            Request::OpenPath {
+                path: b".",
+                flags: 0x0,
+                attributes: None,
+                object: 2,
+            },
+        )),
+    },
+    // node read
+    RequestRow {
+        protocol: Protocol::Node,
+        bytes: b"\x02\x00\x00\x00\x02\x00\x00\x01\x4c\x01\xb8\x91\xc6\x7f\xf2\x40\x05\x00\x00\x00\x00\x00\x00\x00",
+        handles: &[],
+        expected: Ok((2, Request::Read { count: 5 })),
+    },
+    // node readdirents
+    RequestRow {
+        protocol: Protocol::Node,
+        bytes: b"\x02\x00\x00\x00\x02\x00\x00\x01\x14\x91\x6b\x2a\x59\xcc\xb0\x05\x01\x00\x00\x00\x00\x00\x00\x00",
+        handles: &[],
+        expected: Ok((2, Request::ReadDirents { max_bytes: 1 })),
+    },
+    // node seek
+    RequestRow {
+        protocol: Protocol::Node,
+        bytes: b"\x02\x00\x00\x00\x02\x00\x00\x01\x07\x52\x2c\x16\x68\x91\x07\x78\x00\x00\x00\x00\x00\x00\x00\x00\x00\x00\x00\x00\x00\x00\x00\x00",
+        handles: &[],
+        expected: Ok((
+            2,
+            Request::Seek {
+                origin: 0,
+                offset: 0,
+            },
+        )),
+    },
+    // node gettoken
+    RequestRow {
+        protocol: Protocol::Node,
+        bytes: b"\x02\x00\x00\x00\x02\x00\x00\x01\x0b\xea\x77\x55\x2d\xcc\x1d\x2c",
+        handles: &[],
+        expected: Ok((2, Request::GetToken)),
+    },
+    // node watch
+    RequestRow {
+        protocol: Protocol::Node,
+        bytes: b"\x02\x00\x00\x00\x02\x00\x00\x01\x79\xd8\x51\xa5\xb9\x30\xd3\x72\x01\x00\x00\x00\x00\x00\x00\x00\xff\xff\xff\xff\x00\x00\x00\x00",
+        handles: &[Handle::Endpoint(4)],
+        expected: Ok((
+            2,
+            Request::Watch {
+                mask: 1,
+                options: 0,
+                watcher: 4,
+            },
+        )),
+    },
+    // node open
+    RequestRow {
+        protocol: Protocol::Node,
+        bytes: b"\x00\x00\x00\x00\x02\x00\x00\x01\xd6\x54\x7c\xff\xbb\x4f\xbc\x2f\x01\x00\x00\x00\x00\x00\x00\x00\xff\xff\xff\xff\xff\xff\xff\xff\x00\x00\x00\x00\x00\x00\x00\x00\x00\x00\x00\x00\x00\x00\x00\x00\xff\xff\xff\xff\xff\xff\xff\xff\xff\xff\xff\xff\x00\x00\x00\x00\x61\x00\x00\x00\x00\x00\x00\x00",
+        handles: &[Handle::Endpoint(4)],
+        expected: Ok((
+            0,
+            Request::OpenPath {
+                path: b"a",
+                flags: 0x0,
+                attributes: None,
+                object: 4,
+            },
+        )),
+    },
+    // sync on file
+    RequestRow {
+        protocol: Protocol::File,
+        bytes: b"\x02\x00\x00\x00\x02\x00\x00\x01\x49\xdc\xb5\x0a\xca\x27\x5c\x2c",
+        handles: &[],
+        expected: Ok((2, Request::Sync)),
+    },
+    // sync on node
+    RequestRow {
+        protocol: Protocol::Node,
+        bytes: b"\x02\x00\x00\x00\x02\x00\x00\x01\x49\xdc\xb5\x0a\xca\x27\x5c\x2c",
+        handles: &[],
+        expected: Ok((2, Request::Sync)),
+    },
+    // zero bytes in a name are no padding
+    RequestRow {
+        protocol: Protocol::Directory,
+        bytes: b"\x01\x00\x00\x00\x02\x00\x00\x01\xed\x7b\x8d\xa7\x26\x03\x0a\x75\x03\x00\x00\x00\x00\x00\x00\x00\xff\xff\xff\xff\xff\xff\xff\xff\x00\x00\x00\x00\x00\x00\x00\x00\xff\xff\xff\xff\xff\xff\xff\xff\x61\x00\x62\x00\x00\x00\x00\x00",
+        handles: &[],
+        expected: Ok((
+            1,
+            Request::Unlink {
+                name: b"\x61\x00\x62",
+                flags: 0x0,
+            },
+        )),
+    },
+    // two absent envelopes
+    RequestRow {
+        protocol: Protocol::Directory,
+        bytes: b"\x00\x00\x00\x00\x02\x00\x00\x01\xd6\x54\x7c\xff\xbb\x4f\xbc\x2f\x01\x00\x00\x00\x00\x00\x00\x00\xff\xff\xff\xff\xff\xff\xff\xff\x00\x00\x00\x00\x00\x00\x00\x00\x02\x00\x00\x00\x00\x00\x00\x00\xff\xff\xff\xff\xff\xff\xff\xff\xff\xff\xff\xff\x00\x00\x00\x00\x2e\x00\x00\x00\x00\x00\x00\x00\x00\x00\x00\x00\x00\x00\x00\x00\x00\x00\x00\x00\x00\x00\x00\x00",
+        handles: &[Handle::Endpoint(2)],
+        expected: Ok((
+            0,
+            Request::OpenPath {
+                path: b".",
+                flags: 0x0,
+                attributes: None,
+                object: 2,
+            },
+        )),
+    },
+    // trailing absent envelope
+    RequestRow {
+        protocol: Protocol::Directory,
+        bytes: b"\x00\x00\x00\x00\x02\x00\x00\x01\xd6\x54\x7c\xff\xbb\x4f\xbc\x2f\x01\x00\x00\x00\x00\x00\x00\x00\xff\xff\xff\xff\xff\xff\xff\xff\x00\x00\x00\x00\x00\x00\x00\x00\x02\x00\x00\x00\x00\x00\x00\x00\xff\xff\xff\xff\xff\xff\xff\xff\xff\xff\xff\xff\x00\x00\x00\x00\x2e\x00\x00\x00\x00\x00\x00\x00\x08\x00\x00\x00\x00\x00\x00\x00\x00\x00\x00\x00\x00\x00\x00\x00\x07\x00\x00\x00\x00\x00\x00\x00",
+        handles: &[Handle::Endpoint(2)],
+        expected: Ok((
+            0,
+            Request::OpenPath {
+                path: b".",
+                flags: 0x0,
+                attributes: Some(7),
+                object: 2,
+            },
+        )),
+    },
+    // twelve absent envelopes
+    RequestRow {
+        protocol: Protocol::Directory,
+        bytes: b"\x00\x00\x00\x00\x02\x00\x00\x01\xd6\x54\x7c\xff\xbb\x4f\xbc\x2f\x01\x00\x00\x00\x00\x00\x00\x00\xff\xff\xff\xff\xff\xff\xff\xff\x00\x00\x00\x00\x00\x00\x00\x00\x0c\x00\x00\x00\x00\x00\x00\x00\xff\xff\xff\xff\xff\xff\xff\xff\xff\xff\xff\xff\x00\x00\x00\x00\x2e\x00\x00\x00\x00\x00\x00\x00\x00\x00\x00\x00\x00\x00\x00\x00\x00\x00\x00\x00\x00\x00\x00\x00\x00\x00\x00\x00\x00\x00\x00\x00\x00\x00\x00\x00\x00\x00\x00\x00\x00\x00\x00\x00\x00\x00\x00\x00\x00\x00\x00\x00\x00\x00\x00\x00\x00\x00\x00\x00\x00\x00\x00\x00\x00\x00\x00\x00\x00\x00\x00\x00\x00\x00\x00\x00\x00\x00\x00\x00\x00\x00\x00\x00\x00\x00\x00\x00\x00\x00\x00\x00\x00\x00\x00\x00\x00\x00\x00\x00\x00\x00\x00\x00",
+        handles: &[Handle::Endpoint(2)],
+        expected: Ok((
+            0,
+            Request::OpenPath {
+                path: b".",
+                flags: 0x0,
+                attributes: None,
+                object: 2,
+            },
+        )),
+    },
+    // skipped member inlined with a handle
+    RequestRow {
+        protocol: Protocol::Directory,
+        bytes: b"\x00\x00\x00\x00\x02\x00\x00\x01\xd6\x54\x7c\xff\xbb\x4f\xbc\x2f\x01\x00\x00\x00\x00\x00\x00\x00\xff\xff\xff\xff\xff\xff\xff\xff\x00\x00\x00\x00\x00\x00\x00\x00\x05\x00\x00\x00\x00\x00\x00\x00\xff\xff\xff\xff\xff\xff\xff\xff\xff\xff\xff\xff\x00\x00\x00\x00\x2e\x00\x00\x00\x00\x00\x00\x00\x00\x00\x00\x00\x00\x00\x00\x00\x00\x00\x00\x00\x00\x00\x00\x00\x00\x00\x00\x00\x00\x00\x00\x00\x00\x00\x00\x00\x00\x00\x00\x00\x00\x00\x00\x00\x01\x00\x01\x00",
+        handles: &[Handle::Endpoint(7), Handle::Endpoint(2)],
+        expected: Ok((
+            0,
+            Request::OpenPath {
+                path: b".",
+                flags: 0x0,
+                attributes: None,
+                object: 2,
+            },
+        )),
+    },
+    // skipped member inlined bytes unread
+    RequestRow {
+        protocol: Protocol::Directory,
+        bytes: b"\x00\x00\x00\x00\x02\x00\x00\x01\xd6\x54\x7c\xff\xbb\x4f\xbc\x2f\x01\x00\x00\x00\x00\x00\x00\x00\xff\xff\xff\xff\xff\xff\xff\xff\x00\x00\x00\x00\x00\x00\x00\x00\x05\x00\x00\x00\x00\x00\x00\x00\xff\xff\xff\xff\xff\xff\xff\xff\xff\xff\xff\xff\x00\x00\x00\x00\x2e\x00\x00\x00\x00\x00\x00\x00\x00\x00\x00\x00\x00\x00\x00\x00\x00\x00\x00\x00\x00\x00\x00\x00\x00\x00\x00\x00\x00\x00\x00\x00\x00\x00\x00\x00\x00\x00\x00\x00\xde\xad\xbe\xef\x01\x00\x01\x00",
+        handles: &[Handle::Endpoint(7), Handle::Endpoint(2)],
+        expected: Ok((
+            0,
+            Request::OpenPath {
+                path: b".",
+                flags: 0x0,
+                attributes: None,
+                object: 2,
+            },
+        )),
+    },
+    // skipped member out of line
+    RequestRow {
+        protocol: Protocol::Directory,
+        bytes: b"\x00\x00\x00\x00\x02\x00\x00\x01\xd6\x54\x7c\xff\xbb\x4f\xbc\x2f\x01\x00\x00\x00\x00\x00\x00\x00\xff\xff\xff\xff\xff\xff\xff\xff\x00\x00\x00\x00\x00\x00\x00\x00\x02\x00\x00\x00\x00\x00\x00\x00\xff\xff\xff\xff\xff\xff\xff\xff\xff\xff\xff\xff\x00\x00\x00\x00\x2e\x00\x00\x00\x00\x00\x00\x00\x00\x00\x00\x00\x00\x00\x00\x00\x08\x00\x00\x00\x00\x00\x00\x00\xff\xff\xff\xff\xff\xff\xff\xff",
+        handles: &[Handle::Endpoint(2)],
+        expected: Ok((
+            0,
+            Request::OpenPath {
+                path: b".",
+                flags: 0x0,
+                attributes: None,
+                object: 2,
+            },
+        )),
+    },
+    // known then skipped with handles
+    RequestRow {
+        protocol: Protocol::Directory,
+        bytes: b"\x00\x00\x00\x00\x02\x00\x00\x01\xd6\x54\x7c\xff\xbb\x4f\xbc\x2f\x01\x00\x00\x00\x00\x00\x00\x00\xff\xff\xff\xff\xff\xff\xff\xff\x00\x00\x00\x00\x00\x00\x00\x00\x02\x00\x00\x00\x00\x00\x00\x00\xff\xff\xff\xff\xff\xff\xff\xff\xff\xff\xff\xff\x00\x00\x00\x00\x2e\x00\x00\x00\x00\x00\x00\x00\x08\x00\x00\x00\x00\x00\x00\x00\x10\x00\x00\x00\x02\x00\x00\x00\x09\x00\x00\x00\x00\x00\x00\x00\xff\xff\xff\xff\xff\xff\xff\xff\xff\xff\xff\xff\xff\xff\xff\xff",
+        handles: &[
+            Handle::Endpoint(7),
+            Handle::Token(2147483648),
+            Handle::Endpoint(2),
+        ],
+        expected: Ok((
+            0,
+            Request::OpenPath {
+                path: b".",
+                flags: 0x0,
+                attributes: Some(9),
+                object: 2,
+            },
+        )),
+    },
+    // skipped member with 63 handles
+    RequestRow {
+        protocol: Protocol::Directory,
+        bytes: b"\x00\x00\x00\x00\x02\x00\x00\x01\xd6\x54\x7c\xff\xbb\x4f\xbc\x2f\x01\x00\x00\x00\x00\x00\x00\x00\xff\xff\xff\xff\xff\xff\xff\xff\x00\x00\x00\x00\x00\x00\x00\x00\x02\x00\x00\x00\x00\x00\x00\x00\xff\xff\xff\xff\xff\xff\xff\xff\xff\xff\xff\xff\x00\x00\x00\x00\x2e\x00\x00\x00\x00\x00\x00\x00\x00\x00\x00\x00\x00\x00\x00\x00\x08\x00\x00\x00\x3f\x00\x00\x00\x00\x00\x00\x00\x00\x00\x00\x00",
+        handles: &[
+            Handle::Endpoint(100),
+            Handle::Endpoint(101),
+            Handle::Endpoint(102),
+            Handle::Endpoint(103),
+            Handle::Endpoint(104),
+            Handle::Endpoint(105),
+            Handle::Endpoint(106),
+            Handle::Endpoint(107),
+            Handle::Endpoint(108),
+            Handle::Endpoint(109),
+            Handle::Endpoint(110),
+            Handle::Endpoint(111),
+            Handle::Endpoint(112),
+            Handle::Endpoint(113),
+            Handle::Endpoint(114),
+            Handle::Endpoint(115),
+            Handle::Endpoint(116),
+            Handle::Endpoint(117),
+            Handle::Endpoint(118),
+            Handle::Endpoint(119),
+            Handle::Endpoint(120),
+            Handle::Endpoint(121),
+            Handle::Endpoint(122),
+            Handle::Endpoint(123),
+            Handle::Endpoint(124),
+            Handle::Endpoint(125),
+            Handle::Endpoint(126),
+            Handle::Endpoint(127),
+            Handle::Endpoint(128),
+            Handle::Endpoint(129),
+            Handle::Endpoint(130),
+            Handle::Endpoint(131),
+            Handle::Endpoint(132),
+            Handle::Endpoint(133),
+            Handle::Endpoint(134),
+            Handle::Endpoint(135),
+            Handle::Endpoint(136),
+            Handle::Endpoint(137),
+            Handle::Endpoint(138),
+            Handle::Endpoint(139),
+            Handle::Endpoint(140),
+            Handle::Endpoint(141),
+            Handle::Endpoint(142),
+            Handle::Endpoint(143),
+            Handle::Endpoint(144),
+            Handle::Endpoint(145),
+            Handle::Endpoint(146),
+            Handle::Endpoint(147),
+            Handle::Endpoint(148),
+            Handle::Endpoint(149),
+            Handle::Endpoint(150),
+            Handle::Endpoint(151),
+            Handle::Endpoint(152),
+            Handle::Endpoint(153),
+            Handle::Endpoint(154),
+            Handle::Endpoint(155),
+            Handle::Endpoint(156),
+            Handle::Endpoint(157),
+            Handle::Endpoint(158),
+            Handle::Endpoint(159),
+            Handle::Endpoint(160),
+            Handle::Endpoint(161),
+            Handle::Endpoint(162),
+            Handle::Endpoint(2),
+        ],
+        expected: Ok((
+            0,
+            Request::OpenPath {
+                path: b".",
+                flags: 0x0,
+                attributes: None,
+                object: 2,
+            },
+        )),
+    },
+    // two skipped members
+    RequestRow {
+        protocol: Protocol::Directory,
+        bytes: b"\x00\x00\x00\x00\x02\x00\x00\x01\xd6\x54\x7c\xff\xbb\x4f\xbc\x2f\x01\x00\x00\x00\x00\x00\x00\x00\xff\xff\xff\xff\xff\xff\xff\xff\x00\x00\x00\x00\x00\x00\x00\x00\x03\x00\x00\x00\x00\x00\x00\x00\xff\xff\xff\xff\xff\xff\xff\xff\xff\xff\xff\xff\x00\x00\x00\x00\x2e\x00\x00\x00\x00\x00\x00\x00\x00\x00\x00\x00\x00\x00\x00\x00\x08\x00\x00\x00\x01\x00\x00\x00\x00\x00\x00\x00\x01\x00\x01\x00\x00\x00\x00\x00\x00\x00\x00\x00",
+        handles: &[
+            Handle::Endpoint(7),
+            Handle::Endpoint(8),
+            Handle::Endpoint(2),
+        ],
+        expected: Ok((
+            0,
+            Request::OpenPath {
+                path: b".",
+                flags: 0x0,
+                attributes: None,
+                object: 2,
+            },
+        )),
+    },
+    // unlink flags zero with a member
+    RequestRow {
+        protocol: Protocol::Directory,
+        bytes: b"\x01\x00\x00\x00\x02\x00\x00\x01\xed\x7b\x8d\xa7\x26\x03\x0a\x75\x01\x00\x00\x00\x00\x00\x00\x00\xff\xff\xff\xff\xff\xff\xff\xff\x01\x00\x00\x00\x00\x00\x00\x00\xff\xff\xff\xff\xff\xff\xff\xff\x66\x00\x00\x00\x00\x00\x00\x00\x08\x00\x00\x00\x00\x00\x00\x00\x00\x00\x00\x00\x00\x00\x00\x00",
+        handles: &[],
+        expected: Ok((
+            1,
+            Request::Unlink {
+                name: b"f",
+                flags: 0x0,
+            },
+        )),
+    },
+    // unlink flags member absent
+    RequestRow {
+        protocol: Protocol::Directory,
+        bytes: b"\x01\x00\x00\x00\x02\x00\x00\x01\xed\x7b\x8d\xa7\x26\x03\x0a\x75\x01\x00\x00\x00\x00\x00\x00\x00\xff\xff\xff\xff\xff\xff\xff\xff\x01\x00\x00\x00\x00\x00\x00\x00\xff\xff\xff\xff\xff\xff\xff\xff\x66\x00\x00\x00\x00\x00\x00\x00\x00\x00\x00\x00\x00\x00\x00\x00",
+        handles: &[],
+        expected: Ok((
+            1,
+            Request::Unlink {
+                name: b"f",
+                flags: 0x0,
+            },
+        )),
+    },
+    // unlink skipped member
+    RequestRow {
+        protocol: Protocol::Directory,
+        bytes: b"\x01\x00\x00\x00\x02\x00\x00\x01\xed\x7b\x8d\xa7\x26\x03\x0a\x75\x01\x00\x00\x00\x00\x00\x00\x00\xff\xff\xff\xff\xff\xff\xff\xff\x02\x00\x00\x00\x00\x00\x00\x00\xff\xff\xff\xff\xff\xff\xff\xff\x66\x00\x00\x00\x00\x00\x00\x00\x08\x00\x00\x00\x00\x00\x00\x00\x08\x00\x00\x00\x00\x00\x00\x00\x01\x00\x00\x00\x00\x00\x00\x00\xff\xff\xff\xff\xff\xff\xff\xff",
+        handles: &[],
+        expected: Ok((
+            1,
+            Request::Unlink {
+                name: b"f",
+                flags: 0x1,
+            },
+        )),
+    },
+    // unlink skipped member with a handle
+    RequestRow {
+        protocol: Protocol::Directory,
+        bytes: b"\x01\x00\x00\x00\x02\x00\x00\x01\xed\x7b\x8d\xa7\x26\x03\x0a\x75\x01\x00\x00\x00\x00\x00\x00\x00\xff\xff\xff\xff\xff\xff\xff\xff\x02\x00\x00\x00\x00\x00\x00\x00\xff\xff\xff\xff\xff\xff\xff\xff\x66\x00\x00\x00\x00\x00\x00\x00\x00\x00\x00\x00\x00\x00\x00\x00\x00\x00\x00\x00\x01\x00\x01\x00",
+        handles: &[Handle::Endpoint(9)],
+        expected: Ok((
+            1,
+            Request::Unlink {
+                name: b"f",
+                flags: 0x0,
+            },
+        )),
+    },
+];
+
+#[test]
+fn more_requests_answer_as_expected(rt: HostRuntime) -> Result<(), Fail> {
+    expect_requests(&rt, &Ordinals::new()?, &ROWS);
+    Ok(())
+}
