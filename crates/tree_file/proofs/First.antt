@@ -1,0 +1,32 @@
+-- The first rule that is broken.
+use Rattle.std.proofs.Common.{◌≡◌, ℕ, ◌+◌, List, [], ◌∷◌, ◌++◌, Option, Some, None, refl}
+use Rattle.tree_file.specs.declared.faults.TreeFault.{TreeFault}
+use Rattle.tree_file.specs.declared.faults.TreeFault.TheVariants.{Rule, NoMemory}
+use Rattle.tree_file.specs.Faults.{Breaks, IsFirst}
+use Rattle.tree_file.specs.Rules.{first_broken}
+
+-- a rule that is broken is the first of those from it on
+pub first-here : (rule : ℕ) (found : Option ℕ) (rules : List (Option ℕ)) (fault : TreeFault) → Breaks rule found fault → IsFirst (first_broken rule (found ∷ rules)) fault
+first-here rule found rules (Rule told item) breaks = rw (breaks.1, breaks.0)
+first-here rule found rules NoMemory breaks = tt
+
+-- one that holds is passed
+pub first-later : (rule : ℕ) (found : Option ℕ) (rules : List (Option ℕ)) (fault : TreeFault) → found ≡ None → IsFirst (first_broken (rule + 1) rules) fault → IsFirst (first_broken rule (found ∷ rules)) fault
+first-later rule found rules fault none first = rw none first
+
+-- the first of some rules is the first of more
+pub first-before : (rule : ℕ) (rules more : List (Option ℕ)) (fault : TreeFault) → IsFirst (first_broken rule rules) fault → IsFirst (first_broken rule (rules ++ more)) fault
+first-before rule rules more NoMemory first = tt
+first-before rule [] more (Rule told item) first = cc
+first-before rule (None ∷ rules) more (Rule told item) first = first-before (rule + 1) rules more (Rule told item) first
+first-before rule (Some at ∷ rules) more (Rule told item) first = first
+
+-- six rules that hold are passed
+pub six-pass : (a b c d e f : Option ℕ) (more : List (Option ℕ)) → first_broken 2 (a ∷ b ∷ c ∷ d ∷ e ∷ f ∷ []) ≡ None → first_broken 2 ((a ∷ b ∷ c ∷ d ∷ e ∷ f ∷ []) ++ more) ≡ first_broken 8 more
+six-pass None None None None None None more hold = refl
+six-pass None None None None None (Some x) more hold = cc
+six-pass None None None None (Some x) f more hold = cc
+six-pass None None None (Some x) e f more hold = cc
+six-pass None None (Some x) d e f more hold = cc
+six-pass None (Some x) c d e f more hold = cc
+six-pass (Some x) b c d e f more hold = cc

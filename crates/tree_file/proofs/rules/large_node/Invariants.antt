@@ -1,0 +1,6 @@
+use Rattle.std.proofs.Common.{◌≡◌, [], take, drop}
+use Rattle.tree_file.specs.Rules.{first_failing, bytes_fit}
+use Rattle.tree_file.proofs.rules.large_node.Given as goal
+
+abbrev pub invariant-loop-item : goal.invariant-loop-item
+invariant-loop-item l = first_failing bytes_fit [] l.nodes ≡ first_failing bytes_fit (take l.item l.nodes) (drop l.item l.nodes)

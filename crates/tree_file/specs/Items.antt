@@ -1,0 +1,41 @@
+-- The start that a tree stands for.
+use Rattle.std.specs.Prelude.{ℕ, ◌<◌, ◌^◌, List, length}
+use Rattle.io_rights.specs.Operations.{OperationSet}
+use Rattle.node_graph.specs.declared.nodes.NodeKind.{NodeKind}
+
+-- a node of a server, by the server's index; a file's bytes
+pub record NodeItem : Type 0 where
+  pub server : ℕ
+  pub path : List ℕ
+  pub kind : NodeKind
+  pub rights : OperationSet
+  pub bytes : List ℕ
+
+-- a mount at a path of a server: there the target goes on at its own node `at`
+pub record MountItem : Type 0 where
+  pub server : ℕ
+  pub path : List ℕ
+  pub target : ℕ
+  pub at : List ℕ
+  pub rights : OperationSet
+
+-- a first connection
+pub record ClientItem : Type 0 where
+  pub endpoint : ℕ
+  pub server : ℕ
+  pub path : List ℕ
+  pub rights : OperationSet
+
+-- all in the order of the file; of the servers the names
+pub record Lists : Type 0 where
+  pub servers : List (List ℕ)
+  pub nodes : List NodeItem
+  pub mounts : List MountItem
+  pub clients : List ClientItem
+
+-- how long the lists can be
+pub record Counted (lists : Lists) : Type 0 where
+  pub servers : length lists.servers < 2 ^ 32
+  pub nodes : length lists.nodes < 2 ^ 32
+  pub mounts : length lists.mounts < 2 ^ 32
+  pub clients : length lists.clients < 2 ^ 32

@@ -1,0 +1,18 @@
+//! The tree file: the nodes, mounts and first connections that a session starts with, as TOML.
+#![tactic(auto)]
+
+mod faults;
+mod fields;
+mod items;
+mod lent;
+mod lists;
+mod reading;
+mod rules;
+mod start;
+
+pub use faults::TreeFault;
+pub use lent::{StartClient, StartMount, StartNode};
+pub use start::{Start, start_of};
+
+#[cfg(test)]
+mod tests;

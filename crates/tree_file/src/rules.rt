@@ -1,0 +1,256 @@
+ghost use Rattle.std.specs.Prelude.{◌≡◌, ◌++◌, ◌&&◌, [], ◌∷◌, None, List, map, length, nat_le, OnOk, IfErr, ◌≤◌};
+ghost use Rattle.tree_file.specs.Texts.{parent_of};
+ghost use Rattle.tree_file.specs.Items.{NodeItem};
+ghost use Rattle.tree_file.specs.Rules.{Place, kind_among, is_directory, is_directory_kind, fits_in, node_place, mount_place, first_failing, node_fits, mount_fits, client_fits, bytes_fit, names_held, connections_held, names_fit, connections_fit};
+ghost use Rattle.tree_file.specs.Kept.{Stands};
+ghost use Rattle.tree_file.specs.Faults.{Breaks};
+
+use crate::faults::TreeFault;
+use crate::items::{Bytes, Client, Mount, Node};
+use crate::reading::is_dot;
+use fidl_names::NoMemory;
+use memchr::memrchr;
+use node_graph::NodeKind;
+use std::collections::BTreeMap;
+
+/// What stands at each path of each server.
+pub type Places<'a> = BTreeMap<(u32, &'a [u8]), NodeKind>;
+
+const MOST_NAMES: usize = 4096;
+
+const MOST_CONNECTIONS: usize = 4096;
+
+const MOST_BYTES: usize = 65_536;
+
+// A path without its last name.
+#[tactic(auto, unfolding(crate::specs::Texts::parent_of))]
+pub fn parent_of(path: &[u8]) -> &[u8]
+    ensures { result.now ≡ parent_of path.now }
+{
+    match memrchr(b'/', path) {
+        Some(place) => &path[..place],
+        None => b".",
+    }
+}
+
+// What stands at a path of a server, if anything.
+fn kind_among<'a>(places: &Places<'a>, server: u32, path: &'a [u8]) -> Option<NodeKind>
+    ensures { (listed : List Place) → Stands places.now listed → result ≡ kind_among listed server path.now }
+{
+    places.get(&(server, path)).copied()
+}
+
+// Whether the path is that of a directory.
+#[tactic(auto, unfolding(crate::specs::Rules::is_directory))]
+fn is_directory<'a>(places: &Places<'a>, server: u32, path: &'a [u8]) -> bool
+    ensures { (listed : List Place) → Stands places.now listed → result ≡ is_directory listed server path.now }
+{
+    if is_dot(path) {
+        return true;
+    }
+    match kind_among(places, server, path) {
+        Some(kind) => is_directory_kind(kind),
+        None => false,
+    }
+}
+
+fn is_directory_kind(kind: NodeKind) -> bool
+    ensures { result ≡ is_directory_kind kind }
+{
+    match kind {
+        NodeKind::Directory => true,
+        _ => false,
+    }
+}
+
+// Whether the path is free and its parent is a directory.
+fn fits_in<'a>(places: &Places<'a>, server: u32, path: &'a [u8]) -> bool
+    ensures { (listed : List Place) → Stands places.now listed → result ≡ fits_in listed server path.now }
+{
+    if !is_directory(places, server, parent_of(path)) {
+        return false;
+    }
+    kind_among(places, server, path).is_none()
+}
+
+// Puts what stands at a path where nothing does.
+fn add<'a>(
+    places: &mut Places<'a>,
+    server: u32,
+    path: &'a [u8],
+    kind: NodeKind,
+) -> Result<(), NoMemory>
+    ensures { OnOk result ((listed : List Place) → Stands places.old listed → kind_among listed server path.now ≡ None
+        → Stands places.new (listed ++ record { server = server; path = path.now; kind = kind } ∷ [])) }
+{
+    places.insert((server, path), kind)?;
+    Ok(())
+}
+
+// Whether a node fits among those before it.
+fn node_fits<'a>(places: &Places<'a>, node: &'a Node) -> bool
+    ensures { (listed : List Place) → Stands places.now listed → result ≡ fits_in listed node.now.server node.now.path }
+{
+    let path = node.path.as_slice();
+    fits_in(places, node.server, path)
+}
+
+fn add_node<'a>(places: &mut Places<'a>, node: &'a Node) -> Result<(), NoMemory>
+    ensures { OnOk result ((listed : List Place) → Stands places.old listed → kind_among listed node.now.server node.now.path ≡ None
+        → Stands places.new (listed ++ node_place node.now ∷ [])) }
+{
+    let path = node.path.as_slice();
+    add(places, node.server, path, node.kind)
+}
+
+/// Puts all nodes, each in a directory before it.
+pub fn add_nodes<'a>(places: &mut Places<'a>, nodes: &'a [Node]) -> Result<(), TreeFault>
+    requires { Stands places.old [] }
+    ensures fit { OnOk result (first_failing node_fits [] nodes.now ≡ None) }
+    ensures placed { OnOk result (Stands places.new (map node_place nodes.now)) }
+    ensures refused { IfErr result (Breaks 8 (first_failing node_fits [] nodes.now)) }
+{
+    for (item, node) in nodes.iter().enumerate() {
+        if !node_fits(places, node) {
+            return Err(TreeFault::Rule {
+                rule: 8,
+                item: item as u64,
+            });
+        }
+        add_node(places, node)?;
+    }
+    Ok(())
+}
+
+// Whether a mount fits among what stands there.
+fn mount_fits<'a>(places: &Places<'a>, mount: &'a Mount) -> bool
+    ensures { (listed : List Place) → Stands places.now listed
+        → result ≡ (fits_in listed mount.now.server mount.now.path && is_directory listed mount.now.target mount.now.at) }
+{
+    let path = mount.path.as_slice();
+    let at = mount.at.as_slice();
+    fits_in(places, mount.server, path) && is_directory(places, mount.target, at)
+}
+
+fn add_mount<'a>(places: &mut Places<'a>, mount: &'a Mount) -> Result<(), NoMemory>
+    ensures { OnOk result ((listed : List Place) → Stands places.old listed → kind_among listed mount.now.server mount.now.path ≡ None
+        → Stands places.new (listed ++ mount_place mount.now ∷ [])) }
+{
+    let path = mount.path.as_slice();
+    add(places, mount.server, path, NodeKind::Mount(mount.target))
+}
+
+/// Puts all mounts among the nodes, each in a directory and on one.
+pub fn add_mounts<'a>(places: &mut Places<'a>, mounts: &'a [Mount]) -> Result<(), TreeFault>
+    ensures fit { OnOk result ((nodes : List NodeItem) → Stands places.old (map node_place nodes) → first_failing (mount_fits nodes) [] mounts.now ≡ None) }
+    ensures placed { OnOk result ((nodes : List NodeItem) → Stands places.old (map node_place nodes)
+        → Stands places.new (map node_place nodes ++ map mount_place mounts.now)) }
+    ensures refused { IfErr result (λ fault. (nodes : List NodeItem) → Stands places.old (map node_place nodes)
+        → Breaks 9 (first_failing (mount_fits nodes) [] mounts.now) fault) }
+{
+    for (item, mount) in mounts.iter().enumerate() {
+        if !mount_fits(places, mount) {
+            return Err(TreeFault::Rule {
+                rule: 9,
+                item: item as u64,
+            });
+        }
+        add_mount(places, mount)?;
+    }
+    Ok(())
+}
+
+// Whether the client's path is that of a directory.
+fn client_fits<'a>(places: &Places<'a>, client: &'a Client) -> bool
+    ensures { (listed : List Place) → Stands places.now listed → result ≡ is_directory listed client.now.server client.now.path }
+{
+    let path = client.path.as_slice();
+    is_directory(places, client.server, path)
+}
+
+/// The first client whose path is that of no directory.
+pub fn misplaced_client<'a>(places: &Places<'a>, clients: &'a [Client]) -> Option<usize>
+    ensures { (listed : List Place) → Stands places.now listed → result ≡ first_failing (client_fits listed) [] clients.now }
+{
+    for (item, client) in clients.iter().enumerate() {
+        if !client_fits(places, client) {
+            return Some(item);
+        }
+    }
+    None
+}
+
+fn is_small(node: &Node) -> bool
+    ensures { result ≡ nat_le (length node.now.bytes) 65536 }
+{
+    node.bytes.as_slice().len() <= MOST_BYTES
+}
+
+/// The first node with more bytes than a file may have.
+pub fn large_node(nodes: &[Node]) -> Option<usize>
+    ensures { result ≡ first_failing bytes_fit [] nodes.now }
+{
+    for (item, node) in nodes.iter().enumerate() {
+        if !is_small(node) {
+            return Some(item);
+        }
+    }
+    None
+}
+
+// How many nodes and mounts a server has.
+fn names_held(nodes: &[Node], mounts: &[Mount], server: u32) -> usize
+    ensures { result ≡ names_held nodes.now mounts.now server }
+{
+    let held = nodes.iter().filter(|node| node.server == server).count();
+    held + mounts.iter().filter(|mount| mount.server == server).count()
+}
+
+// How many connections a server has at the start.
+fn connections_held(mounts: &[Mount], clients: &[Client], server: u32) -> usize
+    ensures { result ≡ connections_held mounts.now clients.now server }
+{
+    let held = clients
+        .iter()
+        .filter(|client| client.server == server)
+        .count();
+    held + mounts.iter().filter(|mount| mount.target == server).count()
+}
+
+fn has_few_names(nodes: &[Node], mounts: &[Mount], server: u32) -> bool
+    ensures { result ≡ nat_le (names_held nodes.now mounts.now server) 4096 }
+{
+    names_held(nodes, mounts, server) <= MOST_NAMES
+}
+
+fn has_few_connections(mounts: &[Mount], clients: &[Client], server: u32) -> bool
+    ensures { result ≡ nat_le (connections_held mounts.now clients.now server) 4096 }
+{
+    connections_held(mounts, clients, server) <= MOST_CONNECTIONS
+}
+
+/// The first server with more nodes and mounts than it may have.
+pub fn crowded_server(names: &[Bytes], nodes: &[Node], mounts: &[Mount]) -> Option<usize>
+    requires { length names.now ≤ 8 }
+    ensures { result ≡ first_failing (names_fit nodes.now mounts.now) [] names.now }
+{
+    for server in 0..names.len() {
+        if !has_few_names(nodes, mounts, server as u32) {
+            return Some(server);
+        }
+    }
+    None
+}
+
+/// The first server with more connections at the start than it may have.
+pub fn busy_server(names: &[Bytes], mounts: &[Mount], clients: &[Client]) -> Option<usize>
+    requires { length names.now ≤ 8 }
+    ensures { result ≡ first_failing (connections_fit mounts.now clients.now) [] names.now }
+{
+    for server in 0..names.len() {
+        if !has_few_connections(mounts, clients, server as u32) {
+            return Some(server);
+        }
+    }
+    None
+}

@@ -1,0 +1,334 @@
+ghost use Rattle.std.specs.Prelude.{◌≡◌, ◌≤◌, ◌<◌, IsTrue, slice_get, Some, Ok, None, codes, length, map, IfOk, IfErr, OnOk};
+ghost use Rattle.std.specs.List.{list_all};
+ghost use Rattle.toml.specs.Data.{get};
+ghost use Rattle.toml.specs.View.{view};
+ghost use Rattle.tree_file.specs.Fields.{is_table};
+ghost use Rattle.tree_file.specs.declared.faults.TreeFault.TheVariants.{Rule};
+ghost use Rattle.tree_file.specs.Items.{Counted};
+ghost use Rattle.tree_file.specs.Lent.{node_item, mount_item, client_item};
+ghost use Rattle.tree_file.specs.Rules.{document_of, broken_in, is_versioned, is_version_one, has_lists, has_all_tables, has_items, has_tables, items_at, read_servers, read_nodes, read_mounts, read_clients, servers_of, lists_of, rule_4, rule_5, rule_6, rule_7, rules_on_form, rules_on_lists, first_broken, first_failure, start_from};
+ghost use Rattle.tree_file.specs.Faults.{Breaks, IsFirst};
+
+use crate::faults::TreeFault;
+use crate::fields::has_only;
+use crate::items::{Bytes, Client, Mount, Node};
+use crate::lent::{StartClient, StartMount, StartNode, lend_client, lend_mount, lend_node};
+use crate::lists;
+use crate::rules::{self, Places};
+use std::alloc::Global;
+use std::collections::BTreeMap;
+use std::marker::Model;
+use toml::Value;
+
+// The lists of a document, before the rules that look at several items.
+#[derive(Drop)]
+struct Parts {
+    servers: Vec<Bytes>,
+    nodes: Vec<Node>,
+    mounts: Vec<Mount>,
+    clients: Vec<Client>,
+}
+
+impl Model for Parts {
+    ghost use Rattle.tree_file.specs.Items.{Lists};
+
+    ghost Value = { Lists };
+
+    ghost view = { λ parts. record { servers = parts.servers.items; nodes = parts.nodes.items; mounts = parts.mounts.items; clients = parts.clients.items } };
+}
+
+/// What a session starts with: servers, nodes, mounts and first connections, each in the order of the
+/// file. Contracts see it as these lists.
+#[derive(Drop)]
+pub struct Start {
+    parts: Parts,
+}
+
+impl Model for Start {
+    ghost use Rattle.tree_file.specs.Items.{Lists, Counted};
+
+    ghost Value = { Lists };
+
+    ghost view = { λ start. start.parts };
+
+    ghost invariant = { λ start. Counted start.parts };
+}
+
+impl Start {
+    /// How many servers there are.
+    pub fn servers(&self) -> u32
+        ensures { result ≡ length self.now.servers }
+    {
+        self.parts.servers.len() as u32
+    }
+
+    /// How many nodes all servers have, without their roots.
+    pub fn nodes(&self) -> u32
+        ensures { result ≡ length self.now.nodes }
+    {
+        self.parts.nodes.len() as u32
+    }
+
+    /// How many mounts there are.
+    pub fn mounts(&self) -> u32
+        ensures { result ≡ length self.now.mounts }
+    {
+        self.parts.mounts.len() as u32
+    }
+
+    /// How many first connections there are.
+    pub fn clients(&self) -> u32
+        ensures { result ≡ length self.now.clients }
+    {
+        self.parts.clients.len() as u32
+    }
+
+    /// The node with this index over all servers.
+    pub fn node_at(&self, i: u32) -> StartNode<'_>
+        requires { i < length self.now.nodes }
+        ensures { slice_get self.now.nodes i ≡ Some (node_item result) }
+    {
+        lend_node(&self.parts.nodes[i as usize])
+    }
+
+    /// The mount with this index over all servers.
+    pub fn mount_at(&self, i: u32) -> StartMount<'_>
+        requires { i < length self.now.mounts }
+        ensures { slice_get self.now.mounts i ≡ Some (mount_item result) }
+    {
+        lend_mount(&self.parts.mounts[i as usize])
+    }
+
+    /// The first connection with this index.
+    pub fn client_at(&self, i: u32) -> StartClient<'_>
+        requires { i < length self.now.clients }
+        ensures { slice_get self.now.clients i ≡ Some (client_item result) }
+    {
+        lend_client(&self.parts.clients[i as usize])
+    }
+}
+
+// The document that a text is.
+fn read_document(alloc: Global, text: &[u8]) -> Result<Value, TreeFault>
+    ensures read { IfOk result (λ document. document_of text.now ≡ Some (view document)) }
+    ensures refused { IfErr result (IsFirst (first_failure text.now)) }
+{
+    match toml::table_from_slice(alloc, text) {
+        Ok(table) => Ok(Value::Table(table)),
+        Err(fault) => {
+            if fault.is_memory() {
+                Err(TreeFault::NoMemory)
+            } else {
+                Err(TreeFault::Rule { rule: 1, item: 0 })
+            }
+        }
+    }
+}
+
+// Whether the document has a document's keys and the version 1.
+#[tactic(auto, unfolding(crate::specs::Rules::is_versioned))]
+fn is_versioned(document: &Value) -> bool
+    ensures { result ≡ is_versioned (view document.now) }
+{
+    has_only(document, &["version", "server", "node", "mount", "client"])
+        && is_version_one(document)
+}
+
+fn is_version_one(document: &Value) -> bool
+    ensures { result ≡ is_version_one (get (codes "version") (view document.now)) }
+{
+    let Some(version) = document.get("version") else {
+        return false;
+    };
+    match version.as_integer() {
+        Some(number) => number == 1,
+        None => false,
+    }
+}
+
+// The items of the list at a key.
+#[tactic(auto, unfolding(crate::specs::Rules::items_at))]
+fn items_at<'a>(document: &'a Value, key: &str) -> &'a [Value]
+    ensures { map view result.now ≡ items_at key.now (view document.now) }
+{
+    let Some(value) = document.get(key) else {
+        return &[];
+    };
+    match value.as_array() {
+        Some(items) => items.as_slice(),
+        None => &[],
+    }
+}
+
+fn are_tables(values: &[Value]) -> bool
+    ensures { result ≡ list_all (λ value. is_table (view value)) values.now }
+{
+    values.iter().all(|value| value.is_table())
+}
+
+// Whether there is no value at the key, or an array of tables.
+#[tactic(auto, unfolding(crate::specs::Rules::has_tables))]
+fn has_tables(document: &Value, key: &str) -> bool
+    ensures { result ≡ has_tables key.now (view document.now) }
+{
+    let Some(value) = document.get(key) else {
+        return true;
+    };
+    match value.as_array() {
+        Some(items) => are_tables(items.as_slice()),
+        None => false,
+    }
+}
+
+fn has_all_tables(document: &Value) -> bool
+    ensures { result ≡ has_all_tables (view document.now) }
+{
+    has_tables(document, "server")
+        && has_tables(document, "node")
+        && has_tables(document, "mount")
+        && has_tables(document, "client")
+}
+
+fn has_items(document: &Value, key: &str) -> bool
+    ensures { result ≡ has_items key.now (view document.now) }
+{
+    !items_at(document, key).is_empty()
+}
+
+// Whether each list is one of tables, and those of servers and clients have some.
+#[tactic(auto, unfolding(crate::specs::Rules::has_lists))]
+fn has_lists(document: &Value) -> bool
+    ensures { result ≡ has_lists (view document.now) }
+{
+    has_all_tables(document) && has_items(document, "server") && has_items(document, "client")
+}
+
+fn servers_in(alloc: Global, document: &Value) -> Result<Vec<Bytes>, TreeFault>
+    ensures read { IfOk result (λ names. read_servers (view document.now) ≡ Ok names.items) }
+    ensures few { IfOk result (λ names. length names.items ≤ 8) }
+    ensures refused { IfErr result (Breaks 4 (rule_4 (view document.now))) }
+{
+    lists::read_servers(alloc, items_at(document, "server"))
+}
+
+fn nodes_in(alloc: Global, names: &[Bytes], document: &Value) -> Result<Vec<Node>, TreeFault>
+    requires servers { servers_of (view document.now) ≡ names.now }
+    requires few { length names.now ≤ 8 }
+    ensures read { IfOk result (λ nodes. read_nodes (view document.now) ≡ Ok nodes.items) }
+    ensures refused { IfErr result (Breaks 5 (rule_5 (view document.now))) }
+{
+    lists::read_nodes(alloc, names, items_at(document, "node"))
+}
+
+fn mounts_in(alloc: Global, names: &[Bytes], document: &Value) -> Result<Vec<Mount>, TreeFault>
+    requires servers { servers_of (view document.now) ≡ names.now }
+    requires few { length names.now ≤ 8 }
+    ensures read { IfOk result (λ mounts. read_mounts (view document.now) ≡ Ok mounts.items) }
+    ensures refused { IfErr result (Breaks 6 (rule_6 (view document.now))) }
+{
+    lists::read_mounts(alloc, names, items_at(document, "mount"))
+}
+
+fn clients_in(alloc: Global, names: &[Bytes], document: &Value) -> Result<Vec<Client>, TreeFault>
+    requires servers { servers_of (view document.now) ≡ names.now }
+    requires few { length names.now ≤ 8 }
+    ensures read { IfOk result (λ clients. read_clients (view document.now) ≡ Ok clients.items) }
+    ensures refused { IfErr result (Breaks 7 (rule_7 (view document.now))) }
+{
+    lists::read_clients(alloc, names, items_at(document, "client"))
+}
+
+// The lists of a document that keeps the rules on each item by itself.
+fn read_lists(alloc: Global, document: &Value) -> Result<Parts, TreeFault>
+    ensures lists { IfOk result (λ parts. parts ≡ lists_of (view document.now)) }
+    ensures few { IfOk result (λ parts. length parts.servers ≤ 8) }
+    ensures hold { OnOk result (first_broken 2 (rules_on_form (view document.now)) ≡ None) }
+    ensures refused { IfErr result (IsFirst (first_broken 2 (rules_on_form (view document.now)))) }
+{
+    if !is_versioned(document) {
+        return Err(TreeFault::Rule { rule: 2, item: 0 });
+    }
+    if !has_lists(document) {
+        return Err(TreeFault::Rule { rule: 3, item: 0 });
+    }
+    let servers = servers_in(alloc, document)?;
+    let nodes = nodes_in(alloc, &servers, document)?;
+    let mounts = mounts_in(alloc, &servers, document)?;
+    let clients = clients_in(alloc, &servers, document)?;
+    Ok(Parts {
+        servers,
+        nodes,
+        mounts,
+        clients,
+    })
+}
+
+// The fault of a rule at an item.
+fn broken(rule: u32, item: usize) -> TreeFault
+    ensures { result ≡ Rule rule item }
+{
+    TreeFault::Rule {
+        rule,
+        item: item as u64,
+    }
+}
+
+// The rules on where the items stand and how many there are.
+fn check_lists(alloc: Global, parts: &Parts) -> Result<(), TreeFault>
+    requires { length parts.now.servers ≤ 8 }
+    ensures hold { OnOk result (first_broken 8 (rules_on_lists parts.now) ≡ None) }
+    ensures refused { IfErr result (IsFirst (first_broken 8 (rules_on_lists parts.now))) }
+{
+    let mut places: Places<'_> = BTreeMap::new(alloc);
+    rules::add_nodes(&mut places, &parts.nodes)?;
+    rules::add_mounts(&mut places, &parts.mounts)?;
+    if let Some(item) = rules::misplaced_client(&places, &parts.clients) {
+        return Err(broken(10, item));
+    }
+    if let Some(item) = rules::large_node(&parts.nodes) {
+        return Err(broken(11, item));
+    }
+    if let Some(item) = rules::crowded_server(&parts.servers, &parts.nodes, &parts.mounts) {
+        return Err(broken(12, item));
+    }
+    if let Some(item) = rules::busy_server(&parts.servers, &parts.mounts, &parts.clients) {
+        return Err(broken(13, item));
+    }
+    Ok(())
+}
+
+// Whether a `u32` counts each list. A text of less than 2^32 bytes has no other lists.
+fn is_counted(parts: &Parts) -> bool
+    ensures { IsTrue result → Counted parts.now }
+{
+    let most = u32::MAX as usize;
+    parts.servers.len() <= most
+        && parts.nodes.len() <= most
+        && parts.mounts.len() <= most
+        && parts.clients.len() <= most
+}
+
+// The start of a document, or the first rule behind the first that it breaks.
+fn start_in(alloc: Global, document: &Value) -> Result<Start, TreeFault>
+    ensures start { IfOk result (λ start. start ≡ lists_of (view document.now)) }
+    ensures sound { OnOk result (broken_in (view document.now) ≡ None) }
+    ensures refused { IfErr result (IsFirst (broken_in (view document.now))) }
+{
+    let parts = read_lists(alloc, document)?;
+    check_lists(alloc, &parts)?;
+    if !is_counted(&parts) {
+        return Err(TreeFault::NoMemory);
+    }
+    Ok(Start { parts })
+}
+
+/// The start that a tree file stands for, or the first rule that it breaks, with the first item that
+/// fails it. Rule 1 is that it is TOML 1.1.
+pub fn start_of(alloc: Global, text: &[u8]) -> Result<Start, TreeFault>
+    ensures start { IfOk result (λ start. start_from text.now ≡ Some start) }
+    ensures sound { OnOk result (first_failure text.now ≡ None) }
+    ensures refused { IfErr result (IsFirst (first_failure text.now)) }
+{
+    let document = read_document(alloc, text)?;
+    start_in(alloc, &document)
+}
