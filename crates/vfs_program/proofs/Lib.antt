@@ -1,0 +1,9 @@
+pub mod WordLists
+pub mod Pieces
+pub mod ReplyLemmas
+pub mod SessionLemmas
+pub mod ServingLemmas
+pub mod Progress
+pub mod SessionEnds
+pub mod Complete
+pub mod SeenLemmas

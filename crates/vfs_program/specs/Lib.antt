@@ -1,0 +1,14 @@
+pub mod Words
+pub mod Notes
+pub mod Reads
+pub mod Replies
+pub mod Meanings
+pub mod OneFile
+pub mod Seen
+pub mod Outside
+pub mod Pieces
+pub mod Session
+pub mod Serving
+pub mod Files
+pub mod Check
+pub mod Answers

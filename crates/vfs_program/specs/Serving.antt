@@ -1,0 +1,65 @@
+-- What one piece of the input led to.
+use Rattle.std.specs.Prelude.{◌≡◌, ℕ, ◌-◌, ◌≤◌, ◌⊎◌, List, [], ◌∷◌, ◌++◌, length, drop, All, Option}
+use Rattle.std.specs.Io.KnownBytes.{Appends}
+use Rattle.host_io.specs.Streams.{IsFlushed}
+use Rattle.endpoint_link.specs.Frames.{Frame, IsFrame, spellings, IsPartial, IsBadFront}
+use Rattle.endpoint_link.specs.declared.kinds.Side.TheVariants.{ToServers}
+use Rattle.endpoint_link.specs.declared.kinds.FrameReason.{FrameReason}
+use Rattle.vfs_program.specs.declared.statuses.Status.{Status}
+use Rattle.vfs_program.specs.declared.statuses.Status.TheVariants as status
+use Rattle.vfs_program.specs.declared.one_file.Served.{Served}
+use Rattle.vfs_program.specs.declared.one_file.Served.TheVariants as served
+use Rattle.vfs_program.specs.OneFile.{Standing, answers, after}
+use Rattle.vfs_program.specs.Session.{IsFront}
+
+-- what was held back is written in front, and the rest is still held
+abbrev pub Passes : Option (List ℕ) → Option (List ℕ) → List ℕ → List ℕ → Type 0
+Passes written written' held held' = (part : List ℕ) × Appends written written' part × (part ++ held' ≡ held)
+
+-- the first n bytes are whole frames; what is written for them went to the sink, but for what is held back
+pub record Heard (file bytes : List ℕ) (now next : Standing) (written written' : Option (List ℕ)) (held : List ℕ) (n : ℕ) : Type 0 where
+  pub frames : List Frame
+  pub each : All (IsFrame ToServers) frames
+  pub split : bytes ≡ spellings frames ++ drop n bytes
+  pub size : length (spellings frames) ≡ n
+  pub moved : next ≡ after file now frames
+  pub passed : Passes written written' (spellings (answers file now frames)) held
+
+-- the same, where only a part of it could be written
+pub record HeardPart (file bytes : List ℕ) (now : Standing) (written written' : Option (List ℕ)) : Type 0 where
+  pub frames : List Frame
+  pub each : All (IsFrame ToServers) frames
+  pub begins : IsFront (spellings frames) bytes
+  pub part : List ℕ
+  pub front : IsFront part (spellings (answers file now frames))
+  pub got : Appends written written' part
+
+abbrev pub IsServing : List ℕ → List ℕ → Standing → Standing → Option (List ℕ) → Option (List ℕ) → List ℕ → Served → Type 0
+IsServing file bytes now next written written' held (served.Rest n) =
+    Heard file bytes now next written written' held n × IsPartial ToServers (drop n bytes)
+IsServing file bytes now next written written' held (served.Bad n why) =
+    Heard file bytes now next written written' held n × IsBadFront ToServers (drop n bytes) why
+IsServing file bytes now next written written' held served.Failed =
+    HeardPart file bytes now written written'
+
+-- it holds where a write failed
+abbrev pub FailsOnly : Served → Type 0 → Type 0
+FailsOnly served.Failed P = P
+FailsOnly _ P = Unit {0}
+
+-- what was held back is written, and all is flushed
+abbrev pub PassedOn : Option (List ℕ) → Option (List ℕ) → List ℕ → ℕ → Type 0
+PassedOn written written' held flushed = Appends written written' held × IsFlushed written' flushed
+
+-- the status where the flush succeeded, and else WriteFault
+abbrev pub Closes : Status → Type 0 → Type 0 → Status → Type 0
+Closes wanted is_flushed rose answer = ((answer ≡ wanted) × is_flushed) ⊎ ((answer ≡ status.WriteFault) × rose)
+
+-- the input ended: between frames, or inside the one that begins there
+abbrev pub end_of : List ℕ → ℕ → Status
+end_of [] taken = status.Done
+end_of (byte ∷ rest) taken = status.Truncated (taken - length (byte ∷ rest))
+
+-- a bad frame, where what was held back is passed on, and else WriteFault
+abbrev pub EndsBad : ℕ → FrameReason → Type 0 → Type 0 → Type 0 → Status → Type 0
+EndsBad at why whole part rose answer = ((answer ≡ status.BadFrame at why) × whole) ⊎ ((answer ≡ status.WriteFault) × part × rose)

@@ -1,0 +1,80 @@
+ghost use Rattle.std.specs.Prelude.{◌≡◌, ◌++◌, IfOk, OnOk, OnErr, decimal};
+ghost use Rattle.host_io.specs.Causes.{HasCause, Rose};
+ghost use Rattle.host_io.specs.Streams.{AppendsPart, IsFlushed};
+ghost use Rattle.std.specs.Io.KnownBytes.{Appends};
+ghost use Rattle.vfs_program.specs.Check.{CheckAnswers, line_of};
+
+use crate::statuses::Status;
+use host_io::{Failed, FileFault, Files, Sink, write_whole};
+use itoa::Buffer;
+use std::alloc::{AllocError, Global};
+use tree_file::{Start, TreeFault, start_of};
+
+/// The most bytes of a tree file.
+const MOST_TREE: usize = 1_048_576;
+
+/// Tells how much the tree file of this name has, where it breaks no rule.
+pub fn check_tree<F: Files, K: Sink>(
+    alloc: Global,
+    name: &str,
+    files: &mut F,
+    sink: &mut K,
+) -> Status
+    ensures { CheckAnswers name.now
+        (record { told = F.told files.old; faults = F.faults files.old; overlong = F.overlong files.old })
+        (record { told = F.told files.new; faults = F.faults files.new; overlong = F.overlong files.new })
+        (record { written = K.written sink.old; flushed = K.flushed sink.old; faults = K.faults sink.old })
+        (record { written = K.written sink.new; flushed = K.flushed sink.new; faults = K.faults sink.new })
+        (sink.new ≡ sink.old) result }
+{
+    let text = match files.read_all(alloc, name, MOST_TREE) {
+        Ok(text) => text,
+        Err(FileFault::Failed) => return Status::FileFault,
+        Err(FileFault::TooLarge) => return Status::FileTooLarge,
+        Err(FileFault::NoMemory) => return Status::NoMemory,
+    };
+    let start = match start_of(alloc, &text) {
+        Ok(start) => start,
+        Err(TreeFault::Rule { rule, item }) => return Status::TreeRefused { rule, item },
+        Err(TreeFault::NoMemory) => return Status::NoMemory,
+    };
+    let Ok(line) = line_of(alloc, &start) else {
+        return Status::NoMemory;
+    };
+    match pass_on(sink, &line) {
+        Ok(()) => Status::Done,
+        Err(Failed) => Status::WriteFault,
+    }
+}
+
+/// The line that tells how many servers, nodes, mounts and clients a tree has.
+fn line_of(alloc: Global, start: &Start) -> Result<Vec<u8>, AllocError>
+    ensures { IfOk result (λ line. line.items ≡ line_of start.now) }
+{
+    let mut line = Vec::new(alloc);
+    put_count(&mut line, "ok servers ", start.servers())?;
+    put_count(&mut line, " nodes ", start.nodes())?;
+    put_count(&mut line, " mounts ", start.mounts())?;
+    put_count(&mut line, " clients ", start.clients())?;
+    line.push(b'\n')?;
+    Ok(line)
+}
+
+/// Puts a text and a number behind what is there.
+fn put_count(line: &mut Vec<u8>, text: &str, count: u32) -> Result<(), AllocError>
+    ensures { OnOk result (line.new.items ≡ line.old.items ++ text.now ++ decimal count) }
+{
+    let mut digits = Buffer::new();
+    line.extend_from_slice(text.as_bytes())?;
+    line.extend_from_slice(digits.format(count).as_bytes())
+}
+
+/// Writes the bytes and passes them on.
+fn pass_on<K: Sink>(sink: &mut K, bytes: &[u8]) -> Result<(), Failed>
+    ensures whole { OnOk result (Appends (K.written sink.old) (K.written sink.new) bytes.now × IsFlushed (K.written sink.new) (K.flushed sink.new)) }
+    ensures part { OnErr result (AppendsPart (K.written sink.old) (K.written sink.new) bytes.now) }
+    ensures cause { HasCause (K.faults sink.old) (K.faults sink.new) result }
+{
+    write_whole(sink, bytes)?;
+    sink.flush()
+}

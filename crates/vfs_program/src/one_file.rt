@@ -1,0 +1,241 @@
+ghost use Rattle.std.specs.Prelude.{◌≡◌, ◌≤◌, ◌<◌, ◌+◌, ◌++◌, List, [], ◌∷◌, length, nat_le, true, IfOk, OnOk, OnErr};
+ghost use Rattle.host_io.specs.Causes.{HasCause, Rose};
+ghost use Rattle.host_io.specs.Streams.{AppendsPart};
+ghost use Rattle.endpoint_link.specs.Admission.{admission, by_standing, refused_if};
+ghost use Rattle.endpoint_link.specs.declared.kinds.FrameKind.TheVariants as kind;
+ghost use Rattle.endpoint_link.specs.declared.kinds.Refusal.TheVariants as refusal;
+ghost use Rattle.fidl_wire.specs.Epitaphs.{epitaph_bytes};
+ghost use Rattle.fidl_names.specs.StatusNumber.{number_of};
+ghost use Rattle.endpoint_link.specs.Frames.{frame_with, spellings};
+ghost use Rattle.endpoint_link.specs.Views.{frame_of};
+ghost use Rattle.vfs_program.specs.Reads.{read_ordinal, meaning_of as told};
+ghost use Rattle.vfs_program.specs.OneFile.{look_ups, outcome, refused, status_of, answered};
+ghost use Rattle.vfs_program.specs.Serving.{IsServing, FailsOnly, Passes};
+
+use crate::reads::{Meaning, READ_NAME, meaning_of};
+use crate::replies::put_reply;
+use endpoint_link::{
+    FrameKind, FrameReason, FrameRoom, FrameView, Reading, Refusal, Side, frame_at,
+};
+use fidl_wire::{NoMemory, Out, Status as Answer, epitaph, ordinal};
+use host_io::{Failed, Sink, write_whole};
+use std::alloc::Global;
+
+/// The endpoint that is bound to the file.
+const ENDPOINT: u32 = 1;
+
+/// The most bytes that are written for one frame: the frame of the longest reply.
+pub const MOST_ANSWER: usize = 8252;
+
+/// What a piece of the input led to.
+pub enum Served {
+    /// Each whole frame was served; so many bytes these were, and what follows has begun a frame.
+    Rest(usize),
+    /// Behind so many bytes stands a bad fixed part.
+    Bad(usize, FrameReason),
+    /// The output couldn't be written.
+    Failed,
+}
+
+/// The session of one file: whether its endpoint is live, from where it reads, and room for a message.
+#[derive(Drop)]
+pub struct Connection {
+    live: bool,
+    position: usize,
+    ordinal: u64,
+    out: Out,
+    ghost named: { ordinal ≡ read_ordinal },
+}
+
+impl Connection {
+    /// At the start of the file. All the room is taken here.
+    pub fn new(alloc: Global) -> Result<Connection, NoMemory>
+        ensures { IfOk result (λ c. (c.live ≡ true) × (c.position ≡ 0)) }
+    {
+        Ok(Connection {
+            live: true,
+            position: 0,
+            ordinal: ordinal(READ_NAME),
+            out: Out::new(alloc)?,
+        })
+    }
+
+    /// Serves each whole frame at the front of the bytes, in order. What is written for them goes
+    /// to the sink, or is held back in the room.
+    pub fn serve<K: Sink>(
+        &mut self,
+        file: &[u8],
+        bytes: &[u8],
+        room: &mut FrameRoom,
+        sink: &mut K,
+    ) -> Served
+        requires within { self.old.position ≤ length file.now }
+        requires empty { room.old.bytes ≡ [] }
+        requires room { 8252 ≤ room.old.size }
+        ensures served { IsServing file.now bytes.now
+            (record { live = self.old.live; position = self.old.position })
+            (record { live = self.new.live; position = self.new.position })
+            (K.written sink.old) (K.written sink.new) room.new.bytes result }
+        ensures size { room.new.size ≡ room.old.size }
+        ensures within { self.new.position ≤ length file.now }
+        ensures faults { K.faults sink.old ≤ K.faults sink.new }
+        ensures cause { FailsOnly result (Rose (K.faults sink.old) (K.faults sink.new)) }
+    {
+        let mut at = 0;
+        'frames: loop {
+            match frame_at(Side::ToServers, &bytes[at..]) {
+                Reading::Whole { frame, size } => {
+                    if let Err(Failed) = make_room(room, sink) {
+                        return Served::Failed;
+                    }
+                    self.hear(file, frame, room);
+                    at += size;
+                }
+                Reading::NotWhole => return Served::Rest(at),
+                Reading::Bad(reason) => return Served::Bad(at, reason),
+            }
+        }
+    }
+
+    /// Serves one frame.
+    fn hear(&mut self, file: &[u8], frame: FrameView<'_>, room: &mut FrameRoom)
+        requires within { self.old.position ≤ length file.now }
+        requires room { length room.old.bytes + 8252 ≤ room.old.size }
+        ensures frames { room.new.bytes ≡ room.old.bytes ++
+            spellings (outcome file.now (record { live = self.old.live; position = self.old.position }) (frame_of frame.entry)).frames }
+        ensures next { record { live = self.new.live; position = self.new.position } ≡
+            (outcome file.now (record { live = self.old.live; position = self.old.position }) (frame_of frame.entry)).next }
+        ensures size { room.new.size ≡ room.old.size }
+        ensures within { self.new.position ≤ length file.now }
+    {
+        if let Some(why) = refusal(self.live, frame) {
+            put_refusal(&mut self.out, frame.endpoint, why, room);
+            return;
+        }
+        match frame.kind {
+            FrameKind::Message => self.answer(file, frame.bytes, room),
+            FrameKind::Close => self.live = false,
+            FrameKind::Turn | FrameKind::Pick | FrameKind::Refused => {}
+        }
+    }
+
+    /// Answers a message: a Read by its reply, any other by an epitaph and the endpoint's end.
+    fn answer(&mut self, file: &[u8], message: &[u8], room: &mut FrameRoom)
+        requires within { self.old.position ≤ length file.now }
+        requires room { length room.old.bytes + 8252 ≤ room.old.size }
+        ensures frames { room.new.bytes ≡ room.old.bytes ++
+            spellings (answered file.now (record { live = self.old.live; position = self.old.position }) (told message.now)).frames }
+        ensures next { record { live = self.new.live; position = self.new.position } ≡
+            (answered file.now (record { live = self.old.live; position = self.old.position }) (told message.now)).next }
+        ensures size { room.new.size ≡ room.old.size }
+        ensures within { self.new.position ≤ length file.now }
+    {
+        match meaning_of(message, self.ordinal) {
+            Meaning::Reads(read) => {
+                self.position = put_reply(&mut self.out, file, self.position, read, self.ordinal);
+                room.put_frame(ENDPOINT, FrameKind::Message, &[], self.out.as_bytes());
+            }
+            Meaning::Ends(status) => {
+                self.live = false;
+                put_end(&mut self.out, status, room);
+            }
+        }
+    }
+}
+
+/// Puts the frames by which a message ends the endpoint: an epitaph, and a Close.
+fn put_end(out: &mut Out, status: Answer, room: &mut FrameRoom)
+    requires { length room.old.bytes + 8252 ≤ room.old.size }
+    ensures frames { room.new.bytes ≡ room.old.bytes ++ spellings
+        (frame_with 1 kind.Message [] (epitaph_bytes (number_of status)) ∷ frame_with 1 kind.Close [] [] ∷ []) }
+    ensures size { room.new.size ≡ room.old.size }
+{
+    out.clear();
+    epitaph(status, out);
+    room.put_frame(ENDPOINT, FrameKind::Message, &[], out.as_bytes());
+    room.put_frame(ENDPOINT, FrameKind::Close, &[], &[]);
+}
+
+/// Puts the frame that refuses one with this number.
+fn put_refusal(out: &mut Out, number: u32, why: Refusal, room: &mut FrameRoom)
+    requires { length room.old.bytes + 8252 ≤ room.old.size }
+    ensures frames { room.new.bytes ≡ room.old.bytes ++ spellings (refused number why ∷ []) }
+    ensures size { room.new.size ≡ room.old.size }
+{
+    out.clear();
+    out.put_i32(status_of(why).number());
+    room.put_frame(number, FrameKind::Refused, &[], out.as_bytes());
+}
+
+/// The status of a refusal.
+fn status_of(why: Refusal) -> Answer
+    ensures { result ≡ status_of why }
+{
+    match why {
+        Refusal::PeerClosed => Answer::PeerClosed,
+        Refusal::BadHandle => Answer::BadHandle,
+        Refusal::ShouldWait => Answer::ShouldWait,
+        Refusal::NoResources => Answer::NoResources,
+    }
+}
+
+/// The first reason against a frame, where the file's endpoint alone was ever known.
+fn refusal(live: bool, frame: FrameView<'_>) -> Option<Refusal>
+    ensures { result ≡ admission (look_ups live) (frame_of frame.entry) }
+{
+    match frame.kind {
+        FrameKind::Turn => refusal_of_turn(frame.endpoint),
+        FrameKind::Refused => None,
+        FrameKind::Close | FrameKind::Pick => refusal_of_number(live, frame.endpoint),
+        FrameKind::Message => {
+            let refusal = refusal_of_number(live, frame.endpoint);
+            if refusal.is_none() && !frame.handles.is_empty() {
+                return Some(Refusal::BadHandle);
+            }
+            refusal
+        }
+    }
+}
+
+/// Server 0 is the only one.
+fn refusal_of_turn(server: u32) -> Option<Refusal>
+    ensures { result ≡ refused_if (nat_le 1 server) refusal.BadHandle }
+{
+    if server == 0 {
+        None
+    } else {
+        Some(Refusal::BadHandle)
+    }
+}
+
+/// The file's endpoint is the only one that was ever known.
+fn refusal_of_number(live: bool, number: u32) -> Option<Refusal>
+    ensures { result ≡ by_standing ((look_ups live).standing number) }
+{
+    if number != ENDPOINT {
+        return Some(Refusal::BadHandle);
+    }
+    if live {
+        None
+    } else {
+        Some(Refusal::PeerClosed)
+    }
+}
+
+/// Makes room for what is written for one frame: where too little is left, all that is held back is
+/// written.
+fn make_room<K: Sink>(room: &mut FrameRoom, sink: &mut K) -> Result<(), Failed>
+    requires { 8252 ≤ room.old.size }
+    ensures passed { OnOk result (Passes (K.written sink.old) (K.written sink.new) room.old.bytes room.new.bytes) }
+    ensures room { OnOk result (length room.new.bytes + 8252 ≤ room.new.size) }
+    ensures size { room.new.size ≡ room.old.size }
+    ensures part { OnErr result (AppendsPart (K.written sink.old) (K.written sink.new) room.old.bytes) }
+    ensures cause { HasCause (K.faults sink.old) (K.faults sink.new) result }
+{
+    if room.room() >= MOST_ANSWER {
+        return Ok(());
+    }
+    write_whole(sink, room.as_bytes())?;
+    room.clear();
+    Ok(())
+}

@@ -1,0 +1,31 @@
+ghost use Rattle.std.specs.Prelude.{◌≡◌, ◌∷◌, [], codes, map, string_bytes, IfSome, IsNone, IsTrue, ◌↔◌};
+ghost use Rattle.vfs_program.specs.Words.{Means, MeanNothing, command_seen};
+
+/// What the words ask for.
+#[derive(Clone, Copy)]
+pub enum Command<'a> {
+    File { name: &'a str },
+    Check { tree: &'a str },
+}
+
+/// Reads the words by their exact shape. `None` exactly where they have none.
+pub fn command_of(words: &[String]) -> Option<Command<'_>>
+    ensures meant { IfSome result (λ command. Means (map string_bytes words.now) (command_seen command)) }
+    ensures none { IsNone result → MeanNothing (map string_bytes words.now) }
+{
+    match words {
+        [first, name] if is_word(first, "file") => Some(Command::File {
+            name: name.as_str(),
+        }),
+        [first, tree] if is_word(first, "check") => Some(Command::Check {
+            tree: tree.as_str(),
+        }),
+        _ => None,
+    }
+}
+
+fn is_word(word: &String, text: &str) -> bool
+    ensures { IsTrue result ↔ (string_bytes word.now ≡ text.now) }
+{
+    word.as_str() == text
+}
