@@ -1,0 +1,35 @@
+#!/usr/bin/env bash
+# Serves examples/hello to the frames of examples/exchange.hex, and prints each request with what
+# came back for it. The first argument is the program, build/vfs if there is none.
+set -eu
+cd "$(dirname "$0")/.."
+program=${1:-build/vfs}
+work=$(mktemp -d)
+trap 'rm -rf "$work"' EXIT
+
+explain() { # FILE FIRST-BYTE NAME NUMBER
+    tail -c +"$(($2 + 1))" "$1" | od -An -v -tx1 | awk -v name="$3" -v from="$4" -f tools/explain.awk
+}
+
+# An empty line stands between two frames; what has no digits is no frame.
+awk -v RS= -v work="$work" '/(^|\n)[0-9a-f]/ { print > (work "/frame." ++n) }' examples/exchange.hex
+
+# The program is run on the first frame, on the first two, and so on: what is new in the output of
+# a run is what came back for its last frame.
+echo "vfs file examples/hello, whose text is \"$(cat examples/hello)\""
+: > "$work/in"
+sent=0 got=0 status=0
+for ((i = 1; ; i++)); do
+    frame="$work/frame.$i"
+    [ -e "$frame" ] || break
+    echo
+    grep '^#' "$frame"
+    tools/to-bytes.sh "$frame" >> "$work/in"
+    "$program" file examples/hello < "$work/in" > "$work/out" 2> "$work/notes" || status=$?
+    explain "$work/in" "$sent" request "$i"
+    explain "$work/out" "$got" "  answer" 1
+    sent=$(wc -c < "$work/in") got=$(wc -c < "$work/out")
+done
+echo
+echo "$sent bytes in, $got bytes out, exit status $status"
+cat "$work/notes"

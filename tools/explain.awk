@@ -1,0 +1,105 @@
+# Prints frames of the link so that a person can read them: the bytes of each field beside what
+# they mean. The input is the bytes in hexadecimal, as `od -An -v -tx1` writes them.
+# -v name=TEXT heads each frame, as in `request 1`; -v from=N is the number of the first.
+
+BEGIN {
+    split("Message Close Turn Pick Refused", kinds, " ")
+    method["4c01b891c67ff240"] = "the method fuchsia.io/Readable.Read"
+    method["ffffffffffffffff"] = "an epitaph: the last message of its endpoint"
+    status["00000000"] = "OK"; status["feffffff"] = "NOT_SUPPORTED"
+    status["f6ffffff"] = "INVALID_ARGS"; status["f5ffffff"] = "BAD_HANDLE"
+    status["f2ffffff"] = "OUT_OF_RANGE"; status["e8ffffff"] = "PEER_CLOSED"
+    for (i = 0; i < 256; i++) value[sprintf("%02x", i)] = i
+    count = 0
+}
+
+{ for (i = 1; i <= NF; i++) byte[count++] = $i }
+
+END {
+    place = 0
+    for (number = from == "" ? 1 : from; place < count; number++) frame(number)
+}
+
+# The next n bytes as digits; the place goes on behind them.
+function take(n,    digits) {
+    for (digits = ""; n > 0 && place < count; n--) digits = digits byte[place++]
+    return digits
+}
+
+# What digits, the low byte first, stand for; exact below 2^53.
+function number_of(digits,    i, sum) {
+    for (i = length(digits) - 1; i > 0; i -= 2) sum = 256 * sum + value[substr(digits, i, 2)]
+    return sum + 0
+}
+
+function line(digits, meaning) {
+    printf "    %-34s %s\n", digits, meaning
+}
+
+function status_of(digits) {
+    return "status " (number_of(digits) ? number_of(digits) - 4294967296 : 0) \
+        (digits in status ? ", " status[digits] : "")
+}
+
+function frame(number,    kind, handles, size, digits) {
+    printf "%s %d\n", name, number
+    digits = take(4); line(digits, "endpoint " number_of(digits))
+    digits = take(1); kind = number_of(digits)
+    line(digits, "kind " kind (kind in kinds ? ", " kinds[kind] : ""))
+    digits = take(1); handles = number_of(digits); line(digits, handles " handles")
+    line(take(2), "always zero")
+    digits = take(4); size = number_of(digits); line(digits, size " bytes follow")
+    for (; handles > 0; handles--) { digits = take(4); line(digits, "handle " number_of(digits)) }
+    if (kind == 5 && size == 4) { digits = take(4); line(digits, status_of(digits)); return }
+    if (kind != 1 || size < 16) { if (size > 0) line(take(size), "bytes"); return }
+    message(place + size)
+}
+
+function message(end,    digits, ordinal) {
+    digits = take(4)
+    line(digits, "txid " number_of(digits))
+    digits = take(4)
+    line(digits, "wire format 2, " (value[substr(digits, 5, 2)] >= 128 ? "flexible" : "strict"))
+    ordinal = take(8)
+    line(ordinal, ordinal in method ? method[ordinal] : "an ordinal of no method that is served here")
+    if (ordinal == "ffffffffffffffff" && end - place == 8) {
+        digits = take(4); line(digits, status_of(digits))
+        line(take(4), "padding")
+    } else if (ordinal == "4c01b891c67ff240" && end - place == 8) {
+        digits = take(8); line(digits, "asks for at most " number_of(digits) " bytes")
+    } else if (ordinal == "4c01b891c67ff240" && end - place >= 16) {
+        reply(end)
+    }
+    if (place < end) line(take(end - place), "bytes")
+}
+
+function reply(end,    digits, size) {
+    digits = take(8)
+    if (number_of(digits) != 1) {
+        line(digits, "branch " number_of(digits) ": it failed")
+        digits = take(4); line(digits, status_of(digits))
+        line(take(4), "no handle; the value stands in the envelope")
+        return
+    }
+    line(digits, "branch 1: it succeeded")
+    digits = take(4); line(digits, "the value has " number_of(digits) " bytes")
+    line(take(4), "no handle; the value stands behind the envelope")
+    digits = take(8); size = number_of(digits); line(digits, "a vector of " size " bytes")
+    line(take(8), "which is there")
+    text(size)
+    if (place < end) line(take(end - place), "padding")
+}
+
+# The content, sixteen bytes a line.
+function text(size,    n, digits, i, shown) {
+    for (; size > 0; size -= n) {
+        n = size < 16 ? size : 16
+        digits = take(n)
+        shown = ""
+        for (i = 1; i < length(digits); i += 2) {
+            code = value[substr(digits, i, 2)]
+            shown = shown (code >= 32 && code < 127 ? sprintf("%c", code) : ".")
+        }
+        line(digits, "\"" shown "\"")
+    }
+}
