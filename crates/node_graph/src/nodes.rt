@@ -8,7 +8,7 @@ pub enum NodeKind {
     Directory,
     File,
     Service,
-    /// A place at which the tree of another server, the one with this number, goes on.
+    /// A mount, by its index over the mounts of all servers: behind it the tree of its target goes on.
     Mount(u32),
 }
 

@@ -1,5 +1,6 @@
 -- How the nodes of a start are numbered, the tree that each server begins with, and the ends of mounts.
 use Rattle.std.specs.Prelude.{ℕ, ◌+◌, ◌==◌, if◌then◌else◌, List, [], ◌∷◌, ◌++◌, map, filter, reverse, slice_get, position, unwrap_or}
+use Rattle.std.specs.List.{enumerate_from}
 use Rattle.std.specs.FinMap as finite
 use Rattle.std.specs.Option.{option_map_or}
 use Rattle.std.specs.Str.{bytes_eq}
@@ -21,14 +22,15 @@ pub record Named : Type 0 where
 abbrev pub node_named : NodeItem → Named
 node_named node = record { path = node.path; kind = node.kind; bytes = node.bytes; mask = node.rights }
 
-abbrev pub mount_named : MountItem → Named
-mount_named mount = record { path = mount.path; kind = Mount mount.target; bytes = []; mask = mount.rights }
+-- a mount, with its index over the mounts of all servers
+abbrev pub mount_named : ℕ × MountItem → Named
+mount_named mount = record { path = mount.1.path; kind = Mount mount.0; bytes = []; mask = mount.1.rights }
 
 -- what a server has besides its root, in the order of the numbers from 2 on: its nodes, then its mounts
 abbrev pub named_of : Lists → ℕ → List Named
 named_of lists server =
     map node_named (filter (λ node. node.server == server) lists.nodes)
-    ++ map mount_named (filter (λ mount. mount.server == server) lists.mounts)
+    ++ map mount_named (filter (λ mount. mount.1.server == server) (enumerate_from 0 lists.mounts))
 
 -- the number that a path leads to: the root has 1; 0 is no node's
 unfoldable pub number_at : List Named → List ℕ → ℕ
