@@ -1,0 +1,52 @@
+-- What the serving of one request does.
+use Rattle.std.specs.Prelude.{ℕ, Bool, List, Option, None, if◌then◌else◌}
+use Rattle.fidl_names.specs.declared.statuses.Status.{Status}
+use Rattle.io_messages.specs.Asked.{Asked, method_of}
+use Rattle.io_messages.specs.Replies.{Answered, fails}
+use Rattle.io_messages.specs.Shapes.{is_one_way}
+use Rattle.node_graph.specs.Tree.{EdgeKey, Change, stay}
+use Rattle.conn_rules.specs.Births.{Birth, Position}
+
+pub data Answer : Type 0 where
+  -- a reply on the connection's own endpoint
+  replies : Answered → Answer
+  -- the reply to Close on it, and then it ends
+  closes : Answer
+  -- the endpoint that the request carries is bound; its first message tells what it is, where that was asked for
+  binds : Birth → (announced : Bool) → Answer
+  -- the reply to Watch, and the endpoint that it carries is bound as a watcher with this mask
+  watches : (mask : ℕ) → Answer
+  -- an Open goes on behind a mount, with these flags and names
+  forwards : (mount flags : ℕ) (rest : List (List ℕ)) → Answer
+  -- the endpoint that the request carries ends with this status
+  refuses : Status → Answer
+  -- the connection's own endpoint ends with this status
+  ends : Status → Answer
+  -- the client closed the connection's own endpoint: it ends, and nothing is written
+  hangs_up : Answer
+  -- nothing is written
+  silent : Answer
+
+-- what the watchers of directories are told: a name is gone, a name is new, a directory is gone
+pub record Told : Type 0 where
+  pub removed : Option EdgeKey
+  pub added : Option EdgeKey
+  pub deleted : Option ℕ
+
+abbrev pub nothing_told : Told
+nothing_told = record { removed = None; added = None; deleted = None }
+
+-- an answer, the position that it leaves, the change of the server's tree, and what watchers are told of it
+pub record Act : Type 0 where
+  pub answer : Answer
+  pub position : Position
+  pub change : Change
+  pub told : Told
+
+-- an answer that leaves this position, and changes nothing else
+abbrev pub only : Position → Answer → Act
+only position answer = record { answer = answer; position = position; change = stay; told = nothing_told }
+
+-- how a request fails: on the endpoint that it carries where it has no reply, else in its reply
+abbrev pub failure_of : Asked → Status → Answer
+failure_of request status = if is_one_way (method_of request) then refuses status else replies (fails (method_of request) status)

@@ -1,0 +1,14 @@
+pub mod Births
+pub mod Codes
+pub mod Answers
+pub mod Built
+pub mod Refusals
+pub mod Nodes
+pub mod Walks
+pub mod Opens
+pub mod FileRows
+pub mod Listings
+pub mod NameRows
+pub mod Acts
+pub mod Served
+pub mod Laws

@@ -1,0 +1,90 @@
+-- What the rows of a tree tell of one node.
+use Rattle.std.specs.Prelude.{ℕ, ◌==◌, Bool, true, false, if◌then◌else◌, List, [], length, Option, Some, None, unwrap_or, codes}
+use Rattle.std.specs.Int.{bit_at}
+use Rattle.std.specs.Option.{option_map_or}
+use Rattle.std.specs.FinMap as finite
+use Rattle.io_messages.specs.declared.protocols.Protocol.{Protocol}
+use Rattle.io_messages.specs.declared.protocols.Protocol.TheVariants as protocol
+use Rattle.io_messages.specs.declared.replies.Attributes.{Attributes}
+use Rattle.node_graph.specs.declared.nodes.NodeKind.{NodeKind}
+use Rattle.node_graph.specs.declared.nodes.NodeKind.TheVariants.{Directory, File, Service, Mount}
+use Rattle.node_graph.specs.Tree.{Tree, EdgeKey, EdgeTo, row_of, kind_of, link_count, names_in}
+
+-- a file's bytes
+abbrev pub bytes_of : Tree → ℕ → List ℕ
+bytes_of tree number = option_map_or (λ row. row.bytes) (row_of tree.nodes number) []
+
+-- what a node is; a number without a row is no node's
+abbrev pub kind_here : Tree → ℕ → NodeKind
+kind_here tree number = unwrap_or (kind_of tree number) Directory
+
+abbrev pub is_directory : NodeKind → Bool
+is_directory Directory = true
+is_directory _ = false
+
+abbrev pub is_file : NodeKind → Bool
+is_file File = true
+is_file _ = false
+
+abbrev pub is_service : NodeKind → Bool
+is_service Service = true
+is_service _ = false
+
+abbrev pub is_mount : NodeKind → Bool
+is_mount (Mount index) = true
+is_mount _ = false
+
+-- where a name leads to
+abbrev pub edge_at : Tree → EdgeKey → Option EdgeTo
+edge_at tree key = finite.get tree.edges key
+
+-- the kind of the node that an edge leads to
+abbrev pub kind_behind : Tree → EdgeTo → NodeKind
+kind_behind tree edge = kind_here tree edge.child
+
+-- there is such a name, and what it leads to passes the test
+abbrev pub leads_to : (NodeKind → Bool) → Tree → EdgeKey → Bool
+leads_to test tree key = option_map_or (λ edge. test (kind_behind tree edge)) (edge_at tree key) false
+
+-- a directory without a name in it
+abbrev pub is_empty_directory : Tree → ℕ → Bool
+is_empty_directory tree number = length (names_in tree.edges number) == 0
+
+-- ---- attributes
+
+abbrev pub protocols_of : NodeKind → ℕ
+protocols_of Directory = 2
+protocols_of File = 4
+protocols_of Service = 1
+protocols_of (Mount index) = 0
+
+-- the operations that can be of use on a node, as bits
+abbrev pub abilities_of : NodeKind → ℕ
+abilities_of Directory = 0x1d0
+abilities_of File = 0x16
+abilities_of Service = 0x11
+abilities_of (Mount index) = 0
+
+abbrev pub content_size : Tree → ℕ → ℕ
+content_size tree number = if is_file (kind_here tree number) then length (bytes_of tree number) else 0
+
+-- the value of an attribute, where its bit is in the query
+abbrev pub where_asked : ℕ → ℕ → ℕ → Option ℕ
+where_asked query bit value = if bit_at query bit == 1 then Some value else None
+
+-- the attributes of a node that a query asks for; the storage size, bit 3, is never given
+unfoldable pub attributes_of : Tree → ℕ → ℕ → Attributes
+attributes_of tree number query =
+    record {
+      protocols = where_asked query 0 (protocols_of (kind_here tree number));
+      abilities = where_asked query 1 (abilities_of (kind_here tree number));
+      content_size = where_asked query 2 (content_size tree number);
+      link_count = where_asked query 4 (link_count tree.edges number);
+      id = where_asked query 5 number;
+    }
+
+-- what Query answers
+abbrev pub protocol_name : Protocol → List ℕ
+protocol_name protocol.Directory = codes "fuchsia.io/Directory"
+protocol_name protocol.File = codes "fuchsia.io/File"
+protocol_name _ = codes "fuchsia.io/Node"

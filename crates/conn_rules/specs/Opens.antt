@@ -1,0 +1,150 @@
+-- Open: the node at a path is bound to the endpoint that the request carries, or made first, or the Open goes on behind a mount.
+use Rattle.std.specs.Prelude.{ℕ, ◌+◌, ◌&&◌, ◌||◌, Bool, not, nat_le, is_some, if◌then◌else◌, List, [], ◌∷◌, length, Option, Some, None}
+use Rattle.std.specs.FinMap as finite
+use Rattle.std.specs.Option.{option_map}
+use Rattle.std.specs.Str.{bytes_eq}
+use Rattle.fidl_names.specs.declared.statuses.Status.{Status}
+use Rattle.fidl_names.specs.declared.statuses.Status.TheVariants as status
+use Rattle.io_flags.specs.declared.names.Flag.{Flag}
+use Rattle.io_flags.specs.declared.names.Flag.TheVariants as flag
+use Rattle.io_flags.specs.Faults.{flag_fault, status_of}
+use Rattle.io_flags.specs.Grants.{explicit_rights, asked_rights, granted, granted_kind, onward}
+use Rattle.io_flags.specs.Words.{has, has_protocol, is_alone, creates}
+use Rattle.io_messages.specs.Asked.{Asked}
+use Rattle.io_messages.specs.declared.protocols.Protocol.{Protocol}
+use Rattle.io_messages.specs.declared.protocols.Protocol.TheVariants as protocol
+use Rattle.io_rights.specs.declared.operations.Operation.TheVariants as op
+use Rattle.io_rights.specs.Operations.{OperationSet, single, all}
+use Rattle.node_graph.specs.declared.nodes.NodeKind.{NodeKind}
+use Rattle.node_graph.specs.declared.nodes.NodeKind.TheVariants.{Directory, File, Service, Mount}
+use Rattle.node_graph.specs.declared.TheConstants as limit
+use Rattle.node_graph.specs.Tree.{Tree, EdgeKey, Change, make, fill, stay, is_removed}
+use Rattle.path_walk.specs.Names.{dot}
+use Rattle.path_walk.specs.Paths.{path_fault, names_of}
+use Rattle.conn_rules.specs.declared.births.Room.{Room}
+use Rattle.conn_rules.specs.Births.{Birth, Position}
+use Rattle.conn_rules.specs.Answers.{Answer, binds, forwards, Act, only, failure_of, nothing_told}
+use Rattle.conn_rules.specs.Built.{Built}
+use Rattle.conn_rules.specs.Nodes.{kind_here, is_file, is_service}
+use Rattle.conn_rules.specs.Refusals.{refused_if, first_of, unless, lacks, most_connections}
+use Rattle.conn_rules.specs.Walks.{Walk, arrives, missing, crosses, stops, walk, limit_of}
+
+-- ---- refusals
+
+-- before the walk: a fault of the flags, what isn't built, a fault of the path, and rights that the connection lacks
+abbrev pub entry_refusals : Built → Birth → ℕ → List ℕ → List (Option Status)
+entry_refusals built birth word path =
+    option_map status_of (flag_fault word)
+    ∷ refused_if (not (built.words word)) status.NotSupported
+    ∷ refused_if (is_some (path_fault path)) status.InvalidArgs
+    ∷ refused_if (not (bytes_eq path dot) && lacks birth.rights (single op.Traverse)) status.AccessDenied
+    ∷ refused_if (lacks birth.rights (asked_rights word)) status.AccessDenied
+    ∷ []
+
+-- the protocol flag of a kind of node
+abbrev pub flag_of : NodeKind → Flag
+flag_of Directory = flag.ProtocolDirectory
+flag_of File = flag.ProtocolFile
+flag_of Service = flag.ProtocolService
+flag_of (Mount index) = flag.ProtocolDirectory
+
+-- there are protocol flags, and neither NODE nor that of the node's kind is among them
+abbrev pub is_other_kind : ℕ → NodeKind → Bool
+is_other_kind word kind = has_protocol word && not (has word flag.ProtocolNode || has word (flag_of kind))
+
+abbrev pub other_kind_status : ℕ → Status
+other_kind_status word =
+    if is_alone word flag.ProtocolDirectory then status.NotDir
+    else if is_alone word flag.ProtocolFile then status.NotFile
+    else status.WrongType
+
+abbrev pub marks_file : ℕ → Bool
+marks_file word = has word flag.FileAppend || has word flag.FileTruncate
+
+-- a service is opened to connect to it, or as a node reference
+abbrev pub connects_without_right : ℕ → NodeKind → Bool
+connects_without_right word kind =
+    is_service kind && (not (has word flag.ProtocolNode) && lacks (explicit_rights word) (single op.Connect))
+
+abbrev pub is_full : Room → Bool
+is_full room = nat_le most_connections room.connections
+
+-- of a node that is there
+abbrev pub arrival_refusals : Built → Room → ℕ → NodeKind → List (Option Status)
+arrival_refusals built room word kind =
+    refused_if (has word flag.MustCreate) status.AlreadyExists
+    ∷ refused_if (is_other_kind word kind) (other_kind_status word)
+    ∷ refused_if (marks_file word && not (is_file kind)) status.NotFile
+    ∷ refused_if (not (built.kinds kind)) status.NotSupported
+    ∷ refused_if (connects_without_right word kind) status.AccessDenied
+    ∷ refused_if (is_full room) status.NoResources
+    ∷ []
+
+-- of a node that is missing
+abbrev pub making_refusals : Tree → Room → ℕ → ℕ → List (Option Status)
+making_refusals tree room word directory =
+    refused_if (not (creates word)) status.NotFound
+    ∷ refused_if (is_removed tree.edges directory) status.BadState
+    ∷ refused_if (nat_le limit.MAX_NAMES (finite.len tree.edges)) status.NoSpace
+    ∷ refused_if (is_full room) status.NoResources
+    ∷ []
+
+-- ---- what is bound
+
+abbrev pub protocol_of : ℕ → NodeKind → Protocol
+protocol_of word Directory = if has word flag.ProtocolNode then protocol.Node else protocol.Directory
+protocol_of word File = if has word flag.ProtocolNode then protocol.Node else protocol.File
+protocol_of word Service = if has word flag.ProtocolNode then protocol.Node else protocol.Echo
+protocol_of word (Mount index) = protocol.Node
+
+-- a node with the rights that the word gets under a limit
+abbrev pub birth_for : ℕ → OperationSet → ℕ → NodeKind → Birth
+birth_for word limit node kind =
+    record {
+      node = node;
+      rights = granted_kind word (granted word limit);
+      protocol = protocol_of word kind;
+      append = has word flag.FileAppend;
+    }
+
+abbrev pub binding : ℕ → OperationSet → ℕ → NodeKind → Answer
+binding word limit node kind = binds (birth_for word limit node kind) (has word flag.SendRepresentation)
+
+abbrev pub truncation : ℕ → ℕ → Change
+truncation word node = if has word flag.FileTruncate then fill node [] else stay
+
+-- a node that is there
+abbrev pub arrival : Position → ℕ → OperationSet → ℕ → NodeKind → Act
+arrival position word limit node kind =
+    record { answer = binding word limit node kind; position = position; change = truncation word node; told = nothing_told }
+
+abbrev pub kind_made : ℕ → NodeKind
+kind_made word = if has word flag.ProtocolDirectory then Directory else File
+
+-- a new node, with the next number; its name lets all rights through
+abbrev pub making : Position → Tree → ℕ → OperationSet → EdgeKey → Act
+making position tree word limit key =
+    record {
+      answer = binding word limit (length tree.nodes + 1) (kind_made word);
+      position = position;
+      change = make key (kind_made word) all;
+      told = record { removed = None; added = Some key; deleted = None };
+    }
+
+-- ---- the whole
+
+abbrev pub by_walk : Built → Birth → Position → Room → Tree → Asked → ℕ → Walk → Act
+by_walk built birth position room tree request word (arrives node masks) =
+    unless (first_of (arrival_refusals built room word (kind_here tree node))) position request
+    (arrival position word (limit_of birth.rights masks) node (kind_here tree node))
+by_walk built birth position room tree request word (missing directory name masks) =
+    unless (first_of (making_refusals tree room word directory)) position request
+    (making position tree word (limit_of birth.rights masks) (record { directory = directory; name = name }))
+by_walk built birth position room tree request word (crosses mount rest masks) =
+    only position (forwards mount (onward word (limit_of birth.rights masks)) rest)
+by_walk built birth position room tree request word (stops status) = only position (failure_of request status)
+
+abbrev pub open_act : Built → Birth → Position → Room → Tree → Asked → List ℕ → ℕ → Act
+open_act built birth position room tree request path word =
+    unless (first_of (entry_refusals built birth word path)) position request
+    (by_walk built birth position room tree request word (walk tree word (names_of path) birth.node))

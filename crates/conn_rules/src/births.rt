@@ -1,0 +1,24 @@
+use io_messages::Protocol;
+use io_rights::Rights;
+use node_graph::NodeRef;
+
+/// What an endpoint is bound to: a node, what may be done there, and how.
+#[derive(Clone, Copy, Debug, PartialEq, Eq)]
+pub struct Birth {
+    pub node: NodeRef,
+    pub rights: Rights,
+    pub protocol: Protocol,
+    /// Whether each Write goes to the file's end.
+    pub append: bool,
+    /// Whether the endpoint's first message tells what it is bound to.
+    pub announce: bool,
+}
+
+/// What is in use at a server: its connections, at most 4,096; the watchers of the connection's directory, at most 64; and the
+/// number that the next token gets, `None` where none is given any more.
+#[derive(Clone, Copy, Debug, PartialEq, Eq)]
+pub struct Room {
+    pub connections: u32,
+    pub watchers: u32,
+    pub token: Option<u32>,
+}
