@@ -1,0 +1,12 @@
+pub mod Entries
+pub mod Starts
+pub mod Outcomes
+pub mod History
+pub mod Tokens
+pub mod Serving
+pub mod Deaths
+pub mod Past
+pub mod Watching
+pub mod Output
+pub mod Session
+pub mod Lawful

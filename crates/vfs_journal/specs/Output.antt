@@ -1,0 +1,66 @@
+-- The frames that a journal stands for.
+use Rattle.std.specs.Prelude.{ℕ, true, not, List, [], ◌∷◌, ◌++◌, map, filter, Option}
+use Rattle.std.specs.FinMap as finite
+use Rattle.std.specs.Int.{w32, cast_unsigned}
+use Rattle.std.specs.Option.{option_map_or}
+use Rattle.std.specs.Ordering.{nat_cmp}
+use Rattle.fidl_names.specs.declared.statuses.Status.{Status}
+use Rattle.fidl_names.specs.declared.statuses.Status.TheVariants as status
+use Rattle.fidl_names.specs.StatusNumber.{number_of}
+use Rattle.fidl_wire.specs.Numbers.{number_bytes}
+use Rattle.endpoint_link.specs.Frames.{Frame, frame_with, spellings}
+use Rattle.endpoint_link.specs.declared.kinds.FrameKind.TheVariants as kind
+use Rattle.endpoint_link.specs.declared.kinds.Refusal.{Refusal}
+use Rattle.endpoint_link.specs.declared.kinds.Refusal.TheVariants as refusal
+use Rattle.endpoint_link.specs.Numbering.{among}
+use Rattle.conn_rules.specs.Built.{Built}
+use Rattle.vfs_journal.specs.Entries.{Entry, sends, serves, refuses, Journal}
+use Rattle.vfs_journal.specs.History.{Event, History, trees_of, tree_at}
+use Rattle.vfs_journal.specs.Outcomes.{Outcome, close_frame}
+use Rattle.vfs_journal.specs.Past.{history_of}
+use Rattle.vfs_journal.specs.Starts.{Bound, Start}
+use Rattle.vfs_journal.specs.Watching.{first_frames, told_frames}
+
+-- the status of a refusal
+abbrev pub status_of : Refusal → Status
+status_of refusal.PeerClosed = status.PeerClosed
+status_of refusal.BadHandle = status.BadHandle
+status_of refusal.ShouldWait = status.ShouldWait
+status_of refusal.NoResources = status.NoResources
+
+-- a Refused frame, on the number that the refused frame had
+abbrev pub refused_frame : ℕ → Refusal → Frame
+refused_frame number why = frame_with number kind.Refused [] (number_bytes 4 (cast_unsigned w32 (number_of (status_of why))))
+
+-- these numbers once each, from the least on
+abbrev pub rising : List ℕ → List ℕ
+rising numbers = finite.keys (finite.from_entries {R = nat_cmp} (map (λ number. (number, true)) numbers))
+
+-- the Close frames of the endpoints that died beside those that the answer, or their client, closed
+abbrev pub close_frames : Event → List Frame
+close_frames event = map close_frame (rising (filter (λ endpoint. not (among endpoint event.outcome.ends)) event.deaths))
+
+-- what is written for a serving: its answer, a new watcher's first messages, what watchers are told of the change, and Close frames
+abbrev pub frames_of_serving : Start → History → Event → List Frame
+frames_of_serving start past event =
+    event.outcome.frames
+    ++ option_map_or (λ bound. first_frames (tree_at (trees_of start past) bound.server) bound) event.outcome.bound []
+    ++ told_frames start past event.outcome.server event.outcome.told
+    ++ close_frames event
+
+abbrev pub frames_by : Start → History → Event → Entry → List Frame
+frames_by start past event (sends sent) = []
+frames_by start past event (serves sent) = frames_of_serving start past event
+frames_by start past event (refuses endpoint why) = refused_frame endpoint why ∷ []
+
+-- what is written for an event behind its past, and for a whole history, in order
+abbrev pub frames_of_event : Start → History → Event → List Frame
+frames_of_event start past event = frames_by start past event event.entry
+
+abbrev pub frames_of : Start → History → List Frame
+frames_of start [] = []
+frames_of start (event ∷ past) = frames_of start past ++ frames_of_event start past event
+
+-- the bytes of a journal's output
+abbrev pub output_of : Built → Start → Journal → List ℕ
+output_of built start journal = spellings (frames_of start (history_of built start journal))

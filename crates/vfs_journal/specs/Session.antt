@@ -1,0 +1,134 @@
+-- The journal that frames make, and the servings of Turns, Picks and drains.
+use Rattle.std.specs.Prelude.{ℕ, zero, suc, ◌+◌, ◌==◌, Bool, false, List, [], ◌∷◌, length, map, find, sum_by, Option, Some, None, Result, Ok, Err, if◌then◌else◌, fold}
+use Rattle.std.specs.Option.{option_map_or}
+use Rattle.endpoint_link.specs.Admission.{LookUps, admission}
+use Rattle.endpoint_link.specs.declared.kinds.FrameKind.{FrameKind}
+use Rattle.endpoint_link.specs.declared.kinds.FrameKind.TheVariants as kind
+use Rattle.endpoint_link.specs.declared.kinds.Mode.{Mode}
+use Rattle.endpoint_link.specs.declared.kinds.Mode.TheVariants as mode
+use Rattle.endpoint_link.specs.declared.kinds.Refusal.{Refusal}
+use Rattle.endpoint_link.specs.Frames.{Frame}
+use Rattle.endpoint_link.specs.Numbers.{word_in}
+use Rattle.io_messages.specs.Asked.{Asked}
+use Rattle.io_messages.specs.Asked as asks
+use Rattle.io_messages.specs.declared.protocols.Protocol.TheVariants as protocol
+use Rattle.path_walk.specs.Paths.{names_of}
+use Rattle.conn_rules.specs.Built.{Built}
+use Rattle.vfs_journal.specs.Entries.{Sending, message, hang_up, Sent, Entry, sends, serves, refuses, Journal}
+use Rattle.vfs_journal.specs.History.{History, bound_at, is_bound, waiting, standing_of, is_used, live_count}
+use Rattle.vfs_journal.specs.Outcomes.{Forwarded}
+use Rattle.vfs_journal.specs.Past.{history_of}
+use Rattle.vfs_journal.specs.Serving.{Read, read_by, outcome_of}
+use Rattle.vfs_journal.specs.Starts.{Bound, Start}
+use Rattle.vfs_journal.specs.Tokens.{is_held}
+
+-- ---- which entry is served
+
+-- the first waiting entry of an endpoint that is bound
+abbrev pub head : Start → History → ℕ → Option Sent
+head start history endpoint =
+    if is_bound start history endpoint then find (λ sent. sent.endpoint == endpoint) (waiting history) else None
+
+abbrev pub is_bound_at : Start → History → ℕ → ℕ → Bool
+is_bound_at start history server endpoint = option_map_or (λ bound. bound.server == server) (bound_at start history endpoint) false
+
+-- the first waiting entry whose endpoint is bound at a server, and anywhere
+abbrev pub oldest : Start → History → ℕ → Option Sent
+oldest start history server = find (λ sent. is_bound_at start history server sent.endpoint) (waiting history)
+
+abbrev pub next : Start → History → Option Sent
+next start history = find (λ sent. is_bound start history sent.endpoint) (waiting history)
+
+-- ---- serving
+
+-- what was sent, at the next place of a journal
+abbrev pub sent_behind : Journal → ℕ → Sending → Option ℕ → Sent
+sent_behind journal endpoint sending origin = record { place = length journal; endpoint = endpoint; sending = sending; origin = origin }
+
+-- a forwarded message is sent on the end of its mount
+abbrev pub with_forward : ℕ → Journal → Option Forwarded → Journal
+with_forward origin journal None = journal
+with_forward origin journal (Some forward) =
+    sends (sent_behind journal forward.endpoint (message forward.bytes (forward.object ∷ [])) (Some origin)) ∷ journal
+
+-- the journal behind the serving of an entry
+abbrev pub after_serving : Built → Start → Journal → Sent → Journal
+after_serving built start journal sent =
+    with_forward sent.place (serves sent ∷ journal) (outcome_of built start (history_of built start journal) sent).forward
+
+-- at most so many servings of what is chosen, until nothing is
+abbrev pub serving_one : (Journal → Journal) → (Sent → Journal) → Journal → Option Sent → Journal
+serving_one on by journal None = journal
+serving_one on by journal (Some sent) = on (by sent)
+
+unfoldable pub serving : ℕ → Built → Start → (History → Option Sent) → Journal → Journal
+serving zero built start choice journal = journal
+serving (suc more) built start choice journal =
+    serving_one (serving more built start choice) (after_serving built start journal) journal (choice (history_of built start journal))
+
+-- a server's oldest entries, at most so many
+abbrev pub turned : Built → Start → ℕ → ℕ → Journal → Journal
+turned built start server times journal = serving times built start (λ history. oldest start history server) journal
+
+-- the first entry of an endpoint
+abbrev pub picked : Built → Start → ℕ → Journal → Journal
+picked built start endpoint journal = serving 1 built start (λ history. head start history endpoint) journal
+
+-- an Open weighs one more than its path has names, and anything else one
+abbrev pub weight_of_read : Read → ℕ
+weight_of_read (Ok (txid, asks.open_path path flags attributes object)) = 1 + length (names_of path)
+weight_of_read _ = 1
+
+abbrev pub weight_of : Sending → ℕ
+weight_of (message bytes handles) = weight_of_read (read_by protocol.Directory bytes handles)
+weight_of hang_up = 1
+
+abbrev pub weight : History → ℕ
+weight history = sum_by (λ sent. weight_of sent.sending) (waiting history)
+
+-- everything that can be served. Each serving lowers the weight, so that there are no more servings than that
+abbrev pub drained : Built → Start → Journal → Journal
+drained built start journal = serving (weight (history_of built start journal)) built start (next start) journal
+
+-- ---- frames
+
+-- what admission looks up in the past
+abbrev pub look_ups : Start → History → LookUps
+look_ups start history =
+    record {
+      standing = standing_of start history;
+      used = is_used start history;
+      holds = is_held history;
+      waiting = length (waiting history);
+      live = live_count start history;
+      servers = length start.trees;
+    }
+
+-- an admitted frame is sent, or performed
+abbrev pub admitted : Built → Start → Journal → FrameKind → Frame → Journal
+admitted built start journal kind.Message frame = sends (sent_behind journal frame.endpoint (message frame.bytes frame.handles) None) ∷ journal
+admitted built start journal kind.Close frame = sends (sent_behind journal frame.endpoint hang_up None) ∷ journal
+admitted built start journal kind.Turn frame = turned built start frame.endpoint (word_in frame.bytes) journal
+admitted built start journal kind.Pick frame = picked built start frame.endpoint journal
+admitted built start journal kind.Refused frame = journal
+
+abbrev pub by_refusal : Built → Start → Journal → Frame → Option Refusal → Journal
+by_refusal built start journal frame (Some why) = refuses frame.endpoint why ∷ journal
+by_refusal built start journal frame None = admitted built start journal frame.kind frame
+
+-- the journal behind a frame
+abbrev pub arrives : Built → Start → Journal → Frame → Journal
+arrives built start journal frame =
+    by_refusal built start journal frame (admission (look_ups start (history_of built start journal)) frame)
+
+-- in mode auto a drain follows each frame
+abbrev pub steps : Built → Start → Mode → Journal → Frame → Journal
+steps built start mode.Auto journal frame = drained built start (arrives built start journal frame)
+steps built start mode.Given journal frame = arrives built start journal frame
+
+-- the journal of a session's frames, and that with the last drain
+abbrev pub session : Built → Start → Mode → List Frame → Journal
+session built start by frames = fold (steps built start by) [] frames
+
+abbrev pub ended : Built → Start → Mode → List Frame → Journal
+ended built start by frames = drained built start (session built start by frames)

@@ -1,0 +1,80 @@
+-- What the watchers of a directory are told.
+use Rattle.std.specs.Prelude.{ℕ, ◌+◌, ◌==◌, Bool, nat_le, if◌then◌else◌, List, [], ◌∷◌, ◌++◌, length, map, filter, Option, Some, None}
+use Rattle.std.specs.Int.{bit_at}
+use Rattle.std.specs.Option.{option_map_or}
+use Rattle.endpoint_link.specs.Frames.{Frame, frame_with}
+use Rattle.endpoint_link.specs.declared.kinds.FrameKind.TheVariants as kind
+use Rattle.node_graph.specs.Tree.{Tree, EdgeKey, names_in}
+use Rattle.path_walk.specs.Names.{dot}
+use Rattle.conn_rules.specs.Answers.{Told}
+use Rattle.vfs_journal.specs.History.{History, watchers_of}
+use Rattle.vfs_journal.specs.Starts.{Bound, Start}
+
+-- the events by their numbers; the bit of an event in a mask has its number
+abbrev pub deleted : ℕ
+deleted = 0
+
+abbrev pub added : ℕ
+added = 1
+
+abbrev pub removed : ℕ
+removed = 2
+
+abbrev pub existing : ℕ
+existing = 3
+
+abbrev pub idle : ℕ
+idle = 4
+
+abbrev pub asks_for : ℕ → ℕ → Bool
+asks_for mask event = bit_at mask event == 1
+
+-- an event with a name, as it is written
+abbrev pub event_bytes : ℕ → List ℕ → List ℕ
+event_bytes event name = event ∷ length name ∷ name
+
+abbrev pub watch_frame : ℕ → List ℕ → Frame
+watch_frame endpoint bytes = frame_with endpoint kind.Message [] bytes
+
+-- ---- a new watcher
+
+-- the most bytes of one message
+abbrev pub most_bytes : ℕ
+most_bytes = 8192
+
+-- pieces gathered into messages, each as long as it can be, behind a message that was begun
+abbrev pub gathered : List ℕ → List (List ℕ) → List (List ℕ)
+gathered begun [] = begun ∷ []
+gathered begun (piece ∷ pieces) =
+    if nat_le (length begun + length piece) most_bytes then gathered (begun ++ piece) pieces else begun ∷ gathered piece pieces
+
+-- `.`, and then the names of the directory in the order of their bytes
+abbrev pub snapshot : Tree → ℕ → List (List ℕ)
+snapshot tree directory = gathered (event_bytes existing dot) (map (event_bytes existing) (names_in tree.edges directory))
+
+-- the names where the mask has EXISTING, and then that these are all where it has IDLE
+abbrev pub first_messages : Tree → Bound → List (List ℕ)
+first_messages tree bound =
+    (if asks_for bound.mask existing then snapshot tree bound.birth.node else [])
+    ++ (if asks_for bound.mask idle then event_bytes idle [] ∷ [] else [])
+
+abbrev pub first_frames : Tree → Bound → List Frame
+first_frames tree bound = map (watch_frame bound.endpoint) (first_messages tree bound)
+
+-- ---- changes
+
+-- one message to each watcher of the directory that asked for the event, in order of their births
+abbrev pub told_of : Start → History → ℕ → ℕ → ℕ → List ℕ → List Frame
+told_of start past server directory event name =
+    map (λ bound. watch_frame bound.endpoint (event_bytes event name))
+    (filter (λ bound. asks_for bound.mask event) (watchers_of start past server directory))
+
+abbrev pub told_of_name : Start → History → ℕ → ℕ → Option EdgeKey → List Frame
+told_of_name start past server event key = option_map_or (λ name. told_of start past server name.directory event name.name) key []
+
+-- removals, then additions, then that a directory is gone
+abbrev pub told_frames : Start → History → ℕ → Told → List Frame
+told_frames start past server told =
+    told_of_name start past server removed told.removed
+    ++ told_of_name start past server added told.added
+    ++ option_map_or (λ directory. told_of start past server directory deleted dot) told.deleted []
