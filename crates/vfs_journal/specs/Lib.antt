@@ -10,3 +10,4 @@ pub mod Watching
 pub mod Output
 pub mod Session
 pub mod Lawful
+pub mod Laws

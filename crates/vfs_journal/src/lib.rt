@@ -1,3 +1,7 @@
 //! The journal of a session, as definitions: what was sent, served and refused, what is found by looking back through it, the frames that
 //! it stands for, and the journals that frames and servings make.
 #![tactic(auto)]
+
+mod laws;
+
+pub use laws::{refusals_change_nothing, sendings_wait_last, servings_take_effect};
