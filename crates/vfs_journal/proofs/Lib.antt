@@ -1,2 +1,5 @@
 pub mod Lists
+pub mod Members
 pub mod Steps
+pub mod Stepping
+pub mod Places

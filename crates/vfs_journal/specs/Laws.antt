@@ -1,13 +1,14 @@
 -- What holds of every start, history and journal.
-use Rattle.std.specs.Prelude.{◌≡◌, ℕ, ◌==◌, ◌&&◌, ◌||◌, not, if◌then◌else◌, List, [], ◌∷◌, ◌++◌, filter, Option, option_to_list}
+use Rattle.std.specs.Prelude.{◌≡◌, ◌≢◌, ◌<◌, All, AllPairs, Contains, filter_map, length, ℕ, ◌==◌, ◌&&◌, ◌||◌, not, if◌then◌else◌, List, [], ◌∷◌, ◌++◌, filter, Option, option_to_list}
 use Rattle.endpoint_link.specs.declared.kinds.Refusal.{Refusal}
 use Rattle.endpoint_link.specs.Numbering.{among}
 use Rattle.conn_rules.specs.Births.{fresh}
 use Rattle.conn_rules.specs.Built.{Built}
 use Rattle.vfs_journal.specs.Deaths.{others}
-use Rattle.vfs_journal.specs.Entries.{Sent, sends, serves, refuses, handles_of, endpoints_in, is_hang_up}
-use Rattle.vfs_journal.specs.History.{Event, History, all_sent, was_served, is_dead, births, living, bound_at, hung_up, waits, waiting, travelling, was_carried, binds_endpoint, position_of, trees_of, changed}
-use Rattle.vfs_journal.specs.Past.{event_of, behind}
+use Rattle.vfs_journal.specs.Entries.{Sent, Journal, sends, serves, refuses, handles_of, endpoints_in, is_hang_up}
+use Rattle.vfs_journal.specs.History.{Event, History, served_by, all_sent, was_served, is_dead, births, living, bound_at, hung_up, waits, waiting, travelling, was_carried, binds_endpoint, position_of, trees_of, changed}
+use Rattle.vfs_journal.specs.Lawful.{Lawful}
+use Rattle.vfs_journal.specs.Past.{event_of, behind, history_of}
 use Rattle.vfs_journal.specs.Session.{look_ups}
 use Rattle.vfs_journal.specs.Serving.{sight_of}
 use Rattle.vfs_journal.specs.Starts.{Bound, Start}
@@ -82,3 +83,33 @@ SendingsWaitLast =
 abbrev pub ServingsTakeEffect : Type 0
 ServingsTakeEffect =
     (built : Built) (start : Start) (past : History) (sent : Sent) → IsServed start sent (event_of built start past (serves sent)) (behind built start (serves sent) past) past
+
+-- ---- lawful journals
+
+-- what is sent has the number of the entries before it as its place
+abbrev pub HavePlaces : Journal → Type 0
+HavePlaces [] = Unit {0}
+HavePlaces (sends sent ∷ earlier) = (sent.place ≡ length earlier) × HavePlaces earlier
+HavePlaces (_ ∷ earlier) = HavePlaces earlier
+
+-- the places of what was sent are its entries', and rise in order of sending
+pub record AreInOrder (journal : Journal) (history : History) : Type 0 where
+  pub at : HavePlaces journal
+  pub below : All (λ sent. sent.place < length journal) (all_sent history)
+  pub rise : AllPairs (λ sent later. sent.place < later.place) (all_sent history)
+
+-- what was served, the newest first
+abbrev pub servings : Journal → List Sent
+servings journal = filter_map served_by journal
+
+-- what is served was sent, nothing is served twice, and on one endpoint what was sent first is served first
+pub record AreServedOnce (journal : Journal) (history : History) : Type 0 where
+  pub sent_before : All (Contains (all_sent history)) (servings journal)
+  pub once : AllPairs (λ served earlier. served.place ≢ earlier.place) (servings journal)
+  pub in_order : AllPairs (λ served earlier. served.endpoint ≡ earlier.endpoint → earlier.place < served.place) (servings journal)
+
+abbrev pub PlacesRise : Type 0
+PlacesRise = (built : Built) (start : Start) (journal : Journal) → Lawful built start journal → AreInOrder journal (history_of built start journal)
+
+abbrev pub ServedOnce : Type 0
+ServedOnce = (built : Built) (start : Start) (journal : Journal) → Lawful built start journal → AreServedOnce journal (history_of built start journal)

@@ -4,4 +4,6 @@
 
 mod laws;
 
-pub use laws::{refusals_change_nothing, sendings_wait_last, servings_take_effect};
+pub use laws::{
+    places_rise, refusals_change_nothing, sendings_wait_last, served_once, servings_take_effect,
+};
