@@ -3,3 +3,9 @@ pub mod Members
 pub mod Steps
 pub mod Stepping
 pub mod Places
+pub mod Requests
+pub mod Below
+pub mod Onward
+pub mod Acts
+pub mod Outcomes
+pub mod Spreading

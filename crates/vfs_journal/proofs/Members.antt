@@ -49,10 +49,10 @@ pub found : {X : Type 0} (p : X → Bool) (xs : List X) (x : X) → find p xs �
 found p [] x h = absurd (cc)
 found p (y ∷ xs) x h = found_by p x y xs (found p xs x) (p y) refl h
 
-AllPairs-tail : {X : Type 0} (R : X → X → Type 0) (y : X) (xs : List X) → AllPairs R (y ∷ xs) → AllPairs R xs
+pub AllPairs-tail : {X : Type 0} (R : X → X → Type 0) (y : X) (xs : List X) → AllPairs R (y ∷ xs) → AllPairs R xs
 AllPairs-tail R y xs h = λ i j d l m. h (suc i) (suc j) d (omega arith) (omega arith)
 
-AllPairs-head : {X : Type 0} (R : X → X → Type 0) (y : X) (xs : List X) → AllPairs R (y ∷ xs) → All (R y) xs
+pub AllPairs-head : {X : Type 0} (R : X → X → Type 0) (y : X) (xs : List X) → AllPairs R (y ∷ xs) → All (R y) xs
 AllPairs-head R y xs h = λ k d l. h 0 (suc k) d (omega arith) (omega arith)
 
 -- of those that pass the first one is found: each other one stands behind it
