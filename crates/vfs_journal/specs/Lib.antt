@@ -11,3 +11,4 @@ pub mod Output
 pub mod Session
 pub mod Lawful
 pub mod Laws
+pub mod Soundness

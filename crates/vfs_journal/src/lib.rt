@@ -5,5 +5,6 @@
 mod laws;
 
 pub use laws::{
-    places_rise, refusals_change_nothing, sendings_wait_last, served_once, servings_take_effect,
+    deaths_reach_all, endpoints_are_in_transit, endpoints_are_known, places_rise,
+    refusals_change_nothing, sendings_wait_last, served_once, servings_take_effect,
 };
