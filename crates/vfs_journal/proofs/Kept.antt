@@ -42,7 +42,7 @@ use Rattle.vfs_journal.proofs.Views.{is_view, refused_view, sent_view, served_vi
 
 -- ---- numbers of clients
 
-client_low : (n : ℕ) → is_client n ≡ true → n < 0x40000000
+pub client_low : (n : ℕ) → is_client n ≡ true → n < 0x40000000
 client_low n h = ltb-true n 0x40000000 (and_parts _ _ h).1
 
 -- what a sending carries, and is no token, is a client's endpoint
@@ -147,9 +147,17 @@ path_onward : Below → (path : List ℕ) (front rest : List (List ℕ)) → IsP
 path_onward below path front rest h split =
     path_left front rest (subst (λ names. IsPath (text_of names) names) split (subst (λ (t : List ℕ). IsPath t (names_of path)) h.spelled h))
 
-is_forwarded : Below → (built : Built) (start : Start) (history : History) (k new : Sent) (f : Forwarded) → IsStart start → Sound start (view start history) → IsView (view start history) → IsServing built start history k →
-    (outcome_of built start history k).forward ≡ Some f → new.endpoint ≡ f.endpoint → new.sending ≡ message f.bytes (f.object ∷ []) → IsForwarded start new
-is_forwarded below built start history k new f s past is serving' e at sending' =
+-- the names and the flags that go on
+pub record GoesRight (flags : ℕ) (rest : List (List ℕ)) : Type 0 where
+  pub path : IsPath (text_of rest) rest
+  pub small : flags < 256 ^ 8
+
+some_same : {x y : Bound} → Some x ≡ Some y → x ≡ y
+some_same e = cc
+
+pub goes_right : (below : Below) (built : Built) (start : Start) (history : History) (k : Sent) (f : Forwarded) (s : IsStart start) (past : Sound start (view start history)) (is : IsView (view start history)) (serving' : IsServing built start history k)
+    (e : (outcome_of built start history k).forward ≡ Some f) → GoesRight (serving'.parts.goes_on f e).flags (serving'.parts.goes_on f e).rest
+goes_right below built start history k f s past is serving' e =
     let on = serving'.parts.goes_on f e in
     let b = serving'.at in
     let found_b = some_found (λ bound. bound.endpoint == k.endpoint) (living start history) (ap is_some serving'.bound) in
@@ -158,18 +166,27 @@ is_forwarded below built start history k new f s past is serving' e at sending' 
     let b_at : b.endpoint ≡ k.endpoint = ap (λ (x : Bound). x.endpoint) (sym same_b) ∙ eqb-true found_b.0.endpoint k.endpoint found_b.3 in
     let word = word_by below start history k b f (tree_at (trees_of start history) b.server) s past (is.living_born b lives).0 b_at on k.origin (past.right k (is.waits k serving'.answered.waits)).by_origin in
     record {
+      path = path_onward below on.path on.onward.walked.front on.rest (below.sound on.path on.onward.good) on.onward.walked.split;
+      small = subst (λ (n : ℕ). n < 256 ^ 8) (sym on.onward.left) (onward_small on.word on.onward.limit word);
+    }
+
+is_forwarded : Below → (built : Built) (start : Start) (history : History) (k new : Sent) (f : Forwarded) → IsStart start → Sound start (view start history) → IsView (view start history) → IsServing built start history k →
+    (outcome_of built start history k).forward ≡ Some f → new.endpoint ≡ f.endpoint → new.sending ≡ message f.bytes (f.object ∷ []) → IsForwarded start new
+is_forwarded below built start history k new f s past is serving' e at sending' =
+    let on = serving'.parts.goes_on f e in
+    let b = serving'.at in
+    let right = goes_right below built start history k f s past is serving' e in
+    record {
       end = subst (Contains (mount_ends start)) (sym (at ∙ on.to))
           (mount_there start (tree_at (trees_of start history) b.server) on.onward.walked.node on.mount (tree_mounted start (trees_of start history) b.server past.mounted) on.onward.walked.kind);
       rest = on.rest;
       flags = on.flags;
       object = f.object;
       sent = sending' ∙ ap (λ bytes. message bytes (f.object ∷ [])) on.bytes_are;
-      path = path_onward below on.path on.onward.walked.front on.rest (below.sound on.path on.onward.good) on.onward.walked.split;
-      small = subst (λ (n : ℕ). n < 256 ^ 8) (sym on.onward.left) (onward_small on.word on.onward.limit word);
+      path = right.path;
+      small = right.small;
       client = (carried_is k f.object (serving'.answered.goes_on f e).0).0;
-    } where
-      some_same : {x y : Bound} → Some x ≡ Some y → x ≡ y
-      some_same e = cc
+    }
 
 -- the end of a mount lives
 pub end_lives : (start : Start) (v : View) (n : ℕ) → IsStart start → Sound start v → IsView v → ((b : Bound) → Contains start.mounts b → Contains v.births b) → Contains (mount_ends start) n → (v.dead n ≡ false) × (bound_in v.living n ≡ true)

@@ -15,3 +15,5 @@ pub mod Served
 pub mod Views
 pub mod Kept
 pub mod TransitLaws
+pub mod Weights
+pub mod Draining

@@ -1,19 +1,22 @@
 -- What holds of each lawful journal from a start whose endpoints are apart.
-use Rattle.std.specs.Prelude.{◌≡◌, ◌<◌, ◌≤◌, ◌⊎◌, ℕ, true, false, List, All, Contains, map, Some}
+use Rattle.std.specs.Prelude.{◌≡◌, ◌<◌, ◌≤◌, ◌⊎◌, ℕ, true, false, List, [], All, Contains, map, Some}
 use Rattle.io_messages.specs.declared.protocols.Protocol.TheVariants as protocol
 use Rattle.node_graph.specs.declared.nodes.NodeKind.TheVariants.{Mount}
 use Rattle.node_graph.specs.Tree.{NodeRow, Tree}
 use Rattle.tree_file.specs.Numbering.{end_of_mount}
+use Rattle.endpoint_link.specs.declared.kinds.Mode.{Mode}
+use Rattle.endpoint_link.specs.declared.kinds.Side.TheVariants.{ToServers}
+use Rattle.endpoint_link.specs.Frames.{Frame, IsFrame}
 use Rattle.endpoint_link.specs.Numbering.{among, is_client}
 use Rattle.conn_rules.specs.Built.{Built}
 use Rattle.vfs_journal.specs.Deaths.{deaths_of, others}
 use Rattle.vfs_journal.specs.Entries.{Sent, Journal, endpoints_in}
-use Rattle.vfs_journal.specs.History.{History, waiting, travelling, is_bound, is_dead, is_used}
+use Rattle.vfs_journal.specs.History.{History, all_sent, was_served, waiting, travelling, is_bound, is_dead, is_used}
 use Rattle.vfs_journal.specs.Lawful.{Lawful}
 use Rattle.vfs_journal.specs.Outcomes.{Given}
 use Rattle.vfs_journal.specs.Past.{history_of}
 use Rattle.vfs_journal.specs.Serving.{outcome_of}
-use Rattle.vfs_journal.specs.Session.{head}
+use Rattle.vfs_journal.specs.Session.{head, after_serving, weight, drained, session, ended}
 use Rattle.vfs_journal.specs.Starts.{Start}
 use Rattle.vfs_journal.specs.Tokens.{all_given, first_token}
 
@@ -80,3 +83,30 @@ abbrev pub DeathsReachAll : Type 0
 DeathsReachAll =
     (built : Built) (start : Start) (journal : Journal) (sent : Sent) → IsStart start → Lawful built start journal → head start (history_of built start journal) sent.endpoint ≡ Some sent →
     DieTogether (history_of built start journal) sent (deaths_of (history_of built start journal) sent (outcome_of built start (history_of built start journal) sent))
+
+-- each serving lowers the sum of the weights of what waits
+abbrev pub ServingsLowerTheWeight : Type 0
+ServingsLowerTheWeight =
+    (built : Built) (start : Start) (journal : Journal) (sent : Sent) → IsStart start → Lawful built start journal → head start (history_of built start journal) sent.endpoint ≡ Some sent →
+    weight (history_of built start (after_serving built start journal sent)) < weight (history_of built start journal)
+
+-- nothing waits: whatever was sent was served, or its endpoint is dead
+pub record IsDrained (history : History) : Type 0 where
+  pub none : waiting history ≡ []
+  pub each : (sent : Sent) → Contains (all_sent history) sent → (was_served history sent ≡ true) ⊎ (is_dead history sent.endpoint ≡ true)
+
+-- a drain leaves nothing that waits
+abbrev pub DrainsServeAll : Type 0
+DrainsServeAll =
+    (built : Built) (start : Start) (journal : Journal) → IsStart start → Lawful built start journal →
+    Lawful built start (drained built start journal) × IsDrained (history_of built start (drained built start journal))
+
+-- the journal that frames make is lawful, in either mode
+abbrev pub SessionsAreLawful : Type 0
+SessionsAreLawful =
+    (built : Built) (start : Start) (by : Mode) (frames : List Frame) → All (IsFrame ToServers) frames → Lawful built start (session built start by frames) × Lawful built start (ended built start by frames)
+
+-- and after the last drain nothing waits
+abbrev pub SessionsServeAll : Type 0
+SessionsServeAll =
+    (built : Built) (start : Start) (by : Mode) (frames : List Frame) → IsStart start → All (IsFrame ToServers) frames → IsDrained (history_of built start (ended built start by frames))

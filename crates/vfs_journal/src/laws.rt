@@ -2,7 +2,7 @@
 
 ghost use Rattle.fidl_wire.specs.Names.{AreDistinct};
 ghost use Rattle.vfs_journal.specs.Laws.{PlacesRise, RefusalsChangeNothing, SendingsWaitLast, ServedOnce, ServingsTakeEffect};
-ghost use Rattle.vfs_journal.specs.Soundness.{DeathsReachAll, EndpointsAreInTransit, EndpointsAreKnown};
+ghost use Rattle.vfs_journal.specs.Soundness.{DeathsReachAll, DrainsServeAll, EndpointsAreInTransit, EndpointsAreKnown, ServingsLowerTheWeight, SessionsAreLawful, SessionsServeAll};
 
 use fidl_wire::body_is_read_where_spelled;
 use io_messages::written_request_is_read;
@@ -57,6 +57,39 @@ pub fn endpoints_are_in_transit()
 /// In a lawful journal the one pass over what waits reaches each endpoint that dies of a serving; where no two names have equal ordinals.
 pub fn deaths_reach_all()
     ensures { AreDistinct → DeathsReachAll }
+{
+    body_is_read_where_spelled();
+    written_request_is_read();
+    path_laws();
+}
+
+/// In a lawful journal each serving lowers the sum of the weights of what waits; where no two names have equal ordinals.
+pub fn servings_lower_the_weight()
+    ensures { AreDistinct → ServingsLowerTheWeight }
+{
+    body_is_read_where_spelled();
+    written_request_is_read();
+    path_laws();
+}
+
+/// A drain of a lawful journal leaves a lawful journal in which nothing waits: each thing that was sent was served, or its endpoint is dead;
+/// where no two names have equal ordinals.
+pub fn drains_serve_all()
+    ensures { AreDistinct → DrainsServeAll }
+{
+    body_is_read_where_spelled();
+    written_request_is_read();
+    path_laws();
+}
+
+/// The journal that frames make is lawful, before its last drain and behind it.
+pub fn sessions_are_lawful()
+    ensures { SessionsAreLawful }
+{}
+
+/// At the end of a session each thing that was sent was served, or its endpoint is dead; where no two names have equal ordinals.
+pub fn sessions_serve_all()
+    ensures { AreDistinct → SessionsServeAll }
 {
     body_is_read_where_spelled();
     written_request_is_read();

@@ -5,6 +5,7 @@
 mod laws;
 
 pub use laws::{
-    deaths_reach_all, endpoints_are_in_transit, endpoints_are_known, places_rise,
-    refusals_change_nothing, sendings_wait_last, served_once, servings_take_effect,
+    deaths_reach_all, drains_serve_all, endpoints_are_in_transit, endpoints_are_known, places_rise,
+    refusals_change_nothing, sendings_wait_last, served_once, servings_lower_the_weight,
+    servings_take_effect, sessions_are_lawful, sessions_serve_all,
 };
