@@ -1,0 +1,67 @@
+-- Where a walk leads, with what the masks on its way leave of some rights.
+use Rattle.std.specs.Prelude.{◌≡◌, ℕ, ◌<◌, List, length, Option, Some, None, IsTrue}
+use Rattle.fidl_names.specs.declared.statuses.Status.{Status}
+use Rattle.io_flags.specs.Grants.{explicit_rights}
+use Rattle.io_rights.specs.Operations.{OperationSet, is_within}
+use Rattle.node_graph.specs.declared.nodes.NodeKind.TheVariants.{Directory}
+use Rattle.node_graph.specs.Graph.{Kept, Names, number_of, kind_at}
+use Rattle.node_graph.specs.Tree.{EdgeTo}
+use Rattle.conn_rules.specs.Walks.{Walk, arrives, missing, crosses, stops, limit_of}
+use Rattle.dir_conn.specs.declared.steps.Found.{Found}
+use Rattle.dir_conn.specs.declared.steps.Spot.{Spot}
+use Rattle.dir_conn.specs.declared.steps.Step.{Step}
+use Rattle.dir_conn.specs.declared.steps.Step.TheVariants as step
+use Rattle.dir_conn.specs.declared.steps.Walked.{Walked}
+use Rattle.dir_conn.specs.declared.steps.Walked.TheVariants as walked
+
+-- an end of a walk, with the rights that are left there
+pub data Reach : Type 0 where
+  at_node : (node : ℕ) (limit : OperationSet) → Reach
+  at_nothing : Reach
+  at_mount : (mount : ℕ) (rest : List (List ℕ)) (limit : OperationSet) → Reach
+  nowhere : Status → Reach
+
+-- what the masks of a walk leave of these rights, where it ends
+abbrev pub reach : OperationSet → Walk → Reach
+reach rights (arrives node masks) = at_node node (limit_of rights masks)
+reach rights (missing directory name masks) = at_nothing
+reach rights (crosses mount rest masks) = at_mount mount rest (limit_of rights masks)
+reach rights (stops status) = nowhere status
+
+-- the edge that was found
+abbrev pub edge_of : Found → EdgeTo
+edge_of found = record { child = number_of found.node; mask = found.mask }
+
+-- the end that one of the code stands for
+abbrev pub reached : Walked → Reach
+reached (walked.Arrives node kind limit) = at_node (number_of node) limit
+reached walked.Missing = at_nothing
+reached (walked.Crosses mount rest limit) = at_mount mount rest limit
+reached (walked.Stops status) = nowhere status
+
+-- the end to which a step leads, where the names that are left are walked like this
+abbrev pub leading : Step → (List (List ℕ) → ℕ → Walk) → Reach
+leading (step.Enters spot rest) onward = reach spot.limit (onward rest (number_of spot.directory))
+leading (step.Ends end) onward = reached end
+
+-- the graph keeps the node, and it is of this kind
+pub record IsKept (graph : Kept) (found : Found) : Type 0 where
+  pub named : Names graph found.node
+  pub kind : kind_at graph (number_of found.node) ≡ Some found.kind
+
+-- a directory that the graph keeps, and rights that have what the word names
+pub record Stands (graph : Kept) (word : ℕ) (spot : Spot) : Type 0 where
+  pub named : Names graph spot.directory
+  pub directory : kind_at graph (number_of spot.directory) ≡ Some Directory
+  pub explicit : IsTrue (is_within (explicit_rights word) spot.limit)
+
+-- a node that a walk arrives at is kept, is of this kind, and the rights that are left have what the word names
+abbrev pub Arrived : Kept → ℕ → Walked → Type 0
+Arrived graph word (walked.Arrives node kind limit) =
+    Names graph node × (kind_at graph (number_of node) ≡ Some kind) × IsTrue (is_within (explicit_rights word) limit)
+Arrived graph word _ = Unit {0}
+
+-- a step goes on with fewer names than so many, or ends
+abbrev pub GoesOn : Kept → ℕ → ℕ → Step → Type 0
+GoesOn graph word count (step.Enters spot rest) = Stands graph word spot × (length rest < count)
+GoesOn graph word count (step.Ends end) = Arrived graph word end

@@ -1,0 +1,9 @@
+//! A connection to a directory: what it answers to each request.
+#![tactic(auto)]
+
+mod entry;
+mod served;
+mod steps;
+mod walk;
+
+pub use served::DirServed;
