@@ -3,6 +3,8 @@ use Rattle.std.specs.Prelude.{◌≡◌, ℕ, ◌<◌, List, length, Option, Som
 use Rattle.fidl_names.specs.declared.statuses.Status.{Status}
 use Rattle.io_flags.specs.Grants.{explicit_rights}
 use Rattle.io_rights.specs.Operations.{OperationSet, is_within}
+use Rattle.node_graph.specs.declared.nodes.NodeRef.{NodeRef}
+use Rattle.node_graph.specs.declared.nodes.NodeKind.{NodeKind}
 use Rattle.node_graph.specs.declared.nodes.NodeKind.TheVariants.{Directory}
 use Rattle.node_graph.specs.Graph.{Kept, Names, number_of, kind_at}
 use Rattle.node_graph.specs.Tree.{EdgeTo}
@@ -55,13 +57,19 @@ pub record Stands (graph : Kept) (word : ℕ) (spot : Spot) : Type 0 where
   pub directory : kind_at graph (number_of spot.directory) ≡ Some Directory
   pub explicit : IsTrue (is_within (explicit_rights word) spot.limit)
 
--- a node that a walk arrives at is kept, is of this kind, and the rights that are left have what the word names
-abbrev pub Arrived : Kept → ℕ → Walked → Type 0
-Arrived graph word (walked.Arrives node kind limit) =
-    Names graph node × (kind_at graph (number_of node) ≡ Some kind) × IsTrue (is_within (explicit_rights word) limit)
-Arrived graph word _ = Unit {0}
+-- a node at which one arrived is kept and of this kind, and the rights there have what the word names and lie within the first ones
+pub record IsReached (graph : Kept) (word : ℕ) (rights : OperationSet) (node : NodeRef) (what : NodeKind) (limit : OperationSet) : Type 0 where
+  pub named : Names graph node
+  pub kind : kind_at graph (number_of node) ≡ Some what
+  pub explicit : IsTrue (is_within (explicit_rights word) limit)
+  pub within : IsTrue (is_within limit rights)
 
--- a step goes on with fewer names than so many, or ends
-abbrev pub GoesOn : Kept → ℕ → ℕ → Step → Type 0
-GoesOn graph word count (step.Enters spot rest) = Stands graph word spot × (length rest < count)
-GoesOn graph word count (step.Ends end) = Arrived graph word end
+abbrev pub Arrived : Kept → ℕ → OperationSet → Walked → Type 0
+Arrived graph word rights (walked.Arrives node kind limit) = IsReached graph word rights node kind limit
+Arrived graph word rights _ = Unit {0}
+
+-- a step goes on with fewer names than so many and with no more rights, or ends
+abbrev pub GoesOn : Kept → ℕ → OperationSet → ℕ → Step → Type 0
+GoesOn graph word rights count (step.Enters spot rest) =
+    Stands graph word spot × IsTrue (is_within spot.limit rights) × (length rest < count)
+GoesOn graph word rights count (step.Ends end) = Arrived graph word rights end

@@ -60,7 +60,7 @@ pub(crate) fn take_name<'a>(graph: &Graph, flags: OpenFlags, spot: Spot, path: P
     requires stands { Stands graph.now flags spot }
     ensures leads { (tree : Tree) → StandsFor graph.now tree →
         leading result (walk tree flags) ≡ reach spot.limit (walk tree flags path.entry (number_of spot.directory)) }
-    ensures goes_on { GoesOn graph.now flags (length path.entry) result }
+    ensures goes_on { GoesOn graph.now flags spot.limit (length path.entry) result }
 {
     let name = match path.first() {
         Some(name) => name,
@@ -75,8 +75,10 @@ pub(crate) fn take_name<'a>(graph: &Graph, flags: OpenFlags, spot: Spot, path: P
 
 /// A path without names leads to the directory itself.
 fn stay<'a>(spot: Spot) -> Walked<'a>
-    ensures { result ≡ Walked.Arrives spot.directory Directory spot.limit }
+    ensures within { IsTrue (is_within spot.limit spot.limit) }
+    ensures value { result ≡ Walked.Arrives spot.directory Directory spot.limit }
 {
+    laws_of_rights();
     Walked::Arrives {
         node: spot.directory,
         kind: NodeKind::Directory,
@@ -90,7 +92,7 @@ fn take_last<'a>(graph: &Graph, flags: OpenFlags, spot: Spot, name: &[u8], end: 
     requires end { end ≡ [] }
     ensures leads { (tree : Tree) → StandsFor graph.now tree →
         reached result ≡ reach spot.limit (walk tree flags (name.now ∷ []) (number_of spot.directory)) }
-    ensures arrived { Arrived graph.now flags result }
+    ensures arrived { Arrived graph.now flags spot.limit result }
 {
     match look(graph, spot.directory, name) {
         None => Walked::Missing,
@@ -104,7 +106,7 @@ fn take_inner<'a>(graph: &Graph, flags: OpenFlags, spot: Spot, name: &[u8], rest
     requires more { rest ≢ [] }
     ensures leads { (tree : Tree) → StandsFor graph.now tree →
         leading result (walk tree flags) ≡ reach spot.limit (walk tree flags (name.now ∷ rest.entry) (number_of spot.directory)) }
-    ensures goes_on { GoesOn graph.now flags (length rest.entry + 1) result }
+    ensures goes_on { GoesOn graph.now flags spot.limit (length rest.entry + 1) result }
 {
     match look(graph, spot.directory, name) {
         None => Step::Ends(Walked::Stops(Status::NotFound)),
@@ -116,7 +118,7 @@ fn take_inner<'a>(graph: &Graph, flags: OpenFlags, spot: Spot, name: &[u8], rest
 fn last_name<'a>(flags: OpenFlags, found: Found, limit: Rights, end: Path<'a>) -> Walked<'a>
     requires end { end ≡ [] }
     ensures leads { reached result ≡ reach limit (last_by_kind flags (edge_of found) found.kind) }
-    ensures arrived { (graph : Kept) → IsKept graph found → IsTrue (is_within (explicit_rights flags) limit) → Arrived graph flags result }
+    ensures arrived { (graph : Kept) → IsKept graph found → IsTrue (is_within (explicit_rights flags) limit) → Arrived graph flags limit result }
 {
     match found.kind {
         NodeKind::Mount(mount) => {
@@ -130,7 +132,7 @@ fn last_name<'a>(flags: OpenFlags, found: Found, limit: Rights, end: Path<'a>) -
 /// A node is reached where the mask of its name has the rights that the flags name.
 fn arrive<'a>(flags: OpenFlags, found: Found, limit: Rights) -> Walked<'a>
     ensures leads { result ≡ if is_within (explicit_rights flags) found.mask then Walked.Arrives found.node found.kind (meet limit found.mask) else Walked.Stops Status.AccessDenied }
-    ensures arrived { (graph : Kept) → IsKept graph found → IsTrue (is_within (explicit_rights flags) limit) → Arrived graph flags result }
+    ensures arrived { (graph : Kept) → IsKept graph found → IsTrue (is_within (explicit_rights flags) limit) → Arrived graph flags limit result }
 {
     laws_of_rights();
     if explicit(flags).within(found.mask) {
@@ -163,7 +165,7 @@ fn cross<'a>(wanted: Rights, mask: Rights, mount: u32, rest: Path<'a>, limit: Ri
 fn inner_name<'a>(flags: OpenFlags, found: Found, limit: Rights, rest: Path<'a>) -> Step<'a>
     ensures leads { (onward : List (List ℕ) → ℕ → Walk) →
         leading result onward ≡ reach limit (inner_by_kind flags rest.entry (edge_of found) found.kind (onward rest.entry (number_of found.node))) }
-    ensures goes_on { (graph : Kept) → IsKept graph found → IsTrue (is_within (explicit_rights flags) limit) → GoesOn graph flags (length rest.entry + 1) result }
+    ensures goes_on { (graph : Kept) → IsKept graph found → IsTrue (is_within (explicit_rights flags) limit) → GoesOn graph flags limit (length rest.entry + 1) result }
 {
     laws_of_rights();
     let wanted = Rights::of(Operation::Traverse).join(asked(flags));

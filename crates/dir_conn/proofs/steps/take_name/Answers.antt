@@ -8,7 +8,7 @@ use Rattle.dir_conn.proofs.steps.take_name.Goals as goal
 
 pub returns-in-None-clause-leads : goal.returns-in-None-clause-leads
 returns-in-None-clause-leads c = λ tree stands.
-    ap reached c.stay.ensures
+    ap reached c.stay.ensures.value
     ∙ sym (walk_none tree c.args.flags _ c.args.spot.limit c.args.path (no_first c.args.path (sym c.in-None.ensures.head)))
 
 pub take_last-requires-clause-end : goal.take_last-requires-clause-end
