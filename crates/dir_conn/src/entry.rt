@@ -1,10 +1,10 @@
-ghost use Rattle.std.specs.Prelude.{◌≡◌, ◌&&◌, ◌||◌, not, IfOk, ◌∷◌, []};
+ghost use Rattle.std.specs.Prelude.{◌≡◌, ◌&&◌, ◌||◌, true, false, not, IsTrue, IfOk, ◌∷◌, []};
 ghost use Rattle.std.specs.Result.{result_err};
 ghost use Rattle.std.specs.Str.{bytes_eq};
 ghost use Rattle.fidl_names.specs.declared.statuses.Status.TheVariants as status;
-ghost use Rattle.io_flags.specs.Grants.{asked_rights};
+ghost use Rattle.io_flags.specs.Grants.{asked_rights, explicit_rights};
 ghost use Rattle.io_rights.specs.declared.operations.Operation.TheVariants as op;
-ghost use Rattle.io_rights.specs.Operations.{single};
+ghost use Rattle.io_rights.specs.Operations.{is_within, single};
 ghost use Rattle.path_walk.specs.Names.{dot};
 ghost use Rattle.path_walk.specs.Paths.{names_of};
 ghost use Rattle.conn_rules.specs.Births.{born};
@@ -15,7 +15,7 @@ ghost use Rattle.conn_rules.specs.Refusals.{first_of, refused_if, lacks};
 use conn_rules::Birth;
 use fidl_names::Status;
 use io_flags::{Flag, OpenFlags, asked};
-use io_rights::{Operation, Rights};
+use io_rights::{Operation, Rights, laws_of_rights};
 use path_walk::{Path, path_laws};
 
 /// An Open that is refused by none of the tests before the walk.
@@ -30,6 +30,8 @@ pub(crate) fn enter<'a>(birth: &Birth, text: &'a [u8], word: u64) -> Result<Ente
     ensures refusal { result_err result ≡ first_of (entry_refusals first_methods (born birth.now) word text.now) }
     ensures flags { IfOk result (λ entered. entered.flags ≡ word) }
     ensures path { IfOk result (λ entered. entered.path ≡ names_of text.now) }
+    ensures built { IfOk result (λ _. is_first_word word ≡ true) }
+    ensures explicit { IfOk result (λ _. IsTrue (is_within (explicit_rights word) birth.now.rights)) }
 {
     path_laws();
     let flags = match OpenFlags::check(word) {
@@ -62,8 +64,10 @@ fn is_built(flags: OpenFlags) -> bool
 
 /// A path other than `.` wants TRAVERSE, and every path what the flags ask for.
 fn lacks_rights(have: Rights, text: &[u8], flags: OpenFlags) -> bool
-    ensures { result ≡ ((not (bytes_eq text.now dot) && lacks have (single op.Traverse)) || lacks have (asked_rights flags)) }
+    ensures lacks { result ≡ ((not (bytes_eq text.now dot) && lacks have (single op.Traverse)) || lacks have (asked_rights flags)) }
+    ensures explicit { result ≡ false → IsTrue (is_within (explicit_rights flags) have) }
 {
+    laws_of_rights();
     if text != b".".as_slice() && !Rights::of(Operation::Traverse).within(have) {
         return true;
     }

@@ -1,7 +1,9 @@
 //! A connection to a directory: what it answers to each request.
 #![tactic(auto)]
 
+mod arrive;
 mod entry;
+mod open;
 mod served;
 mod steps;
 mod walk;
