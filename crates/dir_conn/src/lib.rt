@@ -2,10 +2,12 @@
 #![tactic(auto)]
 
 mod arrive;
+mod conn;
 mod entry;
 mod open;
 mod served;
 mod steps;
 mod walk;
 
+pub use conn::DirConn;
 pub use served::DirServed;

@@ -17,7 +17,7 @@ ghost use Rattle.dir_conn.specs.Reaches.{reach, reached, Arrived};
 ghost use Rattle.dir_conn.specs.Served.{Sends};
 
 use crate::arrive::bind;
-use crate::entry::{Entered, enter};
+use crate::entry::enter;
 use crate::served::DirServed;
 use crate::steps::{Spot, Walked};
 use crate::walk::walk;
@@ -38,7 +38,7 @@ pub(crate) fn open<'a>(birth: &Birth, graph: &Graph, room: Room, text: &'a [u8],
 {
     match enter(birth, text, word) {
         Err(status) => DirServed::Refused(status),
-        Ok(Entered { flags, path }) => follow(birth, graph, room, flags, path),
+        Ok(entered) => follow(birth, graph, room, entered.flags, entered.path),
     }
 }
 
