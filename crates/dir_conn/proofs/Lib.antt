@@ -1,0 +1,4 @@
+pub mod Walking
+pub mod Limits
+pub mod Binding
+pub mod Acting
