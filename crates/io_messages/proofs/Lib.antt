@@ -4,6 +4,6 @@ pub mod Numbered
 pub mod RequestLaws
 pub mod Lengths
 pub mod Unions
+pub mod Framework
 pub mod ReplyLaws
-pub mod Headers
 pub mod WritingLaws

@@ -254,7 +254,6 @@ pub record IsReply (bytes : List ℕ) (handles : List Handle) (txid : ℕ) (a : 
   pub shape_is : shape_of method ≡ Some shape
   pub txid_is : header.txid ≡ txid
   pub way : (txid == 0) ≡ false
-  pub other : is_framework_error bytes handles ≡ false
   pub spelled : IsSpelled (reply_layout shape) content bytes handles
   pub fields_are : answered_from shape method content ≡ Ok a
 

@@ -36,6 +36,7 @@ pub fn read_reply<'a>(
     // It is the reply, or the first fault.
     ensures exact { reply_told result ≡ reply_of bytes.now handles.now }
 {
+    ordinals.tell_names_apart();
     body_is_read_where_spelled();
     reply_in(ordinals, bytes, handles)
 }
