@@ -7,3 +7,4 @@ pub mod Unions
 pub mod Framework
 pub mod ReplyLaws
 pub mod WritingLaws
+pub mod WrittenReplies

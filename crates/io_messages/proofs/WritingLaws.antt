@@ -57,7 +57,7 @@ request_again (asks.echo_string value) h = refl
 small_rest : (n : ℕ) → n % 2 ^ 63 < 256 ^ 8
 small_rest n = omega arith
 
-small_ordinal : (m : Method) → method_ordinal m < 256 ^ 8
+pub small_ordinal : (m : Method) → method_ordinal m < 256 ^ 8
 small_ordinal m = small_rest _
 
 pub written_request : SpellingIsSpelled → HeadersAreRead → (p : Protocol) (t : ℕ) (a : Asked) → has_method p (method_of a) ≡ true → t < 2 ^ 32 → has_txid (is_one_way (method_of a)) t ≡ true → IsRequest a →

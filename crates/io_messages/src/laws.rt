@@ -1,7 +1,7 @@
 //! Laws of the messages. They compute nothing: what they say is in their clauses.
 
 ghost use Rattle.fidl_wire.specs.Names.{MethodsHaveTheirOwn};
-ghost use Rattle.io_messages.specs.Laws.{RequestsAreReadOnce, RepliesAreReadOnce, EventsAreReadOnce, WrittenRequestsAreRead, WrittenEventsAreRead};
+ghost use Rattle.io_messages.specs.Laws.{RequestsAreReadOnce, RepliesAreReadOnce, EventsAreReadOnce, WrittenRequestsAreRead, WrittenRepliesAreRead, WrittenEventsAreRead};
 
 use fidl_wire::{body_is_read_where_spelled, spelling_is_read, written_header_is_read};
 
@@ -29,6 +29,14 @@ pub fn event_is_read_once()
 /// What is written for a request is that request, to each protocol that has its method.
 pub fn written_request_is_read()
     ensures { WrittenRequestsAreRead }
+{
+    spelling_is_read();
+    written_header_is_read();
+}
+
+/// What is written for a reply is that reply, under the conditions of `write_reply`.
+pub fn written_reply_is_read()
+    ensures { WrittenRepliesAreRead }
 {
     spelling_is_read();
     written_header_is_read();

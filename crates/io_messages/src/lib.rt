@@ -16,7 +16,7 @@ mod requests;
 
 pub use laws::{
     event_is_read_once, reply_is_read_once, request_is_read_once, written_event_is_read,
-    written_request_is_read,
+    written_reply_is_read, written_request_is_read,
 };
 pub use protocols::{Protocol, has_method};
 pub use replies::{Attributes, Reply};
