@@ -1,77 +1,19 @@
 -- No method's reply is the framework's error.
-use Rattle.std.proofs.Common.{◌≡◌, ℕ, ◌+◌, ◌≤◌, ◌&&◌, Bool, true, false, nat_le, nat_lt, nat_eq, List, [], ◌∷◌, length, Option, Result, Ok, Err, refl, sym, ap, ◌∙◌, subst, arith}
+use Rattle.std.proofs.Common.{◌≡◌, ℕ, ◌≤◌, ◌&&◌, Bool, true, false, nat_eq, List, [], ◌∷◌, length, Result, Ok, Err, refl, sym, ap, ◌∙◌, subst, arith}
 use Rattle.std.proofs.lemmas.Bool.Decides.{nat_tests}
 use Rattle.fidl_names.specs.declared.methods.Handle.{Handle}
 use Rattle.fidl_wire.specs.declared.faults.WireFault.{WireFault}
 use Rattle.fidl_wire.specs.declared.kinds.HandleKind.TheVariants.{AToken}
-use Rattle.fidl_wire.specs.Cursor.{Cursor, start_of, start}
-use Rattle.fidl_wire.specs.Layout.{Cell, Item, Content, Variant, struct, fields, branch, number, handle, text, vector, num, held, seq, empty, word, object, sizes_of, variant_of}
-use Rattle.fidl_wire.specs.Numbers.{padded, padding_after, number_at}
-use Rattle.fidl_wire.specs.Reading.{◌>>=◌, Step, body_of, object_items, known_variant, cells_at, cell_at, list_cell, count_at, passed, ordinal_at, finish_of, closed, all_blank, present_list}
+use Rattle.fidl_wire.specs.Cursor.{Cursor, start}
+use Rattle.fidl_wire.specs.Layout.{Item, Content, Variant, struct, fields, number, handle, text, vector, num, held, empty, object}
+use Rattle.fidl_wire.specs.Numbers.{padding_after, number_at}
+use Rattle.fidl_wire.specs.Reading.{body_of, cells_at, cell_at, list_cell, count_at, passed, ordinal_at, present_list}
 use Rattle.io_messages.specs.declared.replies.Shape.{Shape}
 use Rattle.io_messages.specs.declared.replies.Shape.TheVariants as shape
 use Rattle.io_messages.specs.Replies.{reply_layout, result_of, listing_cells, token_cells, attribute_cells, framework_cells, framework_ordinal, framework_envelope, are_framework_words, is_framework_error}
 use Rattle.io_messages.specs.Requests.{items_in, num_in}
-use Rattle.io_messages.proofs.Parts.{bind_ok, check_bind, chosen, fits_if, Keeps, handle_keeps, handle_held}
-
--- ---- what the reading of an object shows of the message
-
--- the primary object lies within the message
-record Begins (m : List ℕ) (hs : List Handle) (size : ℕ) (c : Cursor) : Type 0 where
-  pub long : 16 + padded size ≤ length m
-  pub cursor_is : start m hs size ≡ c
-
-begins : (m : List ℕ) (hs : List Handle) (size : ℕ) (c : Cursor) → start_of m hs size ≡ Ok c → Begins m hs size c
-begins m hs size c h =
-    let b : nat_lt (length m) (16 + padded size) ≡ false = fits_if _ _ (start m hs size) c h in
-    record { long = grind (arith, nat_tests); cursor_is = chosen (nat_lt (length m) (16 + padded size)) _ (start m hs size) c h }
-
--- nothing is left over
-finish_short : (c : Cursor) (u : Unit {0}) → finish_of c ≡ Ok u → length c.message ≤ c.out
-unfolding finish_of
-finish_short c u h =
-    let whole = bind_ok (closed c.opened c) _ u h in
-    let blank = bind_ok (all_blank c.message c.place (padded c.end)) _ u whole.2 in
-    let short = check_bind (nat_le (length c.message) c.out) _ _ u blank.2 in
-    below (length c.message) c.out short.0
-  where
-    below : (a b : ℕ) → nat_le a b ≡ true → a ≤ b
-    below a b h = grind (arith, nat_tests)
-
--- the cells were read, and the message ends there
-record ReadsObject (cells : List Cell) (m : List ℕ) (hs : List Handle) (content : Content) : Type 0 where
-  pub long : 16 + padded (sizes_of cells) ≤ length m
-  pub items : List Item
-  pub end : Cursor
-  pub cells_are : cells_at cells (start m hs (sizes_of cells)) ≡ Ok (items, end)
-  pub short : length end.message ≤ end.out
-  pub content_is : fields items ≡ content
-
-object_read : (cells : List Cell) (m : List ℕ) (hs : List Handle) (content : Content) → body_of (struct cells) m hs ≡ Ok content → ReadsObject cells m hs content
-object_read cells m hs content h =
-    let begin = bind_ok (start_of m hs (sizes_of cells)) _ content h in
-    let from = begins m hs (sizes_of cells) begin.0 begin.1 in
-    let read = bind_ok (object_items cells begin.0) _ content begin.2 in
-    let all = bind_ok (cells_at cells begin.0) _ read.0 read.1 in
-    let ended = bind_ok (finish_of all.0.1) _ read.0 all.2 in
-    let same : all.0.0 ≡ read.0 = cc ended.2 in
-    record {
-      long = from.long;
-      items = all.0.0;
-      end = all.0.1;
-      cells_are = ap (cells_at cells) from.cursor_is ∙ all.1;
-      short = finish_short all.0.1 ended.0 ended.1;
-      content_is = ap fields same ∙ cc read.2;
-    }
-
-abbrev gives : List Item → Cursor → Step (List Item)
-gives xs c = Ok (xs, c)
-
-same_items : (xs ys : List Item) (c d : Cursor) → gives xs c ≡ gives ys d → xs ≡ ys
-same_items xs ys c d h = let same : (let r : List Item × Cursor = (xs, c) in r) ≡ (ys, d) = cc in ap (λ (v : List Item × Cursor). v.0) same
-
-same_end : (xs ys : List Item) (c d : Cursor) → gives xs c ≡ gives ys d → c ≡ d
-same_end xs ys c d h = let same : (let r : List Item × Cursor = (xs, c) in r) ≡ (ys, d) = cc in ap (λ (v : List Item × Cursor). v.1) same
+use Rattle.io_messages.proofs.ReadObjects.{object_read, result_from, result_read, same_items, same_end}
+use Rattle.io_messages.proofs.Parts.{bind_ok, check_bind, Keeps, handle_keeps, handle_held}
 
 -- ---- each shape of reply
 
@@ -101,15 +43,10 @@ two_words m hs content h =
 -- a result's ordinal is 1 or 2
 result_ordinal : (v : Variant) (m : List ℕ) (hs : List Handle) (content : Content) → body_of (result_of v) m hs ≡ Ok content → number_at 8 16 m ≡ framework_ordinal → ⊥
 unfolding ordinal_at
-result_ordinal v m hs content h is =
-    let begin = bind_ok (start_of m hs 16) _ content h in
-    let from = begins m hs 16 begin.0 begin.1 in
-    let read = subst (λ (c : Cursor). rest v (ordinal_at c) c ≡ Ok content) (sym from.cursor_is) begin.2 in
-    let third = subst (λ (n : ℕ). rest v (Ok n) (start m hs 16) ≡ Ok content) is read in
-    none _ content third
+result_ordinal v m hs content h is = none _ content (third (number_at 8 16 m) is (result_read v m hs content h))
   where
-    rest : Variant → Result ℕ WireFault → Cursor → Result Content WireFault
-    rest v r c = r >>= λ ordinal. known_variant (variant_of ((1, v) ∷ (2, word) ∷ []) ordinal) c >>= λ xs. Ok (branch ordinal xs)
+    third : (n : ℕ) → n ≡ framework_ordinal → result_from v (Ok n) (start m hs 16) ≡ Ok content → result_from v (Ok framework_ordinal) (start m hs 16) ≡ Ok content
+    third n is read = subst (λ (k : ℕ). result_from v (Ok k) (start m hs 16) ≡ Ok content) is read
 
     none : (e : WireFault) (c : Content) → (let r : Result Content WireFault = Err e in r) ≡ Ok c → ⊥
     none e c h = cc

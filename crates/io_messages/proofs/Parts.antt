@@ -109,14 +109,18 @@ pad_rest size c at y h =
     let same : left ≡ y = cc last in
     subst (λ (v : Unit {0} × Cursor). Keeps c v.1) same (record { message = refl; out = refl })
 
-pub pad_keeps : (size : ℕ) (c d : Cursor) → cell_at (pad size) c ≡ Ok (blank, d) → Keeps c d
+-- padding leaves what stands out of line
+pub blank_keeps : (size : ℕ) (c : Cursor) (y : Item × Cursor) → cell_at (pad size) c ≡ Ok y → Keeps c y.1
 unfolding cell_at
-pad_keeps size c d h =
-    let cell = bind_ok (pad_cell size c) _ (blank, d) h in
+blank_keeps size c y h =
+    let cell = bind_ok (pad_cell size c) _ y h in
     let place = bind_ok (inline_at size c) _ cell.0 cell.1 in
-    let keeps = pad_rest size c place.0 cell.0 place.2 in
-    let same = same_cursor blank blank cell.0.1 d cell.2 in
-    subst (λ (v : Cursor). Keeps c v) same keeps
+    let left : Item × Cursor = (blank, cell.0.1) in
+    let same : left ≡ y = cc cell.2 in
+    subst (λ (v : Item × Cursor). Keeps c v.1) same (pad_rest size c place.0 cell.0 place.2)
+
+pub pad_keeps : (size : ℕ) (c d : Cursor) → cell_at (pad size) c ≡ Ok (blank, d) → Keeps c d
+pad_keeps size c d h = blank_keeps size c (blank, d) h
 
 -- a handle was taken, or none where that may be absent
 record Takes (nullable : Bool) (c : Cursor) (y : Option Handle × Cursor) : Type 0 where
@@ -180,6 +184,9 @@ pub token_there : (kind : HandleKind) (c d : Cursor) (n : Option ℕ) → cell_a
 token_there kind c d None h = (handle_takes kind false c d None h).some refl
 token_there kind c d (Some n) h = refl
 
+pub list_size : (c : Cursor) (count : ℕ) → nat_le (c.out + padded count) (length c.message) ≡ true → length (slice_range c.message c.out (c.out + count)) ≡ count
+list_size c count h = grind (arith, nat_tests, common_steps)
+
 -- a text was read
 text_rest : (at count : ℕ) (c : Cursor) (y : List ℕ × Cursor) → c.out ≤ length c.message → list_at true at count c ≡ Ok y → Passes (length y.0) c y.1
 text_rest at count c y within h =
@@ -190,9 +197,6 @@ text_rest at count c y within h =
     let same : left ≡ y = cc last in
     let size : length (list_part at count c) ≡ count = list_size c count fits.0 in
     subst (λ (v : List ℕ × Cursor). Passes (length v.0) c v.1) same (record { message = refl; out = ap (λ (n : ℕ). c.out + padded n) (sym size) })
-  where
-    list_size : (c : Cursor) (count : ℕ) → nat_le (c.out + padded count) (length c.message) ≡ true → length (slice_range c.message c.out (c.out + count)) ≡ count
-    list_size c count h = grind (arith, nat_tests, common_steps)
 
 pub text_passes : (c d : Cursor) (xs : List ℕ) → c.out ≤ length c.message → cell_at text c ≡ Ok (seq xs, d) → Passes (length xs) c d
 unfolding cell_at

@@ -19,9 +19,9 @@ use Rattle.fidl_wire.specs.Written.{most_bytes}
 use Rattle.io_messages.specs.declared.replies.Attributes.{Attributes}
 use Rattle.io_messages.specs.declared.replies.Shape.{Shape}
 use Rattle.io_messages.specs.declared.replies.Shape.TheVariants as shape
-use Rattle.io_messages.specs.Replies.{Answered, ReadsReply, IsFrameworkError, IsReply, answered_from, are_framework_words, attribute_cells, by_status, error_place, status_place, failed, framework_cells, framework_envelope, framework_ordinal, is_framework_error, known_attributes, reply_layout, result_of, status_with}
+use Rattle.io_messages.specs.Replies.{Answered, ReadsReply, IsFrameworkError, IsReply, answered_from, are_framework_words, attribute_cells, beside_payload, by_status, error_place, status_place, failed, framework_cells, framework_envelope, framework_ordinal, is_framework_error, known_attributes, reply_layout, result_of, status_with}
 use Rattle.io_messages.specs.Replies as answers
-use Rattle.io_messages.specs.ReplyWriting.{CanCarry, CanFail, HasReply, IsLong, NumbersFit, PayloadFits, attribute_members, beside_payload, carried, failure, layout_of, reply_body, reply_bytes, reply_handles, reply_header, status_word}
+use Rattle.io_messages.specs.ReplyWriting.{CanCarry, CanFail, HasReply, IsLong, NumbersFit, PayloadFits, attribute_members, carried, failure, layout_of, reply_body, reply_bytes, reply_handles, reply_header, status_word}
 use Rattle.io_messages.specs.Shapes.{shape_of}
 use Rattle.io_messages.specs.Writing.{plain_header}
 use Rattle.io_messages.proofs.Lengths.{length-header, length-number, padded-least, no_handles}

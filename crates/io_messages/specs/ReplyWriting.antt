@@ -20,7 +20,7 @@ use Rattle.io_messages.specs.declared.protocols.Protocol.TheVariants as protocol
 use Rattle.io_messages.specs.declared.replies.Attributes.{Attributes}
 use Rattle.io_messages.specs.declared.replies.Shape.{Shape}
 use Rattle.io_messages.specs.declared.replies.Shape.TheVariants as shape
-use Rattle.io_messages.specs.Replies.{Answered, reply_layout, framework_cells, framework_ordinal, framework_envelope, event_layout}
+use Rattle.io_messages.specs.Replies.{Answered, beside_payload, reply_layout, framework_cells, framework_ordinal, framework_envelope, event_layout}
 use Rattle.io_messages.specs.Replies as answers
 use Rattle.io_messages.specs.Shapes.{shape_of}
 use Rattle.io_messages.specs.Writing.{plain_header}
@@ -51,12 +51,6 @@ HasReply (answers.settled m) = shape_of m ≡ Some shape.Settled
 HasReply (answers.token n) = Unit {0}
 HasReply (answers.attributes a) = Unit {0}
 HasReply (answers.unknown ordinal) = Unit {0}
-
--- the bytes of a message beside those of its payload
-abbrev pub beside_payload : Option Shape → ℕ
-beside_payload (Some shape.Bytes) = 48
-beside_payload (Some shape.Listing) = 40
-beside_payload _ = 32
 
 -- a payload fits into a message; every other reply does
 abbrev pub PayloadFits : Answered → Type 0
