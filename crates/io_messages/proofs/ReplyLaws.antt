@@ -221,6 +221,12 @@ reply_once law apart bytes handles t u a b r s =
     let same : x ≡ (u, b) = cc (one, other) in
     (ap (λ (v : Told). v.0) same, ap (λ (v : Told). v.1) same)
 
+pub no_reply : (law : ReadsWhatIsSpelled) (bytes : List ℕ) (handles : List Handle) (t u ordinal : ℕ) (a : Answered) → IsFrameworkError bytes handles t ordinal → IsReply bytes handles u a → ⊥
+no_reply law bytes handles t u ordinal a error r =
+    let other = no_framework_error r.shape bytes handles r.content (law (reply_layout r.shape) r.content bytes handles r.spelled) in
+    let clash : true ≡ false = sym error.body ∙ other in
+    cc
+
 pub event_once : (law : ReadsWhatIsSpelled) (bytes : List ℕ) (k l : Protocol) → ReadsEvent bytes k → ReadsEvent bytes l → k ≡ l
 event_once law bytes k l r s =
     let one = event_spelled law bytes k r in

@@ -4,7 +4,7 @@ use Rattle.fidl_names.specs.declared.methods.Handle.{Handle}
 use Rattle.io_messages.specs.declared.protocols.Protocol.{Protocol}
 use Rattle.io_messages.specs.Asked.{Asked, method_of}
 use Rattle.io_messages.specs.Protocols.{has_method}
-use Rattle.io_messages.specs.Replies.{Answered, ReadsReply, ReadsEvent, kind_of}
+use Rattle.io_messages.specs.Replies.{Answered, IsFrameworkError, IsReply, ReadsReply, ReadsEvent, kind_of}
 use Rattle.io_messages.specs.ReplyWriting.{HasReply, PayloadFits, NumbersFit, reply_bytes, reply_handles, event_bytes, branch_of_kind}
 use Rattle.io_messages.specs.Requests.{Reads, has_txid}
 use Rattle.io_messages.specs.Shapes.{is_one_way}
@@ -19,6 +19,11 @@ RequestsAreReadOnce =
 abbrev pub RepliesAreReadOnce : Type 0
 RepliesAreReadOnce =
     (bytes : List ℕ) (handles : List Handle) (t u : ℕ) (a b : Answered) → ReadsReply bytes handles t a → ReadsReply bytes handles u b → (t ≡ u) × (a ≡ b)
+
+-- the framework's error is no method's reply
+abbrev pub FrameworkErrorIsNoReply : Type 0
+FrameworkErrorIsNoReply =
+    (bytes : List ℕ) (handles : List Handle) (t u ordinal : ℕ) (a : Answered) → IsFrameworkError bytes handles t ordinal → IsReply bytes handles u a → ⊥
 
 -- two readings as an event are one
 abbrev pub EventsAreReadOnce : Type 0

@@ -1,7 +1,7 @@
 //! Laws of the messages. They compute nothing: what they say is in their clauses.
 
 ghost use Rattle.fidl_wire.specs.Names.{MethodsHaveTheirOwn};
-ghost use Rattle.io_messages.specs.Laws.{RequestsAreReadOnce, RepliesAreReadOnce, EventsAreReadOnce, WrittenRequestsAreRead, WrittenRepliesAreRead, WrittenEventsAreRead};
+ghost use Rattle.io_messages.specs.Laws.{RequestsAreReadOnce, RepliesAreReadOnce, FrameworkErrorIsNoReply, EventsAreReadOnce, WrittenRequestsAreRead, WrittenRepliesAreRead, WrittenEventsAreRead};
 
 use fidl_wire::{body_is_read_where_spelled, spelling_is_read, written_header_is_read};
 
@@ -15,6 +15,13 @@ pub fn request_is_read_once()
 /// Bytes and handles are at most one reply, where each method has an ordinal of its own.
 pub fn reply_is_read_once()
     ensures { MethodsHaveTheirOwn → RepliesAreReadOnce }
+{
+    body_is_read_where_spelled();
+}
+
+/// The framework's error is no method's reply.
+pub fn framework_error_is_no_reply()
+    ensures { FrameworkErrorIsNoReply }
 {
     body_is_read_where_spelled();
 }
