@@ -1,8 +1,6 @@
 -- A refusal for the method stands before the rows; the tree and the position stay.
-use Rattle.std.proofs.Common.{◌≡◌, Option, Some, None, sym, ap, ◌∙◌}
-use Rattle.fidl_names.specs.declared.statuses.Status.{Status}
+use Rattle.std.proofs.Common.{◌≡◌, sym, ap, ◌∙◌}
 use Rattle.io_messages.specs.Asked.{asked}
-use Rattle.conn_rules.specs.declared.births.Birth as code
 use Rattle.conn_rules.specs.Acts.{method_refusals}
 use Rattle.conn_rules.specs.Births.{born}
 use Rattle.conn_rules.specs.Built.{first_methods}
@@ -17,19 +15,26 @@ returns-clause-answer c = λ tree stands target.
     let same : c.self.inside.birth ≡ c.args.self.now.birth = ap (λ conn. conn.birth) c.self.view_is in
     let method = sym c.method_of-method.ensures in
     let first =
-        ap (λ birth. first_of (method_refusals first_methods (born birth) c.method_of-method.result)) same
-        ∙ ap (λ m. first_of (method_refusals first_methods (born c.args.self.now.birth) m)) (sym method) in
-    elim c.match-method_refusal.branch
-    [ in-Some w ↦
-        rw
-        (act_refused (born c.args.self.now.birth) c.args.self.now.position c.args.room tree target (asked c.args.request) w.in-Some.status
-        (sym first ∙ sym w.in-Some.ensures.first), w.out-is, w.result-is)
-        (w.of_node.ensures.gives _ c.args.txid _ (w.fail.ensures.gives (asked c.args.request) method))
-    | in-None w ↦
-        rw
-        (act_row (born c.args.self.now.birth) c.args.self.now.position c.args.room tree target (asked c.args.request)
-        (sym first ∙ sym w.in-None.ensures.first), w.out-is, w.result-is)
-        (rw same at w.serve_row.ensures.answer tree stands c.args.self.now.position target) ]
+    ap (λ birth. first_of (method_refusals first_methods (born birth) c.method_of-method.result)) same
+    ∙ ap (λ m. first_of (method_refusals first_methods (born c.args.self.now.birth) m)) (sym method) in
+    elim c.match-method_refusal.branch [
+      | in-Some w ↦
+          rw (
+            act_refused (born c.args.self.now.birth) c.args.self.now.position c.args.room tree target (asked c.args.request) w.in-Some.status
+                (sym first ∙ sym w.in-Some.ensures.first),
+            w.out-is,
+            w.result-is,
+          )
+          (w.of_node.ensures.gives _ c.args.txid _ (w.fail.ensures.gives (asked c.args.request) method))
+      | in-None w ↦
+          rw (
+            act_row (born c.args.self.now.birth) c.args.self.now.position c.args.room tree target (asked c.args.request)
+                (sym first ∙ sym w.in-None.ensures.first),
+            w.out-is,
+            w.result-is,
+          )
+          (rw same at w.serve_row.ensures.answer tree stands c.args.self.now.position target)
+    ]
 
 pub returns-clause-position : goal.returns-clause-position
 returns-clause-position c = λ tree stands target.
