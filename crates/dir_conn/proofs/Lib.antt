@@ -2,3 +2,4 @@ pub mod Walking
 pub mod Limits
 pub mod Binding
 pub mod Acting
+pub mod Still

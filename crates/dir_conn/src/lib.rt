@@ -11,3 +11,6 @@ mod walk;
 
 pub use conn::DirConn;
 pub use served::DirServed;
+
+#[cfg(test)]
+mod tests;
