@@ -3,3 +3,4 @@ pub mod Limits
 pub mod Binding
 pub mod Acting
 pub mod Still
+pub mod Narrow
