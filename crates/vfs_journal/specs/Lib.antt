@@ -10,3 +10,5 @@ pub mod Watching
 pub mod Output
 pub mod Session
 pub mod Lawful
+pub mod RowTree
+pub mod Rows

@@ -1,0 +1,4 @@
+pub mod RowSteps
+pub mod RowServings
+pub mod RowFrames
+pub mod RowMissing
