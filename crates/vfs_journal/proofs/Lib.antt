@@ -1,4 +1,6 @@
 pub mod RowSteps
 pub mod RowServings
 pub mod RowFrames
+pub mod RowOpens
 pub mod RowMissing
+pub mod RowOrder

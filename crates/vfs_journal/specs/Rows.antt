@@ -1,14 +1,19 @@
 -- Worked sessions: for whatever messages read as the requests that are named, the frames that are written.
 use Rattle.std.specs.Prelude.{◌≡◌, ℕ, List, [], ◌∷◌, map, codes, None, Ok}
+use Rattle.fidl_names.specs.declared.methods.Method.TheVariants as method
 use Rattle.fidl_names.specs.declared.statuses.Status.TheVariants as status
 use Rattle.endpoint_link.specs.declared.kinds.FrameKind.TheVariants as kind
 use Rattle.endpoint_link.specs.declared.kinds.Mode.{Mode}
 use Rattle.endpoint_link.specs.declared.kinds.Mode.TheVariants as mode
 use Rattle.endpoint_link.specs.Frames.{Frame, frame_with}
+use Rattle.endpoint_link.specs.Numbers.{word_of}
 use Rattle.io_messages.specs.Asked.{Asked}
 use Rattle.io_messages.specs.Asked as asks
 use Rattle.io_messages.specs.declared.protocols.Protocol.{Protocol}
 use Rattle.io_messages.specs.declared.protocols.Protocol.TheVariants as protocol
+use Rattle.io_messages.specs.Replies.{Answered, payload}
+use Rattle.io_messages.specs.ReplyWriting.{reply_bytes, reply_handles}
+use Rattle.io_messages.specs.Requests.{number_of_handle}
 use Rattle.conn_rules.specs.Built.{everything}
 use Rattle.vfs_journal.specs.Outcomes.{ending}
 use Rattle.vfs_journal.specs.Output.{frames_of}
@@ -27,7 +32,14 @@ Asks spoken bytes carried txid request = read_by spoken bytes carried ≡ Ok (tx
 abbrev pub message_on : ℕ → List ℕ → List ℕ → Frame
 message_on endpoint bytes carried = frame_with endpoint kind.Message carried bytes
 
+abbrev pub turn_of : ℕ → ℕ → Frame
+turn_of server times = frame_with server kind.Turn [] (word_of times)
+
 -- ---- what is written
+
+-- a reply to the request with a transaction id
+abbrev pub answer_on : ℕ → ℕ → Answered → Frame
+answer_on endpoint txid answer = frame_with endpoint kind.Message (map number_of_handle (reply_handles answer)) (reply_bytes txid answer)
 
 abbrev pub written : Start → Mode → List Frame → List Frame
 written start by frames = frames_of start (history_of everything start (session everything start by frames))
@@ -40,3 +52,13 @@ MissingName =
     (opening : List ℕ)
     → Asks protocol.Directory opening (2 ∷ []) 0 (asks.open_path (codes "nope") 0x2 None 2)
     → written two_servers mode.Auto (message_on 1 opening (2 ∷ []) ∷ []) ≡ ending 2 status.NotFound
+
+-- an Open, and two Reads on its object before it is bound: they are served in the order of sending, and the position goes on
+abbrev pub TwoReads : Type 0
+TwoReads =
+    (opening first second : List ℕ)
+    → Asks protocol.Directory opening (2 ∷ []) 0 (asks.open_path (codes "d/f") 0x2 None 2)
+    → Asks protocol.File first [] 3 (asks.read 5)
+    → Asks protocol.File second [] 4 (asks.read 6)
+    → written two_servers mode.Given (message_on 1 opening (2 ∷ []) ∷ message_on 2 first [] ∷ message_on 2 second [] ∷ turn_of 0 3 ∷ [])
+    ≡ answer_on 2 3 (payload method.Read (codes "hello")) ∷ answer_on 2 4 (payload method.Read (codes " world")) ∷ []

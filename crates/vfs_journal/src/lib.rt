@@ -4,4 +4,4 @@
 
 mod rows;
 
-pub use rows::open_of_a_missing_name;
+pub use rows::{open_of_a_missing_name, reads_behind_an_open};
