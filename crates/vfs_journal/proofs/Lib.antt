@@ -4,3 +4,5 @@ pub mod RowFrames
 pub mod RowOpens
 pub mod RowMissing
 pub mod RowOrder
+pub mod RowClone
+pub mod RowDeaths

@@ -36,14 +36,14 @@ use Rattle.vfs_journal.proofs.RowFrames.{adds}
 use Rattle.vfs_journal.proofs.RowServings.{answers, in_a, opens}
 use Rattle.vfs_journal.proofs.RowSteps.{was_sent, was_answered, Ran, begun, message_is_answered, writes}
 
-abbrev request : Asked
+abbrev pub request : Asked
 request = asks.open_path (codes "nope") 0x2 None 2
 
-walked : walk tree_a 0x2 (names_of (codes "nope")) 1 ≡ missing 1 (codes "nope") []
+pub walked : walk tree_a 0x2 (names_of (codes "nope")) 1 ≡ missing 1 (codes "nope") []
 unfolding walk names_of
 walked = ap (last_step tree_a 0x2 1 (codes "nope")) (in_a (name_in 1 (codes "nope")) None refl)
 
-good_path : path_fault (codes "nope") ≡ None
+pub good_path : path_fault (codes "nope") ≡ None
 unfolding path_fault name_fault names_of is_utf8 chars encode
 good_path = refl
 

@@ -14,8 +14,26 @@ use Rattle.path_walk.specs.Paths.{names_of, path_fault}
 use Rattle.conn_rules.specs.NameRows.{name_in}
 use Rattle.conn_rules.specs.Refusals.{lacks}
 use Rattle.conn_rules.specs.Walks.{Walk, arrives, walk, last_step, inner_step}
+use Rattle.io_messages.specs.Asked.{Asked}
+use Rattle.io_messages.specs.Asked as asks
+use Rattle.io_messages.specs.declared.protocols.Protocol.TheVariants as protocol
+use Rattle.conn_rules.specs.Births.{Birth, Position, start}
+use Rattle.vfs_journal.specs.Starts.{Bound}
 use Rattle.vfs_journal.specs.RowTree.{tree_a, these}
 use Rattle.vfs_journal.proofs.RowServings.{in_a}
+
+abbrev pub opening_file : Asked
+opening_file = asks.open_path (codes "d/f") 0x2 None 2
+
+-- the connection that the Open makes
+abbrev pub birth : Birth
+birth = record { node = 3; rights = these (op.ReadBytes ∷ []); protocol = protocol.File; append = false }
+
+abbrev pub file : Bound
+file = record { endpoint = 2; server = 0; birth = birth; mask = 0 }
+
+abbrev pub at : ℕ → Position
+at offset = record { offset = offset; place = start }
 
 -- ---- READ_BYTES
 

@@ -29,22 +29,9 @@ use Rattle.vfs_journal.specs.Serving.{outcome_of, request_act, sight_of, asker_o
 use Rattle.vfs_journal.specs.Session.{oldest}
 use Rattle.vfs_journal.specs.Starts.{Bound}
 use Rattle.vfs_journal.proofs.RowFrames.{adds}
-use Rattle.vfs_journal.proofs.RowOpens.{reads_well, reads_within_all, file_path, to_file}
+use Rattle.vfs_journal.proofs.RowOpens.{opening_file, birth, file, at, reads_well, reads_within_all, file_path, to_file}
 use Rattle.vfs_journal.proofs.RowServings.{answers, opens}
 use Rattle.vfs_journal.proofs.RowSteps.{IsPast, behind_serves, was_sent, was_answered, Ran, Served, at_its_end, serves_one, begun, sends_message, turns, writes}
-
-abbrev opening_file : Asked
-opening_file = asks.open_path (codes "d/f") 0x2 None 2
-
--- the connection that the Open makes
-abbrev birth : Birth
-birth = record { node = 3; rights = these (op.ReadBytes ∷ []); protocol = protocol.File; append = false }
-
-abbrev file : Bound
-file = record { endpoint = 2; server = 0; birth = birth; mask = 0 }
-
-abbrev at : ℕ → Position
-at offset = record { offset = offset; place = start }
 
 module _
     (opening first second : List ℕ)
