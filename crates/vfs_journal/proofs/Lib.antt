@@ -6,3 +6,4 @@ pub mod RowMissing
 pub mod RowOrder
 pub mod RowClone
 pub mod RowDeaths
+pub mod RowForwards

@@ -55,7 +55,7 @@ pub file_path : path_fault (codes "d/f") ≡ None
 unfolding path_fault name_fault names_of is_utf8 chars encode
 file_path = refl
 
-abbrev to : ℕ → EdgeTo
+abbrev pub to : ℕ → EdgeTo
 to child = record { child = child; mask = all }
 
 walks_to_file : walk tree_a 0x2 (codes "d" ∷ codes "f" ∷ []) 1 ≡ arrives 3 (all ∷ all ∷ [])

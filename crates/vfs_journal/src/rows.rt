@@ -1,6 +1,6 @@
 //! Worked sessions as laws of the definitions. They compute nothing: what they say is in their clauses.
 
-ghost use Rattle.vfs_journal.specs.Rows.{MissingName, TwoReads, CloneAndHangUp, MalformedMessage, DroppedMessage};
+ghost use Rattle.vfs_journal.specs.Rows.{MissingName, TwoReads, CloneAndHangUp, MalformedMessage, DroppedMessage, TwoMounts};
 
 /// In mode auto: `open 1 nope`, with READ_BYTES and object 2. An epitaph with NOT_FOUND stands on 2, and 2 is closed.
 pub fn open_of_a_missing_name()
@@ -27,4 +27,10 @@ pub fn malformed_message()
 /// are closed.
 pub fn message_behind_a_refused_open()
     ensures dropped { DroppedMessage }
+{}
+
+/// In mode given: `open 1 m/m/d/f`, with READ_BYTES and object 2, `read 2 5`, `turn 1 5`, `turn 0 1`, `pick 2`, `turn 1 1`, and a Pick of
+/// the end of the mount of `b`. Nothing is written until a further `pick 2`, and then `hello` on 2.
+pub fn open_over_two_mounts()
+    ensures answered { TwoMounts }
 {}
