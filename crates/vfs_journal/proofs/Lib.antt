@@ -7,3 +7,4 @@ pub mod RowOrder
 pub mod RowClone
 pub mod RowDeaths
 pub mod RowForwards
+pub mod RowWatched

@@ -4,4 +4,4 @@
 
 mod rows;
 
-pub use rows::{clone_and_hang_up, malformed_message, message_behind_a_refused_open, open_of_a_missing_name, open_over_two_mounts, reads_behind_an_open};
+pub use rows::{clone_and_hang_up, malformed_message, message_behind_a_refused_open, open_of_a_missing_name, open_over_two_mounts, reads_behind_an_open, watched_rename};

@@ -1,6 +1,6 @@
 //! Worked sessions as laws of the definitions. They compute nothing: what they say is in their clauses.
 
-ghost use Rattle.vfs_journal.specs.Rows.{MissingName, TwoReads, CloneAndHangUp, MalformedMessage, DroppedMessage, TwoMounts};
+ghost use Rattle.vfs_journal.specs.Rows.{MissingName, TwoReads, CloneAndHangUp, MalformedMessage, DroppedMessage, TwoMounts, WatchedRename};
 
 /// In mode auto: `open 1 nope`, with READ_BYTES and object 2. An epitaph with NOT_FOUND stands on 2, and 2 is closed.
 pub fn open_of_a_missing_name()
@@ -33,4 +33,10 @@ pub fn message_behind_a_refused_open()
 /// the end of the mount of `b`. Nothing is written until a further `pick 2`, and then `hello` on 2.
 pub fn open_over_two_mounts()
     ensures answered { TwoMounts }
+{}
+
+/// In mode auto: `open 1 d`, with ENUMERATE, TRAVERSE and MODIFY_DIRECTORY and object 2, `watch 2 6 3`, `token 2`, and a Rename of `f` to
+/// `g` in the directory of the token. Behind the replies stand REMOVED with `f` and ADDED with `g` on 3.
+pub fn watched_rename()
+    ensures told { WatchedRename }
 {}
