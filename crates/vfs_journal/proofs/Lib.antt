@@ -1,10 +1,4 @@
-pub mod RowSteps
-pub mod RowServings
 pub mod RowFrames
-pub mod RowOpens
-pub mod RowMissing
-pub mod RowOrder
-pub mod RowClone
-pub mod RowDeaths
-pub mod RowForwards
-pub mod RowWatched
+pub mod RowServings
+pub mod RowSteps
+pub mod RowTrees

@@ -13,7 +13,9 @@ use Rattle.vfs_journal.specs.Outcomes.{Outcome, close_frame}
 use Rattle.vfs_journal.specs.Output.{rising, close_frames, frames_of}
 use Rattle.vfs_journal.specs.Starts.{Start}
 use Rattle.vfs_journal.specs.Watching.{first_frames, told_frames}
-use Rattle.vfs_journal.proofs.RowSteps.{was_answered}
+
+abbrev pub was_answered : Sent → Outcome → List ℕ → Event
+was_answered sent outcome deaths = record { entry = serves sent; outcome = outcome; deaths = deaths }
 
 -- numbers put in their places, one after another
 abbrev pub placed : List ℕ → List (ℕ × Bool)

@@ -45,40 +45,25 @@ by_reading sight protocol.Node bytes carried none = refl
 by_reading sight protocol.Echo bytes carried none = refl
 by_reading sight protocol.Watcher bytes carried none = absurd (let e = none in cc)
 
+-- an endpoint is bound so, and not as a watcher
+pub record Speech : Type 0 where
+  pub bound : Option Bound
+  pub watches : Bool
+
+abbrev pub IsSpoken : Start → History → Bound → Type 0
+IsSpoken start past bound =
+    ◌≡◌ {A = Speech} (record { bound = bound_at start past bound.endpoint; watches = is_watcher bound.birth.protocol }) (record { bound = Some bound; watches = false })
+
 -- the serving of a request on a bound endpoint answers by the rows
 pub answers : (start : Start) (past : History) (sent : Sent) (bound : Bound) (bytes carried : List ℕ) (txid : ℕ) (request : Asked) (act : Act)
-    → bound_at start past sent.endpoint ≡ Some bound → sent.sending ≡ message bytes carried → is_watcher bound.birth.protocol ≡ false
+    → IsSpoken start past bound → sent.endpoint ≡ bound.endpoint → sent.sending ≡ message bytes carried
     → read_by bound.birth.protocol bytes carried ≡ Ok (txid, request) → request_act everything (sight_of start past bound) request ≡ act
     → outcome_of everything start past sent ≡ outcome_with (asker_of bound txid (object_of request)) act
 unfolding outcome_of_sending
-answers start past sent bound bytes carried txid request act b s w r a =
-    ap (outcome_at everything start past sent) b
+answers start past sent bound bytes carried txid request act b e s r a =
+    ap (λ endpoint. outcome_at everything start past sent (bound_at start past endpoint)) e
+    ∙ ap (λ (speech : Speech). outcome_at everything start past sent speech.bound) b
     ∙ ap (outcome_of_sending everything (sight_of start past bound)) s
-    ∙ by_reading (sight_of start past bound) bound.birth.protocol bytes carried w
+    ∙ by_reading (sight_of start past bound) bound.birth.protocol bytes carried (ap (λ (speech : Speech). speech.watches) b)
     ∙ ap (outcome_of_read everything (sight_of start past bound)) r
     ∙ ap (outcome_with (asker_of bound txid (object_of request))) a
-
--- ---- names
-
-pub in_a : (key : EdgeKey) (found : Option EdgeTo) → finite.find edge_cmp key names_a ≡ found → finite.get (edges_of names_a) key ≡ found
-in_a key found f = finite.get-from_sorted edge_cmp names_a key tt ∙ f
-
-pub in_b : (key : EdgeKey) (found : Option EdgeTo) → finite.find edge_cmp key names_b ≡ found → finite.get (edges_of names_b) key ≡ found
-in_b key found f = finite.get-from_sorted edge_cmp names_b key tt ∙ f
-
--- ---- Opens
-
--- an Open whose flags, path and rights are right answers by its walk
-pub opens : (birth : Birth) (position : Position) (room : Room) (tree : Tree) (target : Option ℕ) (path : List ℕ) (word : ℕ) (given : Option ℕ) (object : ℕ) (found : Walk)
-    → is_beyond birth.protocol method.OpenPath ≡ false → flag_fault word ≡ None → path_fault path ≡ None → (not (bytes_eq path dot) && lacks birth.rights (single op.Traverse)) ≡ false
-    → lacks birth.rights (asked_rights word) ≡ false → walk tree word (names_of path) birth.node ≡ found
-    → act_of everything birth position room tree target (asks.open_path path word given object) ≡ by_walk everything birth position room tree (asks.open_path path word given object) word found
-unfolding act_of
-opens birth position room tree target path word given object found b f p t r w =
-    let request : Asked = asks.open_path path word given object in
-    ap (λ b. unless (first_of (refused_if b status.BadHandle ∷ refused_if false status.BadHandle ∷ refused_if false status.NotSupported ∷ [])) position request (open_act everything birth position room tree request path word)) b
-    ∙ ap (λ (f : Option FlagFault). unless (first_of (option_map status_of f ∷ refused_if false status.NotSupported ∷ refused_if (is_some (path_fault path)) status.InvalidArgs ∷ refused_if (not (bytes_eq path dot) && lacks birth.rights (single op.Traverse)) status.AccessDenied ∷ refused_if (lacks birth.rights (asked_rights word)) status.AccessDenied ∷ [])) position request (by_walk everything birth position room tree request word (walk tree word (names_of path) birth.node))) f
-    ∙ ap (λ (p : Option PathFault). unless (first_of (refused_if (is_some p) status.InvalidArgs ∷ refused_if (not (bytes_eq path dot) && lacks birth.rights (single op.Traverse)) status.AccessDenied ∷ refused_if (lacks birth.rights (asked_rights word)) status.AccessDenied ∷ [])) position request (by_walk everything birth position room tree request word (walk tree word (names_of path) birth.node))) p
-    ∙ ap (λ b. unless (first_of (refused_if b status.AccessDenied ∷ refused_if (lacks birth.rights (asked_rights word)) status.AccessDenied ∷ [])) position request (by_walk everything birth position room tree request word (walk tree word (names_of path) birth.node))) t
-    ∙ ap (λ b. unless (first_of (refused_if b status.AccessDenied ∷ [])) position request (by_walk everything birth position room tree request word (walk tree word (names_of path) birth.node))) r
-    ∙ ap (by_walk everything birth position room tree request word) w

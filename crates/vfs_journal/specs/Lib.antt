@@ -12,3 +12,8 @@ pub mod Session
 pub mod Lawful
 pub mod RowTree
 pub mod Rows
+pub mod RowOpens
+pub mod RowFiles
+pub mod RowLink
+pub mod RowNames
+pub mod RowMounts

@@ -4,4 +4,6 @@
 
 mod rows;
 
-pub use rows::{clone_and_hang_up, malformed_message, message_behind_a_refused_open, open_of_a_missing_name, open_over_two_mounts, reads_behind_an_open, watched_rename};
+pub use rows::{
+    clone_and_hang_up, echo_service, inherited_rights, listing_sizes, malformed_message, message_behind_a_refused_open, mount_with_a_mask, node_reference, open_beyond_the_mask, open_of_a_missing_name, open_over_three_mounts, open_over_two_mounts, ordinary_use, read_without_the_right, reads_behind_an_open, rename_into_itself, token_of_another_server, unknown_methods, unknown_numbers, watched_making, watched_rename,
+};
