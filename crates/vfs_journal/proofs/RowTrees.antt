@@ -1,6 +1,6 @@
 -- The names of the worked trees, and where paths lead over them.
-use Rattle.std.proofs.Common.{◌≡◌, ℕ, zero, suc, false, List, [], ◌∷◌, Some, None, Option, refl, ◌∙◌}
-use Rattle.std.specs.Prelude.{codes}
+use Rattle.std.proofs.Common.{◌≡◌, ℕ, zero, suc, false, List, [], ◌∷◌, Some, None, Option, refl, ap, ◌∙◌}
+use Rattle.std.specs.Prelude.{codes, length}
 use Rattle.std.specs.FinMap as finite
 use Rattle.std.specs.Str.{is_utf8, chars}
 use lib.Utf8.{encode}
@@ -25,7 +25,7 @@ use Rattle.vfs_journal.specs.Starts.{Bound}
 
 -- what has to be looked through, so that a request computes
 unfoldable pub looked_through : Unit {0}
-unfolding is_utf8 chars encode flag_fault explicit_rights asked_rights granted granted_kind added onward kept_within write_set execute_set without has has_unnamed_bit has_protocol is_alone creates join meet is_within name_fault names_of path_fault act_of attributes_of walk
+unfolding number_bytes is_utf8 chars encode flag_fault explicit_rights asked_rights granted granted_kind added onward kept_within write_set execute_set without has has_unnamed_bit has_protocol is_alone creates join meet is_within name_fault names_of path_fault act_of attributes_of walk
 looked_through = tt
 
 -- ---- names
@@ -79,7 +79,13 @@ names_of_a = finite.entries-from_sorted edge_cmp names_a tt
 pub names_of_b : finite.entries (edges_of names_b) ≡ names_b
 names_of_b = finite.entries-from_sorted edge_cmp names_b tt
 
-pub ruleset names = (a_d, a_f, a_ro, a_echo, a_m, a_r, b_g, b_m, no_nope, no_g, no_b, names_of_a, names_of_b)
+pub count_of_a : finite.len (edges_of names_a) ≡ 6
+count_of_a = finite.len-entries (edges_of names_a) ∙ ap length names_of_a
+
+pub count_of_b : finite.len (edges_of names_b) ≡ 2
+count_of_b = finite.len-entries (edges_of names_b) ∙ ap length names_of_b
+
+pub ruleset names = (count_of_a, count_of_b, a_d, a_f, a_ro, a_echo, a_m, a_r, b_g, b_m, no_nope, no_g, no_b, names_of_a, names_of_b)
 
 -- ---- what is bound
 
