@@ -1,14 +1,20 @@
 -- The names of the worked trees, and where paths lead over them.
-use Rattle.std.proofs.Common.{◌≡◌, ℕ, zero, suc, false, List, [], ◌∷◌, Some, None, Option, refl, ap, ◌∙◌}
+use Rattle.std.proofs.Common.{◌≡◌, ℕ, Bool, zero, suc, true, false, not, cond, sym, List, [], ◌∷◌, Some, None, Option, refl, ap, ◌∙◌}
 use Rattle.std.specs.Prelude.{codes, length}
 use Rattle.std.specs.FinMap as finite
+use Rattle.std.specs.FinMap.Entries as entry
+use Rattle.std.specs.Ordering.{nat_cmp, is_eq, eq_by_cmp}
+use Rattle.std.specs.Cmp.{IsTotalOrder, nat_cmp_total, alike_right, eq_by_cmp_equiv}
+use Rattle.std.specs.Cmp.Lexicographic.{slice_cmp, nat_list_cmp_total}
+use Rattle.std.proofs.lemmas.Cmp.{on_total, then_total}
+use Rattle.std.proofs.lemmas.Map.Lookups.{CmpEqualImpliesEq, exact_pairs, exact_unsigned, exact_bytes}
 use Rattle.std.specs.Str.{is_utf8, chars}
 use lib.Utf8.{encode}
 use Rattle.io_flags.specs.Faults.{flag_fault}
 use Rattle.io_flags.specs.Grants.{explicit_rights, asked_rights, granted, granted_kind, added, onward, kept_within, write_set, execute_set, without}
 use Rattle.io_flags.specs.Words.{has, has_unnamed_bit, has_protocol, is_alone, creates}
 use Rattle.io_rights.specs.Operations.{OperationSet, all, join, meet, is_within}
-use Rattle.node_graph.specs.Tree.{EdgeKey, EdgeTo, edge_cmp}
+use Rattle.node_graph.specs.Tree.{EdgeKey, EdgeTo, edge_cmp, Edges}
 use Rattle.path_walk.specs.Names.{name_fault}
 use Rattle.path_walk.specs.Paths.{names_of, path_fault}
 use Rattle.tree_file.specs.Numbering.{end_of_mount}
@@ -30,62 +36,46 @@ looked_through = tt
 
 -- ---- names
 
-abbrev pub to : ℕ → OperationSet → EdgeTo
-to child mask = record { child = child; mask = mask }
+edges_total : IsTotalOrder edge_cmp
+edges_total = then_total (on_total (λ k. k.directory) nat_cmp_total) (on_total (λ k. k.name) nat_list_cmp_total)
 
-in_a : (key : EdgeKey) (found : Option EdgeTo) → finite.find edge_cmp key names_a ≡ found → finite.get (edges_of names_a) key ≡ found
-in_a key found f = finite.get-from_sorted edge_cmp names_a key tt ∙ f
+-- keys that compare alike are one
+exact_edges : CmpEqualImpliesEq edge_cmp
+exact_edges a b h = ap (λ (p : ℕ × List ℕ). record { directory = p.0; name = p.1 }) (exact_pairs nat_cmp (slice_cmp nat_cmp) exact_unsigned exact_bytes (a.directory, a.name) (b.directory, b.name) h)
 
-in_b : (key : EdgeKey) (found : Option EdgeTo) → finite.find edge_cmp key names_b ≡ found → finite.get (edges_of names_b) key ≡ found
-in_b key found f = finite.get-from_sorted edge_cmp names_b key tt ∙ f
+pub edges_with : (edges : Edges) (key : EdgeKey) (to : EdgeTo) → finite.entries (finite.insert edges key to) ≡ finite.put edge_cmp key to (finite.entries edges)
+edges_with edges key to = finite.entries-insert edges_total edges key to
 
-pub a_d : finite.get (edges_of names_a) (name_in 1 (codes "d")) ≡ Some (to 2 all)
-a_d = in_a _ (Some (to 2 all)) refl
+is_other : EdgeKey → EdgeKey → Bool
+is_other key other = not (eq_by_cmp edge_cmp key other)
 
-pub a_f : finite.get (edges_of names_a) (name_in 2 (codes "f")) ≡ Some (to 3 all)
-a_f = in_a _ (Some (to 3 all)) refl
+turned : (b : Bool) (x : Option EdgeTo) → cond (not b) x None ≡ cond b None x
+turned true x = refl
+turned false x = refl
 
-pub a_ro : finite.get (edges_of names_a) (name_in 1 (codes "ro")) ≡ Some (to 4 reading)
-a_ro = in_a _ (Some (to 4 reading)) refl
+pub edges_without : (edges : Edges) (key : EdgeKey) → finite.entries (finite.remove edges key) ≡ entry.where_key edge_cmp (λ other. not (eq_by_cmp edge_cmp key other)) (finite.entries edges)
+unfolding is_other
+edges_without edges key =
+    let left = entry.where_key edge_cmp (is_other key) (finite.entries edges) in
+    let sorted = entry.is_sorted-where_key edge_cmp (is_other key) (finite.entries edges) (finite.entries_sorted edges) in
+    let same : finite.remove edges key ≡ finite.from_sorted left =
+        finite.same_map edges_total exact_edges _ _
+        (λ q. finite.get-remove edges_total edges key q
+        ∙ ap (λ b. cond b None (finite.get edges q)) (sym ((eq_by_cmp_equiv edges_total).symm key q))
+        ∙ sym (turned (eq_by_cmp edge_cmp key q) (finite.get edges q))
+        ∙ ap (λ (found : Option EdgeTo). cond (is_other key q) found None) (finite.get-entries edges q)
+        ∙ sym (entry.find-where_key edge_cmp (is_other key) q (λ x t. ap (λ r. not (is_eq r)) (sym (alike_right edges_total q x key t))) (finite.entries edges))
+        ∙ sym (finite.get-from_sorted edge_cmp left q sorted)) in
+    ap finite.entries same ∙ finite.entries-from_sorted edge_cmp left sorted
 
-pub a_echo : finite.get (edges_of names_a) (name_in 1 (codes "echo")) ≡ Some (to 5 all)
-a_echo = in_a _ (Some (to 5 all)) refl
-
-pub a_m : finite.get (edges_of names_a) (name_in 1 (codes "m")) ≡ Some (to 6 all)
-a_m = in_a _ (Some (to 6 all)) refl
-
-pub a_r : finite.get (edges_of names_a) (name_in 1 (codes "r")) ≡ Some (to 7 looking)
-a_r = in_a _ (Some (to 7 looking)) refl
-
-pub b_g : finite.get (edges_of names_b) (name_in 1 (codes "g")) ≡ Some (to 2 all)
-b_g = in_b _ (Some (to 2 all)) refl
-
-pub b_m : finite.get (edges_of names_b) (name_in 1 (codes "m")) ≡ Some (to 3 all)
-b_m = in_b _ (Some (to 3 all)) refl
-
-pub no_nope : finite.get (edges_of names_a) (name_in 1 (codes "nope")) ≡ None
-no_nope = in_a _ None refl
-
-pub no_g : finite.get (edges_of names_a) (name_in 2 (codes "g")) ≡ None
-no_g = in_a _ None refl
-
-pub no_b : finite.get (edges_of names_a) (name_in 2 (codes "b")) ≡ None
-no_b = in_a _ None refl
-
--- all names at once
 pub names_of_a : finite.entries (edges_of names_a) ≡ names_a
 names_of_a = finite.entries-from_sorted edge_cmp names_a tt
 
 pub names_of_b : finite.entries (edges_of names_b) ≡ names_b
 names_of_b = finite.entries-from_sorted edge_cmp names_b tt
 
-pub count_of_a : finite.len (edges_of names_a) ≡ 6
-count_of_a = finite.len-entries (edges_of names_a) ∙ ap length names_of_a
-
-pub count_of_b : finite.len (edges_of names_b) ≡ 2
-count_of_b = finite.len-entries (edges_of names_b) ∙ ap length names_of_b
-
-pub ruleset names = (count_of_a, count_of_b, a_d, a_f, a_ro, a_echo, a_m, a_r, b_g, b_m, no_nope, no_g, no_b, names_of_a, names_of_b)
+-- looks names up in the worked trees, whatever changed in them
+pub ruleset names = (finite.get-entries, finite.len-entries, edges_with, edges_without, names_of_a, names_of_b)
 
 -- ---- what is bound
 
