@@ -8,11 +8,11 @@ use Rattle.endpoint_link.specs.declared.kinds.Refusal.TheVariants as refusal
 use Rattle.endpoint_link.specs.Frames.{frame_with}
 use Rattle.io_messages.specs.Asked as asks
 use Rattle.io_messages.specs.declared.protocols.Protocol.TheVariants as protocol
-use Rattle.io_messages.specs.Replies.{done, fails, payload, attributes}
+use Rattle.io_messages.specs.Replies.{done, fails, payload, counted, attributes}
 use Rattle.io_messages.specs.ReplyWriting.{event_bytes as representation_bytes}
 use Rattle.vfs_journal.specs.Outcomes.{close_frame}
 use Rattle.vfs_journal.specs.Output.{refused_frame}
-use Rattle.vfs_journal.specs.Rows.{Asks, message_on, hang_up_on, turn_of, answer_on, attributes_with, written}
+use Rattle.vfs_journal.specs.Rows.{Asks, message_on, hang_up_on, turn_of, answer_on, attributes_with, id_alone, written}
 use Rattle.vfs_journal.specs.RowTree.{two_servers}
 
 -- an Open, and two Reads on its object before it is bound: they are served in the order of sending, and the position goes on
@@ -101,3 +101,38 @@ CloneAndHangUp =
         ∷ answer_on 3 5 (payload method.Read (codes "hello"))
         ∷ refused_frame 2 refusal.PeerClosed
         ∷ []
+
+-- a file without a name lives on where it is open, and a new file of that name has a new number
+abbrev pub HeldFile : Type 0
+HeldFile =
+    (opening entering unlinking writing reading making looking : List ℕ)
+    → Asks protocol.Directory opening (2 ∷ []) 0 (asks.open_path (codes "d/f") 0x6 None 2)
+    → Asks protocol.Directory entering (3 ∷ []) 0 (asks.open_path (codes "d") 0x1c0 None 3)
+    → Asks protocol.Directory unlinking [] 4 (asks.unlink (codes "f") 0)
+    → Asks protocol.File writing [] 5 (asks.write (codes "J"))
+    → Asks protocol.File reading [] 6 (asks.read_at 3 0)
+    → Asks protocol.Directory making (4 ∷ []) 0 (asks.open_path (codes "d/f") 0x20800000012 None 4)
+    → Asks protocol.File looking [] 8 (asks.get_attributes 0x20)
+    → written two_servers mode.Auto
+        (message_on 1 opening (2 ∷ [])
+        ∷ message_on 1 entering (3 ∷ [])
+        ∷ message_on 3 unlinking []
+        ∷ message_on 2 writing []
+        ∷ message_on 2 reading []
+        ∷ message_on 1 making (4 ∷ [])
+        ∷ message_on 4 looking []
+        ∷ [])
+      ≡ answer_on 3 4 (done method.Unlink)
+        ∷ answer_on 2 5 (counted method.Write 1)
+        ∷ answer_on 2 6 (payload method.ReadAt (codes "Jel"))
+        ∷ answer_on 4 8 (attributes (id_alone 8))
+        ∷ []
+
+-- a file has at most 65,536 bytes
+abbrev pub LargestFile : Type 0
+LargestFile =
+    (opening writing : List ℕ)
+    → Asks protocol.Directory opening (2 ∷ []) 0 (asks.open_path (codes "d/f") 0x6 None 2)
+    → Asks protocol.File writing [] 3 (asks.write_at (codes "x") 65536)
+    → written two_servers mode.Auto (message_on 1 opening (2 ∷ []) ∷ message_on 2 writing [] ∷ [])
+      ≡ answer_on 2 3 (fails method.WriteAt status.FileBig) ∷ []

@@ -6,7 +6,7 @@ use Rattle.endpoint_link.specs.declared.kinds.Mode.TheVariants as mode
 use Rattle.endpoint_link.specs.declared.kinds.Refusal.TheVariants as refusal
 use Rattle.io_messages.specs.Asked as asks
 use Rattle.io_messages.specs.declared.protocols.Protocol.TheVariants as protocol
-use Rattle.io_messages.specs.Replies.{fails, payload, token}
+use Rattle.io_messages.specs.Replies.{done, fails, payload, token}
 use Rattle.tree_file.specs.Numbering.{end_of_mount}
 use Rattle.vfs_journal.specs.Outcomes.{close_frame}
 use Rattle.vfs_journal.specs.Output.{refused_frame}
@@ -92,5 +92,34 @@ MountWithMask =
       ≡ answer_on 2 3 (fails method.Write status.BadHandle)
         ∷ answer_on 2 4 (payload method.Read (codes "remote"))
         ∷ epitaph_on 3 status.AccessDenied
+        ∷ close_frame 3
+        ∷ []
+
+-- a name moves away while an Open of it goes on over a mount: the Open is refused, and what waits on its object is dropped
+abbrev pub RenameMeanwhile : Type 0
+RenameMeanwhile =
+    (entering giving opening cloning renaming : List ℕ)
+    → Asks protocol.Directory entering (4 ∷ []) 0 (asks.open_path (codes "m") 0x180 None 4)
+    → GoesOn [] (codes ".") 0x180 4
+    → Asks protocol.Directory giving [] 3 (asks.get_token)
+    → Asks protocol.Directory opening (2 ∷ []) 0 (asks.open_path (codes "m/g") 0x2 None 2)
+    → Asks protocol.Directory renaming (0x80000000 ∷ []) 9 (asks.rename (codes "g") 0x80000000 (codes "h"))
+    → GoesOn (codes "g" ∷ []) (codes "g") 0x2 2
+    → written two_servers mode.Given
+        (message_on 1 entering (4 ∷ [])
+        ∷ message_on 4 giving []
+        ∷ turn_of 0 1
+        ∷ turn_of 1 2
+        ∷ message_on 1 opening (2 ∷ [])
+        ∷ message_on 2 cloning (3 ∷ [])
+        ∷ turn_of 0 1
+        ∷ message_on 4 renaming (0x80000000 ∷ [])
+        ∷ pick_of 4
+        ∷ turn_of 1 1
+        ∷ [])
+      ≡ answer_on 4 3 (token 0x80000000)
+        ∷ answer_on 4 9 (done method.Rename)
+        ∷ epitaph_on 2 status.NotFound
+        ∷ close_frame 2
         ∷ close_frame 3
         ∷ []

@@ -62,10 +62,13 @@ epitaph_on endpoint status = frame_with endpoint kind.Message [] (epitaph_bytes 
 abbrev pub entry : ℕ → ℕ → List ℕ → List ℕ
 entry number type name = number ∷ 0 ∷ 0 ∷ 0 ∷ 0 ∷ 0 ∷ 0 ∷ 0 ∷ length name ∷ type ∷ name
 
--- all attributes of a node, and its number alone
+-- all attributes of a node, its links and its number, and its number alone
 abbrev pub attributes_with : ℕ → ℕ → ℕ → ℕ → ℕ → Attributes
 attributes_with protocols abilities size links number =
     record { protocols = Some protocols; abilities = Some abilities; content_size = Some size; link_count = Some links; id = Some number }
+
+abbrev pub links_and_id : ℕ → ℕ → Attributes
+links_and_id links number = record { protocols = None; abilities = None; content_size = None; link_count = Some links; id = Some number }
 
 abbrev pub id_alone : ℕ → Attributes
 id_alone number = record { protocols = None; abilities = None; content_size = None; link_count = None; id = Some number }

@@ -1,10 +1,10 @@
 //! Worked sessions as laws of the definitions. They compute nothing: what they say is in their clauses.
 
 ghost use Rattle.vfs_journal.specs.RowOpens.{MissingName, MaskedName, EchoService, NodeReference};
-ghost use Rattle.vfs_journal.specs.RowFiles.{TwoReads, ReadWithoutRight, InheritWrite, OrdinaryUse, CloneAndHangUp};
+ghost use Rattle.vfs_journal.specs.RowFiles.{TwoReads, ReadWithoutRight, InheritWrite, OrdinaryUse, CloneAndHangUp, HeldFile, LargestFile};
 ghost use Rattle.vfs_journal.specs.RowLink.{MalformedMessage, UnknownMethods, DroppedMessage, UnknownNumbers};
-ghost use Rattle.vfs_journal.specs.RowNames.{RenameIntoItself, ListingSizes, WatchedMaking, WatchedRename};
-ghost use Rattle.vfs_journal.specs.RowMounts.{TwoMounts, ThreeMounts, TokenOfAnotherServer, MountWithMask};
+ghost use Rattle.vfs_journal.specs.RowNames.{RenameIntoItself, ListingSizes, WatchedMaking, WatchedRename, ListingGoesOn, RemovedDirectory, SecondName};
+ghost use Rattle.vfs_journal.specs.RowMounts.{TwoMounts, ThreeMounts, TokenOfAnotherServer, MountWithMask, RenameMeanwhile};
 
 /// In mode auto: `open 1 nope`, with READ_BYTES and object 2. An epitaph with NOT_FOUND stands on 2, and 2 is closed.
 pub fn open_of_a_missing_name()
@@ -56,6 +56,17 @@ pub fn clone_and_hang_up()
     ensures answered { CloneAndHangUp }
 {}
 
+/// In mode auto: `open 1 d/f`, with READ_BYTES, WRITE_BYTES and object 2, `open 1 d` with object 3, `unlink 3 f 0`, a Write of `J` on
+/// 2, `readat 2 3 0`, an Open that makes `d/f` anew with object 4, and the attribute id of 4. `Jel` stands on 2, and 8 on 4.
+pub fn file_without_a_name()
+    ensures answered { HeldFile }
+{}
+
+/// In mode auto: `open 1 d/f`, with READ_BYTES, WRITE_BYTES and object 2, and a WriteAt of one byte at 65,536. The answer is FILE_BIG.
+pub fn write_beyond_the_largest_file()
+    ensures refused { LargestFile }
+{}
+
 /// In mode auto: a malformed message on 1 that carries 3 and 2. An epitaph with INVALID_ARGS stands on 1, and 1, 2 and 3 are closed.
 pub fn malformed_message()
     ensures ended { MalformedMessage }
@@ -101,6 +112,24 @@ pub fn watched_rename()
     ensures told { WatchedRename }
 {}
 
+/// In mode auto: `list 1 36`, `unlink 1 echo 0`, and twice `list 1 8192`. The lists are `.`, `d`, `echo`, then `m`, `r`, `ro`, and
+/// none.
+pub fn listing_goes_on()
+    ensures answered { ListingGoesOn }
+{}
+
+/// In mode auto: `open 1 d`, with ENUMERATE, TRAVERSE, MODIFY_DIRECTORY and object 2, `watch 2 1 3`, `unlink 2 f 0`, `unlink 1 d 1`, an
+/// Open on 2 that makes `x` with object 4, `list 2 100`. DELETED stands on 3, BAD_STATE on 4, and `.` alone on 2.
+pub fn removed_directory()
+    ensures answered { RemovedDirectory }
+{}
+
+/// In mode auto: `open 1 d`, with MODIFY_DIRECTORY and object 2, `token 2`, a Link of `f` to `g` in the directory of the token, `unlink
+/// 2 f 0`, `open 1 d/g` with object 3, and the attributes link count and id of 3, which are 1 and 3.
+pub fn second_name_of_a_file()
+    ensures answered { SecondName }
+{}
+
 /// In mode given: `open 1 m/m/d/f`, with READ_BYTES and object 2, `read 2 5`, `turn 1 5`, `turn 0 1`, `pick 2`, `turn 1 1`, and a Pick
 /// of the end of the mount of `b`. Nothing is written until a further `pick 2`, and then `hello` on 2.
 pub fn open_over_two_mounts()
@@ -122,4 +151,11 @@ pub fn token_of_another_server()
 /// MAYBE_CREATE and object 3. The answers are BAD_HANDLE and `remote`, and 3 is refused with ACCESS_DENIED.
 pub fn mount_with_a_mask()
     ensures answered { MountWithMask }
+{}
+
+/// In mode given: `open 1 m`, with TRAVERSE, MODIFY_DIRECTORY and object 4, `token 4`, `turn 0 1`, `turn 1 2`, `open 1 m/g` with object
+/// 2, a message on 2 that carries 3, `turn 0 1`, a Rename on 4 of `g` to `h`, `pick 4`, `turn 1 1`. On 4 stand the token and the
+/// success, on 2 NOT_FOUND, and 2 and 3 are closed.
+pub fn rename_while_an_open_goes_on()
+    ensures answered { RenameMeanwhile }
 {}
