@@ -17,3 +17,4 @@ pub mod RowFiles
 pub mod RowLink
 pub mod RowNames
 pub mod RowMounts
+pub mod Laws
