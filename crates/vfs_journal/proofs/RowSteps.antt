@@ -76,10 +76,10 @@ parts_of start past sent outcome deaths closes =
       deaths = deaths_of past sent outcome;
       closes = rest_of outcome deaths;
       frames =
-        outcome.frames
-        ++ option_map_or (λ bound. first_frames (tree_at (trees_of start past) bound.server) bound) outcome.bound []
-        ++ told_frames start past outcome.server outcome.told
-        ++ map close_frame closes;
+          outcome.frames
+          ++ option_map_or (λ bound. first_frames (tree_at (trees_of start past) bound.server) bound) outcome.bound []
+          ++ told_frames start past outcome.server outcome.told
+          ++ map close_frame closes;
     }
 
 abbrev pub parts : List ℕ → List ℕ → List Frame → Parts
@@ -100,9 +100,9 @@ module _ (start : Start) (past : History) (output : List Frame) (known : Knows s
   behind_serves sent outcome deaths closes frames o p =
       record {
         is =
-          ap (λ h. event_of everything start h (serves sent) ∷ h) known.is
-          ∙ ap (λ (o : Outcome). was_answered sent o (deaths_of past sent o) ∷ past) o
-          ∙ ap (λ (p : Parts). was_answered sent outcome p.deaths ∷ past) p;
+            ap (λ h. event_of everything start h (serves sent) ∷ h) known.is
+            ∙ ap (λ (o : Outcome). was_answered sent o (deaths_of past sent o) ∷ past) o
+            ∙ ap (λ (p : Parts). was_answered sent outcome p.deaths ∷ past) p;
         shows = adds start past sent outcome deaths closes output frames known.shows (ap (λ (p : Parts). p.closes) p) (ap (λ (p : Parts). p.frames) p);
       }
 
@@ -291,7 +291,7 @@ pub serves_request : (start : Start) (frames : List Frame) (past : History) (out
     → (bound : Bound) (bytes carried : List ℕ) (txid : ℕ) (request : Asked) (act : Act) (deaths closes : List ℕ) (part : List Frame)
     → IsSpoken start (was_sent (request_sent past bound bytes carried) ∷ past) bound → read_by bound.birth.protocol bytes carried ≡ Ok (txid, request) → Does start (was_sent (request_sent past bound bytes carried) ∷ past) bound request act
     → step_of start past (message_on bound.endpoint bytes carried) (request_sent past bound bytes carried) (answer_to bound txid request act) deaths closes
-      ≡ step past (request_sent past bound bytes carried) deaths closes part
+    ≡ step past (request_sent past bound bytes carried) deaths closes part
     → Stands start mode.Auto (frames ++ message_on bound.endpoint bytes carried ∷ []) (asked past (request_sent past bound bytes carried) (answer_to bound txid request act) deaths) (output ++ part)
 serves_request start frames past output before bound bytes carried txid request act deaths closes part spoken r a s =
     let sent = request_sent past bound bytes carried in

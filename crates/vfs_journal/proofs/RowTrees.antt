@@ -59,13 +59,13 @@ edges_without edges key =
     let left = entry.where_key edge_cmp (is_other key) (finite.entries edges) in
     let sorted = entry.is_sorted-where_key edge_cmp (is_other key) (finite.entries edges) (finite.entries_sorted edges) in
     let same : finite.remove edges key ≡ finite.from_sorted left =
-        finite.same_map edges_total exact_edges _ _
-        (λ q. finite.get-remove edges_total edges key q
-        ∙ ap (λ b. cond b None (finite.get edges q)) (sym ((eq_by_cmp_equiv edges_total).symm key q))
-        ∙ sym (turned (eq_by_cmp edge_cmp key q) (finite.get edges q))
-        ∙ ap (λ (found : Option EdgeTo). cond (is_other key q) found None) (finite.get-entries edges q)
-        ∙ sym (entry.find-where_key edge_cmp (is_other key) q (λ x t. ap (λ r. not (is_eq r)) (sym (alike_right edges_total q x key t))) (finite.entries edges))
-        ∙ sym (finite.get-from_sorted edge_cmp left q sorted)) in
+    finite.same_map edges_total exact_edges _ _
+    (λ q. finite.get-remove edges_total edges key q
+    ∙ ap (λ b. cond b None (finite.get edges q)) (sym ((eq_by_cmp_equiv edges_total).symm key q))
+    ∙ sym (turned (eq_by_cmp edge_cmp key q) (finite.get edges q))
+    ∙ ap (λ (found : Option EdgeTo). cond (is_other key q) found None) (finite.get-entries edges q)
+    ∙ sym (entry.find-where_key edge_cmp (is_other key) q (λ x t. ap (λ r. not (is_eq r)) (sym (alike_right edges_total q x key t))) (finite.entries edges))
+    ∙ sym (finite.get-from_sorted edge_cmp left q sorted)) in
     ap finite.entries same ∙ finite.entries-from_sorted edge_cmp left sorted
 
 pub names_of_a : finite.entries (edges_of names_a) ≡ names_a

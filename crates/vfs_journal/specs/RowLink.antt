@@ -20,11 +20,11 @@ MalformedMessage =
     (bytes : List ℕ) (fault : WireFault)
     → read_by protocol.Directory bytes (3 ∷ 2 ∷ []) ≡ Err (Malformed fault)
     → written two_servers mode.Auto (message_on 1 bytes (3 ∷ 2 ∷ []) ∷ [])
-      ≡ epitaph_on 1 status.InvalidArgs
-        ∷ close_frame 1
-        ∷ close_frame 2
-        ∷ close_frame 3
-        ∷ []
+    ≡ epitaph_on 1 status.InvalidArgs
+    ∷ close_frame 1
+    ∷ close_frame 2
+    ∷ close_frame 3
+    ∷ []
 
 -- a flexible message of an unknown method is answered, and a strict one ends its endpoint
 abbrev pub UnknownMethods : Type 0
@@ -33,10 +33,10 @@ UnknownMethods =
     → read_by protocol.Directory flexible [] ≡ Err (UnknownTwoWay 7 5)
     → read_by protocol.Directory strict [] ≡ Err UnknownStrict
     → written two_servers mode.Auto (message_on 1 flexible [] ∷ message_on 1 strict [] ∷ [])
-      ≡ answer_on 1 7 (unknown 5)
-        ∷ epitaph_on 1 status.NotSupported
-        ∷ close_frame 1
-        ∷ []
+    ≡ answer_on 1 7 (unknown 5)
+    ∷ epitaph_on 1 status.NotSupported
+    ∷ close_frame 1
+    ∷ []
 
 -- what waits on an endpoint that is refused is dropped, and the endpoint that it carries is closed
 abbrev pub DroppedMessage : Type 0
@@ -44,19 +44,19 @@ DroppedMessage =
     (opening cloning : List ℕ)
     → Asks protocol.Directory opening (2 ∷ []) 0 (asks.open_path (codes "nope") 0x2 None 2)
     → written two_servers mode.Given
-        (message_on 1 opening (2 ∷ [])
-        ∷ message_on 2 cloning (3 ∷ [])
-        ∷ turn_of 0 5
-        ∷ [])
-      ≡ epitaph_on 2 status.NotFound
-        ∷ close_frame 2
-        ∷ close_frame 3
-        ∷ []
+    (message_on 1 opening (2 ∷ [])
+    ∷ message_on 2 cloning (3 ∷ [])
+    ∷ turn_of 0 5
+    ∷ [])
+    ≡ epitaph_on 2 status.NotFound
+    ∷ close_frame 2
+    ∷ close_frame 3
+    ∷ []
 
 -- a server and an endpoint that aren't known
 abbrev pub UnknownNumbers : Type 0
 UnknownNumbers =
     written two_servers mode.Auto (turn_of 9 1 ∷ pick_of 77 ∷ [])
     ≡ refused_frame 9 refusal.BadHandle
-      ∷ refused_frame 77 refusal.BadHandle
-      ∷ []
+    ∷ refused_frame 77 refusal.BadHandle
+    ∷ []

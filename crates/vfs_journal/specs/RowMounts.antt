@@ -22,26 +22,26 @@ TwoMounts =
     → GoesOn (codes "d" ∷ codes "f" ∷ []) (codes "d/f") 0x2 2
     → Asks protocol.File reading [] 3 (asks.read 5)
     → (written two_servers mode.Given
-          (message_on 1 opening (2 ∷ [])
-          ∷ message_on 2 reading []
-          ∷ turn_of 1 5
-          ∷ turn_of 0 1
-          ∷ pick_of 2
-          ∷ turn_of 1 1
-          ∷ pick_of (end_of_mount 1)
-          ∷ [])
-        ≡ [])
-      × (written two_servers mode.Given
-          (message_on 1 opening (2 ∷ [])
-          ∷ message_on 2 reading []
-          ∷ turn_of 1 5
-          ∷ turn_of 0 1
-          ∷ pick_of 2
-          ∷ turn_of 1 1
-          ∷ pick_of (end_of_mount 1)
-          ∷ pick_of 2
-          ∷ [])
-        ≡ answer_on 2 3 (payload method.Read (codes "hello")) ∷ [])
+    (message_on 1 opening (2 ∷ [])
+    ∷ message_on 2 reading []
+    ∷ turn_of 1 5
+    ∷ turn_of 0 1
+    ∷ pick_of 2
+    ∷ turn_of 1 1
+    ∷ pick_of (end_of_mount 1)
+    ∷ [])
+    ≡ [])
+    × (written two_servers mode.Given
+    (message_on 1 opening (2 ∷ [])
+    ∷ message_on 2 reading []
+    ∷ turn_of 1 5
+    ∷ turn_of 0 1
+    ∷ pick_of 2
+    ∷ turn_of 1 1
+    ∷ pick_of (end_of_mount 1)
+    ∷ pick_of 2
+    ∷ [])
+    ≡ answer_on 2 3 (payload method.Read (codes "hello")) ∷ [])
 
 -- an Open goes on over three mounts in a cycle
 abbrev pub ThreeMounts : Type 0
@@ -53,7 +53,7 @@ ThreeMounts =
     → GoesOn (codes "g" ∷ []) (codes "g") 0x2 2
     → Asks protocol.File reading [] 3 (asks.read 10)
     → written two_servers mode.Auto (message_on 1 opening (2 ∷ []) ∷ message_on 2 reading [] ∷ [])
-      ≡ answer_on 2 3 (payload method.Read (codes "remote")) ∷ []
+    ≡ answer_on 2 3 (payload method.Read (codes "remote")) ∷ []
 
 -- a token of another server names nothing, and it is gone with its message
 abbrev pub TokenOfAnotherServer : Type 0
@@ -64,15 +64,15 @@ TokenOfAnotherServer =
     → Asks protocol.Directory giving [] 3 (asks.get_token)
     → Asks protocol.Directory renaming (0x80000000 ∷ []) 4 (asks.rename (codes "ro") 0x80000000 (codes "x"))
     → written two_servers mode.Auto
-        (message_on 1 opening (2 ∷ [])
-        ∷ message_on 2 giving []
-        ∷ message_on 1 renaming (0x80000000 ∷ [])
-        ∷ message_on 1 again (0x80000000 ∷ [])
-        ∷ [])
-      ≡ answer_on 2 3 (token 0x80000000)
-        ∷ answer_on 1 4 (fails method.Rename status.NotFound)
-        ∷ refused_frame 1 refusal.BadHandle
-        ∷ []
+    (message_on 1 opening (2 ∷ [])
+    ∷ message_on 2 giving []
+    ∷ message_on 1 renaming (0x80000000 ∷ [])
+    ∷ message_on 1 again (0x80000000 ∷ [])
+    ∷ [])
+    ≡ answer_on 2 3 (token 0x80000000)
+    ∷ answer_on 1 4 (fails method.Rename status.NotFound)
+    ∷ refused_frame 1 refusal.BadHandle
+    ∷ []
 
 -- what a mount doesn't let through isn't asked for behind it
 abbrev pub MountWithMask : Type 0
@@ -84,16 +84,16 @@ MountWithMask =
     → Asks protocol.File reading [] 4 (asks.read 6)
     → Asks protocol.Directory making (3 ∷ []) 0 (asks.open_path (codes "r/new") 0x10800000000 None 3)
     → written two_servers mode.Auto
-        (message_on 1 opening (2 ∷ [])
-        ∷ message_on 2 writing []
-        ∷ message_on 2 reading []
-        ∷ message_on 1 making (3 ∷ [])
-        ∷ [])
-      ≡ answer_on 2 3 (fails method.Write status.BadHandle)
-        ∷ answer_on 2 4 (payload method.Read (codes "remote"))
-        ∷ epitaph_on 3 status.AccessDenied
-        ∷ close_frame 3
-        ∷ []
+    (message_on 1 opening (2 ∷ [])
+    ∷ message_on 2 writing []
+    ∷ message_on 2 reading []
+    ∷ message_on 1 making (3 ∷ [])
+    ∷ [])
+    ≡ answer_on 2 3 (fails method.Write status.BadHandle)
+    ∷ answer_on 2 4 (payload method.Read (codes "remote"))
+    ∷ epitaph_on 3 status.AccessDenied
+    ∷ close_frame 3
+    ∷ []
 
 -- a name moves away while an Open of it goes on over a mount: the Open is refused, and what waits on its object is dropped
 abbrev pub RenameMeanwhile : Type 0
@@ -106,20 +106,20 @@ RenameMeanwhile =
     → Asks protocol.Directory renaming (0x80000000 ∷ []) 9 (asks.rename (codes "g") 0x80000000 (codes "h"))
     → GoesOn (codes "g" ∷ []) (codes "g") 0x2 2
     → written two_servers mode.Given
-        (message_on 1 entering (4 ∷ [])
-        ∷ message_on 4 giving []
-        ∷ turn_of 0 1
-        ∷ turn_of 1 2
-        ∷ message_on 1 opening (2 ∷ [])
-        ∷ message_on 2 cloning (3 ∷ [])
-        ∷ turn_of 0 1
-        ∷ message_on 4 renaming (0x80000000 ∷ [])
-        ∷ pick_of 4
-        ∷ turn_of 1 1
-        ∷ [])
-      ≡ answer_on 4 3 (token 0x80000000)
-        ∷ answer_on 4 9 (done method.Rename)
-        ∷ epitaph_on 2 status.NotFound
-        ∷ close_frame 2
-        ∷ close_frame 3
-        ∷ []
+    (message_on 1 entering (4 ∷ [])
+    ∷ message_on 4 giving []
+    ∷ turn_of 0 1
+    ∷ turn_of 1 2
+    ∷ message_on 1 opening (2 ∷ [])
+    ∷ message_on 2 cloning (3 ∷ [])
+    ∷ turn_of 0 1
+    ∷ message_on 4 renaming (0x80000000 ∷ [])
+    ∷ pick_of 4
+    ∷ turn_of 1 1
+    ∷ [])
+    ≡ answer_on 4 3 (token 0x80000000)
+    ∷ answer_on 4 9 (done method.Rename)
+    ∷ epitaph_on 2 status.NotFound
+    ∷ close_frame 2
+    ∷ close_frame 3
+    ∷ []

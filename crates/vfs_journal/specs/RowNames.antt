@@ -20,13 +20,13 @@ RenameIntoItself =
     → Asks protocol.Directory giving [] 3 (asks.get_token)
     → Asks protocol.Directory renaming (0x80000000 ∷ []) 4 (asks.rename (codes "d") 0x80000000 (codes "e"))
     → written two_servers mode.Auto
-        (message_on 1 opening (2 ∷ [])
-        ∷ message_on 2 giving []
-        ∷ message_on 1 renaming (0x80000000 ∷ [])
-        ∷ [])
-      ≡ answer_on 2 3 (token 0x80000000)
-        ∷ answer_on 1 4 (fails method.Rename status.InvalidArgs)
-        ∷ []
+    (message_on 1 opening (2 ∷ [])
+    ∷ message_on 2 giving []
+    ∷ message_on 1 renaming (0x80000000 ∷ [])
+    ∷ [])
+    ≡ answer_on 2 3 (token 0x80000000)
+    ∷ answer_on 1 4 (fails method.Rename status.InvalidArgs)
+    ∷ []
 
 -- a listing wants room for its next entry
 abbrev pub ListingSizes : Type 0
@@ -35,9 +35,9 @@ ListingSizes =
     → Asks protocol.Directory short [] 2 (asks.read_dirents 10)
     → Asks protocol.Directory long [] 3 (asks.read_dirents 11)
     → written two_servers mode.Auto (message_on 1 short [] ∷ message_on 1 long [] ∷ [])
-      ≡ answer_on 1 2 (fails method.ReadDirents status.BufferTooSmall)
-        ∷ answer_on 1 3 (payload method.ReadDirents (entry 1 4 (codes ".")))
-        ∷ []
+    ≡ answer_on 1 2 (fails method.ReadDirents status.BufferTooSmall)
+    ∷ answer_on 1 3 (payload method.ReadDirents (entry 1 4 (codes ".")))
+    ∷ []
 
 -- a new watcher gets the names that are there in one message, then IDLE; and then the name of a file that is made
 abbrev pub WatchedMaking : Type 0
@@ -47,15 +47,15 @@ WatchedMaking =
     → Asks protocol.Directory watching (3 ∷ []) 3 (asks.watch 31 0 3)
     → Asks protocol.Directory making (4 ∷ []) 0 (asks.open_path (codes "b") 0x20800000000 None 4)
     → written two_servers mode.Auto
-        (message_on 1 opening (2 ∷ [])
-        ∷ message_on 2 watching (3 ∷ [])
-        ∷ message_on 2 making (4 ∷ [])
-        ∷ [])
-      ≡ answer_on 2 3 (settled method.Watch)
-        ∷ watch_frame 3 (event_bytes existing dot ++ event_bytes existing (codes "f"))
-        ∷ watch_frame 3 (event_bytes idle [])
-        ∷ watch_frame 3 (event_bytes added (codes "b"))
-        ∷ []
+    (message_on 1 opening (2 ∷ [])
+    ∷ message_on 2 watching (3 ∷ [])
+    ∷ message_on 2 making (4 ∷ [])
+    ∷ [])
+    ≡ answer_on 2 3 (settled method.Watch)
+    ∷ watch_frame 3 (event_bytes existing dot ++ event_bytes existing (codes "f"))
+    ∷ watch_frame 3 (event_bytes idle [])
+    ∷ watch_frame 3 (event_bytes added (codes "b"))
+    ∷ []
 
 -- a Rename tells a watcher that one name is gone, and then that the other is there
 abbrev pub WatchedRename : Type 0
@@ -66,17 +66,17 @@ WatchedRename =
     → Asks protocol.Directory giving [] 4 (asks.get_token)
     → Asks protocol.Directory renaming (0x80000000 ∷ []) 5 (asks.rename (codes "f") 0x80000000 (codes "g"))
     → written two_servers mode.Auto
-        (message_on 1 opening (2 ∷ [])
-        ∷ message_on 2 watching (3 ∷ [])
-        ∷ message_on 2 giving []
-        ∷ message_on 2 renaming (0x80000000 ∷ [])
-        ∷ [])
-      ≡ answer_on 2 3 (settled method.Watch)
-        ∷ answer_on 2 4 (token 0x80000000)
-        ∷ answer_on 2 5 (done method.Rename)
-        ∷ watch_frame 3 (event_bytes removed (codes "f"))
-        ∷ watch_frame 3 (event_bytes added (codes "g"))
-        ∷ []
+    (message_on 1 opening (2 ∷ [])
+    ∷ message_on 2 watching (3 ∷ [])
+    ∷ message_on 2 giving []
+    ∷ message_on 2 renaming (0x80000000 ∷ [])
+    ∷ [])
+    ≡ answer_on 2 3 (settled method.Watch)
+    ∷ answer_on 2 4 (token 0x80000000)
+    ∷ answer_on 2 5 (done method.Rename)
+    ∷ watch_frame 3 (event_bytes removed (codes "f"))
+    ∷ watch_frame 3 (event_bytes added (codes "g"))
+    ∷ []
 
 -- a listing goes on behind the last name, also where that name is gone
 abbrev pub ListingGoesOn : Type 0
@@ -87,16 +87,16 @@ ListingGoesOn =
     → Asks protocol.Directory second [] 4 (asks.read_dirents 8192)
     → Asks protocol.Directory third [] 5 (asks.read_dirents 8192)
     → written two_servers mode.Auto
-        (message_on 1 first []
-        ∷ message_on 1 unlinking []
-        ∷ message_on 1 second []
-        ∷ message_on 1 third []
-        ∷ [])
-      ≡ answer_on 1 2 (payload method.ReadDirents (entry 1 4 (codes ".") ++ entry 2 4 (codes "d") ++ entry 5 16 (codes "echo")))
-        ∷ answer_on 1 3 (done method.Unlink)
-        ∷ answer_on 1 4 (payload method.ReadDirents (entry 6 4 (codes "m") ++ entry 7 4 (codes "r") ++ entry 4 8 (codes "ro")))
-        ∷ answer_on 1 5 (payload method.ReadDirents [])
-        ∷ []
+    (message_on 1 first []
+    ∷ message_on 1 unlinking []
+    ∷ message_on 1 second []
+    ∷ message_on 1 third []
+    ∷ [])
+    ≡ answer_on 1 2 (payload method.ReadDirents (entry 1 4 (codes ".") ++ entry 2 4 (codes "d") ++ entry 5 16 (codes "echo")))
+    ∷ answer_on 1 3 (done method.Unlink)
+    ∷ answer_on 1 4 (payload method.ReadDirents (entry 6 4 (codes "m") ++ entry 7 4 (codes "r") ++ entry 4 8 (codes "ro")))
+    ∷ answer_on 1 5 (payload method.ReadDirents [])
+    ∷ []
 
 -- a removed directory lives on where it is open: its watchers are told, nothing is made in it, and its listing is `.`
 abbrev pub RemovedDirectory : Type 0
@@ -109,21 +109,21 @@ RemovedDirectory =
     → Asks protocol.Directory making (4 ∷ []) 0 (asks.open_path (codes "x") 0x20800000000 None 4)
     → Asks protocol.Directory listing [] 7 (asks.read_dirents 100)
     → written two_servers mode.Auto
-        (message_on 1 opening (2 ∷ [])
-        ∷ message_on 2 watching (3 ∷ [])
-        ∷ message_on 2 first []
-        ∷ message_on 1 second []
-        ∷ message_on 2 making (4 ∷ [])
-        ∷ message_on 2 listing []
-        ∷ [])
-      ≡ answer_on 2 3 (settled method.Watch)
-        ∷ answer_on 2 4 (done method.Unlink)
-        ∷ answer_on 1 5 (done method.Unlink)
-        ∷ watch_frame 3 (event_bytes deleted dot)
-        ∷ epitaph_on 4 status.BadState
-        ∷ close_frame 4
-        ∷ answer_on 2 7 (payload method.ReadDirents (entry 2 4 (codes ".")))
-        ∷ []
+    (message_on 1 opening (2 ∷ [])
+    ∷ message_on 2 watching (3 ∷ [])
+    ∷ message_on 2 first []
+    ∷ message_on 1 second []
+    ∷ message_on 2 making (4 ∷ [])
+    ∷ message_on 2 listing []
+    ∷ [])
+    ≡ answer_on 2 3 (settled method.Watch)
+    ∷ answer_on 2 4 (done method.Unlink)
+    ∷ answer_on 1 5 (done method.Unlink)
+    ∷ watch_frame 3 (event_bytes deleted dot)
+    ∷ epitaph_on 4 status.BadState
+    ∷ close_frame 4
+    ∷ answer_on 2 7 (payload method.ReadDirents (entry 2 4 (codes ".")))
+    ∷ []
 
 -- a file has the name that a Link gave it, where its first one is gone
 abbrev pub SecondName : Type 0
@@ -136,15 +136,15 @@ SecondName =
     → Asks protocol.Directory again (3 ∷ []) 0 (asks.open_path (codes "d/g") 0x12 None 3)
     → Asks protocol.File looking [] 7 (asks.get_attributes 0x30)
     → written two_servers mode.Auto
-        (message_on 1 opening (2 ∷ [])
-        ∷ message_on 2 giving []
-        ∷ message_on 2 linking (0x80000000 ∷ [])
-        ∷ message_on 2 unlinking []
-        ∷ message_on 1 again (3 ∷ [])
-        ∷ message_on 3 looking []
-        ∷ [])
-      ≡ answer_on 2 3 (token 0x80000000)
-        ∷ answer_on 2 4 (settled method.Link)
-        ∷ answer_on 2 5 (done method.Unlink)
-        ∷ answer_on 3 7 (attributes (links_and_id 1 3))
-        ∷ []
+    (message_on 1 opening (2 ∷ [])
+    ∷ message_on 2 giving []
+    ∷ message_on 2 linking (0x80000000 ∷ [])
+    ∷ message_on 2 unlinking []
+    ∷ message_on 1 again (3 ∷ [])
+    ∷ message_on 3 looking []
+    ∷ [])
+    ≡ answer_on 2 3 (token 0x80000000)
+    ∷ answer_on 2 4 (settled method.Link)
+    ∷ answer_on 2 5 (done method.Unlink)
+    ∷ answer_on 3 7 (attributes (links_and_id 1 3))
+    ∷ []

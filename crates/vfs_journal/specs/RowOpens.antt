@@ -16,9 +16,9 @@ MissingName =
     (opening : List ℕ)
     → Asks protocol.Directory opening (2 ∷ []) 0 (asks.open_path (codes "nope") 0x2 None 2)
     → written two_servers mode.Auto (message_on 1 opening (2 ∷ []) ∷ [])
-      ≡ epitaph_on 2 status.NotFound
-        ∷ close_frame 2
-        ∷ []
+    ≡ epitaph_on 2 status.NotFound
+    ∷ close_frame 2
+    ∷ []
 
 -- the Open of a name that doesn't let the rights through
 abbrev pub MaskedName : Type 0
@@ -26,9 +26,9 @@ MaskedName =
     (opening : List ℕ)
     → Asks protocol.Directory opening (2 ∷ []) 0 (asks.open_path (codes "ro") 0x6 None 2)
     → written two_servers mode.Auto (message_on 1 opening (2 ∷ []) ∷ [])
-      ≡ epitaph_on 2 status.AccessDenied
-        ∷ close_frame 2
-        ∷ []
+    ≡ epitaph_on 2 status.AccessDenied
+    ∷ close_frame 2
+    ∷ []
 
 -- a service is connected to with CONNECT, and not without
 abbrev pub EchoService : Type 0
@@ -38,14 +38,14 @@ EchoService =
     → Asks protocol.Echo asking [] 3 (asks.echo_string (codes "hi"))
     → Asks protocol.Directory again (3 ∷ []) 0 (asks.open_path (codes "echo") 0x0 None 3)
     → written two_servers mode.Auto
-        (message_on 1 opening (2 ∷ [])
-        ∷ message_on 2 asking []
-        ∷ message_on 1 again (3 ∷ [])
-        ∷ [])
-      ≡ answer_on 2 3 (payload method.EchoString (codes "hi"))
-        ∷ epitaph_on 3 status.AccessDenied
-        ∷ close_frame 3
-        ∷ []
+    (message_on 1 opening (2 ∷ [])
+    ∷ message_on 2 asking []
+    ∷ message_on 1 again (3 ∷ [])
+    ∷ [])
+    ≡ answer_on 2 3 (payload method.EchoString (codes "hi"))
+    ∷ epitaph_on 3 status.AccessDenied
+    ∷ close_frame 3
+    ∷ []
 
 -- a node reference has the methods of every node, and no directory's
 abbrev pub NodeReference : Type 0
@@ -56,12 +56,12 @@ NodeReference =
     → Asks protocol.Node listing [] 4 (asks.read_dirents 100)
     → Asks protocol.Node looking [] 5 (asks.get_attributes 0x20)
     → written two_servers mode.Auto
-        (message_on 1 opening (2 ∷ [])
-        ∷ message_on 2 querying []
-        ∷ message_on 2 listing []
-        ∷ message_on 2 looking []
-        ∷ [])
-      ≡ answer_on 2 3 (payload method.Query (codes "fuchsia.io/Node"))
-        ∷ answer_on 2 4 (fails method.ReadDirents status.BadHandle)
-        ∷ answer_on 2 5 (attributes (id_alone 2))
-        ∷ []
+    (message_on 1 opening (2 ∷ [])
+    ∷ message_on 2 querying []
+    ∷ message_on 2 listing []
+    ∷ message_on 2 looking []
+    ∷ [])
+    ≡ answer_on 2 3 (payload method.Query (codes "fuchsia.io/Node"))
+    ∷ answer_on 2 4 (fails method.ReadDirents status.BadHandle)
+    ∷ answer_on 2 5 (attributes (id_alone 2))
+    ∷ []

@@ -5,5 +5,11 @@
 mod rows;
 
 pub use rows::{
-    clone_and_hang_up, echo_service, file_without_a_name, inherited_rights, listing_goes_on, listing_sizes, malformed_message, message_behind_a_refused_open, mount_with_a_mask, node_reference, open_beyond_the_mask, open_of_a_missing_name, open_over_three_mounts, open_over_two_mounts, ordinary_use, read_without_the_right, reads_behind_an_open, removed_directory, rename_into_itself, rename_while_an_open_goes_on, second_name_of_a_file, token_of_another_server, unknown_methods, unknown_numbers, watched_making, watched_rename, write_beyond_the_largest_file,
+    clone_and_hang_up, echo_service, file_without_a_name, inherited_rights, listing_goes_on,
+    listing_sizes, malformed_message, message_behind_a_refused_open, mount_with_a_mask,
+    node_reference, open_beyond_the_mask, open_of_a_missing_name, open_over_three_mounts,
+    open_over_two_mounts, ordinary_use, read_without_the_right, reads_behind_an_open,
+    removed_directory, rename_into_itself, rename_while_an_open_goes_on, second_name_of_a_file,
+    token_of_another_server, unknown_methods, unknown_numbers, watched_making, watched_rename,
+    write_beyond_the_largest_file,
 };
