@@ -223,6 +223,12 @@ module _ (start : Start) (frames : List Frame) (past : History) (output : List F
   picks before endpoint end then a served known =
       one_more mode.Given before (pick_of endpoint) end then (by_admission start past output before.known (pick_of endpoint) None a ∙ served) known
 
+  pub frame_stays_out : Stands start mode.Given frames past output → (frame : Frame) (why : Refusal) → admission (look_ups start past) frame ≡ Some why
+      → Stands start mode.Given (frames ++ frame ∷ []) (was_refused frame.endpoint why ∷ past) (output ++ refused_frame frame.endpoint why ∷ [])
+  frame_stays_out before frame why a =
+      one_more mode.Given before frame (was_refused frame.endpoint why ∷ past) (output ++ refused_frame frame.endpoint why ∷ [])
+      (by_admission start past output before.known frame (Some why) a) (behind_refuses start past output before.known frame.endpoint why)
+
   -- ---- in mode auto
 
   -- what is sent waits alone, weighs so much, and is served

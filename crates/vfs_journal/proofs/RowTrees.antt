@@ -1,5 +1,5 @@
 -- The names of the worked trees, and where paths lead over them.
-use Rattle.std.proofs.Common.{◌≡◌, ℕ, Bool, zero, suc, true, false, not, cond, sym, List, [], ◌∷◌, Some, None, Option, refl, ap, ◌∙◌}
+use Rattle.std.proofs.Common.{◌≡◌, ℕ, Bool, zero, suc, true, false, not, cond, sym, List, [], ◌∷◌, Some, None, Option, refl, ap, ◌∙◌, arith}
 use Rattle.std.specs.Prelude.{codes, length}
 use Rattle.std.specs.FinMap as finite
 use Rattle.std.specs.FinMap.Entries as entry
@@ -26,6 +26,7 @@ use Rattle.conn_rules.specs.Walks.{walk}
 use Rattle.io_messages.specs.declared.protocols.Protocol.{Protocol}
 use Rattle.io_rights.specs.declared.operations.Operation.{Operation}
 use Rattle.conn_rules.specs.Births.{Position, start}
+use Rattle.vfs_journal.specs.Outcomes.{watcher_birth}
 use Rattle.vfs_journal.specs.RowTree.{names_a, names_b, edges_of, looking, reading, these, at_root}
 use Rattle.vfs_journal.specs.Starts.{Bound}
 
@@ -45,6 +46,13 @@ exact_edges a b h = ap (λ (p : ℕ × List ℕ). record { directory = p.0; name
 
 pub edges_with : (edges : Edges) (key : EdgeKey) (to : EdgeTo) → finite.entries (finite.insert edges key to) ≡ finite.put edge_cmp key to (finite.entries edges)
 edges_with edges key to = finite.entries-insert edges_total edges key to
+
+none_is : (entries : List (EdgeKey × EdgeTo)) → length entries ≡ 0 → entries ≡ []
+none_is [] e = refl
+none_is (entry ∷ entries) e = absurd (omega arith)
+
+pub edges_none : finite.entries (finite.empty {X = EdgeTo} {R = edge_cmp}) ≡ []
+edges_none = none_is _ (sym (finite.len-entries (finite.empty {X = EdgeTo} {R = edge_cmp})) ∙ finite.len-empty edge_cmp EdgeTo)
 
 is_other : EdgeKey → EdgeKey → Bool
 is_other key other = not (eq_by_cmp edge_cmp key other)
@@ -82,6 +90,10 @@ pub ruleset names = (finite.get-entries, finite.len-entries, edges_with, edges_w
 -- a connection of a server, with these rights on a node
 abbrev pub connection : ℕ → ℕ → ℕ → List Operation → Protocol → Bound
 connection endpoint server node rights spoken = record { endpoint = endpoint; server = server; birth = record { node = node; rights = these rights; protocol = spoken; append = false }; mask = 0 }
+
+-- a watcher of a directory
+abbrev pub watcher : ℕ → ℕ → ℕ → ℕ → Bound
+watcher endpoint server node mask = record { endpoint = endpoint; server = server; birth = watcher_birth node; mask = mask }
 
 -- the first connection
 abbrev pub root : Bound

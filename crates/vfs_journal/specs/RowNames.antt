@@ -3,11 +3,13 @@ use Rattle.std.specs.Prelude.{◌≡◌, ℕ, List, [], ◌∷◌, ◌++◌, cod
 use Rattle.fidl_names.specs.declared.methods.Method.TheVariants as method
 use Rattle.fidl_names.specs.declared.statuses.Status.TheVariants as status
 use Rattle.endpoint_link.specs.declared.kinds.Mode.TheVariants as mode
+use Rattle.endpoint_link.specs.declared.kinds.Refusal.TheVariants as refusal
 use Rattle.io_messages.specs.Asked as asks
 use Rattle.io_messages.specs.declared.protocols.Protocol.TheVariants as protocol
 use Rattle.io_messages.specs.Replies.{done, fails, payload, settled, token, attributes}
 use Rattle.path_walk.specs.Names.{dot}
 use Rattle.vfs_journal.specs.Outcomes.{close_frame}
+use Rattle.vfs_journal.specs.Output.{refused_frame}
 use Rattle.vfs_journal.specs.Rows.{Asks, message_on, answer_on, epitaph_on, links_and_id, entry, written}
 use Rattle.vfs_journal.specs.RowTree.{two_servers}
 use Rattle.vfs_journal.specs.Watching.{deleted, added, removed, existing, idle, event_bytes, watch_frame}
@@ -147,4 +149,40 @@ SecondName =
     ∷ answer_on 2 4 (settled method.Link)
     ∷ answer_on 2 5 (done method.Unlink)
     ∷ answer_on 3 7 (attributes (links_and_id 1 3))
+    ∷ []
+
+-- a refused Watch is answered on the connection, and the endpoint that it carries is closed
+abbrev pub RefusedWatch : Type 0
+RefusedWatch =
+    (opening watching last : List ℕ)
+    → Asks protocol.Directory opening (2 ∷ []) 0 (asks.open_path (codes "d") 0x1c0 None 2)
+    → Asks protocol.Directory watching (3 ∷ []) 3 (asks.watch 0 0 3)
+    → written two_servers mode.Auto
+    (message_on 1 opening (2 ∷ [])
+    ∷ message_on 2 watching (3 ∷ [])
+    ∷ message_on 3 last []
+    ∷ [])
+    ≡ answer_on 2 3 (fails method.Watch status.InvalidArgs)
+    ∷ close_frame 3
+    ∷ refused_frame 3 refusal.PeerClosed
+    ∷ []
+
+-- a message to a watcher is passed over, and the endpoints that it carries are closed
+abbrev pub MessageToWatcher : Type 0
+MessageToWatcher =
+    (opening watching any unlinking : List ℕ)
+    → Asks protocol.Directory opening (2 ∷ []) 0 (asks.open_path (codes "d") 0x1c0 None 2)
+    → Asks protocol.Directory watching (3 ∷ []) 3 (asks.watch 4 0 3)
+    → Asks protocol.Directory unlinking [] 5 (asks.unlink (codes "f") 0)
+    → written two_servers mode.Auto
+    (message_on 1 opening (2 ∷ [])
+    ∷ message_on 2 watching (3 ∷ [])
+    ∷ message_on 3 any (5 ∷ 4 ∷ [])
+    ∷ message_on 2 unlinking []
+    ∷ [])
+    ≡ answer_on 2 3 (settled method.Watch)
+    ∷ close_frame 4
+    ∷ close_frame 5
+    ∷ answer_on 2 5 (done method.Unlink)
+    ∷ watch_frame 3 (event_bytes removed (codes "f"))
     ∷ []

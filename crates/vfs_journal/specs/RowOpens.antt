@@ -65,3 +65,22 @@ NodeReference =
     ∷ answer_on 2 4 (fails method.ReadDirents status.BadHandle)
     ∷ answer_on 2 5 (attributes (id_alone 2))
     ∷ []
+
+-- a node reference is cloned, and opens nothing
+abbrev pub OpenOnReference : Type 0
+OpenOnReference =
+    (opening further cloning querying : List ℕ)
+    → Asks protocol.Directory opening (2 ∷ []) 0 (asks.open_path (codes "d") 0x200000010 None 2)
+    → Asks protocol.Node further (3 ∷ []) 0 (asks.open_path (codes "f") 0x2 None 3)
+    → Asks protocol.Node cloning (4 ∷ []) 0 (asks.clone 4)
+    → Asks protocol.Node querying [] 5 (asks.query)
+    → written two_servers mode.Auto
+    (message_on 1 opening (2 ∷ [])
+    ∷ message_on 2 further (3 ∷ [])
+    ∷ message_on 2 cloning (4 ∷ [])
+    ∷ message_on 4 querying []
+    ∷ [])
+    ≡ epitaph_on 3 status.BadHandle
+    ∷ close_frame 3
+    ∷ answer_on 4 5 (payload method.Query (codes "fuchsia.io/Node"))
+    ∷ []
