@@ -1,9 +1,8 @@
 -- What a session does step by step, over histories that are known.
-use Rattle.std.proofs.Common.{◌≡◌, ℕ, Bool, true, false, zero, suc, ◌+◌, List, [], ◌∷◌, ◌++◌, map, Some, None, Option, refl, ap, sym, ◌∙◌, arith}
-use Rattle.std.specs.Prelude.{length, fold, Result, Ok, Err, sum_by}
+use Rattle.std.proofs.Common.{◌≡◌, ℕ, zero, suc, ◌+◌, List, [], ◌∷◌, ◌++◌, map, Some, None, Option, refl, ap, ◌∙◌, arith}
+use Rattle.std.specs.Prelude.{length, fold, Ok, sum_by}
 use Rattle.std.specs.Option.{option_map_or}
 use Rattle.endpoint_link.specs.Admission.{admission}
-use Rattle.endpoint_link.specs.declared.kinds.FrameKind.TheVariants as kind
 use Rattle.endpoint_link.specs.declared.kinds.Mode.{Mode}
 use Rattle.endpoint_link.specs.declared.kinds.Mode.TheVariants as mode
 use Rattle.endpoint_link.specs.declared.kinds.Refusal.{Refusal}
@@ -16,11 +15,11 @@ use Rattle.conn_rules.specs.Answers.{Act}
 use Rattle.conn_rules.specs.Built.{everything}
 use Rattle.vfs_journal.specs.Entries.{Sending, Sent, Journal, message, hang_up, sends, serves, refuses}
 use Rattle.vfs_journal.specs.Deaths.{deaths_of}
-use Rattle.vfs_journal.specs.History.{Event, History, waiting, bound_at, trees_of, tree_at}
+use Rattle.vfs_journal.specs.History.{Event, History, waiting, trees_of, tree_at}
 use Rattle.vfs_journal.specs.Outcomes.{Outcome, outcome_with, no_outcome, Forwarded, close_frame}
 use Rattle.vfs_journal.specs.Output.{frames_of, refused_frame}
 use Rattle.vfs_journal.specs.Past.{history_of, event_of}
-use Rattle.vfs_journal.specs.Rows.{message_on, hang_up_on, turn_of, pick_of, written}
+use Rattle.vfs_journal.specs.Rows.{message_on, turn_of, pick_of, written}
 use Rattle.vfs_journal.specs.Serving.{Read, read_by, outcome_of, request_act, sight_of, asker_of, object_of}
 use Rattle.vfs_journal.specs.Session.{serving, after_serving, with_forward, sent_behind, arrives, admitted, by_refusal, look_ups, serving_one, next, oldest, head, steps, session, drained, weight, weight_of, weight_of_read}
 use Rattle.vfs_journal.specs.Starts.{Bound, Start}

@@ -7,7 +7,7 @@ use Rattle.io_rights.specs.declared.operations.Operation.TheVariants as op
 use Rattle.io_rights.specs.Operations.{OperationSet, set_of, bit_of, all}
 use Rattle.node_graph.specs.declared.nodes.NodeKind.{NodeKind}
 use Rattle.node_graph.specs.declared.nodes.NodeKind.TheVariants.{Directory, File, Service, Mount}
-use Rattle.node_graph.specs.Tree.{NodeRow, EdgeKey, EdgeTo, edge_cmp, Edges, Tree}
+use Rattle.node_graph.specs.Tree.{NodeRow, EdgeKey, EdgeTo, Edges, Tree}
 use Rattle.conn_rules.specs.NameRows.{name_in}
 use Rattle.tree_file.specs.Items.{NodeItem, MountItem, Lists}
 use Rattle.tree_file.specs.Numbering.{end_of_mount}

@@ -16,6 +16,7 @@ use Rattle.vfs_journal.specs.History.{History}
 use Rattle.vfs_journal.specs.Outcomes.{Outcome, close_frame}
 use Rattle.vfs_journal.specs.Rows.{Asks, message_on, turn_of, answer_on, written}
 use Rattle.vfs_journal.specs.RowTree.{two_servers}
+use Rattle.vfs_journal.specs.Starts.{Bound}
 use Rattle.vfs_journal.specs.Serving.{outcome_of}
 use Rattle.vfs_journal.specs.Session.{oldest}
 use Rattle.vfs_journal.proofs.RowFrames.{was_answered}
@@ -24,10 +25,13 @@ use Rattle.vfs_journal.proofs.RowSteps.{was_sent, sent_now, answer_to, Does, Kno
 use Rattle.vfs_journal.proofs.RowTrees.{looked_through, names, connection, root}
 use Rattle.vfs_journal.proofs.rows.close_drops_what_waits.Goals as goal
 
+abbrev bound_2 : Bound
+bound_2 = connection 2 0 3 (op.ReadBytes ∷ []) protocol.File
+
 module _
     (opening closing first second : List ℕ)
     (is_opening : Asks protocol.Directory opening (2 ∷ []) 0 (asks.open_path (codes "d/f") 0x2 None 2))
-    (is_closing : Asks protocol.File closing [] 4 (asks.close)) where
+    (is_closing : Asks protocol.File closing [] 4 asks.close) where
   abbrev sent_0 : Sent
   sent_0 = sent_now [] 1 (message opening (2 ∷ []))
 
@@ -41,7 +45,7 @@ module _
   request_1_0 = asks.open_path (codes "d/f") 0x2 None 2
 
   abbrev act_1_0 : Act
-  act_1_0 = only fresh (binds (connection 2 0 3 (op.ReadBytes ∷ []) protocol.File).birth false)
+  act_1_0 = only fresh (binds bound_2.birth false)
 
   acts_1_0 : Does two_servers past_0 root request_1_0 act_1_0
   unfolding looked_through
@@ -105,15 +109,15 @@ module _
   abbrev act_5_0 : Act
   act_5_0 = only fresh closes
 
-  acts_5_0 : Does two_servers past_4 (connection 2 0 3 (op.ReadBytes ∷ []) protocol.File) request_5_0 act_5_0
+  acts_5_0 : Does two_servers past_4 bound_2 request_5_0 act_5_0
   unfolding looked_through
   acts_5_0 = refl
 
   abbrev outcome_5_0 : Outcome
-  outcome_5_0 = answer_to (connection 2 0 3 (op.ReadBytes ∷ []) protocol.File) 4 request_5_0 act_5_0
+  outcome_5_0 = answer_to bound_2 4 request_5_0 act_5_0
 
   served_5_0 : outcome_of everything two_servers past_4 sent_2 ≡ outcome_5_0
-  served_5_0 = answers two_servers past_4 sent_2 (connection 2 0 3 (op.ReadBytes ∷ []) protocol.File) closing [] 4 request_5_0 act_5_0 refl refl refl is_closing acts_5_0
+  served_5_0 = answers two_servers past_4 sent_2 bound_2 closing [] 4 request_5_0 act_5_0 refl refl refl is_closing acts_5_0
 
   abbrev past_5_0 : History
   past_5_0 = was_answered sent_2 outcome_5_0 (2 ∷ 4 ∷ 3 ∷ []) ∷ past_4

@@ -17,11 +17,18 @@ use Rattle.vfs_journal.specs.History.{History}
 use Rattle.vfs_journal.specs.Outcomes.{Outcome, outcome_with, close_frame}
 use Rattle.vfs_journal.specs.Rows.{Asks, message_on, answer_on, written}
 use Rattle.vfs_journal.specs.RowTree.{two_servers}
+use Rattle.vfs_journal.specs.Starts.{Bound}
 use Rattle.vfs_journal.specs.Serving.{outcome_of, outcome_of_sending, asker_of}
 use Rattle.vfs_journal.specs.Watching.{deleted, added, removed, event_bytes, watch_frame}
 use Rattle.vfs_journal.proofs.RowSteps.{was_sent, sent_now, request_sent, answer_to, asked, Does, Stands, begins, writes, serves_it, serves_request}
 use Rattle.vfs_journal.proofs.RowTrees.{looked_through, names, connection, watcher, root}
 use Rattle.vfs_journal.proofs.rows.message_to_a_watcher.Goals as goal
+
+abbrev bound_2 : Bound
+bound_2 = connection 2 0 2 (op.Enumerate ∷ op.Traverse ∷ op.ModifyDirectory ∷ []) protocol.Directory
+
+abbrev bound_3 : Bound
+bound_3 = watcher 3 0 2 4
 
 module _
     (opening watching any unlinking : List ℕ)
@@ -32,7 +39,7 @@ module _
   request_0 = asks.open_path (codes "d") 0x1c0 None 2
 
   abbrev act_0 : Act
-  act_0 = only fresh (binds (connection 2 0 2 (op.Enumerate ∷ op.Traverse ∷ op.ModifyDirectory ∷ []) protocol.Directory).birth false)
+  act_0 = only fresh (binds bound_2.birth false)
 
   acts_0 : Does two_servers (was_sent (request_sent [] root opening (2 ∷ [])) ∷ []) root request_0 act_0
   unfolding looked_through
@@ -41,7 +48,7 @@ module _
   abbrev past_0 : History
   past_0 = asked [] (request_sent [] root opening (2 ∷ [])) (answer_to root 0 request_0 act_0) []
 
-  step_0 : Stands two_servers mode.Auto (message_on 1 opening (2 ∷ []) ∷ []) past_0 ([])
+  step_0 : Stands two_servers mode.Auto (message_on 1 opening (2 ∷ []) ∷ []) past_0 []
   step_0 = serves_request two_servers _ _ _ (begins two_servers mode.Auto) root opening (2 ∷ []) 0 request_0 act_0 [] [] [] refl is_opening acts_0 refl
 
   abbrev request_1 : Asked
@@ -50,18 +57,18 @@ module _
   abbrev act_1 : Act
   act_1 = only fresh (watches 4)
 
-  acts_1 : Does two_servers (was_sent (request_sent past_0 (connection 2 0 2 (op.Enumerate ∷ op.Traverse ∷ op.ModifyDirectory ∷ []) protocol.Directory) watching (3 ∷ [])) ∷ past_0) (connection 2 0 2 (op.Enumerate ∷ op.Traverse ∷ op.ModifyDirectory ∷ []) protocol.Directory) request_1 act_1
+  acts_1 : Does two_servers (was_sent (request_sent past_0 bound_2 watching (3 ∷ [])) ∷ past_0) bound_2 request_1 act_1
   unfolding looked_through
   acts_1 = refl
 
   abbrev past_1 : History
-  past_1 = asked past_0 (request_sent past_0 (connection 2 0 2 (op.Enumerate ∷ op.Traverse ∷ op.ModifyDirectory ∷ []) protocol.Directory) watching (3 ∷ [])) (answer_to (connection 2 0 2 (op.Enumerate ∷ op.Traverse ∷ op.ModifyDirectory ∷ []) protocol.Directory) 3 request_1 act_1) []
+  past_1 = asked past_0 (request_sent past_0 bound_2 watching (3 ∷ [])) (answer_to bound_2 3 request_1 act_1) []
 
   step_1 : Stands two_servers mode.Auto (message_on 1 opening (2 ∷ []) ∷ message_on 2 watching (3 ∷ []) ∷ []) past_1 (answer_on 2 3 (settled method.Watch) ∷ [])
-  step_1 = serves_request two_servers _ _ _ step_0 (connection 2 0 2 (op.Enumerate ∷ op.Traverse ∷ op.ModifyDirectory ∷ []) protocol.Directory) watching (3 ∷ []) 3 request_1 act_1 [] [] (answer_on 2 3 (settled method.Watch) ∷ []) refl is_watching acts_1 refl
+  step_1 = serves_request two_servers _ _ _ step_0 bound_2 watching (3 ∷ []) 3 request_1 act_1 [] [] (answer_on 2 3 (settled method.Watch) ∷ []) refl is_watching acts_1 refl
 
   abbrev outcome_2 : Outcome
-  outcome_2 = outcome_with (asker_of (watcher 3 0 2 4) 0 0) (only fresh silent)
+  outcome_2 = outcome_with (asker_of bound_3 0 0) (only fresh silent)
 
   served_2 : outcome_of everything two_servers (was_sent (sent_now past_1 3 (message any (5 ∷ 4 ∷ []))) ∷ past_1) (sent_now past_1 3 (message any (5 ∷ 4 ∷ []))) ≡ outcome_2
   unfolding outcome_of_sending
@@ -79,15 +86,15 @@ module _
   abbrev act_3 : Act
   act_3 = record { answer = replies (done method.Unlink); position = fresh; change = cut (name_in 2 (codes "f")); told = record { removed = Some (name_in 2 (codes "f")); added = None; deleted = None } }
 
-  acts_3 : Does two_servers (was_sent (request_sent past_2 (connection 2 0 2 (op.Enumerate ∷ op.Traverse ∷ op.ModifyDirectory ∷ []) protocol.Directory) unlinking []) ∷ past_2) (connection 2 0 2 (op.Enumerate ∷ op.Traverse ∷ op.ModifyDirectory ∷ []) protocol.Directory) request_3 act_3
+  acts_3 : Does two_servers (was_sent (request_sent past_2 bound_2 unlinking []) ∷ past_2) bound_2 request_3 act_3
   unfolding looked_through
   acts_3 = simp names
 
   abbrev past_3 : History
-  past_3 = asked past_2 (request_sent past_2 (connection 2 0 2 (op.Enumerate ∷ op.Traverse ∷ op.ModifyDirectory ∷ []) protocol.Directory) unlinking []) (answer_to (connection 2 0 2 (op.Enumerate ∷ op.Traverse ∷ op.ModifyDirectory ∷ []) protocol.Directory) 5 request_3 act_3) []
+  past_3 = asked past_2 (request_sent past_2 bound_2 unlinking []) (answer_to bound_2 5 request_3 act_3) []
 
   step_3 : Stands two_servers mode.Auto (message_on 1 opening (2 ∷ []) ∷ message_on 2 watching (3 ∷ []) ∷ message_on 3 any (5 ∷ 4 ∷ []) ∷ message_on 2 unlinking [] ∷ []) past_3 (answer_on 2 3 (settled method.Watch) ∷ close_frame 4 ∷ close_frame 5 ∷ answer_on 2 5 (done method.Unlink) ∷ watch_frame 3 (event_bytes removed (codes "f")) ∷ [])
-  step_3 = serves_request two_servers _ _ _ step_2 (connection 2 0 2 (op.Enumerate ∷ op.Traverse ∷ op.ModifyDirectory ∷ []) protocol.Directory) unlinking [] 5 request_3 act_3 [] [] (answer_on 2 5 (done method.Unlink) ∷ watch_frame 3 (event_bytes removed (codes "f")) ∷ []) refl is_unlinking acts_3 refl
+  step_3 = serves_request two_servers _ _ _ step_2 bound_2 unlinking [] 5 request_3 act_3 [] [] (answer_on 2 5 (done method.Unlink) ∷ watch_frame 3 (event_bytes removed (codes "f")) ∷ []) refl is_unlinking acts_3 refl
 
   holds : written two_servers mode.Auto (message_on 1 opening (2 ∷ []) ∷ message_on 2 watching (3 ∷ []) ∷ message_on 3 any (5 ∷ 4 ∷ []) ∷ message_on 2 unlinking [] ∷ []) ≡ answer_on 2 3 (settled method.Watch) ∷ close_frame 4 ∷ close_frame 5 ∷ answer_on 2 5 (done method.Unlink) ∷ watch_frame 3 (event_bytes removed (codes "f")) ∷ []
   holds = writes two_servers mode.Auto _ _ past_3 step_3

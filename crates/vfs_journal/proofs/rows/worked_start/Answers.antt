@@ -1,4 +1,4 @@
-use Rattle.std.proofs.Common.{◌≡◌, ℕ, List, [], ◌∷◌, refl, ap, sym, ◌∙◌}
+use Rattle.std.proofs.Common.{◌≡◌, List, [], ◌∷◌, refl, ap, sym, ◌∙◌}
 use Rattle.std.specs.Prelude.{codes}
 use Rattle.std.specs.FinMap as finite
 use Rattle.io_rights.specs.Operations.{all}
@@ -6,7 +6,7 @@ use Rattle.node_graph.specs.Tree.{EdgeKey, EdgeTo, Edges, edge_cmp}
 use Rattle.path_walk.specs.Paths.{names_of}
 use Rattle.tree_file.specs.Numbering.{number_at, end_of_mount}
 use Rattle.tree_file.specs.Texts.{parent_of, before_last_slash}
-use Rattle.vfs_journal.specs.RowTree.{two_servers, worked_lists, leads, nodes_a, nodes_b, names_a, names_b, edges_of, reading, looking, at_root}
+use Rattle.vfs_journal.specs.RowTree.{worked_lists, leads, nodes_a, nodes_b, names_a, names_b, edges_of, reading, looking, at_root}
 use Rattle.vfs_journal.specs.Starts.{Start, start_of}
 use Rattle.vfs_journal.proofs.RowTrees.{edges_with, edges_none, names_of_a, names_of_b}
 use Rattle.vfs_journal.proofs.rows.worked_start.Goals as goal
