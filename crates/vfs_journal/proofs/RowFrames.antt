@@ -1,5 +1,5 @@
 -- The frames of a history, one event after another.
-use Rattle.std.proofs.Common.{◌≡◌, ℕ, Bool, true, false, not, List, [], ◌∷◌, ◌++◌, map, length, Some, None, Option, refl, ap, sym, ◌∙◌, arith}
+use Rattle.std.proofs.Common.{◌≡◌, ℕ, Bool, true, not, List, [], ◌∷◌, ◌++◌, map, length, refl, ap, sym, ◌∙◌, arith}
 use Rattle.std.specs.Prelude.{filter}
 use Rattle.std.specs.FinMap as finite
 use Rattle.std.specs.Option.{option_map_or}
@@ -10,10 +10,11 @@ use Rattle.endpoint_link.specs.Numbering.{among}
 use Rattle.vfs_journal.specs.Entries.{Sent, serves}
 use Rattle.vfs_journal.specs.History.{Event, History, trees_of, tree_at}
 use Rattle.vfs_journal.specs.Outcomes.{Outcome, close_frame}
-use Rattle.vfs_journal.specs.Output.{rising, close_frames, frames_of}
+use Rattle.vfs_journal.specs.Output.{close_frames, frames_of}
 use Rattle.vfs_journal.specs.Starts.{Start}
 use Rattle.vfs_journal.specs.Watching.{first_frames, told_frames}
 
+-- a serving, as it is seen from its past
 abbrev pub was_answered : Sent → Outcome → List ℕ → Event
 was_answered sent outcome deaths = record { entry = serves sent; outcome = outcome; deaths = deaths }
 
@@ -22,7 +23,7 @@ abbrev pub placed : List ℕ → List (ℕ × Bool)
 placed [] = []
 placed (number ∷ numbers) = finite.put nat_cmp number true (placed numbers)
 
-none_is : (entries : List (ℕ × Bool)) → length entries ≡ 0 → entries ≡ []
+pub none_is : {X : Type 0} (entries : List X) → length entries ≡ 0 → entries ≡ []
 none_is [] e = refl
 none_is (entry ∷ entries) e = absurd (omega arith)
 

@@ -1,39 +1,14 @@
--- What one serving answers, where its message is known to read as a request; and the names of the worked trees.
-use Rattle.std.proofs.Common.{◌≡◌, ℕ, Bool, true, false, List, [], ◌∷◌, Some, None, Option, refl, ap, sym, ◌∙◌}
+-- What one serving answers, where its message is known to read as a request.
+use Rattle.std.proofs.Common.{◌≡◌, ℕ, Bool, false, List, Some, Option, refl, ap, ◌∙◌}
 use Rattle.std.specs.Prelude.{Ok}
-use Rattle.std.specs.FinMap as finite
 use Rattle.io_messages.specs.Asked.{Asked}
 use Rattle.io_messages.specs.declared.protocols.Protocol.{Protocol}
 use Rattle.io_messages.specs.declared.protocols.Protocol.TheVariants as protocol
-use Rattle.node_graph.specs.Tree.{EdgeKey, EdgeTo, edge_cmp}
 use Rattle.conn_rules.specs.Answers.{Act}
 use Rattle.conn_rules.specs.Built.{everything}
-use Rattle.conn_rules.specs.Acts.{act_of, is_beyond, method_refusals, row_act}
-use Rattle.conn_rules.specs.Births.{Birth, Position}
-use Rattle.conn_rules.specs.declared.births.Room.{Room}
-use Rattle.conn_rules.specs.Opens.{by_walk, open_act, entry_refusals}
-use Rattle.conn_rules.specs.Refusals.{unless, first_of, refused_if, lacks}
-use Rattle.conn_rules.specs.Walks.{Walk, walk}
-use Rattle.fidl_names.specs.declared.methods.Method.TheVariants as method
-use Rattle.fidl_names.specs.declared.statuses.Status.{Status}
-use Rattle.fidl_names.specs.declared.statuses.Status.TheVariants as status
-use Rattle.io_flags.specs.declared.faults.FlagFault.{FlagFault}
-use Rattle.io_flags.specs.Faults.{flag_fault, status_of}
-use Rattle.io_flags.specs.Grants.{asked_rights}
-use Rattle.io_messages.specs.Asked as asks
-use Rattle.io_rights.specs.declared.operations.Operation.TheVariants as op
-use Rattle.io_rights.specs.Operations.{single}
-use Rattle.node_graph.specs.Tree.{Tree}
-use Rattle.path_walk.specs.declared.faults.PathFault.{PathFault}
-use Rattle.path_walk.specs.Names.{dot}
-use Rattle.path_walk.specs.Paths.{names_of, path_fault}
-use Rattle.std.specs.Prelude.{not, ◌&&◌, is_some}
-use Rattle.std.specs.Option.{option_map}
-use Rattle.std.specs.Str.{bytes_eq}
-use Rattle.vfs_journal.specs.Entries.{Sending, Sent, message}
+use Rattle.vfs_journal.specs.Entries.{Sent, message}
 use Rattle.vfs_journal.specs.History.{History, bound_at, is_watcher}
-use Rattle.vfs_journal.specs.Outcomes.{Outcome, outcome_with}
-use Rattle.vfs_journal.specs.RowTree.{names_a, names_b, edges_of}
+use Rattle.vfs_journal.specs.Outcomes.{outcome_with}
 use Rattle.vfs_journal.specs.Serving.{Sight, read_by, outcome_of, outcome_at, outcome_of_sending, outcome_of_message, outcome_of_read, sight_of, request_act, asker_of, object_of}
 use Rattle.vfs_journal.specs.Starts.{Bound, Start}
 

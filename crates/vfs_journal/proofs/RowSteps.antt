@@ -1,9 +1,8 @@
 -- What a session does step by step, over histories that are known.
-use Rattle.std.proofs.Common.{◌≡◌, ℕ, Bool, true, false, zero, suc, ◌+◌, List, [], ◌∷◌, ◌++◌, map, Some, None, Option, refl, ap, sym, ◌∙◌, arith}
-use Rattle.std.specs.Prelude.{length, fold, Result, Ok, Err, sum_by}
+use Rattle.std.proofs.Common.{◌≡◌, ℕ, zero, suc, ◌+◌, List, [], ◌∷◌, ◌++◌, map, Some, None, Option, refl, ap, ◌∙◌, arith}
+use Rattle.std.specs.Prelude.{length, fold, Ok, sum_by}
 use Rattle.std.specs.Option.{option_map_or}
 use Rattle.endpoint_link.specs.Admission.{admission}
-use Rattle.endpoint_link.specs.declared.kinds.FrameKind.TheVariants as kind
 use Rattle.endpoint_link.specs.declared.kinds.Mode.{Mode}
 use Rattle.endpoint_link.specs.declared.kinds.Mode.TheVariants as mode
 use Rattle.endpoint_link.specs.declared.kinds.Refusal.{Refusal}
@@ -16,11 +15,11 @@ use Rattle.conn_rules.specs.Answers.{Act}
 use Rattle.conn_rules.specs.Built.{everything}
 use Rattle.vfs_journal.specs.Entries.{Sending, Sent, Journal, message, hang_up, sends, serves, refuses}
 use Rattle.vfs_journal.specs.Deaths.{deaths_of}
-use Rattle.vfs_journal.specs.History.{Event, History, waiting, bound_at, trees_of, tree_at}
+use Rattle.vfs_journal.specs.History.{Event, History, waiting, trees_of, tree_at}
 use Rattle.vfs_journal.specs.Outcomes.{Outcome, outcome_with, no_outcome, Forwarded, close_frame}
 use Rattle.vfs_journal.specs.Output.{frames_of, refused_frame}
 use Rattle.vfs_journal.specs.Past.{history_of, event_of}
-use Rattle.vfs_journal.specs.Rows.{message_on, hang_up_on, turn_of, pick_of, written}
+use Rattle.vfs_journal.specs.Rows.{message_on, turn_of, pick_of, written}
 use Rattle.vfs_journal.specs.Serving.{Read, read_by, outcome_of, request_act, sight_of, asker_of, object_of}
 use Rattle.vfs_journal.specs.Session.{serving, after_serving, with_forward, sent_behind, arrives, admitted, by_refusal, look_ups, serving_one, next, oldest, head, steps, session, drained, weight, weight_of, weight_of_read}
 use Rattle.vfs_journal.specs.Starts.{Bound, Start}
@@ -76,10 +75,10 @@ parts_of start past sent outcome deaths closes =
       deaths = deaths_of past sent outcome;
       closes = rest_of outcome deaths;
       frames =
-        outcome.frames
-        ++ option_map_or (λ bound. first_frames (tree_at (trees_of start past) bound.server) bound) outcome.bound []
-        ++ told_frames start past outcome.server outcome.told
-        ++ map close_frame closes;
+          outcome.frames
+          ++ option_map_or (λ bound. first_frames (tree_at (trees_of start past) bound.server) bound) outcome.bound []
+          ++ told_frames start past outcome.server outcome.told
+          ++ map close_frame closes;
     }
 
 abbrev pub parts : List ℕ → List ℕ → List Frame → Parts
@@ -100,9 +99,9 @@ module _ (start : Start) (past : History) (output : List Frame) (known : Knows s
   behind_serves sent outcome deaths closes frames o p =
       record {
         is =
-          ap (λ h. event_of everything start h (serves sent) ∷ h) known.is
-          ∙ ap (λ (o : Outcome). was_answered sent o (deaths_of past sent o) ∷ past) o
-          ∙ ap (λ (p : Parts). was_answered sent outcome p.deaths ∷ past) p;
+            ap (λ h. event_of everything start h (serves sent) ∷ h) known.is
+            ∙ ap (λ (o : Outcome). was_answered sent o (deaths_of past sent o) ∷ past) o
+            ∙ ap (λ (p : Parts). was_answered sent outcome p.deaths ∷ past) p;
         shows = adds start past sent outcome deaths closes output frames known.shows (ap (λ (p : Parts). p.closes) p) (ap (λ (p : Parts). p.frames) p);
       }
 
@@ -223,6 +222,12 @@ module _ (start : Start) (frames : List Frame) (past : History) (output : List F
   picks before endpoint end then a served known =
       one_more mode.Given before (pick_of endpoint) end then (by_admission start past output before.known (pick_of endpoint) None a ∙ served) known
 
+  pub frame_stays_out : Stands start mode.Given frames past output → (frame : Frame) (why : Refusal) → admission (look_ups start past) frame ≡ Some why
+      → Stands start mode.Given (frames ++ frame ∷ []) (was_refused frame.endpoint why ∷ past) (output ++ refused_frame frame.endpoint why ∷ [])
+  frame_stays_out before frame why a =
+      one_more mode.Given before frame (was_refused frame.endpoint why ∷ past) (output ++ refused_frame frame.endpoint why ∷ [])
+      (by_admission start past output before.known frame (Some why) a) (behind_refuses start past output before.known frame.endpoint why)
+
   -- ---- in mode auto
 
   -- what is sent waits alone, weighs so much, and is served
@@ -291,7 +296,7 @@ pub serves_request : (start : Start) (frames : List Frame) (past : History) (out
     → (bound : Bound) (bytes carried : List ℕ) (txid : ℕ) (request : Asked) (act : Act) (deaths closes : List ℕ) (part : List Frame)
     → IsSpoken start (was_sent (request_sent past bound bytes carried) ∷ past) bound → read_by bound.birth.protocol bytes carried ≡ Ok (txid, request) → Does start (was_sent (request_sent past bound bytes carried) ∷ past) bound request act
     → step_of start past (message_on bound.endpoint bytes carried) (request_sent past bound bytes carried) (answer_to bound txid request act) deaths closes
-      ≡ step past (request_sent past bound bytes carried) deaths closes part
+    ≡ step past (request_sent past bound bytes carried) deaths closes part
     → Stands start mode.Auto (frames ++ message_on bound.endpoint bytes carried ∷ []) (asked past (request_sent past bound bytes carried) (answer_to bound txid request act) deaths) (output ++ part)
 serves_request start frames past output before bound bytes carried txid request act deaths closes part spoken r a s =
     let sent = request_sent past bound bytes carried in

@@ -1,5 +1,5 @@
 -- Two servers that mount each other, over which the worked sessions run.
-use Rattle.std.specs.Prelude.{ℕ, ◌==◌, List, [], ◌∷◌, codes}
+use Rattle.std.specs.Prelude.{◌≡◌, ℕ, ◌==◌, List, [], ◌∷◌, codes}
 use Rattle.std.specs.FinMap as finite
 use Rattle.std.specs.List.{list_any}
 use Rattle.io_rights.specs.declared.operations.Operation.{Operation}
@@ -7,10 +7,11 @@ use Rattle.io_rights.specs.declared.operations.Operation.TheVariants as op
 use Rattle.io_rights.specs.Operations.{OperationSet, set_of, bit_of, all}
 use Rattle.node_graph.specs.declared.nodes.NodeKind.{NodeKind}
 use Rattle.node_graph.specs.declared.nodes.NodeKind.TheVariants.{Directory, File, Service, Mount}
-use Rattle.node_graph.specs.Tree.{NodeRow, EdgeKey, EdgeTo, edge_cmp, Edges, Tree}
+use Rattle.node_graph.specs.Tree.{NodeRow, EdgeKey, EdgeTo, Edges, Tree}
 use Rattle.conn_rules.specs.NameRows.{name_in}
+use Rattle.tree_file.specs.Items.{NodeItem, MountItem, Lists}
 use Rattle.tree_file.specs.Numbering.{end_of_mount}
-use Rattle.vfs_journal.specs.Starts.{Bound, Start, directory_birth}
+use Rattle.vfs_journal.specs.Starts.{Bound, Start, directory_birth, start_of}
 
 -- a node without bytes, and a file with these
 abbrev pub node_of : NodeKind → NodeRow
@@ -84,3 +85,30 @@ two_servers =
       firsts = at_root 1 0 all ∷ [];
       mounts = at_root (end_of_mount 0) 1 all ∷ at_root (end_of_mount 1) 0 all ∷ at_root (end_of_mount 2) 1 looking ∷ [];
     }
+
+-- ---- the same by the lists of a tree file
+
+abbrev pub node_at : ℕ → List ℕ → NodeKind → OperationSet → List ℕ → NodeItem
+node_at server path kind rights bytes = record { server = server; path = path; kind = kind; rights = rights; bytes = bytes }
+
+abbrev pub mount_at : ℕ → List ℕ → ℕ → OperationSet → MountItem
+mount_at server path target rights = record { server = server; path = path; target = target; at = codes "."; rights = rights }
+
+abbrev pub worked_lists : Lists
+worked_lists =
+    record {
+      servers = codes "a" ∷ codes "b" ∷ [];
+      nodes =
+          node_at 0 (codes "d") Directory all []
+          ∷ node_at 0 (codes "d/f") File all (codes "hello world")
+          ∷ node_at 0 (codes "ro") File reading (codes "fixed")
+          ∷ node_at 0 (codes "echo") Service all []
+          ∷ node_at 1 (codes "g") File all (codes "remote")
+          ∷ [];
+      mounts = mount_at 0 (codes "m") 1 all ∷ mount_at 1 (codes "m") 0 all ∷ mount_at 0 (codes "r") 1 looking ∷ [];
+      clients = record { endpoint = 1; server = 0; path = codes "."; rights = all } ∷ [];
+    }
+
+-- the start that these lists stand for
+abbrev pub WorkedStart : Type 0
+WorkedStart = start_of worked_lists ≡ two_servers

@@ -19,6 +19,7 @@ use Rattle.conn_rules.specs.Built.{everything}
 use Rattle.vfs_journal.specs.Outcomes.{onward_bytes}
 use Rattle.vfs_journal.specs.Output.{frames_of}
 use Rattle.vfs_journal.specs.Past.{history_of}
+use Rattle.vfs_journal.specs.RowTree.{two_servers}
 use Rattle.vfs_journal.specs.Serving.{read_by}
 use Rattle.vfs_journal.specs.Session.{session}
 use Rattle.vfs_journal.specs.Starts.{Start}
@@ -72,3 +73,7 @@ links_and_id links number = record { protocols = None; abilities = None; content
 
 abbrev pub id_alone : ℕ → Attributes
 id_alone number = record { protocols = None; abilities = None; content_size = None; link_count = None; id = Some number }
+
+-- these frames, one after another over the two servers, are answered by these
+abbrev pub Writes : Mode → List Frame → List Frame → Type 0
+Writes by frames output = written two_servers by frames ≡ output

@@ -1,10 +1,16 @@
 //! Worked sessions as laws of the definitions. They compute nothing: what they say is in their clauses.
 
-ghost use Rattle.vfs_journal.specs.RowOpens.{MissingName, MaskedName, EchoService, NodeReference};
+ghost use Rattle.vfs_journal.specs.RowTree.{WorkedStart};
+ghost use Rattle.vfs_journal.specs.RowOpens.{MissingName, MaskedName, EchoService, NodeReference, OpenOnReference};
 ghost use Rattle.vfs_journal.specs.RowFiles.{TwoReads, ReadWithoutRight, InheritWrite, OrdinaryUse, CloneAndHangUp, HeldFile, LargestFile};
-ghost use Rattle.vfs_journal.specs.RowLink.{MalformedMessage, UnknownMethods, DroppedMessage, UnknownNumbers};
-ghost use Rattle.vfs_journal.specs.RowNames.{RenameIntoItself, ListingSizes, WatchedMaking, WatchedRename, ListingGoesOn, RemovedDirectory, SecondName};
+ghost use Rattle.vfs_journal.specs.RowLink.{MalformedMessage, UnknownMethods, DroppedMessage, UnknownNumbers, HangUpInTransit, CloseDrops, ForbiddenNumbers};
+ghost use Rattle.vfs_journal.specs.RowNames.{RenameIntoItself, ListingSizes, WatchedMaking, WatchedRename, ListingGoesOn, RemovedDirectory, SecondName, RefusedWatch, MessageToWatcher};
 ghost use Rattle.vfs_journal.specs.RowMounts.{TwoMounts, ThreeMounts, TokenOfAnotherServer, MountWithMask, RenameMeanwhile};
+
+/// The lists of a tree file with two servers that mount each other stand for the start of the sessions below.
+pub fn worked_start()
+    ensures numbered { WorkedStart }
+{}
 
 /// In mode auto: `open 1 nope`, with READ_BYTES and object 2. An epitaph with NOT_FOUND stands on 2, and 2 is closed.
 pub fn open_of_a_missing_name()
@@ -26,6 +32,12 @@ pub fn echo_service()
 /// answers are `fuchsia.io/Node`, BAD_HANDLE and 2.
 pub fn node_reference()
     ensures answered { NodeReference }
+{}
+
+/// In mode auto: `open 1 d`, with PROTOCOL_NODE, GET_ATTRIBUTES and object 2, `open 2 f` with object 3, `clone 2 4`, and `query 4`. An
+/// epitaph with BAD_HANDLE stands on 3, 3 is closed, and `fuchsia.io/Node` stands on 4.
+pub fn open_on_a_node_reference()
+    ensures refused { OpenOnReference }
 {}
 
 /// In mode given: `open 1 d/f`, with READ_BYTES and object 2, `read 2 5`, `read 2 6`, `turn 0 3`. `hello` and ` world` stand on 2.
@@ -89,6 +101,24 @@ pub fn unknown_numbers()
     ensures refused { UnknownNumbers }
 {}
 
+/// In mode given: `open 1 nope`, with READ_BYTES and object 2, and twice `hangup 2`, `turn 0 5`. The second hang-up is refused with
+/// PEER_CLOSED; then an epitaph with NOT_FOUND stands on 2, and 2 is closed.
+pub fn hang_up_in_transit()
+    ensures ended { HangUpInTransit }
+{}
+
+/// In mode given: `open 1 d/f`, with READ_BYTES and object 2, `turn 0 1`, `close 2`, any messages on 2 that carry 4 and 3, `turn 0 5`.
+/// Behind the success on 2 the endpoints 2, 3 and 4 are closed.
+pub fn close_drops_what_waits()
+    ensures ended { CloseDrops }
+{}
+
+/// In mode auto: a message on the end of a mount, and messages on 1 that carry 1, 0, the end of a mount, a token that was never given,
+/// and 2 twice. Each is refused with BAD_HANDLE.
+pub fn forbidden_numbers()
+    ensures refused { ForbiddenNumbers }
+{}
+
 /// In mode auto: `open 1 d`, with MODIFY_DIRECTORY and object 2, `token 2`, and a Rename of `d` on 1 to `e` in the directory of the
 /// token. The answers are the token and INVALID_ARGS.
 pub fn rename_into_itself()
@@ -128,6 +158,18 @@ pub fn removed_directory()
 /// 2 f 0`, `open 1 d/g` with object 3, and the attributes link count and id of 3, which are 1 and 3.
 pub fn second_name_of_a_file()
     ensures answered { SecondName }
+{}
+
+/// In mode auto: `open 1 d`, with ENUMERATE, TRAVERSE, MODIFY_DIRECTORY and object 2, `watch 2 0 3`, and a message on 3. INVALID_ARGS
+/// stands on 2, 3 is closed, and the last frame is refused with PEER_CLOSED.
+pub fn refused_watch()
+    ensures answered { RefusedWatch }
+{}
+
+/// In mode auto: `open 1 d`, with ENUMERATE, TRAVERSE, MODIFY_DIRECTORY and object 2, `watch 2 4 3`, any message on 3 that carries 5
+/// and 4, and `unlink 2 f 0`. 4 and 5 are closed, and REMOVED with `f` stands on 3.
+pub fn message_to_a_watcher()
+    ensures dropped { MessageToWatcher }
 {}
 
 /// In mode given: `open 1 m/m/d/f`, with READ_BYTES and object 2, `read 2 5`, `turn 1 5`, `turn 0 1`, `pick 2`, `turn 1 1`, and a Pick

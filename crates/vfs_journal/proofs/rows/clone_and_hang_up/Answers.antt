@@ -17,10 +17,17 @@ use Rattle.vfs_journal.specs.Outcomes.{Outcome, outcome_with}
 use Rattle.vfs_journal.specs.Output.{refused_frame}
 use Rattle.vfs_journal.specs.Rows.{Asks, message_on, hang_up_on, answer_on, written}
 use Rattle.vfs_journal.specs.RowTree.{two_servers}
+use Rattle.vfs_journal.specs.Starts.{Bound}
 use Rattle.vfs_journal.specs.Serving.{outcome_of, outcome_of_sending, asker_of}
 use Rattle.vfs_journal.proofs.RowSteps.{was_sent, was_refused, sent_now, request_sent, answer_to, asked, Does, Stands, begins, writes, serves_it, serves_request, frame_is_refused}
 use Rattle.vfs_journal.proofs.RowTrees.{looked_through, names, connection, root, at}
 use Rattle.vfs_journal.proofs.rows.clone_and_hang_up.Goals as goal
+
+abbrev bound_2 : Bound
+bound_2 = connection 2 0 3 (op.ReadBytes ∷ []) protocol.File
+
+abbrev bound_3 : Bound
+bound_3 = connection 3 0 3 (op.ReadBytes ∷ []) protocol.File
 
 module _
     (opening first cloning second last : List ℕ)
@@ -32,7 +39,7 @@ module _
   request_0 = asks.open_path (codes "d/f") 0x2 None 2
 
   abbrev act_0 : Act
-  act_0 = only fresh (binds (connection 2 0 3 (op.ReadBytes ∷ []) protocol.File).birth false)
+  act_0 = only fresh (binds bound_2.birth false)
 
   acts_0 : Does two_servers (was_sent (request_sent [] root opening (2 ∷ [])) ∷ []) root request_0 act_0
   unfolding looked_through
@@ -41,7 +48,7 @@ module _
   abbrev past_0 : History
   past_0 = asked [] (request_sent [] root opening (2 ∷ [])) (answer_to root 0 request_0 act_0) []
 
-  step_0 : Stands two_servers mode.Auto (message_on 1 opening (2 ∷ []) ∷ []) past_0 ([])
+  step_0 : Stands two_servers mode.Auto (message_on 1 opening (2 ∷ []) ∷ []) past_0 []
   step_0 = serves_request two_servers _ _ _ (begins two_servers mode.Auto) root opening (2 ∷ []) 0 request_0 act_0 [] [] [] refl is_opening acts_0 refl
 
   abbrev request_1 : Asked
@@ -50,31 +57,31 @@ module _
   abbrev act_1 : Act
   act_1 = only (at 5) (replies (payload method.Read (codes "hello")))
 
-  acts_1 : Does two_servers (was_sent (request_sent past_0 (connection 2 0 3 (op.ReadBytes ∷ []) protocol.File) first []) ∷ past_0) (connection 2 0 3 (op.ReadBytes ∷ []) protocol.File) request_1 act_1
+  acts_1 : Does two_servers (was_sent (request_sent past_0 bound_2 first []) ∷ past_0) bound_2 request_1 act_1
   unfolding looked_through
   acts_1 = refl
 
   abbrev past_1 : History
-  past_1 = asked past_0 (request_sent past_0 (connection 2 0 3 (op.ReadBytes ∷ []) protocol.File) first []) (answer_to (connection 2 0 3 (op.ReadBytes ∷ []) protocol.File) 3 request_1 act_1) []
+  past_1 = asked past_0 (request_sent past_0 bound_2 first []) (answer_to bound_2 3 request_1 act_1) []
 
   step_1 : Stands two_servers mode.Auto (message_on 1 opening (2 ∷ []) ∷ message_on 2 first [] ∷ []) past_1 (answer_on 2 3 (payload method.Read (codes "hello")) ∷ [])
-  step_1 = serves_request two_servers _ _ _ step_0 (connection 2 0 3 (op.ReadBytes ∷ []) protocol.File) first [] 3 request_1 act_1 [] [] (answer_on 2 3 (payload method.Read (codes "hello")) ∷ []) refl is_first acts_1 refl
+  step_1 = serves_request two_servers _ _ _ step_0 bound_2 first [] 3 request_1 act_1 [] [] (answer_on 2 3 (payload method.Read (codes "hello")) ∷ []) refl is_first acts_1 refl
 
   abbrev request_2 : Asked
   request_2 = asks.clone 3
 
   abbrev act_2 : Act
-  act_2 = only (at 5) (binds (connection 3 0 3 (op.ReadBytes ∷ []) protocol.File).birth false)
+  act_2 = only (at 5) (binds bound_3.birth false)
 
-  acts_2 : Does two_servers (was_sent (request_sent past_1 (connection 2 0 3 (op.ReadBytes ∷ []) protocol.File) cloning (3 ∷ [])) ∷ past_1) (connection 2 0 3 (op.ReadBytes ∷ []) protocol.File) request_2 act_2
+  acts_2 : Does two_servers (was_sent (request_sent past_1 bound_2 cloning (3 ∷ [])) ∷ past_1) bound_2 request_2 act_2
   unfolding looked_through
   acts_2 = refl
 
   abbrev past_2 : History
-  past_2 = asked past_1 (request_sent past_1 (connection 2 0 3 (op.ReadBytes ∷ []) protocol.File) cloning (3 ∷ [])) (answer_to (connection 2 0 3 (op.ReadBytes ∷ []) protocol.File) 0 request_2 act_2) []
+  past_2 = asked past_1 (request_sent past_1 bound_2 cloning (3 ∷ [])) (answer_to bound_2 0 request_2 act_2) []
 
   step_2 : Stands two_servers mode.Auto (message_on 1 opening (2 ∷ []) ∷ message_on 2 first [] ∷ message_on 2 cloning (3 ∷ []) ∷ []) past_2 (answer_on 2 3 (payload method.Read (codes "hello")) ∷ [])
-  step_2 = serves_request two_servers _ _ _ step_1 (connection 2 0 3 (op.ReadBytes ∷ []) protocol.File) cloning (3 ∷ []) 0 request_2 act_2 [] [] [] refl is_cloning acts_2 refl
+  step_2 = serves_request two_servers _ _ _ step_1 bound_2 cloning (3 ∷ []) 0 request_2 act_2 [] [] [] refl is_cloning acts_2 refl
 
   abbrev request_3 : Asked
   request_3 = asks.read 5
@@ -82,18 +89,18 @@ module _
   abbrev act_3 : Act
   act_3 = only (at 5) (replies (payload method.Read (codes "hello")))
 
-  acts_3 : Does two_servers (was_sent (request_sent past_2 (connection 3 0 3 (op.ReadBytes ∷ []) protocol.File) second []) ∷ past_2) (connection 3 0 3 (op.ReadBytes ∷ []) protocol.File) request_3 act_3
+  acts_3 : Does two_servers (was_sent (request_sent past_2 bound_3 second []) ∷ past_2) bound_3 request_3 act_3
   unfolding looked_through
   acts_3 = refl
 
   abbrev past_3 : History
-  past_3 = asked past_2 (request_sent past_2 (connection 3 0 3 (op.ReadBytes ∷ []) protocol.File) second []) (answer_to (connection 3 0 3 (op.ReadBytes ∷ []) protocol.File) 5 request_3 act_3) []
+  past_3 = asked past_2 (request_sent past_2 bound_3 second []) (answer_to bound_3 5 request_3 act_3) []
 
   step_3 : Stands two_servers mode.Auto (message_on 1 opening (2 ∷ []) ∷ message_on 2 first [] ∷ message_on 2 cloning (3 ∷ []) ∷ message_on 3 second [] ∷ []) past_3 (answer_on 2 3 (payload method.Read (codes "hello")) ∷ answer_on 3 5 (payload method.Read (codes "hello")) ∷ [])
-  step_3 = serves_request two_servers _ _ _ step_2 (connection 3 0 3 (op.ReadBytes ∷ []) protocol.File) second [] 5 request_3 act_3 [] [] (answer_on 3 5 (payload method.Read (codes "hello")) ∷ []) refl is_second acts_3 refl
+  step_3 = serves_request two_servers _ _ _ step_2 bound_3 second [] 5 request_3 act_3 [] [] (answer_on 3 5 (payload method.Read (codes "hello")) ∷ []) refl is_second acts_3 refl
 
   abbrev outcome_4 : Outcome
-  outcome_4 = outcome_with (asker_of (connection 2 0 3 (op.ReadBytes ∷ []) protocol.File) 0 0) (only (at 5) hangs_up)
+  outcome_4 = outcome_with (asker_of bound_2 0 0) (only (at 5) hangs_up)
 
   served_4 : outcome_of everything two_servers (was_sent (sent_now past_3 2 hang_up) ∷ past_3) (sent_now past_3 2 hang_up) ≡ outcome_4
   unfolding outcome_of_sending

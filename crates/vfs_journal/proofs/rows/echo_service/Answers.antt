@@ -14,9 +14,13 @@ use Rattle.vfs_journal.specs.History.{History}
 use Rattle.vfs_journal.specs.Outcomes.{close_frame}
 use Rattle.vfs_journal.specs.Rows.{Asks, message_on, answer_on, epitaph_on, written}
 use Rattle.vfs_journal.specs.RowTree.{two_servers}
+use Rattle.vfs_journal.specs.Starts.{Bound}
 use Rattle.vfs_journal.proofs.RowSteps.{was_sent, request_sent, answer_to, asked, Does, Stands, begins, writes, serves_request}
 use Rattle.vfs_journal.proofs.RowTrees.{looked_through, names, connection, root}
 use Rattle.vfs_journal.proofs.rows.echo_service.Goals as goal
+
+abbrev bound_2 : Bound
+bound_2 = connection 2 0 5 (op.Connect ∷ []) protocol.Echo
 
 module _
     (opening asking again : List ℕ)
@@ -27,7 +31,7 @@ module _
   request_0 = asks.open_path (codes "echo") 0x1 None 2
 
   abbrev act_0 : Act
-  act_0 = only fresh (binds (connection 2 0 5 (op.Connect ∷ []) protocol.Echo).birth false)
+  act_0 = only fresh (binds bound_2.birth false)
 
   acts_0 : Does two_servers (was_sent (request_sent [] root opening (2 ∷ [])) ∷ []) root request_0 act_0
   unfolding looked_through
@@ -36,7 +40,7 @@ module _
   abbrev past_0 : History
   past_0 = asked [] (request_sent [] root opening (2 ∷ [])) (answer_to root 0 request_0 act_0) []
 
-  step_0 : Stands two_servers mode.Auto (message_on 1 opening (2 ∷ []) ∷ []) past_0 ([])
+  step_0 : Stands two_servers mode.Auto (message_on 1 opening (2 ∷ []) ∷ []) past_0 []
   step_0 = serves_request two_servers _ _ _ (begins two_servers mode.Auto) root opening (2 ∷ []) 0 request_0 act_0 [] [] [] refl is_opening acts_0 refl
 
   abbrev request_1 : Asked
@@ -45,15 +49,15 @@ module _
   abbrev act_1 : Act
   act_1 = only fresh (replies (payload method.EchoString (codes "hi")))
 
-  acts_1 : Does two_servers (was_sent (request_sent past_0 (connection 2 0 5 (op.Connect ∷ []) protocol.Echo) asking []) ∷ past_0) (connection 2 0 5 (op.Connect ∷ []) protocol.Echo) request_1 act_1
+  acts_1 : Does two_servers (was_sent (request_sent past_0 bound_2 asking []) ∷ past_0) bound_2 request_1 act_1
   unfolding looked_through
   acts_1 = refl
 
   abbrev past_1 : History
-  past_1 = asked past_0 (request_sent past_0 (connection 2 0 5 (op.Connect ∷ []) protocol.Echo) asking []) (answer_to (connection 2 0 5 (op.Connect ∷ []) protocol.Echo) 3 request_1 act_1) []
+  past_1 = asked past_0 (request_sent past_0 bound_2 asking []) (answer_to bound_2 3 request_1 act_1) []
 
   step_1 : Stands two_servers mode.Auto (message_on 1 opening (2 ∷ []) ∷ message_on 2 asking [] ∷ []) past_1 (answer_on 2 3 (payload method.EchoString (codes "hi")) ∷ [])
-  step_1 = serves_request two_servers _ _ _ step_0 (connection 2 0 5 (op.Connect ∷ []) protocol.Echo) asking [] 3 request_1 act_1 [] [] (answer_on 2 3 (payload method.EchoString (codes "hi")) ∷ []) refl is_asking acts_1 refl
+  step_1 = serves_request two_servers _ _ _ step_0 bound_2 asking [] 3 request_1 act_1 [] [] (answer_on 2 3 (payload method.EchoString (codes "hi")) ∷ []) refl is_asking acts_1 refl
 
   abbrev request_2 : Asked
   request_2 = asks.open_path (codes "echo") 0x0 None 3

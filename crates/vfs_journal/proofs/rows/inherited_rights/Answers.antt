@@ -13,9 +13,13 @@ use Rattle.conn_rules.specs.Births.{fresh}
 use Rattle.vfs_journal.specs.History.{History}
 use Rattle.vfs_journal.specs.Rows.{Asks, message_on, answer_on, written}
 use Rattle.vfs_journal.specs.RowTree.{two_servers}
+use Rattle.vfs_journal.specs.Starts.{Bound}
 use Rattle.vfs_journal.proofs.RowSteps.{was_sent, request_sent, answer_to, asked, Does, Stands, begins, writes, serves_request}
 use Rattle.vfs_journal.proofs.RowTrees.{looked_through, names, connection, root, at}
 use Rattle.vfs_journal.proofs.rows.inherited_rights.Goals as goal
+
+abbrev bound_2 : Bound
+bound_2 = connection 2 0 4 (op.ReadBytes ∷ []) protocol.File
 
 module _
     (opening writing reading : List ℕ)
@@ -26,7 +30,7 @@ module _
   request_0 = asks.open_path (codes "ro") 0x2002 None 2
 
   abbrev act_0 : Act
-  act_0 = only fresh (binds (connection 2 0 4 (op.ReadBytes ∷ []) protocol.File).birth false)
+  act_0 = only fresh (binds bound_2.birth false)
 
   acts_0 : Does two_servers (was_sent (request_sent [] root opening (2 ∷ [])) ∷ []) root request_0 act_0
   unfolding looked_through
@@ -35,7 +39,7 @@ module _
   abbrev past_0 : History
   past_0 = asked [] (request_sent [] root opening (2 ∷ [])) (answer_to root 0 request_0 act_0) []
 
-  step_0 : Stands two_servers mode.Auto (message_on 1 opening (2 ∷ []) ∷ []) past_0 ([])
+  step_0 : Stands two_servers mode.Auto (message_on 1 opening (2 ∷ []) ∷ []) past_0 []
   step_0 = serves_request two_servers _ _ _ (begins two_servers mode.Auto) root opening (2 ∷ []) 0 request_0 act_0 [] [] [] refl is_opening acts_0 refl
 
   abbrev request_1 : Asked
@@ -44,15 +48,15 @@ module _
   abbrev act_1 : Act
   act_1 = only fresh (replies (fails method.Write status.BadHandle))
 
-  acts_1 : Does two_servers (was_sent (request_sent past_0 (connection 2 0 4 (op.ReadBytes ∷ []) protocol.File) writing []) ∷ past_0) (connection 2 0 4 (op.ReadBytes ∷ []) protocol.File) request_1 act_1
+  acts_1 : Does two_servers (was_sent (request_sent past_0 bound_2 writing []) ∷ past_0) bound_2 request_1 act_1
   unfolding looked_through
   acts_1 = refl
 
   abbrev past_1 : History
-  past_1 = asked past_0 (request_sent past_0 (connection 2 0 4 (op.ReadBytes ∷ []) protocol.File) writing []) (answer_to (connection 2 0 4 (op.ReadBytes ∷ []) protocol.File) 3 request_1 act_1) []
+  past_1 = asked past_0 (request_sent past_0 bound_2 writing []) (answer_to bound_2 3 request_1 act_1) []
 
   step_1 : Stands two_servers mode.Auto (message_on 1 opening (2 ∷ []) ∷ message_on 2 writing [] ∷ []) past_1 (answer_on 2 3 (fails method.Write status.BadHandle) ∷ [])
-  step_1 = serves_request two_servers _ _ _ step_0 (connection 2 0 4 (op.ReadBytes ∷ []) protocol.File) writing [] 3 request_1 act_1 [] [] (answer_on 2 3 (fails method.Write status.BadHandle) ∷ []) refl is_writing acts_1 refl
+  step_1 = serves_request two_servers _ _ _ step_0 bound_2 writing [] 3 request_1 act_1 [] [] (answer_on 2 3 (fails method.Write status.BadHandle) ∷ []) refl is_writing acts_1 refl
 
   abbrev request_2 : Asked
   request_2 = asks.read 5
@@ -60,15 +64,15 @@ module _
   abbrev act_2 : Act
   act_2 = only (at 5) (replies (payload method.Read (codes "fixed")))
 
-  acts_2 : Does two_servers (was_sent (request_sent past_1 (connection 2 0 4 (op.ReadBytes ∷ []) protocol.File) reading []) ∷ past_1) (connection 2 0 4 (op.ReadBytes ∷ []) protocol.File) request_2 act_2
+  acts_2 : Does two_servers (was_sent (request_sent past_1 bound_2 reading []) ∷ past_1) bound_2 request_2 act_2
   unfolding looked_through
   acts_2 = refl
 
   abbrev past_2 : History
-  past_2 = asked past_1 (request_sent past_1 (connection 2 0 4 (op.ReadBytes ∷ []) protocol.File) reading []) (answer_to (connection 2 0 4 (op.ReadBytes ∷ []) protocol.File) 4 request_2 act_2) []
+  past_2 = asked past_1 (request_sent past_1 bound_2 reading []) (answer_to bound_2 4 request_2 act_2) []
 
   step_2 : Stands two_servers mode.Auto (message_on 1 opening (2 ∷ []) ∷ message_on 2 writing [] ∷ message_on 2 reading [] ∷ []) past_2 (answer_on 2 3 (fails method.Write status.BadHandle) ∷ answer_on 2 4 (payload method.Read (codes "fixed")) ∷ [])
-  step_2 = serves_request two_servers _ _ _ step_1 (connection 2 0 4 (op.ReadBytes ∷ []) protocol.File) reading [] 4 request_2 act_2 [] [] (answer_on 2 4 (payload method.Read (codes "fixed")) ∷ []) refl is_reading acts_2 refl
+  step_2 = serves_request two_servers _ _ _ step_1 bound_2 reading [] 4 request_2 act_2 [] [] (answer_on 2 4 (payload method.Read (codes "fixed")) ∷ []) refl is_reading acts_2 refl
 
   holds : written two_servers mode.Auto (message_on 1 opening (2 ∷ []) ∷ message_on 2 writing [] ∷ message_on 2 reading [] ∷ []) ≡ answer_on 2 3 (fails method.Write status.BadHandle) ∷ answer_on 2 4 (payload method.Read (codes "fixed")) ∷ []
   holds = writes two_servers mode.Auto _ _ past_2 step_2

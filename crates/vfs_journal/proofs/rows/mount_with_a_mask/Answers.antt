@@ -18,6 +18,7 @@ use Rattle.vfs_journal.specs.History.{History}
 use Rattle.vfs_journal.specs.Outcomes.{Outcome, Forwarded, onward_bytes, close_frame}
 use Rattle.vfs_journal.specs.Rows.{Asks, GoesOn, message_on, answer_on, epitaph_on, written}
 use Rattle.vfs_journal.specs.RowTree.{two_servers}
+use Rattle.vfs_journal.specs.Starts.{Bound}
 use Rattle.vfs_journal.specs.Serving.{outcome_of}
 use Rattle.vfs_journal.specs.Session.{next, weight_of, weight_of_read}
 use Rattle.vfs_journal.proofs.RowFrames.{was_answered}
@@ -25,6 +26,9 @@ use Rattle.vfs_journal.proofs.RowServings.{answers}
 use Rattle.vfs_journal.proofs.RowSteps.{was_sent, sent_now, gone_on, request_sent, answer_to, asked, Does, Knows, knows_nothing, behind_sends, behind_serves, Serves, serves_none, serves_one, forwards_one, Stands, begins, writes, serves_all, serves_request}
 use Rattle.vfs_journal.proofs.RowTrees.{looked_through, names, connection, root, mount_end, at}
 use Rattle.vfs_journal.proofs.rows.mount_with_a_mask.Goals as goal
+
+abbrev bound_2 : Bound
+bound_2 = connection 2 1 2 (op.ReadBytes ∷ []) protocol.File
 
 module _
     (opening writing reading making : List ℕ)
@@ -74,7 +78,7 @@ module _
   request_0_1 = asks.open_path (codes "g") 0x2 None 2
 
   abbrev act_0_1 : Act
-  act_0_1 = only fresh (binds (connection 2 1 2 (op.ReadBytes ∷ []) protocol.File).birth false)
+  act_0_1 = only fresh (binds bound_2.birth false)
 
   acts_0_1 : Does two_servers past_0_0 (mount_end 2) request_0_1 act_0_1
   unfolding looked_through
@@ -111,15 +115,15 @@ module _
   abbrev act_1 : Act
   act_1 = only fresh (replies (fails method.Write status.BadHandle))
 
-  acts_1 : Does two_servers (was_sent (request_sent past_0 (connection 2 1 2 (op.ReadBytes ∷ []) protocol.File) writing []) ∷ past_0) (connection 2 1 2 (op.ReadBytes ∷ []) protocol.File) request_1 act_1
+  acts_1 : Does two_servers (was_sent (request_sent past_0 bound_2 writing []) ∷ past_0) bound_2 request_1 act_1
   unfolding looked_through
   acts_1 = refl
 
   abbrev past_1 : History
-  past_1 = asked past_0 (request_sent past_0 (connection 2 1 2 (op.ReadBytes ∷ []) protocol.File) writing []) (answer_to (connection 2 1 2 (op.ReadBytes ∷ []) protocol.File) 3 request_1 act_1) []
+  past_1 = asked past_0 (request_sent past_0 bound_2 writing []) (answer_to bound_2 3 request_1 act_1) []
 
   step_1 : Stands two_servers mode.Auto (message_on 1 opening (2 ∷ []) ∷ message_on 2 writing [] ∷ []) past_1 (answer_on 2 3 (fails method.Write status.BadHandle) ∷ [])
-  step_1 = serves_request two_servers _ _ _ step_0 (connection 2 1 2 (op.ReadBytes ∷ []) protocol.File) writing [] 3 request_1 act_1 [] [] (answer_on 2 3 (fails method.Write status.BadHandle) ∷ []) refl is_writing acts_1 refl
+  step_1 = serves_request two_servers _ _ _ step_0 bound_2 writing [] 3 request_1 act_1 [] [] (answer_on 2 3 (fails method.Write status.BadHandle) ∷ []) refl is_writing acts_1 refl
 
   abbrev request_2 : Asked
   request_2 = asks.read 6
@@ -127,15 +131,15 @@ module _
   abbrev act_2 : Act
   act_2 = only (at 6) (replies (payload method.Read (codes "remote")))
 
-  acts_2 : Does two_servers (was_sent (request_sent past_1 (connection 2 1 2 (op.ReadBytes ∷ []) protocol.File) reading []) ∷ past_1) (connection 2 1 2 (op.ReadBytes ∷ []) protocol.File) request_2 act_2
+  acts_2 : Does two_servers (was_sent (request_sent past_1 bound_2 reading []) ∷ past_1) bound_2 request_2 act_2
   unfolding looked_through
   acts_2 = refl
 
   abbrev past_2 : History
-  past_2 = asked past_1 (request_sent past_1 (connection 2 1 2 (op.ReadBytes ∷ []) protocol.File) reading []) (answer_to (connection 2 1 2 (op.ReadBytes ∷ []) protocol.File) 4 request_2 act_2) []
+  past_2 = asked past_1 (request_sent past_1 bound_2 reading []) (answer_to bound_2 4 request_2 act_2) []
 
   step_2 : Stands two_servers mode.Auto (message_on 1 opening (2 ∷ []) ∷ message_on 2 writing [] ∷ message_on 2 reading [] ∷ []) past_2 (answer_on 2 3 (fails method.Write status.BadHandle) ∷ answer_on 2 4 (payload method.Read (codes "remote")) ∷ [])
-  step_2 = serves_request two_servers _ _ _ step_1 (connection 2 1 2 (op.ReadBytes ∷ []) protocol.File) reading [] 4 request_2 act_2 [] [] (answer_on 2 4 (payload method.Read (codes "remote")) ∷ []) refl is_reading acts_2 refl
+  step_2 = serves_request two_servers _ _ _ step_1 bound_2 reading [] 4 request_2 act_2 [] [] (answer_on 2 4 (payload method.Read (codes "remote")) ∷ []) refl is_reading acts_2 refl
 
   abbrev request_3 : Asked
   request_3 = asks.open_path (codes "r/new") 0x10800000000 None 3

@@ -13,21 +13,25 @@ use Rattle.conn_rules.specs.Births.{fresh}
 use Rattle.vfs_journal.specs.History.{History}
 use Rattle.vfs_journal.specs.Rows.{Asks, message_on, answer_on, id_alone, written}
 use Rattle.vfs_journal.specs.RowTree.{two_servers}
+use Rattle.vfs_journal.specs.Starts.{Bound}
 use Rattle.vfs_journal.proofs.RowSteps.{was_sent, request_sent, answer_to, asked, Does, Stands, begins, writes, serves_request}
 use Rattle.vfs_journal.proofs.RowTrees.{looked_through, names, connection, root}
 use Rattle.vfs_journal.proofs.rows.node_reference.Goals as goal
 
+abbrev bound_2 : Bound
+bound_2 = connection 2 0 2 (op.GetAttributes ∷ []) protocol.Node
+
 module _
     (opening querying listing looking : List ℕ)
     (is_opening : Asks protocol.Directory opening (2 ∷ []) 0 (asks.open_path (codes "d") 0x200000010 None 2))
-    (is_querying : Asks protocol.Node querying [] 3 (asks.query))
+    (is_querying : Asks protocol.Node querying [] 3 asks.query)
     (is_listing : Asks protocol.Node listing [] 4 (asks.read_dirents 100))
     (is_looking : Asks protocol.Node looking [] 5 (asks.get_attributes 0x20)) where
   abbrev request_0 : Asked
   request_0 = asks.open_path (codes "d") 0x200000010 None 2
 
   abbrev act_0 : Act
-  act_0 = only fresh (binds (connection 2 0 2 (op.GetAttributes ∷ []) protocol.Node).birth false)
+  act_0 = only fresh (binds bound_2.birth false)
 
   acts_0 : Does two_servers (was_sent (request_sent [] root opening (2 ∷ [])) ∷ []) root request_0 act_0
   unfolding looked_through
@@ -36,7 +40,7 @@ module _
   abbrev past_0 : History
   past_0 = asked [] (request_sent [] root opening (2 ∷ [])) (answer_to root 0 request_0 act_0) []
 
-  step_0 : Stands two_servers mode.Auto (message_on 1 opening (2 ∷ []) ∷ []) past_0 ([])
+  step_0 : Stands two_servers mode.Auto (message_on 1 opening (2 ∷ []) ∷ []) past_0 []
   step_0 = serves_request two_servers _ _ _ (begins two_servers mode.Auto) root opening (2 ∷ []) 0 request_0 act_0 [] [] [] refl is_opening acts_0 refl
 
   abbrev request_1 : Asked
@@ -45,15 +49,15 @@ module _
   abbrev act_1 : Act
   act_1 = only fresh (replies (payload method.Query (codes "fuchsia.io/Node")))
 
-  acts_1 : Does two_servers (was_sent (request_sent past_0 (connection 2 0 2 (op.GetAttributes ∷ []) protocol.Node) querying []) ∷ past_0) (connection 2 0 2 (op.GetAttributes ∷ []) protocol.Node) request_1 act_1
+  acts_1 : Does two_servers (was_sent (request_sent past_0 bound_2 querying []) ∷ past_0) bound_2 request_1 act_1
   unfolding looked_through
   acts_1 = refl
 
   abbrev past_1 : History
-  past_1 = asked past_0 (request_sent past_0 (connection 2 0 2 (op.GetAttributes ∷ []) protocol.Node) querying []) (answer_to (connection 2 0 2 (op.GetAttributes ∷ []) protocol.Node) 3 request_1 act_1) []
+  past_1 = asked past_0 (request_sent past_0 bound_2 querying []) (answer_to bound_2 3 request_1 act_1) []
 
   step_1 : Stands two_servers mode.Auto (message_on 1 opening (2 ∷ []) ∷ message_on 2 querying [] ∷ []) past_1 (answer_on 2 3 (payload method.Query (codes "fuchsia.io/Node")) ∷ [])
-  step_1 = serves_request two_servers _ _ _ step_0 (connection 2 0 2 (op.GetAttributes ∷ []) protocol.Node) querying [] 3 request_1 act_1 [] [] (answer_on 2 3 (payload method.Query (codes "fuchsia.io/Node")) ∷ []) refl is_querying acts_1 refl
+  step_1 = serves_request two_servers _ _ _ step_0 bound_2 querying [] 3 request_1 act_1 [] [] (answer_on 2 3 (payload method.Query (codes "fuchsia.io/Node")) ∷ []) refl is_querying acts_1 refl
 
   abbrev request_2 : Asked
   request_2 = asks.read_dirents 100
@@ -61,15 +65,15 @@ module _
   abbrev act_2 : Act
   act_2 = only fresh (replies (fails method.ReadDirents status.BadHandle))
 
-  acts_2 : Does two_servers (was_sent (request_sent past_1 (connection 2 0 2 (op.GetAttributes ∷ []) protocol.Node) listing []) ∷ past_1) (connection 2 0 2 (op.GetAttributes ∷ []) protocol.Node) request_2 act_2
+  acts_2 : Does two_servers (was_sent (request_sent past_1 bound_2 listing []) ∷ past_1) bound_2 request_2 act_2
   unfolding looked_through
   acts_2 = refl
 
   abbrev past_2 : History
-  past_2 = asked past_1 (request_sent past_1 (connection 2 0 2 (op.GetAttributes ∷ []) protocol.Node) listing []) (answer_to (connection 2 0 2 (op.GetAttributes ∷ []) protocol.Node) 4 request_2 act_2) []
+  past_2 = asked past_1 (request_sent past_1 bound_2 listing []) (answer_to bound_2 4 request_2 act_2) []
 
   step_2 : Stands two_servers mode.Auto (message_on 1 opening (2 ∷ []) ∷ message_on 2 querying [] ∷ message_on 2 listing [] ∷ []) past_2 (answer_on 2 3 (payload method.Query (codes "fuchsia.io/Node")) ∷ answer_on 2 4 (fails method.ReadDirents status.BadHandle) ∷ [])
-  step_2 = serves_request two_servers _ _ _ step_1 (connection 2 0 2 (op.GetAttributes ∷ []) protocol.Node) listing [] 4 request_2 act_2 [] [] (answer_on 2 4 (fails method.ReadDirents status.BadHandle) ∷ []) refl is_listing acts_2 refl
+  step_2 = serves_request two_servers _ _ _ step_1 bound_2 listing [] 4 request_2 act_2 [] [] (answer_on 2 4 (fails method.ReadDirents status.BadHandle) ∷ []) refl is_listing acts_2 refl
 
   abbrev request_3 : Asked
   request_3 = asks.get_attributes 0x20
@@ -77,15 +81,15 @@ module _
   abbrev act_3 : Act
   act_3 = only fresh (replies (attributes (id_alone 2)))
 
-  acts_3 : Does two_servers (was_sent (request_sent past_2 (connection 2 0 2 (op.GetAttributes ∷ []) protocol.Node) looking []) ∷ past_2) (connection 2 0 2 (op.GetAttributes ∷ []) protocol.Node) request_3 act_3
+  acts_3 : Does two_servers (was_sent (request_sent past_2 bound_2 looking []) ∷ past_2) bound_2 request_3 act_3
   unfolding looked_through
   acts_3 = refl
 
   abbrev past_3 : History
-  past_3 = asked past_2 (request_sent past_2 (connection 2 0 2 (op.GetAttributes ∷ []) protocol.Node) looking []) (answer_to (connection 2 0 2 (op.GetAttributes ∷ []) protocol.Node) 5 request_3 act_3) []
+  past_3 = asked past_2 (request_sent past_2 bound_2 looking []) (answer_to bound_2 5 request_3 act_3) []
 
   step_3 : Stands two_servers mode.Auto (message_on 1 opening (2 ∷ []) ∷ message_on 2 querying [] ∷ message_on 2 listing [] ∷ message_on 2 looking [] ∷ []) past_3 (answer_on 2 3 (payload method.Query (codes "fuchsia.io/Node")) ∷ answer_on 2 4 (fails method.ReadDirents status.BadHandle) ∷ answer_on 2 5 (attributes (id_alone 2)) ∷ [])
-  step_3 = serves_request two_servers _ _ _ step_2 (connection 2 0 2 (op.GetAttributes ∷ []) protocol.Node) looking [] 5 request_3 act_3 [] [] (answer_on 2 5 (attributes (id_alone 2)) ∷ []) refl is_looking acts_3 refl
+  step_3 = serves_request two_servers _ _ _ step_2 bound_2 looking [] 5 request_3 act_3 [] [] (answer_on 2 5 (attributes (id_alone 2)) ∷ []) refl is_looking acts_3 refl
 
   holds : written two_servers mode.Auto (message_on 1 opening (2 ∷ []) ∷ message_on 2 querying [] ∷ message_on 2 listing [] ∷ message_on 2 looking [] ∷ []) ≡ answer_on 2 3 (payload method.Query (codes "fuchsia.io/Node")) ∷ answer_on 2 4 (fails method.ReadDirents status.BadHandle) ∷ answer_on 2 5 (attributes (id_alone 2)) ∷ []
   holds = writes two_servers mode.Auto _ _ past_3 step_3

@@ -17,6 +17,7 @@ use Rattle.vfs_journal.specs.History.{History}
 use Rattle.vfs_journal.specs.Outcomes.{Outcome, Forwarded, onward_bytes}
 use Rattle.vfs_journal.specs.Rows.{Asks, GoesOn, message_on, answer_on, written}
 use Rattle.vfs_journal.specs.RowTree.{two_servers}
+use Rattle.vfs_journal.specs.Starts.{Bound}
 use Rattle.vfs_journal.specs.Serving.{outcome_of}
 use Rattle.vfs_journal.specs.Session.{next, weight_of, weight_of_read}
 use Rattle.vfs_journal.proofs.RowFrames.{was_answered}
@@ -24,6 +25,9 @@ use Rattle.vfs_journal.proofs.RowServings.{answers}
 use Rattle.vfs_journal.proofs.RowSteps.{was_sent, sent_now, gone_on, request_sent, answer_to, asked, Does, Knows, knows_nothing, behind_sends, behind_serves, Serves, serves_none, serves_one, forwards_one, Stands, begins, writes, serves_all, serves_request}
 use Rattle.vfs_journal.proofs.RowTrees.{looked_through, names, connection, root, mount_end, at}
 use Rattle.vfs_journal.proofs.rows.open_over_three_mounts.Goals as goal
+
+abbrev bound_2 : Bound
+bound_2 = connection 2 1 2 (op.ReadBytes ∷ []) protocol.File
 
 module _
     (opening reading : List ℕ)
@@ -129,7 +133,7 @@ module _
   request_0_3 = asks.open_path (codes "g") 0x2 None 2
 
   abbrev act_0_3 : Act
-  act_0_3 = only fresh (binds (connection 2 1 2 (op.ReadBytes ∷ []) protocol.File).birth false)
+  act_0_3 = only fresh (binds bound_2.birth false)
 
   acts_0_3 : Does two_servers past_0_2 (mount_end 0) request_0_3 act_0_3
   unfolding looked_through
@@ -166,15 +170,15 @@ module _
   abbrev act_1 : Act
   act_1 = only (at 6) (replies (payload method.Read (codes "remote")))
 
-  acts_1 : Does two_servers (was_sent (request_sent past_0 (connection 2 1 2 (op.ReadBytes ∷ []) protocol.File) reading []) ∷ past_0) (connection 2 1 2 (op.ReadBytes ∷ []) protocol.File) request_1 act_1
+  acts_1 : Does two_servers (was_sent (request_sent past_0 bound_2 reading []) ∷ past_0) bound_2 request_1 act_1
   unfolding looked_through
   acts_1 = refl
 
   abbrev past_1 : History
-  past_1 = asked past_0 (request_sent past_0 (connection 2 1 2 (op.ReadBytes ∷ []) protocol.File) reading []) (answer_to (connection 2 1 2 (op.ReadBytes ∷ []) protocol.File) 3 request_1 act_1) []
+  past_1 = asked past_0 (request_sent past_0 bound_2 reading []) (answer_to bound_2 3 request_1 act_1) []
 
   step_1 : Stands two_servers mode.Auto (message_on 1 opening (2 ∷ []) ∷ message_on 2 reading [] ∷ []) past_1 (answer_on 2 3 (payload method.Read (codes "remote")) ∷ [])
-  step_1 = serves_request two_servers _ _ _ step_0 (connection 2 1 2 (op.ReadBytes ∷ []) protocol.File) reading [] 3 request_1 act_1 [] [] (answer_on 2 3 (payload method.Read (codes "remote")) ∷ []) refl is_reading acts_1 refl
+  step_1 = serves_request two_servers _ _ _ step_0 bound_2 reading [] 3 request_1 act_1 [] [] (answer_on 2 3 (payload method.Read (codes "remote")) ∷ []) refl is_reading acts_1 refl
 
   holds : written two_servers mode.Auto (message_on 1 opening (2 ∷ []) ∷ message_on 2 reading [] ∷ []) ≡ answer_on 2 3 (payload method.Read (codes "remote")) ∷ []
   holds = writes two_servers mode.Auto _ _ past_1 step_1

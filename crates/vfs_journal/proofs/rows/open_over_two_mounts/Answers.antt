@@ -17,6 +17,7 @@ use Rattle.vfs_journal.specs.History.{History}
 use Rattle.vfs_journal.specs.Outcomes.{Outcome, Forwarded, onward_bytes}
 use Rattle.vfs_journal.specs.Rows.{Asks, GoesOn, message_on, turn_of, pick_of, answer_on, written}
 use Rattle.vfs_journal.specs.RowTree.{two_servers}
+use Rattle.vfs_journal.specs.Starts.{Bound}
 use Rattle.vfs_journal.specs.Serving.{outcome_of}
 use Rattle.vfs_journal.specs.Session.{oldest, head}
 use Rattle.vfs_journal.proofs.RowFrames.{was_answered}
@@ -24,6 +25,9 @@ use Rattle.vfs_journal.proofs.RowServings.{answers}
 use Rattle.vfs_journal.proofs.RowSteps.{was_sent, sent_now, gone_on, answer_to, Does, Knows, behind_sends, behind_serves, Serves, serves_zero, serves_none, serves_one, forwards_one, Stands, begins, writes, sent_in, turns, picks}
 use Rattle.vfs_journal.proofs.RowTrees.{looked_through, names, connection, root, mount_end, at}
 use Rattle.vfs_journal.proofs.rows.open_over_two_mounts.Goals as goal
+
+abbrev bound_2 : Bound
+bound_2 = connection 2 0 3 (op.ReadBytes ∷ []) protocol.File
 
 module _
     (opening reading : List ℕ)
@@ -157,7 +161,7 @@ module _
   request_6_0 = asks.open_path (codes "d/f") 0x2 None 2
 
   abbrev act_6_0 : Act
-  act_6_0 = only fresh (binds (connection 2 0 3 (op.ReadBytes ∷ []) protocol.File).birth false)
+  act_6_0 = only fresh (binds bound_2.birth false)
 
   acts_6_0 : Does two_servers past_5 (mount_end 1) request_6_0 act_6_0
   unfolding looked_through
@@ -190,15 +194,15 @@ module _
   abbrev act_7_0 : Act
   act_7_0 = only (at 5) (replies (payload method.Read (codes "hello")))
 
-  acts_7_0 : Does two_servers past_6 (connection 2 0 3 (op.ReadBytes ∷ []) protocol.File) request_7_0 act_7_0
+  acts_7_0 : Does two_servers past_6 bound_2 request_7_0 act_7_0
   unfolding looked_through
   acts_7_0 = refl
 
   abbrev outcome_7_0 : Outcome
-  outcome_7_0 = answer_to (connection 2 0 3 (op.ReadBytes ∷ []) protocol.File) 3 request_7_0 act_7_0
+  outcome_7_0 = answer_to bound_2 3 request_7_0 act_7_0
 
   served_7_0 : outcome_of everything two_servers past_6 sent_1 ≡ outcome_7_0
-  served_7_0 = answers two_servers past_6 sent_1 (connection 2 0 3 (op.ReadBytes ∷ []) protocol.File) reading [] 3 request_7_0 act_7_0 refl refl refl is_reading acts_7_0
+  served_7_0 = answers two_servers past_6 sent_1 bound_2 reading [] 3 request_7_0 act_7_0 refl refl refl is_reading acts_7_0
 
   abbrev past_7_0 : History
   past_7_0 = was_answered sent_1 outcome_7_0 [] ∷ past_6

@@ -17,22 +17,26 @@ use Rattle.vfs_journal.specs.History.{History}
 use Rattle.vfs_journal.specs.Outcomes.{close_frame}
 use Rattle.vfs_journal.specs.Rows.{Asks, message_on, answer_on, attributes_with, written}
 use Rattle.vfs_journal.specs.RowTree.{two_servers}
+use Rattle.vfs_journal.specs.Starts.{Bound}
 use Rattle.vfs_journal.proofs.RowSteps.{was_sent, request_sent, answer_to, asked, Does, Stands, begins, writes, serves_request}
 use Rattle.vfs_journal.proofs.RowTrees.{looked_through, names, connection, root, at}
 use Rattle.vfs_journal.proofs.rows.ordinary_use.Goals as goal
+
+abbrev bound_2 : Bound
+bound_2 = connection 2 0 3 (op.ReadBytes ∷ op.GetAttributes ∷ []) protocol.File
 
 module _
     (opening looking reading querying closing : List ℕ)
     (is_opening : Asks protocol.Directory opening (2 ∷ []) 0 (asks.open_path (codes "d/f") 0x1000000000012 None 2))
     (is_looking : Asks protocol.File looking [] 3 (asks.get_attributes 0x37))
     (is_reading : Asks protocol.File reading [] 4 (asks.read 100))
-    (is_querying : Asks protocol.File querying [] 5 (asks.query))
-    (is_closing : Asks protocol.File closing [] 6 (asks.close)) where
+    (is_querying : Asks protocol.File querying [] 5 asks.query)
+    (is_closing : Asks protocol.File closing [] 6 asks.close) where
   abbrev request_0 : Asked
   request_0 = asks.open_path (codes "d/f") 0x1000000000012 None 2
 
   abbrev act_0 : Act
-  act_0 = only fresh (binds (connection 2 0 3 (op.ReadBytes ∷ op.GetAttributes ∷ []) protocol.File).birth true)
+  act_0 = only fresh (binds bound_2.birth true)
 
   acts_0 : Does two_servers (was_sent (request_sent [] root opening (2 ∷ [])) ∷ []) root request_0 act_0
   unfolding looked_through
@@ -50,15 +54,15 @@ module _
   abbrev act_1 : Act
   act_1 = only fresh (replies (attributes (attributes_with 4 0x16 11 1 3)))
 
-  acts_1 : Does two_servers (was_sent (request_sent past_0 (connection 2 0 3 (op.ReadBytes ∷ op.GetAttributes ∷ []) protocol.File) looking []) ∷ past_0) (connection 2 0 3 (op.ReadBytes ∷ op.GetAttributes ∷ []) protocol.File) request_1 act_1
+  acts_1 : Does two_servers (was_sent (request_sent past_0 bound_2 looking []) ∷ past_0) bound_2 request_1 act_1
   unfolding looked_through
   acts_1 = simp names
 
   abbrev past_1 : History
-  past_1 = asked past_0 (request_sent past_0 (connection 2 0 3 (op.ReadBytes ∷ op.GetAttributes ∷ []) protocol.File) looking []) (answer_to (connection 2 0 3 (op.ReadBytes ∷ op.GetAttributes ∷ []) protocol.File) 3 request_1 act_1) []
+  past_1 = asked past_0 (request_sent past_0 bound_2 looking []) (answer_to bound_2 3 request_1 act_1) []
 
   step_1 : Stands two_servers mode.Auto (message_on 1 opening (2 ∷ []) ∷ message_on 2 looking [] ∷ []) past_1 (frame_with 2 kind.Message [] (representation_bytes protocol.File) ∷ answer_on 2 3 (attributes (attributes_with 4 0x16 11 1 3)) ∷ [])
-  step_1 = serves_request two_servers _ _ _ step_0 (connection 2 0 3 (op.ReadBytes ∷ op.GetAttributes ∷ []) protocol.File) looking [] 3 request_1 act_1 [] [] (answer_on 2 3 (attributes (attributes_with 4 0x16 11 1 3)) ∷ []) refl is_looking acts_1 refl
+  step_1 = serves_request two_servers _ _ _ step_0 bound_2 looking [] 3 request_1 act_1 [] [] (answer_on 2 3 (attributes (attributes_with 4 0x16 11 1 3)) ∷ []) refl is_looking acts_1 refl
 
   abbrev request_2 : Asked
   request_2 = asks.read 100
@@ -66,15 +70,15 @@ module _
   abbrev act_2 : Act
   act_2 = only (at 11) (replies (payload method.Read (codes "hello world")))
 
-  acts_2 : Does two_servers (was_sent (request_sent past_1 (connection 2 0 3 (op.ReadBytes ∷ op.GetAttributes ∷ []) protocol.File) reading []) ∷ past_1) (connection 2 0 3 (op.ReadBytes ∷ op.GetAttributes ∷ []) protocol.File) request_2 act_2
+  acts_2 : Does two_servers (was_sent (request_sent past_1 bound_2 reading []) ∷ past_1) bound_2 request_2 act_2
   unfolding looked_through
   acts_2 = refl
 
   abbrev past_2 : History
-  past_2 = asked past_1 (request_sent past_1 (connection 2 0 3 (op.ReadBytes ∷ op.GetAttributes ∷ []) protocol.File) reading []) (answer_to (connection 2 0 3 (op.ReadBytes ∷ op.GetAttributes ∷ []) protocol.File) 4 request_2 act_2) []
+  past_2 = asked past_1 (request_sent past_1 bound_2 reading []) (answer_to bound_2 4 request_2 act_2) []
 
   step_2 : Stands two_servers mode.Auto (message_on 1 opening (2 ∷ []) ∷ message_on 2 looking [] ∷ message_on 2 reading [] ∷ []) past_2 (frame_with 2 kind.Message [] (representation_bytes protocol.File) ∷ answer_on 2 3 (attributes (attributes_with 4 0x16 11 1 3)) ∷ answer_on 2 4 (payload method.Read (codes "hello world")) ∷ [])
-  step_2 = serves_request two_servers _ _ _ step_1 (connection 2 0 3 (op.ReadBytes ∷ op.GetAttributes ∷ []) protocol.File) reading [] 4 request_2 act_2 [] [] (answer_on 2 4 (payload method.Read (codes "hello world")) ∷ []) refl is_reading acts_2 refl
+  step_2 = serves_request two_servers _ _ _ step_1 bound_2 reading [] 4 request_2 act_2 [] [] (answer_on 2 4 (payload method.Read (codes "hello world")) ∷ []) refl is_reading acts_2 refl
 
   abbrev request_3 : Asked
   request_3 = asks.query
@@ -82,15 +86,15 @@ module _
   abbrev act_3 : Act
   act_3 = only (at 11) (replies (payload method.Query (codes "fuchsia.io/File")))
 
-  acts_3 : Does two_servers (was_sent (request_sent past_2 (connection 2 0 3 (op.ReadBytes ∷ op.GetAttributes ∷ []) protocol.File) querying []) ∷ past_2) (connection 2 0 3 (op.ReadBytes ∷ op.GetAttributes ∷ []) protocol.File) request_3 act_3
+  acts_3 : Does two_servers (was_sent (request_sent past_2 bound_2 querying []) ∷ past_2) bound_2 request_3 act_3
   unfolding looked_through
   acts_3 = refl
 
   abbrev past_3 : History
-  past_3 = asked past_2 (request_sent past_2 (connection 2 0 3 (op.ReadBytes ∷ op.GetAttributes ∷ []) protocol.File) querying []) (answer_to (connection 2 0 3 (op.ReadBytes ∷ op.GetAttributes ∷ []) protocol.File) 5 request_3 act_3) []
+  past_3 = asked past_2 (request_sent past_2 bound_2 querying []) (answer_to bound_2 5 request_3 act_3) []
 
   step_3 : Stands two_servers mode.Auto (message_on 1 opening (2 ∷ []) ∷ message_on 2 looking [] ∷ message_on 2 reading [] ∷ message_on 2 querying [] ∷ []) past_3 (frame_with 2 kind.Message [] (representation_bytes protocol.File) ∷ answer_on 2 3 (attributes (attributes_with 4 0x16 11 1 3)) ∷ answer_on 2 4 (payload method.Read (codes "hello world")) ∷ answer_on 2 5 (payload method.Query (codes "fuchsia.io/File")) ∷ [])
-  step_3 = serves_request two_servers _ _ _ step_2 (connection 2 0 3 (op.ReadBytes ∷ op.GetAttributes ∷ []) protocol.File) querying [] 5 request_3 act_3 [] [] (answer_on 2 5 (payload method.Query (codes "fuchsia.io/File")) ∷ []) refl is_querying acts_3 refl
+  step_3 = serves_request two_servers _ _ _ step_2 bound_2 querying [] 5 request_3 act_3 [] [] (answer_on 2 5 (payload method.Query (codes "fuchsia.io/File")) ∷ []) refl is_querying acts_3 refl
 
   abbrev request_4 : Asked
   request_4 = asks.close
@@ -98,15 +102,15 @@ module _
   abbrev act_4 : Act
   act_4 = only (at 11) closes
 
-  acts_4 : Does two_servers (was_sent (request_sent past_3 (connection 2 0 3 (op.ReadBytes ∷ op.GetAttributes ∷ []) protocol.File) closing []) ∷ past_3) (connection 2 0 3 (op.ReadBytes ∷ op.GetAttributes ∷ []) protocol.File) request_4 act_4
+  acts_4 : Does two_servers (was_sent (request_sent past_3 bound_2 closing []) ∷ past_3) bound_2 request_4 act_4
   unfolding looked_through
   acts_4 = refl
 
   abbrev past_4 : History
-  past_4 = asked past_3 (request_sent past_3 (connection 2 0 3 (op.ReadBytes ∷ op.GetAttributes ∷ []) protocol.File) closing []) (answer_to (connection 2 0 3 (op.ReadBytes ∷ op.GetAttributes ∷ []) protocol.File) 6 request_4 act_4) (2 ∷ [])
+  past_4 = asked past_3 (request_sent past_3 bound_2 closing []) (answer_to bound_2 6 request_4 act_4) (2 ∷ [])
 
   step_4 : Stands two_servers mode.Auto (message_on 1 opening (2 ∷ []) ∷ message_on 2 looking [] ∷ message_on 2 reading [] ∷ message_on 2 querying [] ∷ message_on 2 closing [] ∷ []) past_4 (frame_with 2 kind.Message [] (representation_bytes protocol.File) ∷ answer_on 2 3 (attributes (attributes_with 4 0x16 11 1 3)) ∷ answer_on 2 4 (payload method.Read (codes "hello world")) ∷ answer_on 2 5 (payload method.Query (codes "fuchsia.io/File")) ∷ answer_on 2 6 (done method.Close) ∷ close_frame 2 ∷ [])
-  step_4 = serves_request two_servers _ _ _ step_3 (connection 2 0 3 (op.ReadBytes ∷ op.GetAttributes ∷ []) protocol.File) closing [] 6 request_4 act_4 (2 ∷ []) [] (answer_on 2 6 (done method.Close) ∷ close_frame 2 ∷ []) refl is_closing acts_4 refl
+  step_4 = serves_request two_servers _ _ _ step_3 bound_2 closing [] 6 request_4 act_4 (2 ∷ []) [] (answer_on 2 6 (done method.Close) ∷ close_frame 2 ∷ []) refl is_closing acts_4 refl
 
   holds : written two_servers mode.Auto (message_on 1 opening (2 ∷ []) ∷ message_on 2 looking [] ∷ message_on 2 reading [] ∷ message_on 2 querying [] ∷ message_on 2 closing [] ∷ []) ≡ frame_with 2 kind.Message [] (representation_bytes protocol.File) ∷ answer_on 2 3 (attributes (attributes_with 4 0x16 11 1 3)) ∷ answer_on 2 4 (payload method.Read (codes "hello world")) ∷ answer_on 2 5 (payload method.Query (codes "fuchsia.io/File")) ∷ answer_on 2 6 (done method.Close) ∷ close_frame 2 ∷ []
   holds = writes two_servers mode.Auto _ _ past_4 step_4

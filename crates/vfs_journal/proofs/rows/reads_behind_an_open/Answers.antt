@@ -16,6 +16,7 @@ use Rattle.vfs_journal.specs.History.{History}
 use Rattle.vfs_journal.specs.Outcomes.{Outcome}
 use Rattle.vfs_journal.specs.Rows.{Asks, message_on, turn_of, answer_on, written}
 use Rattle.vfs_journal.specs.RowTree.{two_servers}
+use Rattle.vfs_journal.specs.Starts.{Bound}
 use Rattle.vfs_journal.specs.Serving.{outcome_of}
 use Rattle.vfs_journal.specs.Session.{oldest}
 use Rattle.vfs_journal.proofs.RowFrames.{was_answered}
@@ -23,6 +24,9 @@ use Rattle.vfs_journal.proofs.RowServings.{answers}
 use Rattle.vfs_journal.proofs.RowSteps.{was_sent, sent_now, answer_to, Does, Knows, behind_serves, Serves, serves_zero, serves_one, Stands, begins, writes, sent_in, turns}
 use Rattle.vfs_journal.proofs.RowTrees.{looked_through, names, connection, root, at}
 use Rattle.vfs_journal.proofs.rows.reads_behind_an_open.Goals as goal
+
+abbrev bound_2 : Bound
+bound_2 = connection 2 0 3 (op.ReadBytes ∷ []) protocol.File
 
 module _
     (opening first second : List ℕ)
@@ -60,7 +64,7 @@ module _
   request_3_0 = asks.open_path (codes "d/f") 0x2 None 2
 
   abbrev act_3_0 : Act
-  act_3_0 = only fresh (binds (connection 2 0 3 (op.ReadBytes ∷ []) protocol.File).birth false)
+  act_3_0 = only fresh (binds bound_2.birth false)
 
   acts_3_0 : Does two_servers past_2 root request_3_0 act_3_0
   unfolding looked_through
@@ -84,15 +88,15 @@ module _
   abbrev act_3_1 : Act
   act_3_1 = only (at 5) (replies (payload method.Read (codes "hello")))
 
-  acts_3_1 : Does two_servers past_3_0 (connection 2 0 3 (op.ReadBytes ∷ []) protocol.File) request_3_1 act_3_1
+  acts_3_1 : Does two_servers past_3_0 bound_2 request_3_1 act_3_1
   unfolding looked_through
   acts_3_1 = refl
 
   abbrev outcome_3_1 : Outcome
-  outcome_3_1 = answer_to (connection 2 0 3 (op.ReadBytes ∷ []) protocol.File) 3 request_3_1 act_3_1
+  outcome_3_1 = answer_to bound_2 3 request_3_1 act_3_1
 
   served_3_1 : outcome_of everything two_servers past_3_0 sent_1 ≡ outcome_3_1
-  served_3_1 = answers two_servers past_3_0 sent_1 (connection 2 0 3 (op.ReadBytes ∷ []) protocol.File) first [] 3 request_3_1 act_3_1 refl refl refl is_first acts_3_1
+  served_3_1 = answers two_servers past_3_0 sent_1 bound_2 first [] 3 request_3_1 act_3_1 refl refl refl is_first acts_3_1
 
   abbrev past_3_1 : History
   past_3_1 = was_answered sent_1 outcome_3_1 [] ∷ past_3_0
@@ -106,15 +110,15 @@ module _
   abbrev act_3_2 : Act
   act_3_2 = only (at 11) (replies (payload method.Read (codes " world")))
 
-  acts_3_2 : Does two_servers past_3_1 (connection 2 0 3 (op.ReadBytes ∷ []) protocol.File) request_3_2 act_3_2
+  acts_3_2 : Does two_servers past_3_1 bound_2 request_3_2 act_3_2
   unfolding looked_through
   acts_3_2 = refl
 
   abbrev outcome_3_2 : Outcome
-  outcome_3_2 = answer_to (connection 2 0 3 (op.ReadBytes ∷ []) protocol.File) 4 request_3_2 act_3_2
+  outcome_3_2 = answer_to bound_2 4 request_3_2 act_3_2
 
   served_3_2 : outcome_of everything two_servers past_3_1 sent_2 ≡ outcome_3_2
-  served_3_2 = answers two_servers past_3_1 sent_2 (connection 2 0 3 (op.ReadBytes ∷ []) protocol.File) second [] 4 request_3_2 act_3_2 refl refl refl is_second acts_3_2
+  served_3_2 = answers two_servers past_3_1 sent_2 bound_2 second [] 4 request_3_2 act_3_2 refl refl refl is_second acts_3_2
 
   abbrev past_3_2 : History
   past_3_2 = was_answered sent_2 outcome_3_2 [] ∷ past_3_1

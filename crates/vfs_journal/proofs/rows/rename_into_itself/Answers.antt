@@ -13,20 +13,24 @@ use Rattle.conn_rules.specs.Births.{fresh}
 use Rattle.vfs_journal.specs.History.{History}
 use Rattle.vfs_journal.specs.Rows.{Asks, message_on, answer_on, written}
 use Rattle.vfs_journal.specs.RowTree.{two_servers}
+use Rattle.vfs_journal.specs.Starts.{Bound}
 use Rattle.vfs_journal.proofs.RowSteps.{was_sent, request_sent, answer_to, asked, Does, Stands, begins, writes, serves_request}
 use Rattle.vfs_journal.proofs.RowTrees.{looked_through, names, connection, root}
 use Rattle.vfs_journal.proofs.rows.rename_into_itself.Goals as goal
 
+abbrev bound_2 : Bound
+bound_2 = connection 2 0 2 (op.ModifyDirectory ∷ []) protocol.Directory
+
 module _
     (opening giving renaming : List ℕ)
     (is_opening : Asks protocol.Directory opening (2 ∷ []) 0 (asks.open_path (codes "d") 0x100 None 2))
-    (is_giving : Asks protocol.Directory giving [] 3 (asks.get_token))
+    (is_giving : Asks protocol.Directory giving [] 3 asks.get_token)
     (is_renaming : Asks protocol.Directory renaming (0x80000000 ∷ []) 4 (asks.rename (codes "d") 0x80000000 (codes "e"))) where
   abbrev request_0 : Asked
   request_0 = asks.open_path (codes "d") 0x100 None 2
 
   abbrev act_0 : Act
-  act_0 = only fresh (binds (connection 2 0 2 (op.ModifyDirectory ∷ []) protocol.Directory).birth false)
+  act_0 = only fresh (binds bound_2.birth false)
 
   acts_0 : Does two_servers (was_sent (request_sent [] root opening (2 ∷ [])) ∷ []) root request_0 act_0
   unfolding looked_through
@@ -35,7 +39,7 @@ module _
   abbrev past_0 : History
   past_0 = asked [] (request_sent [] root opening (2 ∷ [])) (answer_to root 0 request_0 act_0) []
 
-  step_0 : Stands two_servers mode.Auto (message_on 1 opening (2 ∷ []) ∷ []) past_0 ([])
+  step_0 : Stands two_servers mode.Auto (message_on 1 opening (2 ∷ []) ∷ []) past_0 []
   step_0 = serves_request two_servers _ _ _ (begins two_servers mode.Auto) root opening (2 ∷ []) 0 request_0 act_0 [] [] [] refl is_opening acts_0 refl
 
   abbrev request_1 : Asked
@@ -44,15 +48,15 @@ module _
   abbrev act_1 : Act
   act_1 = only fresh (replies (token 0x80000000))
 
-  acts_1 : Does two_servers (was_sent (request_sent past_0 (connection 2 0 2 (op.ModifyDirectory ∷ []) protocol.Directory) giving []) ∷ past_0) (connection 2 0 2 (op.ModifyDirectory ∷ []) protocol.Directory) request_1 act_1
+  acts_1 : Does two_servers (was_sent (request_sent past_0 bound_2 giving []) ∷ past_0) bound_2 request_1 act_1
   unfolding looked_through
   acts_1 = refl
 
   abbrev past_1 : History
-  past_1 = asked past_0 (request_sent past_0 (connection 2 0 2 (op.ModifyDirectory ∷ []) protocol.Directory) giving []) (answer_to (connection 2 0 2 (op.ModifyDirectory ∷ []) protocol.Directory) 3 request_1 act_1) []
+  past_1 = asked past_0 (request_sent past_0 bound_2 giving []) (answer_to bound_2 3 request_1 act_1) []
 
   step_1 : Stands two_servers mode.Auto (message_on 1 opening (2 ∷ []) ∷ message_on 2 giving [] ∷ []) past_1 (answer_on 2 3 (token 0x80000000) ∷ [])
-  step_1 = serves_request two_servers _ _ _ step_0 (connection 2 0 2 (op.ModifyDirectory ∷ []) protocol.Directory) giving [] 3 request_1 act_1 [] [] (answer_on 2 3 (token 0x80000000) ∷ []) refl is_giving acts_1 refl
+  step_1 = serves_request two_servers _ _ _ step_0 bound_2 giving [] 3 request_1 act_1 [] [] (answer_on 2 3 (token 0x80000000) ∷ []) refl is_giving acts_1 refl
 
   abbrev request_2 : Asked
   request_2 = asks.rename (codes "d") 0x80000000 (codes "e")

@@ -20,6 +20,7 @@ use Rattle.vfs_journal.specs.History.{History}
 use Rattle.vfs_journal.specs.Outcomes.{Outcome, Forwarded, onward_bytes, close_frame}
 use Rattle.vfs_journal.specs.Rows.{Asks, GoesOn, message_on, turn_of, pick_of, answer_on, epitaph_on, written}
 use Rattle.vfs_journal.specs.RowTree.{two_servers}
+use Rattle.vfs_journal.specs.Starts.{Bound}
 use Rattle.vfs_journal.specs.Serving.{outcome_of}
 use Rattle.vfs_journal.specs.Session.{oldest, head}
 use Rattle.vfs_journal.specs.Watching.{deleted, added, removed}
@@ -29,11 +30,14 @@ use Rattle.vfs_journal.proofs.RowSteps.{was_sent, sent_now, gone_on, answer_to, 
 use Rattle.vfs_journal.proofs.RowTrees.{looked_through, names, connection, root, mount_end}
 use Rattle.vfs_journal.proofs.rows.rename_while_an_open_goes_on.Goals as goal
 
+abbrev bound_4 : Bound
+bound_4 = connection 4 1 1 (op.Traverse ∷ op.ModifyDirectory ∷ []) protocol.Directory
+
 module _
     (entering giving opening cloning renaming : List ℕ)
     (is_entering : Asks protocol.Directory entering (4 ∷ []) 0 (asks.open_path (codes "m") 0x180 None 4))
     (goes_on_first : GoesOn [] (codes ".") 0x180 4)
-    (is_giving : Asks protocol.Directory giving [] 3 (asks.get_token))
+    (is_giving : Asks protocol.Directory giving [] 3 asks.get_token)
     (is_opening : Asks protocol.Directory opening (2 ∷ []) 0 (asks.open_path (codes "m/g") 0x2 None 2))
     (is_renaming : Asks protocol.Directory renaming (0x80000000 ∷ []) 9 (asks.rename (codes "g") 0x80000000 (codes "h")))
     (goes_on_second : GoesOn (codes "g" ∷ []) (codes "g") 0x2 2) where
@@ -100,7 +104,7 @@ module _
   request_3_0 = asks.open_path (codes ".") 0x180 None 4
 
   abbrev act_3_0 : Act
-  act_3_0 = only fresh (binds (connection 4 1 1 (op.Traverse ∷ op.ModifyDirectory ∷ []) protocol.Directory).birth false)
+  act_3_0 = only fresh (binds bound_4.birth false)
 
   acts_3_0 : Does two_servers past_2 (mount_end 0) request_3_0 act_3_0
   unfolding looked_through
@@ -124,15 +128,15 @@ module _
   abbrev act_3_1 : Act
   act_3_1 = only fresh (replies (token 0x80000000))
 
-  acts_3_1 : Does two_servers past_3_0 (connection 4 1 1 (op.Traverse ∷ op.ModifyDirectory ∷ []) protocol.Directory) request_3_1 act_3_1
+  acts_3_1 : Does two_servers past_3_0 bound_4 request_3_1 act_3_1
   unfolding looked_through
   acts_3_1 = refl
 
   abbrev outcome_3_1 : Outcome
-  outcome_3_1 = answer_to (connection 4 1 1 (op.Traverse ∷ op.ModifyDirectory ∷ []) protocol.Directory) 3 request_3_1 act_3_1
+  outcome_3_1 = answer_to bound_4 3 request_3_1 act_3_1
 
   served_3_1 : outcome_of everything two_servers past_3_0 sent_1 ≡ outcome_3_1
-  served_3_1 = answers two_servers past_3_0 sent_1 (connection 4 1 1 (op.Traverse ∷ op.ModifyDirectory ∷ []) protocol.Directory) giving [] 3 request_3_1 act_3_1 refl refl refl is_giving acts_3_1
+  served_3_1 = answers two_servers past_3_0 sent_1 bound_4 giving [] 3 request_3_1 act_3_1 refl refl refl is_giving acts_3_1
 
   abbrev past_3_1 : History
   past_3_1 = was_answered sent_1 outcome_3_1 [] ∷ past_3_0
@@ -227,15 +231,15 @@ module _
   abbrev act_8_0 : Act
   act_8_0 = record { answer = replies (done method.Rename); position = fresh; change = move (name_in 1 (codes "g")) (name_in 1 (codes "h")); told = record { removed = Some (name_in 1 (codes "g")); added = Some (name_in 1 (codes "h")); deleted = None } }
 
-  acts_8_0 : Does two_servers past_7 (connection 4 1 1 (op.Traverse ∷ op.ModifyDirectory ∷ []) protocol.Directory) request_8_0 act_8_0
+  acts_8_0 : Does two_servers past_7 bound_4 request_8_0 act_8_0
   unfolding looked_through
   acts_8_0 = simp names
 
   abbrev outcome_8_0 : Outcome
-  outcome_8_0 = answer_to (connection 4 1 1 (op.Traverse ∷ op.ModifyDirectory ∷ []) protocol.Directory) 9 request_8_0 act_8_0
+  outcome_8_0 = answer_to bound_4 9 request_8_0 act_8_0
 
   served_8_0 : outcome_of everything two_servers past_7 sent_7 ≡ outcome_8_0
-  served_8_0 = answers two_servers past_7 sent_7 (connection 4 1 1 (op.Traverse ∷ op.ModifyDirectory ∷ []) protocol.Directory) renaming (0x80000000 ∷ []) 9 request_8_0 act_8_0 refl refl refl is_renaming acts_8_0
+  served_8_0 = answers two_servers past_7 sent_7 bound_4 renaming (0x80000000 ∷ []) 9 request_8_0 act_8_0 refl refl refl is_renaming acts_8_0
 
   abbrev past_8_0 : History
   past_8_0 = was_answered sent_7 outcome_8_0 [] ∷ past_7

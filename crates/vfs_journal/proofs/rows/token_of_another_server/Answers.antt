@@ -20,6 +20,7 @@ use Rattle.vfs_journal.specs.Outcomes.{Outcome, Forwarded, onward_bytes}
 use Rattle.vfs_journal.specs.Output.{refused_frame}
 use Rattle.vfs_journal.specs.Rows.{Asks, GoesOn, message_on, answer_on, written}
 use Rattle.vfs_journal.specs.RowTree.{two_servers}
+use Rattle.vfs_journal.specs.Starts.{Bound}
 use Rattle.vfs_journal.specs.Serving.{outcome_of}
 use Rattle.vfs_journal.specs.Session.{next, weight_of, weight_of_read}
 use Rattle.vfs_journal.proofs.RowFrames.{was_answered}
@@ -28,11 +29,14 @@ use Rattle.vfs_journal.proofs.RowSteps.{was_sent, was_refused, sent_now, gone_on
 use Rattle.vfs_journal.proofs.RowTrees.{looked_through, names, connection, root, mount_end}
 use Rattle.vfs_journal.proofs.rows.token_of_another_server.Goals as goal
 
+abbrev bound_2 : Bound
+bound_2 = connection 2 1 1 (op.ModifyDirectory ∷ []) protocol.Directory
+
 module _
     (opening giving renaming again : List ℕ)
     (is_opening : Asks protocol.Directory opening (2 ∷ []) 0 (asks.open_path (codes "m") 0x100 None 2))
     (goes_on : GoesOn [] (codes ".") 0x100 2)
-    (is_giving : Asks protocol.Directory giving [] 3 (asks.get_token))
+    (is_giving : Asks protocol.Directory giving [] 3 asks.get_token)
     (is_renaming : Asks protocol.Directory renaming (0x80000000 ∷ []) 4 (asks.rename (codes "ro") 0x80000000 (codes "x"))) where
   abbrev sent_0 : Sent
   sent_0 = sent_now [] 1 (message opening (2 ∷ []))
@@ -75,7 +79,7 @@ module _
   request_0_1 = asks.open_path (codes ".") 0x100 None 2
 
   abbrev act_0_1 : Act
-  act_0_1 = only fresh (binds (connection 2 1 1 (op.ModifyDirectory ∷ []) protocol.Directory).birth false)
+  act_0_1 = only fresh (binds bound_2.birth false)
 
   acts_0_1 : Does two_servers past_0_0 (mount_end 0) request_0_1 act_0_1
   unfolding looked_through
@@ -112,15 +116,15 @@ module _
   abbrev act_1 : Act
   act_1 = only fresh (replies (token 0x80000000))
 
-  acts_1 : Does two_servers (was_sent (request_sent past_0 (connection 2 1 1 (op.ModifyDirectory ∷ []) protocol.Directory) giving []) ∷ past_0) (connection 2 1 1 (op.ModifyDirectory ∷ []) protocol.Directory) request_1 act_1
+  acts_1 : Does two_servers (was_sent (request_sent past_0 bound_2 giving []) ∷ past_0) bound_2 request_1 act_1
   unfolding looked_through
   acts_1 = refl
 
   abbrev past_1 : History
-  past_1 = asked past_0 (request_sent past_0 (connection 2 1 1 (op.ModifyDirectory ∷ []) protocol.Directory) giving []) (answer_to (connection 2 1 1 (op.ModifyDirectory ∷ []) protocol.Directory) 3 request_1 act_1) []
+  past_1 = asked past_0 (request_sent past_0 bound_2 giving []) (answer_to bound_2 3 request_1 act_1) []
 
   step_1 : Stands two_servers mode.Auto (message_on 1 opening (2 ∷ []) ∷ message_on 2 giving [] ∷ []) past_1 (answer_on 2 3 (token 0x80000000) ∷ [])
-  step_1 = serves_request two_servers _ _ _ step_0 (connection 2 1 1 (op.ModifyDirectory ∷ []) protocol.Directory) giving [] 3 request_1 act_1 [] [] (answer_on 2 3 (token 0x80000000) ∷ []) refl is_giving acts_1 refl
+  step_1 = serves_request two_servers _ _ _ step_0 bound_2 giving [] 3 request_1 act_1 [] [] (answer_on 2 3 (token 0x80000000) ∷ []) refl is_giving acts_1 refl
 
   abbrev request_2 : Asked
   request_2 = asks.rename (codes "ro") 0x80000000 (codes "x")

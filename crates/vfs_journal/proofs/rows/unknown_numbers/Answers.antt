@@ -8,7 +8,6 @@ use Rattle.vfs_journal.specs.RowTree.{two_servers}
 use Rattle.vfs_journal.proofs.RowSteps.{was_refused, Stands, begins, writes, frame_is_refused}
 use Rattle.vfs_journal.proofs.rows.unknown_numbers.Goals as goal
 
-
 abbrev past_0 : History
 past_0 = was_refused 9 refusal.BadHandle ∷ []
 
