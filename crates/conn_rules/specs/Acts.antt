@@ -76,7 +76,7 @@ abbrev pub is_beyond : Protocol → Method → Bool
 is_beyond protocol.Node method = not (is_of_every_node (home_of method))
 is_beyond _ method = false
 
--- a right that the method needs is wanting
+-- a right that the method needs is wanting. No connection to a service lacks CONNECT, without which none is bound
 abbrev pub lacks_right : Birth → Method → Bool
 lacks_right birth method = option_map_or (lacks birth.rights) (needed_by method) false
 
@@ -87,6 +87,7 @@ method_refusals built birth method =
     ∷ refused_if (not (built.methods method)) status.NotSupported
     ∷ []
 
+-- what one request does: its method is refused, or its row says it
 unfoldable pub act_of : Built → Birth → Position → Room → Tree → Option ℕ → Asked → Act
 act_of built birth position room tree target request =
     unless (first_of (method_refusals built birth (method_of request))) position request

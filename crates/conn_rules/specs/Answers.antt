@@ -14,7 +14,7 @@ pub data Answer : Type 0 where
   closes : Answer
   -- the endpoint that the request carries is bound; its first message tells what it is, where that was asked for
   binds : Birth → (announced : Bool) → Answer
-  -- the reply to Watch, and the endpoint that it carries is bound as a watcher with this mask
+  -- the reply to Watch; the endpoint that the request carries is bound as a watcher with this mask
   watches : (mask : ℕ) → Answer
   -- an Open goes on behind a mount, with these flags and names
   forwards : (mount flags : ℕ) (rest : List (List ℕ)) → Answer
@@ -22,7 +22,7 @@ pub data Answer : Type 0 where
   refuses : Status → Answer
   -- the connection's own endpoint ends with this status
   ends : Status → Answer
-  -- the client closed the connection's own endpoint: it ends, and nothing is written
+  -- the client hung up on the connection's own endpoint: it ends, and nothing is written
   hangs_up : Answer
   -- nothing is written
   silent : Answer

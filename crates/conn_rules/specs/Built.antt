@@ -37,6 +37,6 @@ abbrev pub is_first_kind : NodeKind → Bool
 is_first_kind kinds.Service = false
 is_first_kind _ = true
 
--- what is built today
+-- the first part that is built
 abbrev pub first_methods : Built
 first_methods = record { methods = is_first_method; words = is_first_word; kinds = is_first_kind }

@@ -66,7 +66,7 @@ abbrev pub behind_written : Position → ℕ → List ℕ → Position
 behind_written position offset [] = position
 behind_written position offset (byte ∷ bytes) = at_byte position (offset + length (byte ∷ bytes))
 
--- the bytes stand at an offset, and the answer is their number
+-- the bytes stand at an offset, with this reply
 abbrev pub written_act : Position → Birth → Tree → ℕ → List ℕ → Answered → Act
 written_act position birth tree offset bytes answered =
     record {

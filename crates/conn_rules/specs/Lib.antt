@@ -12,3 +12,4 @@ pub mod NameRows
 pub mod Acts
 pub mod Served
 pub mod Laws
+pub mod Shared

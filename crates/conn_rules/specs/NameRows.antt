@@ -75,7 +75,7 @@ link_refusals tree from to =
 
 -- the node of the first name has the second name too, with the same mask
 abbrev pub linked : Position → Asked → EdgeKey → Option EdgeTo → Act
-linked position request to None = only position (replies (settled method.Link))
+linked position request to None = only position (failure_of request status.NotFound)
 linked position request to (Some edge) =
     record {
       answer = replies (settled method.Link);
@@ -89,7 +89,7 @@ two_names_refusal src dst target =
     first_of (refused_if (is_bad_name src || is_bad_name dst) status.InvalidArgs ∷ refused_if (is_none target) status.NotFound ∷ [])
 
 abbrev pub link_into : Birth → Position → Tree → Asked → List ℕ → List ℕ → Option ℕ → Act
-link_into birth position tree request src dst None = only position (replies (settled method.Link))
+link_into birth position tree request src dst None = only position (failure_of request status.NotFound)
 link_into birth position tree request src dst (Some target) =
     unless (first_of (link_refusals tree (name_in birth.node src) (name_in target dst))) position request
     (linked position request (name_in target dst) (edge_at tree (name_in birth.node src)))
@@ -146,14 +146,14 @@ moving position tree from to =
       told = record { removed = Some from; added = Some to; deleted = directory_behind tree to };
     }
 
--- a name that is to be what it is: nothing changes
+-- a name that is to be what it is stays; else it replaces the target name
 abbrev pub replacing : Position → Tree → Asked → EdgeKey → EdgeKey → Act
 replacing position tree request from to =
     if is_same_name from to then only position (replies (done method.Rename))
     else unless (first_of (replacing_refusals tree from to)) position request (moving position tree from to)
 
 abbrev pub rename_into : Birth → Position → Tree → Asked → List ℕ → List ℕ → Option ℕ → Act
-rename_into birth position tree request src dst None = only position (replies (done method.Rename))
+rename_into birth position tree request src dst None = only position (failure_of request status.NotFound)
 rename_into birth position tree request src dst (Some target) =
     unless (first_of (move_refusals tree (name_in birth.node src) (name_in target dst))) position request
     (replacing position tree request (name_in birth.node src) (name_in target dst))

@@ -14,7 +14,7 @@ use Rattle.node_graph.specs.Tree.{Tree, EdgeKey, EdgeTo, row_of, kind_of, link_c
 abbrev pub bytes_of : Tree → ℕ → List ℕ
 bytes_of tree number = option_map_or (λ row. row.bytes) (row_of tree.nodes number) []
 
--- what a node is; a number without a row is no node's
+-- what a node is; a number without a row, which is no node's, stands as a directory
 abbrev pub kind_here : Tree → ℕ → NodeKind
 kind_here tree number = unwrap_or (kind_of tree number) Directory
 

@@ -32,7 +32,7 @@ behind mask (stops status) = stops status
 abbrev pub passing : OperationSet → OperationSet → Walk → Walk
 passing wanted mask walk = if is_within wanted mask then behind mask walk else stops status.AccessDenied
 
--- the last name: a mount wants what the word asks for, any other node what it names
+-- the last name: a mount wants the rights that the word asks for, any other node those that its PERM flags name
 abbrev pub last_by_kind : ℕ → EdgeTo → NodeKind → Walk
 last_by_kind word edge (Mount index) = passing (asked_rights word) edge.mask (crosses index [] [])
 last_by_kind word edge _ = passing (explicit_rights word) edge.mask (arrives edge.child [])
@@ -55,13 +55,13 @@ abbrev pub inner_step : Tree → ℕ → List (List ℕ) → Option EdgeTo → (
 inner_step tree word rest None onward = stops status.NotFound
 inner_step tree word rest (Some edge) onward = inner_by_kind word rest edge (kind_behind tree edge) (onward edge.child)
 
--- no name leads to the directory itself
+-- where the names lead; the empty list leads to the directory itself
 unfoldable pub walk : Tree → ℕ → List (List ℕ) → ℕ → Walk
 walk tree word [] directory = arrives directory []
 walk tree word (name ∷ []) directory = last_step tree word directory name (edge_at tree (record { directory = directory; name = name }))
 walk tree word (name ∷ next ∷ rest) directory =
     inner_step tree word (next ∷ rest) (edge_at tree (record { directory = directory; name = name })) (walk tree word (next ∷ rest))
 
--- what is left of some rights behind these masks
+-- the limit: the meet of a connection's rights with the masks on the way
 abbrev pub limit_of : OperationSet → List OperationSet → OperationSet
 limit_of rights masks = fold meet rights masks

@@ -2,6 +2,7 @@ pub mod Blanks
 pub mod Bodies
 pub mod Cells
 pub mod Endings
+pub mod ReadHeaders
 pub mod Members
 pub mod Objects
 pub mod Parts

@@ -1,6 +1,8 @@
--- What holds of every layout, every message and all handles.
-use Rattle.std.specs.Prelude.{◌≡◌, ℕ, List, ◌++◌, length, Ok}
+-- What holds of every header, every layout, every message and all handles.
+use Rattle.std.specs.Prelude.{◌≡◌, ℕ, ◌^◌, ◌<◌, List, ◌++◌, length, Ok}
 use Rattle.fidl_names.specs.declared.methods.Handle.{Handle}
+use Rattle.fidl_wire.specs.declared.headers.Header.{Header}
+use Rattle.fidl_wire.specs.Headers.{header_of, header_bytes}
 use Rattle.fidl_wire.specs.Layout.{Layout, Content}
 use Rattle.fidl_wire.specs.Reading.{body_of}
 use Rattle.fidl_wire.specs.Grammar.{IsSpelled}
@@ -32,3 +34,8 @@ abbrev pub SpellingIsRead : Type 0
 SpellingIsRead =
     (layout : Layout) (content : Content) (header : List ℕ) → length header ≡ 16 → FitsBody layout content →
     body_of layout (header ++ body_bytes layout content) (body_handles layout content) ≡ Ok content
+
+-- a header that was written is read back, whatever follows it
+abbrev pub HeadersAreRead : Type 0
+HeadersAreRead =
+    (h : Header) (rest : List ℕ) → h.txid < 2 ^ 32 → h.ordinal < 2 ^ 64 → header_of (header_bytes h ++ rest) ≡ Ok h

@@ -81,6 +81,14 @@ event_ordinal = ordinal_at event_row
 abbrev pub AreDistinct : Type 0
 AreDistinct = (i j : ℕ) → i < j → j < row_count → ordinal_at i ≢ ordinal_at j
 
+-- each method has an ordinal of its own
+abbrev pub MethodsHaveTheirOwn : Type 0
+MethodsHaveTheirOwn = (m n : Method) → method_ordinal m ≡ method_ordinal n → m ≡ n
+
+-- no method has the event's
+abbrev pub EventHasItsOwn : Type 0
+EventHasItsOwn = (m : Method) → method_ordinal m ≢ event_ordinal
+
 -- rows i and j are the first that have equal ordinals: no earlier second row has such a first one, and this one no earlier first
 pub record IsFirstCollision (i j : ℕ) : Type 0 where
   pub order : i < j

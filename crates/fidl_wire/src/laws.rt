@@ -1,6 +1,7 @@
-//! Laws of the format, for every layout. They compute nothing: what they say is in their clauses.
+//! Laws of the format, for every header and every layout. They compute nothing: what they say is in
+//! their clauses.
 
-ghost use Rattle.fidl_wire.specs.Laws.{ReadsWhatIsSpelled, SpelledWhereRead, SpelledOnce, SpellingIsSpelled, SpellingIsRead};
+ghost use Rattle.fidl_wire.specs.Laws.{HeadersAreRead, ReadsWhatIsSpelled, SpelledWhereRead, SpelledOnce, SpellingIsSpelled, SpellingIsRead};
 
 /// A body is read as a value exactly where the message's bytes and handles spell that value, each
 /// cell at its place and with nothing left over.
@@ -18,4 +19,9 @@ pub fn body_is_spelled_once()
 pub fn spelling_is_read()
     ensures spelled { SpellingIsSpelled }
     ensures read { SpellingIsRead }
+{}
+
+/// A header that was written is read back, whatever follows it.
+pub fn written_header_is_read()
+    ensures { HeadersAreRead }
 {}

@@ -74,7 +74,7 @@ pub length-table : (vs : List (Option ℕ)) → length (table_part vs).outside �
 length-table vs =
     omega (arith, length-append (members_part (given vs)).inline (members_part (given vs)).outside, length-slots (given vs))
 
-no_handles : (vs : List (Option ℕ)) → (members_part vs).handles ≡ []
+pub no_handles : (vs : List (Option ℕ)) → (members_part vs).handles ≡ []
 no_handles [] = refl
 no_handles (None ∷ vs) = no_handles vs
 no_handles (Some x ∷ vs) = no_handles vs

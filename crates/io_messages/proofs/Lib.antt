@@ -4,6 +4,9 @@ pub mod Numbered
 pub mod RequestLaws
 pub mod Lengths
 pub mod Unions
+pub mod ReadObjects
+pub mod Framework
 pub mod ReplyLaws
-pub mod Headers
 pub mod WritingLaws
+pub mod WrittenReplies
+pub mod Payloads

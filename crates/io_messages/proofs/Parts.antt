@@ -18,11 +18,11 @@ pub bind_ok : {A B : Type 0} → (r : Result A WireFault) (f : A → Result B Wi
 bind_ok (Ok a) f b h = (a, refl, h)
 bind_ok (Err e) f b h = absurd (cc)
 
-check_bind : {B : Type 0} → (p : Bool) (e : WireFault) (f : Unit {0} → Result B WireFault) (b : B) → (check p e >>= f) ≡ Ok b → (p ≡ true) × (f tt ≡ Ok b)
+pub check_bind : {B : Type 0} → (p : Bool) (e : WireFault) (f : Unit {0} → Result B WireFault) (b : B) → (check p e >>= f) ≡ Ok b → (p ≡ true) × (f tt ≡ Ok b)
 check_bind true e f b h = (refl, h)
 check_bind false e f b h = absurd (cc)
 
-chosen : (b : Bool) (e : WireFault) (x c : Cursor) → cond b (Err e) (Ok x) ≡ Ok c → x ≡ c
+pub chosen : (b : Bool) (e : WireFault) (x c : Cursor) → cond b (Err e) (Ok x) ≡ Ok c → x ≡ c
 chosen true e x c h = absurd (cc)
 chosen false e x c h = cc
 
@@ -72,7 +72,7 @@ next_part m hs size place passed c d part at h p is =
     let out : d.out ≡ place + padded passed = p.out ∙ ap (λ (v : Cursor). v.out + padded passed) (sym e) ∙ ap (λ (n : ℕ). n + padded passed) at in
     is ∙ ap (λ (n : ℕ). slice_range d.message n (n + length part)) out ∙ ap (λ (xs : List ℕ). slice_range xs (place + padded passed) (place + padded passed + length part)) (sym message)
 
-fits_if : (b : Bool) (e : WireFault) (x c : Cursor) → cond b (Err e) (Ok x) ≡ Ok c → b ≡ false
+pub fits_if : (b : Bool) (e : WireFault) (x c : Cursor) → cond b (Err e) (Ok x) ≡ Ok c → b ≡ false
 fits_if true e x c h = absurd (cc)
 fits_if false e x c h = refl
 
@@ -109,61 +109,83 @@ pad_rest size c at y h =
     let same : left ≡ y = cc last in
     subst (λ (v : Unit {0} × Cursor). Keeps c v.1) same (record { message = refl; out = refl })
 
-pub pad_keeps : (size : ℕ) (c d : Cursor) → cell_at (pad size) c ≡ Ok (blank, d) → Keeps c d
+-- padding leaves what stands out of line
+pub blank_keeps : (size : ℕ) (c : Cursor) (y : Item × Cursor) → cell_at (pad size) c ≡ Ok y → Keeps c y.1
 unfolding cell_at
-pad_keeps size c d h =
-    let cell = bind_ok (pad_cell size c) _ (blank, d) h in
+blank_keeps size c y h =
+    let cell = bind_ok (pad_cell size c) _ y h in
     let place = bind_ok (inline_at size c) _ cell.0 cell.1 in
-    let keeps = pad_rest size c place.0 cell.0 place.2 in
-    let same = same_cursor blank blank cell.0.1 d cell.2 in
-    subst (λ (v : Cursor). Keeps c v) same keeps
+    let left : Item × Cursor = (blank, cell.0.1) in
+    let same : left ≡ y = cc cell.2 in
+    subst (λ (v : Item × Cursor). Keeps c v.1) same (pad_rest size c place.0 cell.0 place.2)
 
--- a handle was taken
-record Takes (c : Cursor) (y : Option Handle × Cursor) : Type 0 where
+pub pad_keeps : (size : ℕ) (c d : Cursor) → cell_at (pad size) c ≡ Ok (blank, d) → Keeps c d
+pad_keeps size c d h = blank_keeps size c (blank, d) h
+
+-- a handle was taken, or none where that may be absent
+record Takes (nullable : Bool) (c : Cursor) (y : Option Handle × Cursor) : Type 0 where
   pub keeps : Keeps c y.1
-  pub some : is_some y.0 ≡ true
+  pub some : nullable ≡ false → is_some y.0 ≡ true
 
-takes_if : (c : Cursor) (h : Handle) (hs : List Handle) (b : Bool) (e : WireFault) (y : Option Handle × Cursor) → cond b (Ok (Some h, record (passed 4 c) { handles = hs })) (Err e) ≡ Ok y → Takes c y
-takes_if c h hs true e y p =
+takes_if : (nullable : Bool) (c : Cursor) (h : Handle) (hs : List Handle) (b : Bool) (e : WireFault) (y : Option Handle × Cursor) → cond b (Ok (Some h, record (passed 4 c) { handles = hs })) (Err e) ≡ Ok y → Takes nullable c y
+takes_if nullable c h hs true e y p =
     let taken : Option Handle × Cursor = (Some h, record (passed 4 c) { handles = hs }) in
     let same : taken ≡ y = cc in
-    subst (λ (v : Option Handle × Cursor). Takes c v) same (record { keeps = record { message = refl; out = refl }; some = refl })
-takes_if c h hs false e y p = absurd (cc)
+    subst (λ (v : Option Handle × Cursor). Takes nullable c v) same (record { keeps = record { message = refl; out = refl }; some = λ _. refl })
+takes_if nullable c h hs false e y p = absurd (cc)
 
-takes_next : (kind : HandleKind) (at : ℕ) (hs : List Handle) (c : Cursor) (y : Option Handle × Cursor) → next_handle kind at hs (passed 4 c) ≡ Ok y → Takes c y
-takes_next kind at [] c y h = absurd (cc)
-takes_next kind at (x ∷ hs) c y h = takes_if c x hs (is_kind kind x) _ y h
+takes_next : (nullable : Bool) (kind : HandleKind) (at : ℕ) (hs : List Handle) (c : Cursor) (y : Option Handle × Cursor) → next_handle kind at hs (passed 4 c) ≡ Ok y → Takes nullable c y
+takes_next nullable kind at [] c y h = absurd (cc)
+takes_next nullable kind at (x ∷ hs) c y h = takes_if nullable c x hs (is_kind kind x) _ y h
 
--- where no handle may be absent, one is there
-takes_cases : (kind : HandleKind) (at : ℕ) (zero present : Bool) (e : WireFault) (c : Cursor) (y : Option Handle × Cursor) → cond present (next_handle kind at c.handles (passed 4 c)) (cond (zero && false) (Ok (None, passed 4 c)) (Err e)) ≡ Ok y → Takes c y
-takes_cases kind at zero true e c y h = takes_next kind at c.handles c y h
-takes_cases kind at true false e c y h = absurd (cc)
-takes_cases kind at false false e c y h = absurd (cc)
+takes_none : (c : Cursor) (y : Option Handle × Cursor) → (let r : Result (Option Handle × Cursor) WireFault = Ok (None, passed 4 c) in r) ≡ Ok y → Takes true c y
+takes_none c y h =
+    let left : Option Handle × Cursor = (None, passed 4 c) in
+    let same : left ≡ y = cc in
+    subst (λ (v : Option Handle × Cursor). Takes true c v) same (record { keeps = record { message = refl; out = refl }; some = λ clash. absurd (cc) })
 
-word_takes : (kind : HandleKind) (at mark : ℕ) (c : Cursor) (y : Option Handle × Cursor) → handle_word kind false at mark c ≡ Ok y → Takes c y
-word_takes kind at mark c y h = takes_cases kind at (nat_eq mark 0) (nat_eq mark 0xffff_ffff) _ c y h
+takes_cases : (kind : HandleKind) (at : ℕ) (nullable zero present : Bool) (e : WireFault) (c : Cursor) (y : Option Handle × Cursor) →
+    cond present (next_handle kind at c.handles (passed 4 c)) (cond (zero && nullable) (Ok (None, passed 4 c)) (Err e)) ≡ Ok y → Takes nullable c y
+takes_cases kind at nullable zero true e c y h = takes_next nullable kind at c.handles c y h
+takes_cases kind at true true false e c y h = takes_none c y h
+takes_cases kind at false true false e c y h = absurd (cc)
+takes_cases kind at nullable false false e c y h = absurd (cc)
 
-handle_takes : (kind : HandleKind) (c d : Cursor) (x : Option Handle) → cell_at (handle kind false) c ≡ Ok (held x, d) → Takes c (x, d)
+word_takes : (kind : HandleKind) (nullable : Bool) (at mark : ℕ) (c : Cursor) (y : Option Handle × Cursor) → handle_word kind nullable at mark c ≡ Ok y → Takes nullable c y
+word_takes kind nullable at mark c y h = takes_cases kind at nullable (nat_eq mark 0) (nat_eq mark 0xffff_ffff) _ c y h
+
+handle_takes : (kind : HandleKind) (nullable : Bool) (c d : Cursor) (x : Option Handle) → cell_at (handle kind nullable) c ≡ Ok (held x, d) → Takes nullable c (x, d)
 unfolding cell_at
-handle_takes kind c d x h =
-    let cell = bind_ok (handle_cell kind false c) _ (held x, d) h in
+handle_takes kind nullable c d x h =
+    let cell = bind_ok (handle_cell kind nullable c) _ (held x, d) h in
     let place = bind_ok (inline_at 4 c) _ cell.0 cell.1 in
-    let takes = word_takes kind place.0 (number_at 4 place.0 c.message) c cell.0 place.2 in
-    let here : Option Handle × Cursor = (x, d) in
+    let takes = word_takes kind nullable place.0 (number_at 4 place.0 c.message) c cell.0 place.2 in
     let cursors = same_cursor (held cell.0.0) (held x) cell.0.1 d cell.2 in
     let handles = same_held cell.0.0 x (same_item (held cell.0.0) (held x) cell.0.1 d cell.2) in
     record {
       keeps = subst (λ (v : Cursor). Keeps c v) cursors takes.keeps;
-      some = subst (λ (v : Option Handle). is_some v ≡ true) handles takes.some;
+      some = λ absent. subst (λ (v : Option Handle). is_some v ≡ true) handles (takes.some absent);
     }
 
-pub handle_keeps : (kind : HandleKind) (c d : Cursor) (x : Option Handle) → cell_at (handle kind false) c ≡ Ok (held x, d) → Keeps c d
-handle_keeps kind c d x h = (handle_takes kind c d x h).keeps
+pub handle_keeps : (kind : HandleKind) (nullable : Bool) (c d : Cursor) (x : Option Handle) → cell_at (handle kind nullable) c ≡ Ok (held x, d) → Keeps c d
+handle_keeps kind nullable c d x h = (handle_takes kind nullable c d x h).keeps
+
+-- what a handle's cell has is a handle, or none
+pub handle_held : (kind : HandleKind) (nullable : Bool) (c : Cursor) (y : Item × Cursor) → cell_at (handle kind nullable) c ≡ Ok y → (x : Option Handle) × (y.0 ≡ held x)
+unfolding cell_at
+handle_held kind nullable c y h =
+    let cell = bind_ok (handle_cell kind nullable c) _ y h in
+    let got : Item × Cursor = (held cell.0.0, cell.0.1) in
+    let same : got ≡ y = cc cell.2 in
+    (cell.0.0, sym (ap (λ (v : Item × Cursor). v.0) same))
 
 -- a token that may not be absent is there
 pub token_there : (kind : HandleKind) (c d : Cursor) (n : Option ℕ) → cell_at (handle kind false) c ≡ Ok (held (option_map Token n), d) → is_some n ≡ true
-token_there kind c d None h = (handle_takes kind c d None h).some
+token_there kind c d None h = (handle_takes kind false c d None h).some refl
 token_there kind c d (Some n) h = refl
+
+pub list_size : (c : Cursor) (count : ℕ) → nat_le (c.out + padded count) (length c.message) ≡ true → length (slice_range c.message c.out (c.out + count)) ≡ count
+list_size c count h = grind (arith, nat_tests, common_steps)
 
 -- a text was read
 text_rest : (at count : ℕ) (c : Cursor) (y : List ℕ × Cursor) → c.out ≤ length c.message → list_at true at count c ≡ Ok y → Passes (length y.0) c y.1
@@ -175,9 +197,6 @@ text_rest at count c y within h =
     let same : left ≡ y = cc last in
     let size : length (list_part at count c) ≡ count = list_size c count fits.0 in
     subst (λ (v : List ℕ × Cursor). Passes (length v.0) c v.1) same (record { message = refl; out = ap (λ (n : ℕ). c.out + padded n) (sym size) })
-  where
-    list_size : (c : Cursor) (count : ℕ) → nat_le (c.out + padded count) (length c.message) ≡ true → length (slice_range c.message c.out (c.out + count)) ≡ count
-    list_size c count h = grind (arith, nat_tests, common_steps)
 
 pub text_passes : (c d : Cursor) (xs : List ℕ) → c.out ≤ length c.message → cell_at text c ≡ Ok (seq xs, d) → Passes (length xs) c d
 unfolding cell_at
@@ -197,4 +216,4 @@ passes_keeps size c d e p k = record { message = k.message ∙ p.message; out = 
 pub between_names : (a b d e : Cursor) (src : List ℕ) (kind : HandleKind) (x : Option Handle) (size : ℕ) → a.out ≤ length a.message →
     cell_at text a ≡ Ok (seq src, b) → cell_at (handle kind false) b ≡ Ok (held x, d) → cell_at (pad size) d ≡ Ok (blank, e) → Passes (length src) a e
 between_names a b d e src kind x size within h k l =
-    passes_keeps _ a d e (passes_keeps _ a b d (text_passes a b src within h) (handle_keeps kind b d x k)) (pad_keeps size d e l)
+    passes_keeps _ a d e (passes_keeps _ a b d (text_passes a b src within h) (handle_keeps kind false b d x k)) (pad_keeps size d e l)

@@ -9,7 +9,7 @@ use Rattle.fidl_wire.specs.declared.headers.Header.{Header}
 use Rattle.fidl_wire.specs.Headers.{header_of, fault}
 use Rattle.fidl_wire.specs.Laws.{ReadsWhatIsSpelled, SpelledWhereRead}
 use Rattle.fidl_wire.specs.Layout.{Content}
-use Rattle.fidl_wire.specs.Names.{event_ordinal, AreDistinct}
+use Rattle.fidl_wire.specs.Names.{event_ordinal, MethodsHaveTheirOwn}
 use Rattle.fidl_wire.specs.Reading.{◌>>=◌, body_of}
 use Rattle.io_messages.specs.declared.protocols.Protocol.{Protocol}
 use Rattle.io_messages.specs.declared.replies.Reply.{Reply}
@@ -17,6 +17,7 @@ use Rattle.io_messages.specs.declared.replies.Shape.{Shape}
 use Rattle.io_messages.specs.Replies.{Answered, answered, reply_layout, answered_from, reply_fields, is_framework_error, method_with, shaped_reply, named_reply, headed_reply, reply_of, IsFrameworkError, IsReply, ReadsReply, ReadsEvent, event_layout, kind_of, ordinal_in, headed_event, event_of, reply_told}
 use Rattle.io_messages.specs.Replies as answers
 use Rattle.io_messages.specs.Shapes.{shape_of}
+use Rattle.io_messages.proofs.Framework.{no_framework_error}
 use Rattle.io_messages.proofs.Known.{method_with-has, method_with-says}
 use Rattle.io_messages.proofs.Parts.{bind_ok}
 use Rattle.io_messages.proofs.RequestLaws.{only_method}
@@ -31,9 +32,9 @@ way_ok true e r x h = absurd (cc)
 way_ok false e r x h = (refl, h)
 
 fields_read : (law : SpelledWhereRead) (bytes : List ℕ) (handles : List Handle) (t : ℕ) (a : Answered) (h : Header) (m : Method) (s : Shape) → header_of bytes ≡ Ok h → method_with h.ordinal ≡ Some m →
-    shape_of m ≡ Some s → is_framework_error bytes handles ≡ false → shaped_reply h m (Some s) bytes handles ≡ Ok (t, a) → IsReply bytes handles t a
+    shape_of m ≡ Some s → shaped_reply h m (Some s) bytes handles ≡ Ok (t, a) → IsReply bytes handles t a
 unfolding reply_fields
-fields_read law bytes handles t a h m s header named shaped other read =
+fields_read law bytes handles t a h m s header named shaped read =
     let way = way_ok (nat_eq h.txid 0) (fault 0 Txid) _ (t, a) read in
     let got = bind_ok (reply_fields s m bytes handles) _ (t, a) way.1 in
     let body = bind_ok (body_of (reply_layout s) bytes handles) _ got.0 got.1 in
@@ -51,20 +52,19 @@ fields_read law bytes handles t a h m s header named shaped other read =
       shape_is = shaped;
       txid_is = txid;
       way = subst (λ (n : ℕ). nat_eq n 0 ≡ false) txid way.0;
-      other = other;
       spelled = law (reply_layout s) body.0 bytes handles body.1;
       fields_are = body.2 ∙ ap (λ (v : Answered). Ok v) answer;
     }
 
 shaped_read : (law : SpelledWhereRead) (bytes : List ℕ) (handles : List Handle) (t : ℕ) (a : Answered) (h : Header) (m : Method) (o : Option Shape) → header_of bytes ≡ Ok h → method_with h.ordinal ≡ Some m →
-    shape_of m ≡ o → is_framework_error bytes handles ≡ false → shaped_reply h m o bytes handles ≡ Ok (t, a) → IsReply bytes handles t a
-shaped_read law bytes handles t a h m None header named shaped other read = absurd (cc)
-shaped_read law bytes handles t a h m (Some s) header named shaped other read = fields_read law bytes handles t a h m s header named shaped other read
+    shape_of m ≡ o → shaped_reply h m o bytes handles ≡ Ok (t, a) → IsReply bytes handles t a
+shaped_read law bytes handles t a h m None header named shaped read = absurd (cc)
+shaped_read law bytes handles t a h m (Some s) header named shaped read = fields_read law bytes handles t a h m s header named shaped read
 
 named_read : (law : SpelledWhereRead) (bytes : List ℕ) (handles : List Handle) (t : ℕ) (a : Answered) (h : Header) (o : Option Method) → header_of bytes ≡ Ok h → method_with h.ordinal ≡ o →
-    is_framework_error bytes handles ≡ false → named_reply h o bytes handles ≡ Ok (t, a) → IsReply bytes handles t a
-named_read law bytes handles t a h None header named other read = absurd (cc)
-named_read law bytes handles t a h (Some m) header named other read = shaped_read law bytes handles t a h m (shape_of m) header named refl other read
+    named_reply h o bytes handles ≡ Ok (t, a) → IsReply bytes handles t a
+named_read law bytes handles t a h None header named read = absurd (cc)
+named_read law bytes handles t a h (Some m) header named read = shaped_read law bytes handles t a h m (shape_of m) header named refl read
 
 -- a message with txid 0 is no method's reply
 no_txid : (h : Header) (o : Option Method) (bytes : List ℕ) (handles : List Handle) (x : Told) → nat_eq h.txid 0 ≡ true → named_reply h o bytes handles ≡ Ok x → ⊥
@@ -105,7 +105,7 @@ headed_cases : (law : SpelledWhereRead) (bytes : List ℕ) (handles : List Handl
     is_framework_error bytes handles ≡ framework → cond (not zero && framework) (Ok (h.txid, answers.unknown h.ordinal)) (named_reply h (method_with h.ordinal) bytes handles) ≡ Ok (t, a) → ReadsReply bytes handles t a
 headed_cases law bytes handles t a h false true header way body read = framework_read bytes handles t a h header way body read
 headed_cases law bytes handles t a h true true header way body read = absurd (no_txid h (method_with h.ordinal) bytes handles (t, a) way read)
-headed_cases law bytes handles t a h false false header way body read = inr (named_read law bytes handles t a h (method_with h.ordinal) header refl body read)
+headed_cases law bytes handles t a h false false header way body read = inr (named_read law bytes handles t a h (method_with h.ordinal) header refl read)
 headed_cases law bytes handles t a h true false header way body read = absurd (no_txid h (method_with h.ordinal) bytes handles (t, a) way read)
 
 headed_read : (law : SpelledWhereRead) (bytes : List ℕ) (handles : List Handle) (t : ℕ) (a : Answered) (r : Result Header WireFault) → header_of bytes ≡ r → headed_reply r bytes handles ≡ Ok (t, a) → ReadsReply bytes handles t a
@@ -139,15 +139,16 @@ not_framework : (zero : Bool) (h : Header) (bytes : List ℕ) (handles : List Ha
 not_framework true h bytes handles = refl
 not_framework false h bytes handles = refl
 
-method_spelled : (law : ReadsWhatIsSpelled) → AreDistinct → (bytes : List ℕ) (handles : List Handle) (t : ℕ) (a : Answered) → IsReply bytes handles t a → reply_of bytes handles ≡ Ok (t, a)
+method_spelled : (law : ReadsWhatIsSpelled) → MethodsHaveTheirOwn → (bytes : List ℕ) (handles : List Handle) (t : ℕ) (a : Answered) → IsReply bytes handles t a → reply_of bytes handles ≡ Ok (t, a)
 unfolding reply_fields
 method_spelled law apart bytes handles t a r =
+    let body = law (reply_layout r.shape) r.content bytes handles r.spelled in
     let way : nat_eq r.header.txid 0 ≡ false = subst (λ (n : ℕ). nat_eq n 0 ≡ false) (sym r.txid_is) r.way in
     let named = method_with-has r.header.ordinal r.method r.ordinal_is (only_method apart r.method r.header.ordinal r.ordinal_is) in
     let read : reply_fields r.shape r.method bytes handles ≡ Ok a =
-    ap (λ (x : Result Content WireFault). x >>= λ c. answered_from r.shape r.method c) (law (reply_layout r.shape) r.content bytes handles r.spelled) ∙ r.fields_are in
+    ap (λ (x : Result Content WireFault). x >>= λ c. answered_from r.shape r.method c) body ∙ r.fields_are in
     ap (λ (x : Result Header WireFault). headed_reply x bytes handles) r.header_is
-    ∙ ap (λ (f : Bool). choose (nat_eq r.header.txid 0) f r.header bytes handles) r.other
+    ∙ ap (λ (f : Bool). choose (nat_eq r.header.txid 0) f r.header bytes handles) (no_framework_error r.shape bytes handles r.content body)
     ∙ not_framework (nat_eq r.header.txid 0) r.header bytes handles
     ∙ ap (λ (o : Option Method). named_reply r.header o bytes handles) named
     ∙ ap (λ (o : Option Shape). shaped_reply r.header r.method o bytes handles) r.shape_is
@@ -158,7 +159,7 @@ method_spelled law apart bytes handles t a r =
     timed : Bool → ℕ → Result Answered WireFault → Result Told WireFault
     timed zero n r = cond zero (Err (fault 0 Txid)) (r >>= λ a. Ok (n, a))
 
-pub reply_spelled : (law : ReadsWhatIsSpelled) → AreDistinct → (bytes : List ℕ) (handles : List Handle) (t : ℕ) (a : Answered) → ReadsReply bytes handles t a → reply_of bytes handles ≡ Ok (t, a)
+pub reply_spelled : (law : ReadsWhatIsSpelled) → MethodsHaveTheirOwn → (bytes : List ℕ) (handles : List Handle) (t : ℕ) (a : Answered) → ReadsReply bytes handles t a → reply_of bytes handles ≡ Ok (t, a)
 reply_spelled law apart bytes handles t a (inl r) = framework_spelled bytes handles t r.0 r.2 ∙ ap (λ (v : Answered). pair t v) (sym r.1)
   where
     pair : ℕ → Answered → Result Told WireFault
@@ -212,13 +213,19 @@ event_spelled law bytes k r =
 
 -- ---- at most one
 
-pub reply_once : (law : ReadsWhatIsSpelled) → AreDistinct → (bytes : List ℕ) (handles : List Handle) (t u : ℕ) (a b : Answered) → ReadsReply bytes handles t a → ReadsReply bytes handles u b → (t ≡ u) × (a ≡ b)
+pub reply_once : (law : ReadsWhatIsSpelled) → MethodsHaveTheirOwn → (bytes : List ℕ) (handles : List Handle) (t u : ℕ) (a b : Answered) → ReadsReply bytes handles t a → ReadsReply bytes handles u b → (t ≡ u) × (a ≡ b)
 reply_once law apart bytes handles t u a b r s =
     let one = reply_spelled law apart bytes handles t a r in
     let other = reply_spelled law apart bytes handles u b s in
     let x : Told = (t, a) in
     let same : x ≡ (u, b) = cc (one, other) in
     (ap (λ (v : Told). v.0) same, ap (λ (v : Told). v.1) same)
+
+pub no_reply : (law : ReadsWhatIsSpelled) (bytes : List ℕ) (handles : List Handle) (t u ordinal : ℕ) (a : Answered) → IsFrameworkError bytes handles t ordinal → IsReply bytes handles u a → ⊥
+no_reply law bytes handles t u ordinal a error r =
+    let other = no_framework_error r.shape bytes handles r.content (law (reply_layout r.shape) r.content bytes handles r.spelled) in
+    let clash : true ≡ false = sym error.body ∙ other in
+    cc
 
 pub event_once : (law : ReadsWhatIsSpelled) (bytes : List ℕ) (k l : Protocol) → ReadsEvent bytes k → ReadsEvent bytes l → k ≡ l
 event_once law bytes k l r s =

@@ -8,9 +8,8 @@ use Rattle.fidl_wire.specs.Grammar.{IsSpelled}
 use Rattle.fidl_wire.specs.Headers.{header_of}
 use Rattle.fidl_wire.specs.Laws.{ReadsWhatIsSpelled, SpelledWhereRead}
 use Rattle.fidl_wire.specs.Layout.{Item, Content, struct, fields, branch}
-use Rattle.fidl_wire.specs.Names.{method_ordinal, AreDistinct}
+use Rattle.fidl_wire.specs.Names.{method_ordinal, MethodsHaveTheirOwn}
 use Rattle.fidl_wire.specs.Reading.{◌>>=◌, body_of}
-use Rattle.fidl_wire.proofs.Rows.{method_ordinal-injective}
 use Rattle.io_messages.specs.declared.protocols.Protocol.{Protocol}
 use Rattle.io_messages.specs.declared.requests.RequestFault.{RequestFault}
 use Rattle.io_messages.specs.declared.requests.Request.{Request}
@@ -87,8 +86,8 @@ found_by law p bytes handles (Err e) h = tt
 
 -- ---- what is spelled is read
 
-pub only_method : AreDistinct → (m : Method) (ordinal : ℕ) → method_ordinal m ≡ ordinal → (n : Method) → method_ordinal n ≡ ordinal → Some m ≡ Some n
-only_method apart m ordinal h n k = ap (λ (v : Method). Some v) (method_ordinal-injective apart m n (h ∙ sym k))
+pub only_method : MethodsHaveTheirOwn → (m : Method) (ordinal : ℕ) → method_ordinal m ≡ ordinal → (n : Method) → method_ordinal n ≡ ordinal → Some m ≡ Some n
+only_method apart m ordinal h n k = ap (λ (v : Method). Some v) (apart m n (h ∙ sym k))
 
 spelled_fields : (law : ReadsWhatIsSpelled) (m : Method) (items : List Item) (bytes : List ℕ) (handles : List Handle) (a : Asked) → IsSpelled (struct (request_cells m)) (fields items) bytes handles →
     asked_from m items ≡ a → fields_of m bytes handles ≡ Ok a
@@ -104,7 +103,7 @@ told_known h m bytes handles t a txid way read =
     ∙ ap (λ (b : Bool). or_malformed (with_txid b t (fields_of m bytes handles))) way
     ∙ ap (λ (r : Result Asked WireFault). or_malformed (with_txid true t r)) read
 
-pub what_is_spelled : (law : ReadsWhatIsSpelled) → AreDistinct → (p : Protocol) (bytes : List ℕ) (handles : List Handle) (t : ℕ) (a : Asked) → Reads p bytes handles t a → request_of p bytes handles ≡ Ok (t, a)
+pub what_is_spelled : (law : ReadsWhatIsSpelled) → MethodsHaveTheirOwn → (p : Protocol) (bytes : List ℕ) (handles : List Handle) (t : ℕ) (a : Asked) → Reads p bytes handles t a → request_of p bytes handles ≡ Ok (t, a)
 what_is_spelled law apart p bytes handles t a r =
     let named = method_in-has p r.header.ordinal r.method r.known r.ordinal_is (only_method apart r.method r.header.ordinal r.ordinal_is) in
     ap (λ (x : Result Header WireFault). behind_header p x bytes handles) r.header_is
@@ -112,7 +111,7 @@ what_is_spelled law apart p bytes handles t a r =
     ∙ told_known r.header r.method bytes handles t a r.txid_is r.way (spelled_fields law r.method r.items bytes handles a r.spelled r.fields_are)
 
 -- two readings are one
-pub read_once : (law : ReadsWhatIsSpelled) → AreDistinct → (p : Protocol) (bytes : List ℕ) (handles : List Handle) (t u : ℕ) (a b : Asked) → Reads p bytes handles t a → Reads p bytes handles u b → (t ≡ u) × (a ≡ b)
+pub read_once : (law : ReadsWhatIsSpelled) → MethodsHaveTheirOwn → (p : Protocol) (bytes : List ℕ) (handles : List Handle) (t u : ℕ) (a b : Asked) → Reads p bytes handles t a → Reads p bytes handles u b → (t ≡ u) × (a ≡ b)
 read_once law apart p bytes handles t u a b r s =
     let one = what_is_spelled law apart p bytes handles t a r in
     let other = what_is_spelled law apart p bytes handles u b s in

@@ -8,7 +8,7 @@ use Rattle.fidl_wire.specs.Headers.{header_bytes}
 use Rattle.fidl_names.specs.declared.methods.Handle.{Handle}
 use Rattle.fidl_wire.specs.Grammar.{IsSpelled, join, nothing}
 use Rattle.fidl_wire.specs.Spelling.{FitsBody, FitsVariant, body_bytes, body_handles, object_bytes, table_part, count_bytes}
-use Rattle.fidl_wire.specs.Laws.{SpellingIsSpelled}
+use Rattle.fidl_wire.specs.Laws.{HeadersAreRead, SpellingIsSpelled}
 use Rattle.fidl_wire.specs.Layout.{struct, fields, branch, members}
 use Rattle.fidl_wire.specs.Names.{method_ordinal, event_ordinal}
 use Rattle.io_messages.specs.declared.protocols.Protocol.{Protocol}
@@ -19,7 +19,6 @@ use Rattle.io_messages.specs.Protocols.{has_method}
 use Rattle.io_messages.specs.Requests.{Reads, has_txid, request_cells, items_of, asked_from, flags_member}
 use Rattle.io_messages.specs.Shapes.{is_one_way}
 use Rattle.io_messages.specs.Writing.{plain_header, request_bytes, request_body, request_handles, HasOffset, IsRequest}
-use Rattle.io_messages.proofs.Headers.{header_again}
 use Rattle.io_messages.specs.Replies.{ReadsEvent, event_layout, an_empty_table, kind_of}
 use Rattle.io_messages.specs.ReplyWriting.{event_bytes, branch_of_kind}
 use Rattle.io_messages.proofs.Lengths.{length-header, length-count, padded_none}
@@ -58,12 +57,12 @@ request_again (asks.echo_string value) h = refl
 small_rest : (n : ℕ) → n % 2 ^ 63 < 256 ^ 8
 small_rest n = omega arith
 
-small_ordinal : (m : Method) → method_ordinal m < 256 ^ 8
+pub small_ordinal : (m : Method) → method_ordinal m < 256 ^ 8
 small_ordinal m = small_rest _
 
-pub written_request : SpellingIsSpelled → (p : Protocol) (t : ℕ) (a : Asked) → has_method p (method_of a) ≡ true → t < 2 ^ 32 → has_txid (is_one_way (method_of a)) t ≡ true → IsRequest a →
+pub written_request : SpellingIsSpelled → HeadersAreRead → (p : Protocol) (t : ℕ) (a : Asked) → has_method p (method_of a) ≡ true → t < 2 ^ 32 → has_txid (is_one_way (method_of a)) t ≡ true → IsRequest a →
     Reads p (request_bytes t a) (request_handles a) t a
-written_request law p t a known small way is = record {
+written_request law header_again p t a known small way is = record {
   header = plain_header t (method_ordinal (method_of a));
   method = method_of a;
   items = items_of a;
@@ -85,9 +84,9 @@ table_small =
 empty_fits : FitsVariant an_empty_table (members [] ∷ [])
 empty_fits = (((lit< tt, tt), tt), lit< tt, table_small, lit< tt)
 
-event_as : (n : ℕ) → FitsBody event_layout (branch n (members [] ∷ [])) → body_handles event_layout (branch n (members [] ∷ [])) ≡ [] → SpellingIsSpelled →
+event_as : (n : ℕ) → FitsBody event_layout (branch n (members [] ∷ [])) → body_handles event_layout (branch n (members [] ∷ [])) ≡ [] → SpellingIsSpelled → HeadersAreRead →
     ReadsEvent (header_bytes (plain_header 0 event_ordinal) ++ body_bytes event_layout (branch n (members [] ∷ []))) (kind_of n)
-event_as n fits none law = record {
+event_as n fits none law header_again = record {
   header = plain_header 0 event_ordinal;
   content = branch n (members [] ∷ []);
   header_is = header_again (plain_header 0 event_ordinal) (body_bytes event_layout (branch n (members [] ∷ []))) (lit< tt) (small_rest _);
@@ -98,9 +97,9 @@ event_as n fits none law = record {
   kind_is = refl;
 }
 
-pub written_event : SpellingIsSpelled → (k : Protocol) → ReadsEvent (event_bytes k) (kind_of (branch_of_kind k))
-written_event law protocol.Directory = event_as 2 (lit< tt, empty_fits) refl law
-written_event law protocol.File = event_as 3 (lit< tt, empty_fits) refl law
-written_event law protocol.Node = event_as 1 (lit< tt, empty_fits) refl law
-written_event law protocol.Echo = event_as 1 (lit< tt, empty_fits) refl law
-written_event law protocol.Watcher = event_as 1 (lit< tt, empty_fits) refl law
+pub written_event : SpellingIsSpelled → HeadersAreRead → (k : Protocol) → ReadsEvent (event_bytes k) (kind_of (branch_of_kind k))
+written_event law header_again protocol.Directory = event_as 2 (lit< tt, empty_fits) refl law header_again
+written_event law header_again protocol.File = event_as 3 (lit< tt, empty_fits) refl law header_again
+written_event law header_again protocol.Node = event_as 1 (lit< tt, empty_fits) refl law header_again
+written_event law header_again protocol.Echo = event_as 1 (lit< tt, empty_fits) refl law header_again
+written_event law header_again protocol.Watcher = event_as 1 (lit< tt, empty_fits) refl law header_again

@@ -25,7 +25,7 @@ use Rattle.io_messages.specs.declared.replies.Reply.TheVariants as reply
 use Rattle.io_messages.specs.declared.replies.Shape.{Shape}
 use Rattle.io_messages.specs.declared.replies.Shape.TheVariants as shape
 use Rattle.io_messages.specs.Protocols.{all_methods}
-use Rattle.io_messages.specs.Requests.{item, num_in, seq_in, items_in, number_of_handle}
+use Rattle.io_messages.specs.Requests.{IsPartAt, item, num_in, seq_in, items_in, number_of_handle}
 use Rattle.io_messages.specs.Shapes.{shape_of}
 
 -- ---- what a reply says, without where its bytes lie in memory
@@ -254,7 +254,6 @@ pub record IsReply (bytes : List ℕ) (handles : List Handle) (txid : ℕ) (a : 
   pub shape_is : shape_of method ≡ Some shape
   pub txid_is : header.txid ≡ txid
   pub way : (txid == 0) ≡ false
-  pub other : is_framework_error bytes handles ≡ false
   pub spelled : IsSpelled (reply_layout shape) content bytes handles
   pub fields_are : answered_from shape method content ≡ Ok a
 
@@ -272,6 +271,19 @@ pub record ReadsEvent (bytes : List ℕ) (kind : Protocol) : Type 0 where
   pub way : header.txid ≡ 0
   pub spelled : IsSpelled event_layout content bytes []
   pub kind_is : kind_of (ordinal_in content) ≡ kind
+
+-- ---- the part that a reply lends
+
+-- the bytes of a message beside those of its payload, which stands behind them
+abbrev pub beside_payload : Option Shape → ℕ
+beside_payload (Some shape.Bytes) = 48
+beside_payload (Some shape.Listing) = 40
+beside_payload _ = 32
+
+-- a payload is the part of the message behind all that the reply has beside it
+abbrev pub IsPayloadOf : List ℕ → Answered → Type 0
+IsPayloadOf message (payload m bytes) = IsPartAt message (beside_payload (shape_of m)) bytes
+IsPayloadOf message _ = Unit {0}
 
 -- ---- results of the code
 

@@ -1,5 +1,5 @@
 -- The one spelling of each reply and of the event.
-use Rattle.std.specs.Prelude.{◌≡◌, ◌≢◌, ℕ, ◌+◌, ◌≤◌, true, List, [], ◌∷◌, ◌++◌, length, Option, Some, None}
+use Rattle.std.specs.Prelude.{◌≡◌, ◌≢◌, ℕ, ◌+◌, ◌^◌, ◌<◌, ◌≤◌, true, List, [], ◌∷◌, ◌++◌, length, Option, Some, None, IfSome}
 use Rattle.std.specs.Int.{w32, cast_unsigned}
 use Rattle.std.specs.Str.{IsUtf8}
 use Rattle.fidl_names.specs.declared.methods.Handle.{Handle}
@@ -20,7 +20,7 @@ use Rattle.io_messages.specs.declared.protocols.Protocol.TheVariants as protocol
 use Rattle.io_messages.specs.declared.replies.Attributes.{Attributes}
 use Rattle.io_messages.specs.declared.replies.Shape.{Shape}
 use Rattle.io_messages.specs.declared.replies.Shape.TheVariants as shape
-use Rattle.io_messages.specs.Replies.{Answered, reply_layout, framework_cells, framework_ordinal, framework_envelope, event_layout}
+use Rattle.io_messages.specs.Replies.{Answered, beside_payload, reply_layout, framework_cells, framework_ordinal, framework_envelope, event_layout}
 use Rattle.io_messages.specs.Replies as answers
 use Rattle.io_messages.specs.Shapes.{shape_of}
 use Rattle.io_messages.specs.Writing.{plain_header}
@@ -52,16 +52,22 @@ HasReply (answers.token n) = Unit {0}
 HasReply (answers.attributes a) = Unit {0}
 HasReply (answers.unknown ordinal) = Unit {0}
 
--- the bytes of a message beside those of its payload
-abbrev pub beside_payload : Option Shape → ℕ
-beside_payload (Some shape.Bytes) = 48
-beside_payload (Some shape.Listing) = 40
-beside_payload _ = 32
-
 -- a payload fits into a message; every other reply does
 abbrev pub PayloadFits : Answered → Type 0
 PayloadFits (answers.payload m bytes) = beside_payload (shape_of m) + padded (length bytes) ≤ most_bytes
 PayloadFits _ = Unit {0}
+
+-- a number that is there has eight bytes
+abbrev pub IsLong : Option ℕ → Type 0
+IsLong value = IfSome value (λ x. x < 2 ^ 64)
+
+-- each number has the size of its field
+abbrev pub NumbersFit : Answered → Type 0
+NumbersFit (answers.counted m x) = x < 2 ^ 64
+NumbersFit (answers.attributes a) =
+    IsLong a.protocols × IsLong a.abilities × IsLong a.content_size × IsLong a.link_count × IsLong a.id
+NumbersFit (answers.unknown ordinal) = ordinal < 2 ^ 64
+NumbersFit _ = Unit {0}
 
 -- ---- layouts and fields
 

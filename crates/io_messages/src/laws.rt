@@ -1,20 +1,27 @@
 //! Laws of the messages. They compute nothing: what they say is in their clauses.
 
-ghost use Rattle.fidl_wire.specs.Names.{AreDistinct};
-ghost use Rattle.io_messages.specs.Laws.{RequestsAreReadOnce, RepliesAreReadOnce, EventsAreReadOnce, WrittenRequestsAreRead, WrittenEventsAreRead};
+ghost use Rattle.fidl_wire.specs.Names.{MethodsHaveTheirOwn};
+ghost use Rattle.io_messages.specs.Laws.{RequestsAreReadOnce, RepliesAreReadOnce, FrameworkErrorIsNoReply, EventsAreReadOnce, WrittenRequestsAreRead, WrittenRepliesAreRead, WrittenEventsAreRead};
 
-use fidl_wire::{body_is_read_where_spelled, spelling_is_read};
+use fidl_wire::{body_is_read_where_spelled, spelling_is_read, written_header_is_read};
 
-/// Bytes and handles are at most one request to a protocol, where no two names have equal ordinals.
+/// Bytes and handles are at most one request to a protocol, where each method has an ordinal of its own.
 pub fn request_is_read_once()
-    ensures { AreDistinct → RequestsAreReadOnce }
+    ensures { MethodsHaveTheirOwn → RequestsAreReadOnce }
 {
     body_is_read_where_spelled();
 }
 
-/// Bytes and handles are at most one reply, where no two names have equal ordinals.
+/// Bytes and handles are at most one reply, where each method has an ordinal of its own.
 pub fn reply_is_read_once()
-    ensures { AreDistinct → RepliesAreReadOnce }
+    ensures { MethodsHaveTheirOwn → RepliesAreReadOnce }
+{
+    body_is_read_where_spelled();
+}
+
+/// The framework's error is no method's reply.
+pub fn framework_error_is_no_reply()
+    ensures { FrameworkErrorIsNoReply }
 {
     body_is_read_where_spelled();
 }
@@ -31,6 +38,15 @@ pub fn written_request_is_read()
     ensures { WrittenRequestsAreRead }
 {
     spelling_is_read();
+    written_header_is_read();
+}
+
+/// What is written for a reply is that reply, under the conditions of `write_reply`.
+pub fn written_reply_is_read()
+    ensures { WrittenRepliesAreRead }
+{
+    spelling_is_read();
+    written_header_is_read();
 }
 
 /// What is written for a kind of node is an event that tells it; a service is told as node.
@@ -38,4 +54,5 @@ pub fn written_event_is_read()
     ensures { WrittenEventsAreRead }
 {
     spelling_is_read();
+    written_header_is_read();
 }

@@ -2,7 +2,7 @@ ghost use Rattle.std.specs.Prelude.{◌≡◌, [], ◌∷◌, Ok, Err, IfOk, IfE
 ghost use Rattle.fidl_wire.specs.Layout.{struct, fields, branch, num, members};
 ghost use Rattle.fidl_wire.specs.Reading.{body_of};
 ghost use Rattle.io_messages.specs.declared.protocols.Protocol.{Protocol};
-ghost use Rattle.io_messages.specs.Replies.{Answered, answered, ReadsReply, ReadsEvent, method_with, is_framework_error, reply_of, reply_told, event_of, kind_of, event_layout, framework_cells};
+ghost use Rattle.io_messages.specs.Replies.{Answered, answered, IsPayloadOf, ReadsReply, ReadsEvent, method_with, is_framework_error, reply_of, reply_told, event_of, kind_of, event_layout, framework_cells};
 
 use crate::protocols::Protocol;
 use crate::replies::{Reply, shape_of};
@@ -35,7 +35,10 @@ pub fn read_reply<'a>(
     ensures only { (txid : ℕ) (a : Answered) → ReadsReply bytes.now handles.now txid a → reply_told result ≡ Ok (txid, a) }
     // It is the reply, or the first fault.
     ensures exact { reply_told result ≡ reply_of bytes.now handles.now }
+    // What the reply lends is where its payload stands.
+    ensures parts { IfOk result (λ r. IsPayloadOf bytes.now (answered r.1)) }
 {
+    ordinals.tell_names_apart();
     body_is_read_where_spelled();
     reply_in(ordinals, bytes, handles)
 }

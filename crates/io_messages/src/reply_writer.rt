@@ -5,8 +5,8 @@ ghost use Rattle.fidl_wire.specs.Spelling.{object_bytes, envelope_bytes, body_by
 ghost use Rattle.fidl_wire.specs.Written.{most_bytes};
 ghost use Rattle.io_messages.specs.Fields.{parts_of};
 ghost use Rattle.io_messages.specs.Shapes.{shape_of};
-ghost use Rattle.io_messages.specs.Replies.{answered, attributes, reply_layout};
-ghost use Rattle.io_messages.specs.ReplyWriting.{HasReply, PayloadFits, beside_payload, CanFail, CanCarry, reply_bytes, reply_body, reply_handles, reply_header, layout_of, failure, carried, event_bytes, branch_of_kind, status_word};
+ghost use Rattle.io_messages.specs.Replies.{answered, attributes, beside_payload, reply_layout};
+ghost use Rattle.io_messages.specs.ReplyWriting.{HasReply, PayloadFits, CanFail, CanCarry, reply_bytes, reply_body, reply_handles, reply_header, layout_of, failure, carried, event_bytes, branch_of_kind, status_word};
 
 use crate::fields::{Field, put_object, size_of};
 use crate::protocols::Protocol;

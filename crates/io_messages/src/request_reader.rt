@@ -31,6 +31,7 @@ pub fn read_request<'a>(
     // What the request lends is where its fields say.
     ensures parts { IfOk result (λ r. ArePartsOf bytes.now (asked r.1)) }
 {
+    ordinals.tell_names_apart();
     body_is_read_where_spelled();
     request_in(ordinals, protocol, bytes, handles)
 }

@@ -1,5 +1,6 @@
 //! Outside values.
 mod events;
+mod largest;
 mod malformed_replies;
 mod malformed_requests;
 mod more_malformed_replies;

@@ -1,3 +1,7 @@
+pub mod RowFrames
+pub mod RowServings
+pub mod RowSteps
+pub mod RowTrees
 pub mod Lists
 pub mod Members
 pub mod Steps

@@ -32,7 +32,7 @@ abbrev pub handles_of : Sending → List ℕ
 handles_of (message bytes handles) = handles
 handles_of hang_up = []
 
--- the endpoints and the tokens among them
+-- the endpoints among them
 abbrev pub endpoints_in : Sent → List ℕ
 endpoints_in sent = filter is_client (handles_of sent.sending)
 

@@ -67,7 +67,7 @@ bound_at start history endpoint = find (λ bound. bound.endpoint == endpoint) (l
 abbrev pub is_bound : Start → History → ℕ → Bool
 is_bound start history endpoint = is_some (bound_at start history endpoint)
 
--- the client closed it
+-- its client hung up on it
 abbrev pub hung_up : History → ℕ → Bool
 hung_up history endpoint = list_any (λ sent. is_hang_up sent.sending && (sent.endpoint == endpoint)) (all_sent history)
 

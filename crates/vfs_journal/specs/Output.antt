@@ -40,7 +40,8 @@ rising numbers = finite.keys (finite.from_entries {R = nat_cmp} (map (λ number.
 abbrev pub close_frames : Event → List Frame
 close_frames event = map close_frame (rising (filter (λ endpoint. not (among endpoint event.outcome.ends)) event.deaths))
 
--- what is written for a serving: its answer, a new watcher's first messages, what watchers are told of the change, and Close frames
+-- what is written for a serving: its answer, a new watcher's first messages (a Watch changes no tree), what watchers are told of the
+-- change, and Close frames
 abbrev pub frames_of_serving : Start → History → Event → List Frame
 frames_of_serving start past event =
     event.outcome.frames

@@ -56,11 +56,12 @@ abbrev pub after_serving : Built → Start → Journal → Sent → Journal
 after_serving built start journal sent =
     with_forward sent.place (serves sent ∷ journal) (outcome_of built start (history_of built start journal) sent).forward
 
--- at most so many servings of what is chosen, until nothing is
+-- one serving, and then on; nothing where nothing is chosen
 abbrev pub serving_one : (Journal → Journal) → (Sent → Journal) → Journal → Option Sent → Journal
 serving_one on by journal None = journal
 serving_one on by journal (Some sent) = on (by sent)
 
+-- at most so many servings of what is chosen, until nothing is
 unfoldable pub serving : ℕ → Built → Start → (History → Option Sent) → Journal → Journal
 serving zero built start choice journal = journal
 serving (suc more) built start choice journal =

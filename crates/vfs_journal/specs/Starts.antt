@@ -8,7 +8,7 @@ use Rattle.tree_file.specs.Items.{Lists, MountItem, ClientItem}
 use Rattle.tree_file.specs.Numbering.{tree_of, number_in, end_of_mount}
 use Rattle.conn_rules.specs.Births.{Birth}
 
--- an endpoint that is bound: at which server, its birth, and a watcher's mask
+-- an endpoint that is bound: at which server, its birth, and a watcher's mask, which is 0 for any other
 pub record Bound : Type 0 where
   pub endpoint : ℕ
   pub server : ℕ

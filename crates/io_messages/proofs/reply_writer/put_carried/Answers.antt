@@ -2,7 +2,7 @@ use Rattle.std.proofs.Common.{ℕ, ◌%◌, [], length, Some, refl, ap, arith}
 use Rattle.fidl_wire.specs.Numbers.{number_bytes}
 use Rattle.fidl_wire.specs.Spelling.{count_bytes}
 use Rattle.io_messages.specs.declared.replies.Shape.{Shape}
-use Rattle.io_messages.specs.ReplyWriting.{beside_payload}
+use Rattle.io_messages.specs.Replies.{beside_payload}
 use Rattle.io_messages.proofs.Lengths.{length-count, length-number}
 use Rattle.io_messages.proofs.Unions.{cat, list_length, listing_length}
 use Rattle.io_messages.proofs.reply_writer.put_carried.Goals as goal

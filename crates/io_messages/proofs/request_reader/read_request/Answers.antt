@@ -6,4 +6,4 @@ pub returns-clause-found : goal.returns-clause-found
 returns-clause-found c = found_by c.body_is_read_where_spelled.ensures.spelled c.args.protocol c.args.bytes.now c.args.handles.now _ c.request_in.ensures.exact
 
 pub returns-clause-only : goal.returns-clause-only
-returns-clause-only c = λ txid a reads. c.request_in.ensures.exact ∙ what_is_spelled c.body_is_read_where_spelled.ensures.reads c.args.ordinals.now.distinct c.args.protocol c.args.bytes.now c.args.handles.now txid a reads
+returns-clause-only c = λ txid a reads. c.request_in.ensures.exact ∙ what_is_spelled c.body_is_read_where_spelled.ensures.reads c.tell_names_apart.ensures.methods c.args.protocol c.args.bytes.now c.args.handles.now txid a reads

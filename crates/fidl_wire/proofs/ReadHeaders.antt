@@ -6,8 +6,7 @@ use Rattle.fidl_wire.specs.declared.faults.WireWhat.TheVariants.{Short, Magic, V
 use Rattle.fidl_wire.specs.declared.headers.Header.{Header}
 use Rattle.fidl_wire.specs.Headers.{header_of, header_bytes, fields_of, flags_of, fault}
 use Rattle.fidl_wire.specs.Numbers.{number_at, number_bytes, has_bit}
-use Rattle.fidl_wire.proofs.Spelled.{number_front, number_behind}
-use Rattle.io_messages.proofs.Lengths.{length-number, length-header}
+use Rattle.fidl_wire.proofs.Spelled.{length-number_bytes, number_front, number_behind}
 
 -- the four bytes behind the transaction id
 record Flags (m : List ℕ) (w y z : ℕ) : Type 0 where
@@ -38,10 +37,16 @@ overflow_bit false = refl
 not_short : (n : ℕ) → 16 ≤ n → nat_lt n 16 ≡ false
 not_short n h = grind (arith, nat_tests)
 
+length-header : (h : Header) → length (header_bytes h) ≡ 16
+length-header h = length-three (number_bytes 4 h.txid) (0x02 ∷ 0 ∷ flags_of h.flexible ∷ 1 ∷ []) (number_bytes 8 h.ordinal) (length-number_bytes 4 h.txid) refl (length-number_bytes 8 h.ordinal)
+  where
+    length-three : (a b c : List ℕ) → length a ≡ 4 → length b ≡ 4 → length c ≡ 8 → length (a ++ b ++ c) ≡ 16
+    length-three a b c ha hb hc = omega (arith, length-append (a ++ b) c, length-append a b)
+
 abbrev header_with : ℕ → Bool → ℕ → Header
 header_with txid flexible ordinal = record { txid = txid; flexible = flexible; ordinal = ordinal }
 
-pub header_again : (h : Header) (rest : List ℕ) → h.txid < 256 ^ 4 → h.ordinal < 256 ^ 8 → header_of (header_bytes h ++ rest) ≡ Ok h
+pub header_again : (h : Header) (rest : List ℕ) → h.txid < 2 ^ 32 → h.ordinal < 2 ^ 64 → header_of (header_bytes h ++ rest) ≡ Ok h
 header_again h rest small_txid small_ordinal =
     let a = number_bytes 4 h.txid in
     let four : List ℕ = 0x02 ∷ 0 ∷ flags_of h.flexible ∷ 1 ∷ [] in
@@ -49,8 +54,8 @@ header_again h rest small_txid small_ordinal =
     let m = header_bytes h ++ rest in
     let long : 16 ≤ length m = omega (arith, length-append (header_bytes h) rest, length-header h) in
     let front : m ≡ a ++ (four ++ (b ++ rest)) = append_assoc (a ++ four) b rest ∙ append_assoc a four (b ++ rest) in
-    let size : length (a ++ four) ≡ 8 = omega (arith, length-append a four, length-number 4 h.txid) in
-    let flags = flags_at a 0x02 0 (flags_of h.flexible) 1 (b ++ rest) (length-number 4 h.txid) in
+    let size : length (a ++ four) ≡ 8 = omega (arith, length-append a four, length-number_bytes 4 h.txid) in
+    let flags = flags_at a 0x02 0 (flags_of h.flexible) 1 (b ++ rest) (length-number_bytes 4 h.txid) in
     let first : get_or m 4 0 ≡ 0x02 = ap (λ (v : List ℕ). get_or v 4 0) front ∙ flags.first in
     let dynamic : get_or m 6 0 ≡ flags_of h.flexible = ap (λ (v : List ℕ). get_or v 6 0) front ∙ flags.dynamic in
     let magic : get_or m 7 0 ≡ 1 = ap (λ (v : List ℕ). get_or v 7 0) front ∙ flags.magic in

@@ -1,0 +1,38 @@
+-- Words of what the connections of all nodes do alike.
+use Rattle.std.specs.Prelude.{◌≡◌, Bool, true, false}
+use Rattle.std.specs.Option.{option_map_or}
+use Rattle.fidl_names.specs.declared.methods.Method.{Method}
+use Rattle.fidl_names.specs.declared.methods.Method.TheVariants as method
+use Rattle.io_messages.specs.declared.protocols.Protocol.{Protocol}
+use Rattle.io_messages.specs.declared.protocols.Protocol.TheVariants as protocol
+use Rattle.node_graph.specs.declared.nodes.NodeKind.{NodeKind}
+use Rattle.node_graph.specs.Graph.{Kept, Names, number_of, kind_at}
+use Rattle.conn_rules.specs.declared.births.Birth as code
+use Rattle.conn_rules.specs.Nodes.{is_directory, is_file, is_service}
+
+-- a method whose failure has a form: the replies of Query and EchoString have none, so these never fail
+abbrev pub can_fail : Method → Bool
+can_fail method.Query = false
+can_fail method.EchoString = false
+can_fail _ = true
+
+-- bound like a connection of this birth: to the same node, with its rights, protocol and append setting, and not announced
+pub record IsCloneOf (birth found : code.Birth) : Type 0 where
+  pub node : found.node ≡ birth.node
+  pub rights : found.rights ≡ birth.rights
+  pub protocol : found.protocol ≡ birth.protocol
+  pub append : found.append ≡ birth.append
+  pub silent : found.announce ≡ false
+
+-- where a protocol is spoken: each at its kind of node, and a reference at any
+abbrev pub is_spoken_at : Protocol → NodeKind → Bool
+is_spoken_at protocol.Directory kind = is_directory kind
+is_spoken_at protocol.File kind = is_file kind
+is_spoken_at protocol.Node kind = true
+is_spoken_at protocol.Echo kind = is_service kind
+is_spoken_at protocol.Watcher kind = false
+
+-- the graph keeps the node of a birth, and the birth's protocol is spoken there
+pub record CanBeBound (graph : Kept) (birth : code.Birth) : Type 0 where
+  pub named : Names graph birth.node
+  pub spoken : option_map_or (is_spoken_at birth.protocol) (kind_at graph (number_of birth.node)) false ≡ true

@@ -1,0 +1,105 @@
+//! Why a method isn't served on a connection, whatever its arguments are.
+
+ghost use Rattle.std.specs.Prelude.{◌≡◌, ◌≢◌, true, IfSome};
+ghost use Rattle.io_messages.specs.Asked.{asked, method_of};
+ghost use Rattle.io_messages.specs.Protocols.{has_method, home_of};
+ghost use Rattle.conn_rules.specs.Acts.{is_of_every_node, is_beyond, lacks_right, method_refusals};
+ghost use Rattle.conn_rules.specs.Births.{born};
+ghost use Rattle.conn_rules.specs.Built.{first_methods, is_first_method};
+ghost use Rattle.conn_rules.specs.Refusals.{first_of};
+ghost use Rattle.conn_rules.specs.Shared.{can_fail};
+
+use crate::births::Birth;
+use fidl_names::{Method, Status};
+use io_messages::{Protocol, Request, has_method};
+use io_rights::needed;
+
+/// The method of a request.
+pub fn method_of(request: &Request<'_>) -> Method
+    ensures { result ≡ method_of (asked request.now) }
+{
+    match request {
+        Request::Clone { .. } => Method::Clone,
+        Request::Close => Method::Close,
+        Request::Query => Method::Query,
+        Request::GetAttributes { .. } => Method::GetAttributes,
+        Request::Sync => Method::Sync,
+        Request::OpenPath { .. } => Method::OpenPath,
+        Request::ReadDirents { .. } => Method::ReadDirents,
+        Request::Rewind => Method::Rewind,
+        Request::GetToken => Method::GetToken,
+        Request::Rename { .. } => Method::Rename,
+        Request::Link { .. } => Method::Link,
+        Request::Unlink { .. } => Method::Unlink,
+        Request::Watch { .. } => Method::Watch,
+        Request::Read { .. } => Method::Read,
+        Request::ReadAt { .. } => Method::ReadAt,
+        Request::Write { .. } => Method::Write,
+        Request::WriteAt { .. } => Method::WriteAt,
+        Request::Seek { .. } => Method::Seek,
+        Request::Resize { .. } => Method::Resize,
+        Request::EchoString { .. } => Method::EchoString,
+    }
+}
+
+/// Why a method isn't served on a connection, whatever its arguments are: it is none of a node
+/// reference's, its right is wanting, or it isn't built yet; the first that holds.
+pub fn method_refusal(birth: &Birth, method: Method) -> Option<Status>
+    ensures first { result ≡ first_of (method_refusals first_methods (born birth.now) method) }
+    ensures status { IfSome result (λ status. status ≢ Status.Ok) }
+    ensures form { birth.now.protocol ≢ Protocol.Echo → has_method birth.now.protocol method ≡ true → IfSome result (λ _. can_fail method ≡ true) }
+{
+    if is_beyond(birth.protocol, method) {
+        return Some(Status::BadHandle);
+    }
+    if lacks_right(birth, method) {
+        return Some(Status::BadHandle);
+    }
+    if !is_built(method) {
+        return Some(Status::NotSupported);
+    }
+    None
+}
+
+/// The connection refers to a node alone, and the method isn't one of every node.
+fn is_beyond(protocol: Protocol, method: Method) -> bool
+    ensures { result ≡ is_beyond protocol method }
+{
+    match protocol {
+        Protocol::Node => !is_of_every_node(method),
+        _ => false,
+    }
+}
+
+/// Directories and files both have the method.
+fn is_of_every_node(method: Method) -> bool
+    ensures { result ≡ is_of_every_node (home_of method) }
+{
+    has_method(Protocol::Directory, method) && has_method(Protocol::File, method)
+}
+
+/// The connection lacks the right that the method needs.
+fn lacks_right(birth: &Birth, method: Method) -> bool
+    ensures { result ≡ lacks_right (born birth.now) method }
+{
+    match needed(method) {
+        Some(right) => !right.within(birth.rights),
+        None => false,
+    }
+}
+
+/// The method is served today.
+fn is_built(method: Method) -> bool
+    ensures { result ≡ is_first_method method }
+{
+    matches!(
+        method,
+        Method::Clone
+            | Method::Close
+            | Method::Query
+            | Method::GetAttributes
+            | Method::Sync
+            | Method::OpenPath
+            | Method::Read
+    )
+}

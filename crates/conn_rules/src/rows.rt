@@ -1,0 +1,151 @@
+//! What the connections of all nodes do alike.
+
+ghost use Rattle.std.specs.Prelude.{◌≡◌, ◌≢◌, ◌<◌, ◌≤◌, ℕ, true, Option, length};
+ghost use Rattle.fidl_names.specs.declared.methods.Method.TheVariants as method;
+ghost use Rattle.fidl_wire.specs.Numbers.{padded};
+ghost use Rattle.fidl_wire.specs.Written.{Written};
+ghost use Rattle.io_messages.specs.Asked.{Asked, asked, method_of};
+ghost use Rattle.io_messages.specs.Asked as asks;
+ghost use Rattle.io_messages.specs.Protocols.{home_of};
+ghost use Rattle.io_messages.specs.Replies.{answered, payload};
+ghost use Rattle.io_messages.specs.ReplyWriting.{PayloadFits};
+ghost use Rattle.io_messages.specs.ReplyWriting as writing;
+ghost use Rattle.io_messages.specs.Requests.{has_txid};
+ghost use Rattle.io_messages.specs.Shapes.{is_one_way};
+ghost use Rattle.node_graph.specs.Graph.{Names, StandsFor, number_of};
+ghost use Rattle.node_graph.specs.Tree.{Tree};
+ghost use Rattle.conn_rules.specs.declared.births.Birth as code;
+ghost use Rattle.conn_rules.specs.Acts.{clone_act, is_of_every_node, row_act};
+ghost use Rattle.conn_rules.specs.Answers.{closes, failure_of, replies};
+ghost use Rattle.conn_rules.specs.Births.{Position, born};
+ghost use Rattle.conn_rules.specs.Built.{Built};
+ghost use Rattle.conn_rules.specs.Nodes.{attributes_of, protocol_name};
+ghost use Rattle.conn_rules.specs.Served.{Gives, HasNothing};
+ghost use Rattle.conn_rules.specs.Shared.{can_fail, IsCloneOf};
+
+use crate::births::{Birth, Room};
+use crate::node_attributes::attributes;
+use crate::served::Served;
+use fidl_names::{Method, Status};
+use fidl_wire::{Ordinals, Out};
+use io_messages::{Protocol, Reply, Request, write_reply};
+use node_graph::Graph;
+
+/// The most connections that a server has.
+const MOST_CONNECTIONS: u32 = 4096;
+
+/// Replies, into an empty output.
+pub fn reply(ordinals: &Ordinals, txid: u32, reply: Reply<'_>, out: &mut Out) -> Served
+    requires empty { HasNothing out.old }
+    requires txid { 0 < txid }
+    requires has { writing.HasReply (answered reply) }
+    requires fits { PayloadFits (answered reply) }
+    ensures gives { Gives (replies (answered reply.entry)) txid result out.new }
+{
+    write_reply(ordinals, txid, reply, out);
+    Served::Reply
+}
+
+/// A request of this method fails: in its reply, or on the endpoint that it carries where it has
+/// no reply.
+pub fn fail(ordinals: &Ordinals, txid: u32, method: Method, status: Status, out: &mut Out) -> Served
+    requires empty { HasNothing out.old }
+    requires txid { has_txid (is_one_way method) txid ≡ true }
+    requires form { can_fail method ≡ true }
+    requires status { status ≢ Status.Ok }
+    ensures gives { (request : Asked) → method_of request ≡ method → Gives (failure_of request status) txid result out.new }
+{
+    match method {
+        Method::Clone | Method::OpenPath => Served::Refused(status),
+        _ => reply(ordinals, txid, Reply::Fails(method, status), out),
+    }
+}
+
+/// Serves Close: the reply, and then the endpoint ends.
+fn serve_close(ordinals: &Ordinals, txid: u32, out: &mut Out) -> Served
+    requires empty { HasNothing out.old }
+    requires txid { 0 < txid }
+    ensures gives { Gives closes txid result out.new }
+{
+    write_reply(ordinals, txid, Reply::Done(Method::Close), out);
+    Served::ReplyEnd
+}
+
+/// Serves Clone: the endpoint that it carries is bound like the connection, unless the server has
+/// as many connections as it may.
+fn serve_clone(birth: &Birth, room: Room) -> Served
+    ensures gives { (position : Position) (endpoint txid : ℕ) (out : Written) →
+        HasNothing out → Gives (clone_act (born birth.now) position room (asks.clone endpoint)).answer txid result out }
+    ensures bound { (found : code.Birth) → result ≡ Served.Bind found → IsCloneOf birth.now found }
+    ensures kind { result ≢ Served.Reply × (result ≢ Served.ReplyEnd × result ≢ Served.NoMemory) }
+{
+    if room.connections >= MOST_CONNECTIONS {
+        return Served::Refused(Status::NoResources);
+    }
+    Served::Bind(Birth {
+        announce: false,
+        ..*birth
+    })
+}
+
+/// Serves Query: the name of the connection's protocol.
+fn serve_query(ordinals: &Ordinals, txid: u32, protocol: Protocol, out: &mut Out) -> Served
+    requires empty { HasNothing out.old }
+    requires txid { 0 < txid }
+    ensures gives { Gives (replies (payload method.Query (protocol_name protocol))) txid result out.new }
+{
+    reply(
+        ordinals,
+        txid,
+        Reply::Payload(Method::Query, protocol_name(protocol)),
+        out,
+    )
+}
+
+/// Serves a method that every node has: Clone, Close, Query, GetAttributes or Sync.
+pub fn serve_node(
+    birth: &Birth,
+    ordinals: &Ordinals,
+    graph: &Graph,
+    room: Room,
+    txid: u32,
+    request: &Request<'_>,
+    out: &mut Out,
+) -> Served
+    requires kept { Names graph.now birth.now.node }
+    requires home { is_of_every_node (home_of (method_of (asked request.now))) ≡ true }
+    requires txid { has_txid (is_one_way (method_of (asked request.now))) txid ≡ true }
+    requires empty { HasNothing out.old }
+    ensures gives { (tree : Tree) → StandsFor graph.now tree → (built : Built) (position : Position) (target : Option ℕ) →
+        Gives (row_act built (born birth.now) position room tree target (asked request.now)).answer txid result out.new }
+    ensures bound { (found : code.Birth) → result ≡ Served.Bind found → IsCloneOf birth.now found × (method_of (asked request.now) ≡ method.Clone) }
+    ensures ends { result ≡ Served.ReplyEnd → asked request.now ≡ asks.close }
+    ensures memory { result ≢ Served.NoMemory }
+{
+    match request {
+        Request::Clone { .. } => serve_clone(birth, room),
+        Request::Close => serve_close(ordinals, txid, out),
+        Request::Query => serve_query(ordinals, txid, birth.protocol, out),
+        Request::GetAttributes { query } => {
+            let found = attributes(graph, birth.node, *query);
+            reply(ordinals, txid, Reply::Attributes(found), out)
+        }
+        Request::Sync => reply(ordinals, txid, Reply::Done(Method::Sync), out),
+        _ => unreachable!(),
+    }
+}
+
+/// The name by which Query tells a protocol.
+#[tactic(auto, unfolding(fidl_wire::specs::Numbers::padding_after))]
+fn protocol_name(protocol: Protocol) -> &'static [u8]
+    ensures name { result.now ≡ protocol_name protocol }
+    ensures short { padded (length result.now) ≤ 24 }
+{
+    match protocol {
+        Protocol::Directory => b"fuchsia.io/Directory",
+        Protocol::File => b"fuchsia.io/File",
+        Protocol::Node => b"fuchsia.io/Node",
+        Protocol::Echo => b"fuchsia.io/Node",
+        Protocol::Watcher => b"fuchsia.io/Node",
+    }
+}

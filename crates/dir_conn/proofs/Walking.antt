@@ -1,0 +1,58 @@
+-- Where a walk leads by its first name.
+use Rattle.std.proofs.Common.{◌≡◌, ◌≢◌, ℕ, List, [], ◌∷◌, drop, Some, None, refl, ap, ◌∙◌, rules}
+use Rattle.std.specs.List.{slice_get}
+use Rattle.fidl_names.specs.declared.statuses.Status.TheVariants as status
+use Rattle.io_rights.specs.Operations.{OperationSet}
+use Rattle.node_graph.specs.declared.nodes.NodeKind.{NodeKind}
+use Rattle.node_graph.specs.Tree.{Tree, EdgeTo}
+use Rattle.conn_rules.specs.Nodes.{edge_at, kind_here}
+use Rattle.conn_rules.specs.Walks.{walk, last_step, inner_step, last_by_kind, inner_by_kind}
+use Rattle.dir_conn.specs.Reaches.{reach, at_node, at_nothing, nowhere}
+
+-- a list without a first item is empty; any other is its first item and the rest
+pub no_first : {X : Type 0} (xs : List X) → slice_get xs 0 ≡ None → xs ≡ []
+no_first [] e = refl
+no_first (x ∷ xs) e = search rules
+
+pub first_and_rest : {X : Type 0} (xs : List X) (x : X) → slice_get xs 0 ≡ Some x → xs ≡ x ∷ drop 1 xs
+first_and_rest [] x e = search rules
+first_and_rest (y ∷ xs) x e = search rules
+
+-- no name leads to the directory itself
+pub walk_none : (tree : Tree) (word directory : ℕ) (limit : OperationSet) (names : List (List ℕ)) →
+    names ≡ [] → reach limit (walk tree word names directory) ≡ at_node directory limit
+unfolding walk
+walk_none tree word directory limit names e = rw e refl
+
+pub last_missing : (tree : Tree) (word directory : ℕ) (limit : OperationSet) (name : List ℕ) →
+    edge_at tree (record { directory = directory; name = name }) ≡ None →
+    reach limit (walk tree word (name ∷ []) directory) ≡ at_nothing
+unfolding walk
+last_missing tree word directory limit name none =
+    ap (λ edge. reach limit (last_step tree word directory name edge)) none
+
+pub last_found : (tree : Tree) (word directory : ℕ) (limit : OperationSet) (name : List ℕ) (edge : EdgeTo) (kind : NodeKind) →
+    edge_at tree (record { directory = directory; name = name }) ≡ Some edge → kind_here tree edge.child ≡ kind →
+    reach limit (walk tree word (name ∷ []) directory) ≡ reach limit (last_by_kind word edge kind)
+unfolding walk
+last_found tree word directory limit name edge kind found same =
+    ap (λ edge. reach limit (last_step tree word directory name edge)) found
+    ∙ ap (λ kind. reach limit (last_by_kind word edge kind)) same
+
+pub inner_missing : (tree : Tree) (word directory : ℕ) (limit : OperationSet) (name : List ℕ) (rest : List (List ℕ)) →
+    rest ≢ [] → edge_at tree (record { directory = directory; name = name }) ≡ None →
+    reach limit (walk tree word (name ∷ rest) directory) ≡ nowhere status.NotFound
+unfolding walk
+inner_missing tree word directory limit name [] more none = absurd (more refl)
+inner_missing tree word directory limit name (next ∷ rest) more none =
+    ap (λ edge. reach limit (inner_step tree word (next ∷ rest) edge (walk tree word (next ∷ rest)))) none
+
+pub inner_found : (tree : Tree) (word directory : ℕ) (limit : OperationSet) (name : List ℕ) (rest : List (List ℕ)) (edge : EdgeTo) (kind : NodeKind) →
+    rest ≢ [] → edge_at tree (record { directory = directory; name = name }) ≡ Some edge → kind_here tree edge.child ≡ kind →
+    reach limit (walk tree word (name ∷ rest) directory)
+    ≡ reach limit (inner_by_kind word rest edge kind (walk tree word rest edge.child))
+unfolding walk
+inner_found tree word directory limit name [] edge kind more found same = absurd (more refl)
+inner_found tree word directory limit name (next ∷ rest) edge kind more found same =
+    ap (λ edge. reach limit (inner_step tree word (next ∷ rest) edge (walk tree word (next ∷ rest)))) found
+    ∙ ap (λ kind. reach limit (inner_by_kind word (next ∷ rest) edge kind (walk tree word (next ∷ rest) edge.child))) same
