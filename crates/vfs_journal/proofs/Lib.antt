@@ -21,3 +21,4 @@ pub mod Kept
 pub mod TransitLaws
 pub mod Weights
 pub mod Draining
+pub mod Starting

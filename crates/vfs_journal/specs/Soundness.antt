@@ -3,7 +3,9 @@ use Rattle.std.specs.Prelude.{◌≡◌, ◌<◌, ◌≤◌, ◌⊎◌, ℕ, tru
 use Rattle.io_messages.specs.declared.protocols.Protocol.TheVariants as protocol
 use Rattle.node_graph.specs.declared.nodes.NodeKind.TheVariants.{Mount}
 use Rattle.node_graph.specs.Tree.{NodeRow, Tree}
+use Rattle.tree_file.specs.Items.{Lists}
 use Rattle.tree_file.specs.Numbering.{end_of_mount}
+use Rattle.tree_file.specs.Rules.{start_from}
 use Rattle.endpoint_link.specs.declared.kinds.Mode.{Mode}
 use Rattle.endpoint_link.specs.declared.kinds.Side.TheVariants.{ToServers}
 use Rattle.endpoint_link.specs.Frames.{Frame, IsFrame}
@@ -17,7 +19,7 @@ use Rattle.vfs_journal.specs.Outcomes.{Given}
 use Rattle.vfs_journal.specs.Past.{history_of}
 use Rattle.vfs_journal.specs.Serving.{outcome_of}
 use Rattle.vfs_journal.specs.Session.{head, after_serving, weight, drained, session, ended}
-use Rattle.vfs_journal.specs.Starts.{Start}
+use Rattle.vfs_journal.specs.Starts.{Start, start_of}
 use Rattle.vfs_journal.specs.Tokens.{all_given, first_token}
 
 -- ---- starts
@@ -110,3 +112,7 @@ SessionsAreLawful =
 abbrev pub SessionsServeAll : Type 0
 SessionsServeAll =
     (built : Built) (start : Start) (by : Mode) (frames : List Frame) → IsStart start → All (IsFrame ToServers) frames → IsDrained (history_of built start (ended built start by frames))
+
+-- the start of each tree file that is read
+abbrev pub StartsAreSound : Type 0
+StartsAreSound = (text : List ℕ) (lists : Lists) → start_from text ≡ Some lists → IsStart (start_of lists)
