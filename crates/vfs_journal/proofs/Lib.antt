@@ -22,3 +22,4 @@ pub mod TransitLaws
 pub mod Weights
 pub mod Draining
 pub mod Starting
+pub mod Apart

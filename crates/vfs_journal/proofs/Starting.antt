@@ -1,8 +1,11 @@
 -- The start that a tree file stands for has its endpoints apart.
-use Rattle.std.proofs.Common.{◌≡◌, ℕ, ◌≤◌, ◌==◌, ◌&&◌, ◌⊎◌, Bool, true, false, if◌then◌else◌, nat_le, nat_lt, ℤ, pos, negsuc, List, [], ◌∷◌, ◌++◌, length, map, filter, Option, Some, None, Result, Ok, Err, option_map, All, Contains, refl, sym, ap, ◌∙◌, subst, inl, inr, codes, arith}
-use Rattle.std.specs.List.{enumerate_from, range_with_len}
+use Rattle.std.proofs.Common.{◌≡◌, ◌≢◌, ◌+◌, AllPairs, ℕ, ◌≤◌, ◌==◌, ◌&&◌, ◌⊎◌, Bool, true, false, if◌then◌else◌, nat_le, nat_lt, ℤ, pos, negsuc, List, [], ◌∷◌, ◌++◌, length, map, filter, Option, Some, None, Result, Ok, Err, option_map, All, Contains, refl, sym, ap, ◌∙◌, subst, inl, inr, codes, arith}
+use Rattle.std.specs.List.{list_any, enumerate_from, range_with_len}
 use Rattle.std.specs.Str.{bytes_eq}
-use Rattle.std.proofs.lemmas.Bool.{and_parts, and_from, and_right, lt-ltb, le-ltb, leb-true}
+use Rattle.std.proofs.lemmas.Bool.{eqb-false, not-true, true≢false, and_parts, and_from, and_right, lt-ltb, le-ltb, leb-true}
+use Rattle.std.proofs.lemmas.List.Kept.{AllPairs-cons}
+use Rattle.std.proofs.lemmas.List.Quantifiers.{all_pairs_push}
+use Rattle.vfs_journal.proofs.Lists.{pairs-append, pairs-map}
 use Rattle.std.proofs.lemmas.List.Elements.{All-nil, All-cons, All-push, All-append, All-map, All-filter, All-weaker, All-contains_itself}
 use Rattle.endpoint_link.specs.Numbering.{is_client}
 use Rattle.io_messages.specs.declared.protocols.Protocol.TheVariants as protocol
@@ -15,10 +18,10 @@ use Rattle.tree_file.specs.Numbering.{Named, node_named, mount_named, named_of, 
 use Rattle.tree_file.specs.Reading.{server_at, path_at, place_at, kind_at, rights_at, bytes_at, node_keys, node_of, client_keys, client_of, endpoint_from, endpoint_at, is_new_endpoint, read_all}
 use Rattle.tree_file.specs.Rules.{items_at, read_nodes, read_clients, servers_of, all_or_none, lists_of, document_of, start_from}
 use Rattle.tree_file.specs.Texts.{only, kind_of}
-use Rattle.vfs_journal.specs.Soundness.{IsStart, HasEnd, AreMounted, mount_ends}
+use Rattle.vfs_journal.specs.Soundness.{IsStart, OtherEndpoint, HasEnd, AreMounted, mount_ends}
 use Rattle.vfs_journal.specs.Starts.{Bound, Start, start_of, first_of_client, end_of}
 use Rattle.vfs_journal.proofs.Acts.{IsMade}
-use Rattle.vfs_journal.proofs.Members.{contains_here, contains_later, contains_cases, contains_none}
+use Rattle.vfs_journal.proofs.Members.{none_passes, contains_here, contains_later, contains_cases, contains_none}
 
 -- ---- what is read
 
@@ -100,6 +103,13 @@ endpoint_in : (value : Data) (n : ℕ) → endpoint_at value ≡ Some n → is_c
 unfolding endpoint_at
 endpoint_in value n h = let at = bind_some (get (codes "endpoint") value >>= as_integer) endpoint_from n h in number_read at.0 n at.2
 
+only_passes : {X : Type 0} (test : X → Bool) (o : Option X) (x : X) → only test o ≡ Some x → test x ≡ true
+only_passes test None x h = absurd (cc)
+only_passes {X} test (Some y) x h = by_test (test y) refl h where
+  by_test : (b : Bool) → test y ≡ b → (if b then Some y else None) ≡ Some x → test x ≡ true
+  by_test true e h = let same : y ≡ x = cc in ap test (sym same) ∙ e
+  by_test false e h = absurd (cc)
+
 only_is : {X : Type 0} (test : X → Bool) (o : Option X) (x : X) → only test o ≡ Some x → o ≡ Some x
 only_is test None x h = absurd (cc)
 only_is {X} test (Some y) x h = by_test (test y) h where
@@ -114,34 +124,60 @@ client_by : (b : Bool) (names : List (List ℕ)) (earlier : List ClientItem) (va
     path_at (codes "path") value >>= (λ path.
     rights_at value >>= (λ rights.
     Some (record { endpoint = endpoint; server = server; path = path; rights = rights })))))
-    else None) ≡ Some client → is_client client.endpoint ≡ true
+    else None) ≡ Some client → (is_client client.endpoint ≡ true) × (is_new_endpoint earlier client.endpoint ≡ true)
 client_by false names earlier value client h = absurd (cc)
 client_by true names earlier value client h =
     let a = bind_some (only (is_new_endpoint earlier) (endpoint_at value)) _ client h in
     let b = bind_some (server_at names (codes "server") value) _ client a.2 in
     let c = bind_some (path_at (codes "path") value) _ client b.2 in
     let d = bind_some (rights_at value) _ client c.2 in
-    let same : a.0 ≡ client.endpoint = endpoint_same d.2 in
-    ap is_client (sym same) ∙ endpoint_in value a.0 (only_is (is_new_endpoint earlier) (endpoint_at value) a.0 a.1) where
+    let same : a.0 ≡ client.endpoint = endpoint_same d.2 in (
+      ap is_client (sym same) ∙ endpoint_in value a.0 (only_is (is_new_endpoint earlier) (endpoint_at value) a.0 a.1),
+      ap (is_new_endpoint earlier) (sym same) ∙ only_passes (is_new_endpoint earlier) (endpoint_at value) a.0 a.1,
+    ) where
       endpoint_same : {m n : ClientItem} → Some m ≡ Some n → m.endpoint ≡ n.endpoint
       endpoint_same e = cc
 
-client_read : (names : List (List ℕ)) (earlier : List ClientItem) (value : Data) (client : ClientItem) → client_of names earlier value ≡ Some client → is_client client.endpoint ≡ true
+client_read : (names : List (List ℕ)) (earlier : List ClientItem) (value : Data) (client : ClientItem) → client_of names earlier value ≡ Some client → (is_client client.endpoint ≡ true) × (is_new_endpoint earlier client.endpoint ≡ true)
 unfolding client_of
 client_read names earlier value client h = client_by (has_only client_keys value) names earlier value client h
 
 -- ---- the lists of a document
 
+apart_by : {X Y : Type 0} (R : Y → Y → Type 0) (read : List Y → X → Option Y) → ((earlier : List Y) (x : X) (y : Y) → read earlier x ≡ Some y → All (λ e. R e y) earlier) → (earlier : List Y) (x : X) (xs : List X) → AllPairs R earlier →
+    ((more : List Y) → AllPairs R more → (ys : List Y) → read_all read more xs ≡ Ok ys → AllPairs R ys) → (o : Option Y) → read earlier x ≡ o → (ys : List Y) →
+    elim o as (λ p. Result (List Y) ℕ) [ None ↦ Err (length earlier) | Some y ↦ read_all read (earlier ++ y ∷ []) xs ] ≡ Ok ys → AllPairs R ys
+apart_by R read each earlier x xs h rest None e ys is = absurd (cc)
+apart_by R read each earlier x xs h rest (Some y) e ys is = rest (earlier ++ y ∷ []) (all_pairs_push R earlier y h (λ k d l. each earlier x y e k d l)) ys is
+
+apart_read : {X Y : Type 0} (R : Y → Y → Type 0) (read : List Y → X → Option Y) → ((earlier : List Y) (x : X) (y : Y) → read earlier x ≡ Some y → All (λ e. R e y) earlier) → (xs : List X) (earlier : List Y) → AllPairs R earlier → (ys : List Y) → read_all read earlier xs ≡ Ok ys → AllPairs R ys
+unfolding read_all
+apart_read R read each [] earlier h ys is = let same : earlier ≡ ys = cc in subst (AllPairs R) same h
+apart_read R read each (x ∷ xs) earlier h ys is = apart_by R read each earlier x xs h (λ more g zs e. apart_read R read each xs more g zs e) (read earlier x) refl ys is
+
+some_apart : {Y : Type 0} (R : Y → Y → Type 0) (r : Result (List Y) ℕ) → ((ys : List Y) → r ≡ Ok ys → AllPairs R ys) → AllPairs R (all_or_none r)
+some_apart R (Ok ys) h = h ys refl
+some_apart R (Err e) h = λ i j d l m. absurd (omega arith)
+
+new_client : (earlier : List ClientItem) (client : ClientItem) → is_new_endpoint earlier client.endpoint ≡ true → All (λ one. one.endpoint ≢ client.endpoint) earlier
+new_client earlier client h =
+    All-weaker (Contains earlier) (λ one. one.endpoint ≢ client.endpoint)
+    (λ one there. eqb-false one.endpoint client.endpoint (none_passes (λ (c : ClientItem). c.endpoint == client.endpoint) earlier one (not-true (list_any (λ (c : ClientItem). c.endpoint == client.endpoint) earlier) h) there))
+    earlier (All-contains_itself earlier)
+
 record AreApart (lists : Lists) : Type 0 where
   nodes : All (λ node. IsMade node.kind) lists.nodes
   clients : All (λ client. is_client client.endpoint ≡ true) lists.clients
+  distinct : AllPairs (λ one other. one.endpoint ≢ other.endpoint) lists.clients
 
 lists_apart : (document : Data) → AreApart (lists_of document)
 lists_apart document = record {
   nodes = some_read (λ (node : NodeItem). IsMade node.kind) (read_nodes document)
       (λ ys e. all_read (λ (node : NodeItem). IsMade node.kind) (λ _. node_of (servers_of document)) (λ earlier x y h. node_read (servers_of document) x y h) (items_at (codes "node") document) [] (All-nil (λ (node : NodeItem). IsMade node.kind)) ys e);
   clients = some_read (λ (client : ClientItem). is_client client.endpoint ≡ true) (read_clients document)
-      (λ ys e. all_read (λ (client : ClientItem). is_client client.endpoint ≡ true) (client_of (servers_of document)) (λ earlier x y h. client_read (servers_of document) earlier x y h) (items_at (codes "client") document) [] (All-nil (λ (client : ClientItem). is_client client.endpoint ≡ true)) ys e);
+      (λ ys e. all_read (λ (client : ClientItem). is_client client.endpoint ≡ true) (client_of (servers_of document)) (λ earlier x y h. (client_read (servers_of document) earlier x y h).0) (items_at (codes "client") document) [] (All-nil (λ (client : ClientItem). is_client client.endpoint ≡ true)) ys e);
+  distinct = some_apart (λ (one other : ClientItem). one.endpoint ≢ other.endpoint) (read_clients document)
+      (λ ys e. apart_read (λ (one other : ClientItem). one.endpoint ≢ other.endpoint) (client_of (servers_of document)) (λ earlier x y h. new_client earlier y (client_read (servers_of document) earlier x y h).1) (items_at (codes "client") document) [] (λ i j d l m. absurd (omega arith)) ys e);
 }
 
 -- ---- the start
@@ -196,8 +232,37 @@ always : {X : Type 0} (P : X → Type 0) → ((x : X) → P x) → (xs : List X)
 always P h [] = All-nil P
 always P h (x ∷ xs) = All-cons P x xs (h x) (always P h xs)
 
+later_mounts : (n : ℕ) (mounts : List MountItem) → All (λ mount. n ≤ mount.0) (enumerate_from n mounts)
+later_mounts n [] = All-nil (λ (mount : ℕ × MountItem). n ≤ mount.0)
+later_mounts n (mount ∷ mounts) =
+    All-cons (λ (m : ℕ × MountItem). n ≤ m.0) (n, mount) (enumerate_from (n + 1) mounts) (omega arith)
+    (All-weaker (λ (m : ℕ × MountItem). n + 1 ≤ m.0) (λ (m : ℕ × MountItem). n ≤ m.0) (λ m l. omega arith) (enumerate_from (n + 1) mounts) (later_mounts (n + 1) mounts))
+
+other_mounts : (n : ℕ) (mounts : List MountItem) → AllPairs (λ one other. end_of_mount one.0 ≢ end_of_mount other.0) (enumerate_from n mounts)
+other_mounts n [] = λ i j d l m. absurd (omega arith)
+other_mounts n (mount ∷ mounts) =
+    AllPairs-cons (λ (one other : ℕ × MountItem). end_of_mount one.0 ≢ end_of_mount other.0) (n, mount) (enumerate_from (n + 1) mounts)
+    (All-weaker (λ (m : ℕ × MountItem). n + 1 ≤ m.0) (λ (m : ℕ × MountItem). end_of_mount n ≢ end_of_mount m.0) (λ m l e. omega arith) (enumerate_from (n + 1) mounts) (later_mounts (n + 1) mounts))
+    (other_mounts (n + 1) mounts)
+
+kinds_apart : (firsts ends : List Bound) → All (λ bound. is_client bound.endpoint ≡ true) firsts → All (λ bound. is_client bound.endpoint ≡ false) ends → All (λ one. All (OtherEndpoint one) ends) firsts
+kinds_apart firsts ends a b =
+    All-weaker (λ (bound : Bound). is_client bound.endpoint ≡ true) (λ one. All (OtherEndpoint one) ends)
+    (λ one client. All-weaker (λ (bound : Bound). is_client bound.endpoint ≡ false) (OtherEndpoint one) (λ other end same. true≢false (sym client ∙ ap is_client same ∙ end)) ends b)
+    firsts a
+
+client_firsts : (lists : Lists) → AreApart lists → All (λ bound. is_client bound.endpoint ≡ true) (map (first_of_client lists) lists.clients)
+client_firsts lists apart = All-map (λ (bound : Bound). is_client bound.endpoint ≡ true) (first_of_client lists) lists.clients apart.clients
+
+other_ends : (lists : Lists) → All (λ bound. is_client bound.endpoint ≡ false) (map (end_of lists) (mounts_of lists))
+other_ends lists = All-map (λ (bound : Bound). is_client bound.endpoint ≡ false) (end_of lists) (mounts_of lists) (always (λ (mount : ℕ × MountItem). is_client (end_of_mount mount.0) ≡ false) (λ mount. end_no_client mount.0) (mounts_of lists))
+
 start_apart : (lists : Lists) → AreApart lists → IsStart (start_of lists)
 start_apart lists apart = record {
+  apart = pairs-append OtherEndpoint (map (first_of_client lists) lists.clients) (map (end_of lists) (mounts_of lists))
+      (pairs-map OtherEndpoint (first_of_client lists) lists.clients apart.distinct)
+      (pairs-map OtherEndpoint (end_of lists) (mounts_of lists) (other_mounts 0 lists.mounts))
+      (kinds_apart (map (first_of_client lists) lists.clients) (map (end_of lists) (mounts_of lists)) (client_firsts lists apart) (other_ends lists));
   firsts = All-map (λ (bound : Bound). is_client bound.endpoint ≡ true) (first_of_client lists) lists.clients apart.clients;
   ends = All-map (λ (bound : Bound). is_client bound.endpoint ≡ false) (end_of lists) (mounts_of lists) (always (λ (mount : ℕ × MountItem). is_client (end_of_mount mount.0) ≡ false) (λ mount. end_no_client mount.0) (mounts_of lists));
   directories = All-map (λ (bound : Bound). bound.birth.protocol ≡ protocol.Directory) (end_of lists) (mounts_of lists) (always (λ (mount : ℕ × MountItem). (end_of lists mount).birth.protocol ≡ protocol.Directory) (λ mount. refl) (mounts_of lists));

@@ -13,6 +13,7 @@ use Rattle.vfs_journal.specs.Session.{head}
 use Rattle.vfs_journal.specs.Soundness.{IsStart, mount_ends, AreInTransit, AreKnown, DieTogether}
 use Rattle.vfs_journal.specs.Starts.{Bound, Start}
 use Rattle.vfs_journal.proofs.Among.{some_found}
+use Rattle.vfs_journal.proofs.Apart.{births_apart}
 use Rattle.vfs_journal.proofs.Below.{Below}
 use Rattle.vfs_journal.proofs.Kept.{lawful_kept, is_serving, end_lives, mounts_born}
 use Rattle.vfs_journal.proofs.Members.{contains_here, contains_later, contains_cases, contains_none}
@@ -66,6 +67,7 @@ are_known below built start journal s h =
           let b = some_found (λ bound. bound.endpoint == n) (living start history) yes in
           bound_by start history n b.0 (eqb-true b.0.endpoint n b.3) (kept.sound.born b.0 (is.living_born b.0 b.2).0);
       ends = λ n c. end_lives start (view start history) n s kept.sound is (mounts_born start history) c;
+      apart = births_apart below built start s s.apart journal h;
       tokens = λ given c. kept.sound.tokens given c;
     }
 
