@@ -52,13 +52,14 @@ pub record IsStart (start : Start) : Type 0 where
 abbrev pub Carries : History → Sent → ℕ → Type 0
 Carries history one endpoint = Contains (waiting history) one × (among endpoint (endpoints_in one) ≡ true)
 
--- an endpoint in transit is carried by one waiting entry, and is neither bound nor dead; each waiting entry's endpoint is bound or in
+-- an endpoint in transit is carried once, by one waiting entry, and is neither bound nor dead; each waiting entry's endpoint is bound or in
 -- transit; and what carries an endpoint stands before what waits on it, or stands on an endpoint that nothing carries
 pub record AreInTransit (start : Start) (history : History) : Type 0 where
   pub once : (one other : Sent) (endpoint : ℕ) → Carries history one endpoint → Carries history other endpoint → one ≡ other
   pub unbound : (one : Sent) (endpoint : ℕ) → Carries history one endpoint → is_bound start history endpoint ≡ false
   pub alive : (one : Sent) (endpoint : ℕ) → Carries history one endpoint → is_dead history endpoint ≡ false
   pub reached : (one : Sent) → Contains (waiting history) one → (is_bound start history one.endpoint ≡ true) ⊎ (among one.endpoint (travelling history) ≡ true)
+  pub apart : AllPairs (λ one other. one ≢ other) (travelling history)
   pub before : (one other : Sent) → Carries history one other.endpoint → Contains (waiting history) other → (one.place < other.place) ⊎ (is_client one.endpoint ≡ false)
 
 -- what is dead or bound was known: a first connection, or a number that a message carried, or an end of a mount, and these live; no
