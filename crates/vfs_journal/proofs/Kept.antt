@@ -171,7 +171,7 @@ goes_right below built start history k f s past is serving' e =
       small = subst (λ (n : ℕ). n < 256 ^ 8) (sym on.onward.left) (onward_small on.word on.onward.limit word);
     }
 
-is_forwarded : Below → (built : Built) (start : Start) (history : History) (k new : Sent) (f : Forwarded) → IsStart start → Sound start (view start history) → IsView (view start history) → IsServing built start history k →
+pub is_forwarded : Below → (built : Built) (start : Start) (history : History) (k new : Sent) (f : Forwarded) → IsStart start → Sound start (view start history) → IsView (view start history) → IsServing built start history k →
     (outcome_of built start history k).forward ≡ Some f → new.endpoint ≡ f.endpoint → new.sending ≡ message f.bytes (f.object ∷ []) → IsForwarded start new
 is_forwarded below built start history k new f s past is serving' e at sending' =
     let on = serving'.parts.goes_on f e in

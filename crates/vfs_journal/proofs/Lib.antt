@@ -23,3 +23,4 @@ pub mod Weights
 pub mod Draining
 pub mod Starting
 pub mod Apart
+pub mod Queues

@@ -1,15 +1,15 @@
 -- What holds of every start, history and journal.
-use Rattle.std.specs.Prelude.{◌≡◌, ◌≢◌, ◌<◌, All, AllPairs, Contains, filter_map, length, ℕ, ◌==◌, ◌&&◌, ◌||◌, not, if◌then◌else◌, List, [], ◌∷◌, ◌++◌, filter, Option, option_to_list}
+use Rattle.std.specs.Prelude.{◌≡◌, ◌≢◌, ◌<◌, All, AllPairs, Contains, filter_map, length, ℕ, ◌==◌, ◌&&◌, ◌||◌, false, not, if◌then◌else◌, List, [], ◌∷◌, ◌++◌, filter, Option, option_to_list}
 use Rattle.endpoint_link.specs.declared.kinds.Refusal.{Refusal}
 use Rattle.endpoint_link.specs.Numbering.{among}
 use Rattle.conn_rules.specs.Births.{fresh}
 use Rattle.conn_rules.specs.Built.{Built}
 use Rattle.vfs_journal.specs.Deaths.{others}
-use Rattle.vfs_journal.specs.Entries.{Sent, Journal, sends, serves, refuses, handles_of, endpoints_in, is_hang_up}
+use Rattle.vfs_journal.specs.Entries.{Sent, Sending, Journal, sends, serves, refuses, handles_of, endpoints_in, is_hang_up}
 use Rattle.vfs_journal.specs.History.{Event, History, served_by, all_sent, was_served, is_dead, births, living, bound_at, hung_up, waits, waiting, travelling, was_carried, binds_endpoint, position_of, trees_of, changed}
 use Rattle.vfs_journal.specs.Lawful.{Lawful}
 use Rattle.vfs_journal.specs.Past.{event_of, behind, history_of}
-use Rattle.vfs_journal.specs.Session.{look_ups}
+use Rattle.vfs_journal.specs.Session.{look_ups, sent_behind}
 use Rattle.vfs_journal.specs.Serving.{sight_of}
 use Rattle.vfs_journal.specs.Starts.{Bound, Start}
 use Rattle.vfs_journal.specs.Tokens.{all_given}
@@ -113,3 +113,9 @@ PlacesRise = (built : Built) (start : Start) (journal : Journal) → Lawful buil
 
 abbrev pub ServedOnce : Type 0
 ServedOnce = (built : Built) (start : Start) (journal : Journal) → Lawful built start journal → AreServedOnce journal (history_of built start journal)
+
+-- what is sent at the next place waits behind all others, where its endpoint isn't dead
+abbrev pub WhatIsSentWaits : Type 0
+WhatIsSentWaits =
+    (built : Built) (start : Start) (journal : Journal) (endpoint : ℕ) (sending : Sending) (origin : Option ℕ) → Lawful built start journal → is_dead (history_of built start journal) endpoint ≡ false →
+    waiting (history_of built start (sends (sent_behind journal endpoint sending origin) ∷ journal)) ≡ waiting (history_of built start journal) ++ sent_behind journal endpoint sending origin ∷ []

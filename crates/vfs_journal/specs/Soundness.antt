@@ -1,5 +1,5 @@
 -- What holds of each lawful journal from a start whose endpoints are apart.
-use Rattle.std.specs.Prelude.{◌≡◌, ◌≢◌, ◌++◌, AllPairs, ◌<◌, ◌≤◌, ◌⊎◌, ℕ, true, false, List, [], All, Contains, map, Some}
+use Rattle.std.specs.Prelude.{◌≡◌, ◌≢◌, ◌++◌, AllPairs, ◌<◌, ◌≤◌, ◌⊎◌, ℕ, true, false, List, [], ◌∷◌, All, Contains, map, Some}
 use Rattle.io_messages.specs.declared.protocols.Protocol.TheVariants as protocol
 use Rattle.node_graph.specs.declared.nodes.NodeKind.TheVariants.{Mount}
 use Rattle.node_graph.specs.Tree.{NodeRow, Tree}
@@ -12,13 +12,13 @@ use Rattle.endpoint_link.specs.Frames.{Frame, IsFrame}
 use Rattle.endpoint_link.specs.Numbering.{among, is_client}
 use Rattle.conn_rules.specs.Built.{Built}
 use Rattle.vfs_journal.specs.Deaths.{deaths_of, others}
-use Rattle.vfs_journal.specs.Entries.{Sent, Journal, endpoints_in}
+use Rattle.vfs_journal.specs.Entries.{Sent, Journal, message, serves, endpoints_in}
 use Rattle.vfs_journal.specs.History.{History, births, all_sent, was_served, waiting, travelling, is_bound, is_dead, is_used}
 use Rattle.vfs_journal.specs.Lawful.{Lawful}
-use Rattle.vfs_journal.specs.Outcomes.{Given}
+use Rattle.vfs_journal.specs.Outcomes.{Forwarded, Given}
 use Rattle.vfs_journal.specs.Past.{history_of}
 use Rattle.vfs_journal.specs.Serving.{outcome_of}
-use Rattle.vfs_journal.specs.Session.{head, after_serving, weight, drained, session, ended}
+use Rattle.vfs_journal.specs.Session.{head, sent_behind, after_serving, weight, drained, session, ended}
 use Rattle.vfs_journal.specs.Starts.{Bound, Start, start_of}
 use Rattle.vfs_journal.specs.Tokens.{all_given, first_token}
 
@@ -123,3 +123,12 @@ SessionsServeAll =
 -- the start of each tree file that is read
 abbrev pub StartsAreSound : Type 0
 StartsAreSound = (text : List ℕ) (lists : Lists) → start_from text ≡ Some lists → IsStart (start_of lists)
+
+-- what goes on behind a mount waits behind all others
+abbrev pub WhatGoesOnWaits : Type 0
+WhatGoesOnWaits =
+    (built : Built) (start : Start) (journal : Journal) (sent : Sent) (forward : Forwarded) → IsStart start → Lawful built start journal → head start (history_of built start journal) sent.endpoint ≡ Some sent →
+    (outcome_of built start (history_of built start journal) sent).forward ≡ Some forward →
+    waiting (history_of built start (after_serving built start journal sent))
+    ≡ waiting (history_of built start (serves sent ∷ journal))
+    ++ sent_behind (serves sent ∷ journal) forward.endpoint (message forward.bytes (forward.object ∷ [])) (Some sent.place) ∷ []

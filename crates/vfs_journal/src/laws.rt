@@ -1,8 +1,8 @@
 //! Laws of the journal. They compute nothing: what they say is in their clauses.
 
 ghost use Rattle.fidl_wire.specs.Names.{AreDistinct};
-ghost use Rattle.vfs_journal.specs.Laws.{PlacesRise, RefusalsChangeNothing, SendingsWaitLast, ServedOnce, ServingsTakeEffect};
-ghost use Rattle.vfs_journal.specs.Soundness.{DeathsReachAll, DrainsServeAll, EndpointsAreInTransit, EndpointsAreKnown, ServingsLowerTheWeight, SessionsAreLawful, SessionsServeAll, StartsAreSound};
+ghost use Rattle.vfs_journal.specs.Laws.{PlacesRise, RefusalsChangeNothing, SendingsWaitLast, ServedOnce, ServingsTakeEffect, WhatIsSentWaits};
+ghost use Rattle.vfs_journal.specs.Soundness.{DeathsReachAll, DrainsServeAll, EndpointsAreInTransit, EndpointsAreKnown, ServingsLowerTheWeight, SessionsAreLawful, SessionsServeAll, StartsAreSound, WhatGoesOnWaits};
 
 use fidl_wire::body_is_read_where_spelled;
 use io_messages::written_request_is_read;
@@ -100,3 +100,17 @@ pub fn sessions_serve_all()
 pub fn starts_are_sound()
     ensures { StartsAreSound }
 {}
+
+/// In a lawful journal what is sent next waits behind all others, where its endpoint isn't dead.
+pub fn what_is_sent_waits()
+    ensures { WhatIsSentWaits }
+{}
+
+/// In a lawful journal an Open that goes on behind a mount waits behind all others; where no two names have equal ordinals.
+pub fn what_goes_on_waits()
+    ensures { AreDistinct → WhatGoesOnWaits }
+{
+    body_is_read_where_spelled();
+    written_request_is_read();
+    path_laws();
+}
