@@ -1,5 +1,5 @@
 -- What is sent waits last.
-use Rattle.std.proofs.Common.{◌≡◌, ℕ, ◌≤◌, ◌&&◌, Bool, true, false, not, if◌then◌else◌, List, [], ◌∷◌, ◌++◌, length, Option, Some, None, Contains, refl, sym, ap, ◌∙◌, arith}
+use Rattle.std.proofs.Common.{◌≡◌, ℕ, ◌≤◌, ◌&&◌, Bool, true, false, not, if◌then◌else◌, [], ◌∷◌, ◌++◌, length, Option, Some, refl, ap, ◌∙◌, arith}
 use Rattle.conn_rules.specs.Built.{Built}
 use Rattle.vfs_journal.specs.Entries.{Sent, Sending, Journal, message, sends, serves}
 use Rattle.vfs_journal.specs.History.{History, waiting, waits, was_served, is_dead}
