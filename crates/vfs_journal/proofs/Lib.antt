@@ -13,3 +13,11 @@ pub mod Onward
 pub mod Acts
 pub mod Outcomes
 pub mod Spreading
+pub mod Among
+pub mod Sound
+pub mod Served
+pub mod Views
+pub mod Kept
+pub mod TransitLaws
+pub mod Weights
+pub mod Draining

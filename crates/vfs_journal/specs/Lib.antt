@@ -18,3 +18,4 @@ pub mod RowLink
 pub mod RowNames
 pub mod RowMounts
 pub mod Laws
+pub mod Soundness

@@ -6,7 +6,9 @@ mod laws;
 mod rows;
 
 pub use laws::{
-    places_rise, refusals_change_nothing, sendings_wait_last, served_once, servings_take_effect,
+    deaths_reach_all, drains_serve_all, endpoints_are_in_transit, endpoints_are_known, places_rise,
+    refusals_change_nothing, sendings_wait_last, served_once, servings_lower_the_weight,
+    servings_take_effect, sessions_are_lawful, sessions_serve_all,
 };
 pub use rows::{
     clone_and_hang_up, close_drops_what_waits, echo_service, file_without_a_name,

@@ -1,0 +1,112 @@
+-- What holds of each lawful journal from a start whose endpoints are apart.
+use Rattle.std.specs.Prelude.{◌≡◌, ◌<◌, ◌≤◌, ◌⊎◌, ℕ, true, false, List, [], All, Contains, map, Some}
+use Rattle.io_messages.specs.declared.protocols.Protocol.TheVariants as protocol
+use Rattle.node_graph.specs.declared.nodes.NodeKind.TheVariants.{Mount}
+use Rattle.node_graph.specs.Tree.{NodeRow, Tree}
+use Rattle.tree_file.specs.Numbering.{end_of_mount}
+use Rattle.endpoint_link.specs.declared.kinds.Mode.{Mode}
+use Rattle.endpoint_link.specs.declared.kinds.Side.TheVariants.{ToServers}
+use Rattle.endpoint_link.specs.Frames.{Frame, IsFrame}
+use Rattle.endpoint_link.specs.Numbering.{among, is_client}
+use Rattle.conn_rules.specs.Built.{Built}
+use Rattle.vfs_journal.specs.Deaths.{deaths_of, others}
+use Rattle.vfs_journal.specs.Entries.{Sent, Journal, endpoints_in}
+use Rattle.vfs_journal.specs.History.{History, all_sent, was_served, waiting, travelling, is_bound, is_dead, is_used}
+use Rattle.vfs_journal.specs.Lawful.{Lawful}
+use Rattle.vfs_journal.specs.Outcomes.{Given}
+use Rattle.vfs_journal.specs.Past.{history_of}
+use Rattle.vfs_journal.specs.Serving.{outcome_of}
+use Rattle.vfs_journal.specs.Session.{head, after_serving, weight, drained, session, ended}
+use Rattle.vfs_journal.specs.Starts.{Start}
+use Rattle.vfs_journal.specs.Tokens.{all_given, first_token}
+
+-- ---- starts
+
+abbrev pub mount_ends : Start → List ℕ
+mount_ends start = map (λ bound. bound.endpoint) start.mounts
+
+-- each mount among a tree's nodes has its end
+abbrev pub HasEnd : Start → NodeRow → Type 0
+HasEnd start row = (index : ℕ) → row.kind ≡ Mount index → Contains (mount_ends start) (end_of_mount index)
+
+abbrev pub AreMounted : Start → Tree → Type 0
+AreMounted start tree = All (HasEnd start) tree.nodes
+
+-- first connections are on clients' endpoints, and the ends of mounts on others, as directories; each mount has its end
+pub record IsStart (start : Start) : Type 0 where
+  pub firsts : All (λ bound. is_client bound.endpoint ≡ true) start.firsts
+  pub ends : All (λ bound. is_client bound.endpoint ≡ false) start.mounts
+  pub directories : All (λ bound. bound.birth.protocol ≡ protocol.Directory) start.mounts
+  pub mounted : All (AreMounted start) start.trees
+
+-- ---- endpoints in transit
+
+-- a waiting entry carries an endpoint
+abbrev pub Carries : History → Sent → ℕ → Type 0
+Carries history one endpoint = Contains (waiting history) one × (among endpoint (endpoints_in one) ≡ true)
+
+-- an endpoint in transit is carried by one waiting entry, and is neither bound nor dead; each waiting entry's endpoint is bound or in
+-- transit; and what carries an endpoint stands before what waits on it, or stands on an endpoint that nothing carries
+pub record AreInTransit (start : Start) (history : History) : Type 0 where
+  pub once : (one other : Sent) (endpoint : ℕ) → Carries history one endpoint → Carries history other endpoint → one ≡ other
+  pub unbound : (one : Sent) (endpoint : ℕ) → Carries history one endpoint → is_bound start history endpoint ≡ false
+  pub alive : (one : Sent) (endpoint : ℕ) → Carries history one endpoint → is_dead history endpoint ≡ false
+  pub reached : (one : Sent) → Contains (waiting history) one → (is_bound start history one.endpoint ≡ true) ⊎ (among one.endpoint (travelling history) ≡ true)
+  pub before : (one other : Sent) → Carries history one other.endpoint → Contains (waiting history) other → (one.place < other.place) ⊎ (is_client one.endpoint ≡ false)
+
+-- what is dead or bound was known: a first connection, or a number that a message carried, or an end of a mount, and these live; tokens
+-- are numbers of their own
+pub record AreKnown (start : Start) (history : History) : Type 0 where
+  pub dead : (endpoint : ℕ) → is_dead history endpoint ≡ true → (is_client endpoint ≡ true) × (is_used start history endpoint ≡ true)
+  pub bound : (endpoint : ℕ) → is_bound start history endpoint ≡ true →
+      Contains (mount_ends start) endpoint ⊎ ((is_client endpoint ≡ true) × (is_used start history endpoint ≡ true))
+  pub ends : (endpoint : ℕ) → Contains (mount_ends start) endpoint → (is_dead history endpoint ≡ false) × (is_bound start history endpoint ≡ true)
+  pub tokens : (given : Given) → Contains (all_given history) given → first_token ≤ given.token
+
+-- ---- deaths
+
+-- what waits on an endpoint that dies, but for what is served, carries endpoints that die
+abbrev pub DieTogether : History → Sent → List ℕ → Type 0
+DieTogether history sent deaths =
+    (other : Sent) (endpoint : ℕ) → Contains (others history sent) other → among other.endpoint deaths ≡ true → among endpoint (endpoints_in other) ≡ true → among endpoint deaths ≡ true
+
+-- ---- laws
+
+abbrev pub EndpointsAreInTransit : Type 0
+EndpointsAreInTransit = (built : Built) (start : Start) (journal : Journal) → IsStart start → Lawful built start journal → AreInTransit start (history_of built start journal)
+
+abbrev pub EndpointsAreKnown : Type 0
+EndpointsAreKnown = (built : Built) (start : Start) (journal : Journal) → IsStart start → Lawful built start journal → AreKnown start (history_of built start journal)
+
+-- the one pass over what waits reaches each endpoint that dies
+abbrev pub DeathsReachAll : Type 0
+DeathsReachAll =
+    (built : Built) (start : Start) (journal : Journal) (sent : Sent) → IsStart start → Lawful built start journal → head start (history_of built start journal) sent.endpoint ≡ Some sent →
+    DieTogether (history_of built start journal) sent (deaths_of (history_of built start journal) sent (outcome_of built start (history_of built start journal) sent))
+
+-- each serving lowers the sum of the weights of what waits
+abbrev pub ServingsLowerTheWeight : Type 0
+ServingsLowerTheWeight =
+    (built : Built) (start : Start) (journal : Journal) (sent : Sent) → IsStart start → Lawful built start journal → head start (history_of built start journal) sent.endpoint ≡ Some sent →
+    weight (history_of built start (after_serving built start journal sent)) < weight (history_of built start journal)
+
+-- nothing waits: whatever was sent was served, or its endpoint is dead
+pub record IsDrained (history : History) : Type 0 where
+  pub none : waiting history ≡ []
+  pub each : (sent : Sent) → Contains (all_sent history) sent → (was_served history sent ≡ true) ⊎ (is_dead history sent.endpoint ≡ true)
+
+-- a drain leaves nothing that waits
+abbrev pub DrainsServeAll : Type 0
+DrainsServeAll =
+    (built : Built) (start : Start) (journal : Journal) → IsStart start → Lawful built start journal →
+    Lawful built start (drained built start journal) × IsDrained (history_of built start (drained built start journal))
+
+-- the journal that frames make is lawful, in either mode
+abbrev pub SessionsAreLawful : Type 0
+SessionsAreLawful =
+    (built : Built) (start : Start) (by : Mode) (frames : List Frame) → All (IsFrame ToServers) frames → Lawful built start (session built start by frames) × Lawful built start (ended built start by frames)
+
+-- and after the last drain nothing waits
+abbrev pub SessionsServeAll : Type 0
+SessionsServeAll =
+    (built : Built) (start : Start) (by : Mode) (frames : List Frame) → IsStart start → All (IsFrame ToServers) frames → IsDrained (history_of built start (ended built start by frames))
