@@ -1,5 +1,5 @@
 -- What an Open does, by where its walk leads, and that it changes nothing.
-use Rattle.std.proofs.Common.{◌≡◌, ℕ, Bool, true, false, not, ◌||◌, List, ◌∷◌, Option, Some, None, refl, ap, sym, ◌∙◌, rules}
+use Rattle.std.proofs.Common.{◌≡◌, ℕ, Bool, true, false, not, ◌||◌, List, Option, Some, None, refl, ap, sym, ◌∙◌, rules}
 use Rattle.std.specs.Prelude.{if◌then◌else◌}
 use Rattle.fidl_names.specs.declared.methods.Method.TheVariants as method
 use Rattle.fidl_names.specs.declared.statuses.Status.{Status}
@@ -9,20 +9,23 @@ use Rattle.io_flags.specs.Words.{has, creates}
 use Rattle.io_messages.specs.Asked.{Asked, method_of}
 use Rattle.io_messages.specs.Replies.{fails}
 use Rattle.io_messages.specs.Shapes.{is_one_way}
-use Rattle.node_graph.specs.Tree.{Tree, stay}
+use Rattle.node_graph.specs.Tree.{Tree}
 use Rattle.path_walk.specs.Paths.{names_of}
 use Rattle.conn_rules.specs.declared.births.Room.{Room}
-use Rattle.conn_rules.specs.Answers.{Answer, Act, only, failure_of, refuses, replies, nothing_told}
+use Rattle.fidl_wire.specs.Written.{Written}
+use Rattle.conn_rules.specs.Acts.{act_of, method_refusals, row_act}
+use Rattle.conn_rules.specs.Answers.{Answer, Act, failure_of, refuses, replies, closes, binds, watches, forwards, ends, hangs_up, silent}
+use Rattle.conn_rules.specs.Served.{HasNothing}
 use Rattle.conn_rules.specs.Births.{Birth, Position}
 use Rattle.conn_rules.specs.Built.{first_methods, is_first_word}
 use Rattle.conn_rules.specs.Nodes.{kind_here}
-use Rattle.conn_rules.specs.Opens.{arrival_refusals, arrival, by_walk, entry_refusals, making, making_refusals, open_act, truncation}
-use Rattle.conn_rules.specs.Refusals.{first_of, refused_if, unless}
+use Rattle.conn_rules.specs.Opens.{arrival_refusals, arrival, by_walk, entry_refusals, making, making_refusals, open_act}
+use Rattle.conn_rules.specs.Refusals.{first_of, unless}
 use Rattle.conn_rules.specs.Walks.{Walk, arrives, missing, crosses, stops, walk, limit_of}
 use Rattle.dir_conn.specs.declared.served.DirServed.{DirServed}
 use Rattle.dir_conn.specs.Opened.{answer_at, refused_or}
 use Rattle.dir_conn.specs.Reaches.{reach}
-use Rattle.dir_conn.specs.Served.{Sends}
+use Rattle.dir_conn.specs.Served.{DirGives, Sends}
 
 -- an Open has no reply, so it fails on the endpoint that it carries
 pub open_fails : (request : Asked) (status : Status) → method_of request ≡ method.OpenPath → failure_of request status ≡ refuses status
@@ -86,3 +89,29 @@ pub sends_of_open : (birth : Birth) (position : Position) (room : Room) (tree : 
     Sends (open_act first_methods birth position room tree request path word).answer result
 sends_of_open birth position room tree request path word flags names result e built none same named sends =
     rw (answer_of_open birth position room tree request path word e built (sym none)) (rw (same, named) at sends)
+
+-- an answer without a message is that of the call, where the output is empty
+pub dir_gives : (answer : Answer) (txid : ℕ) (result : DirServed) (out : Written) → Sends answer result → HasNothing out → DirGives answer txid result out
+dir_gives (replies a) txid result out sends empty = absurd sends
+dir_gives closes txid result out sends empty = absurd sends
+dir_gives (binds birth announced) txid result out sends empty = (sends, empty)
+dir_gives (watches mask) txid result out sends empty = (sends, empty)
+dir_gives (forwards mount flags rest) txid result out sends empty = (sends, empty)
+dir_gives (refuses status) txid result out sends empty = (sends, empty)
+dir_gives (ends status) txid result out sends empty = (sends, empty)
+dir_gives hangs_up txid result out sends empty = (sends, empty)
+dir_gives silent txid result out sends empty = (sends, empty)
+
+-- ---- what a method's refusal does
+
+pub act_refused : (birth : Birth) (position : Position) (room : Room) (tree : Tree) (target : Option ℕ) (request : Asked) (status : Status) →
+    first_of (method_refusals first_methods birth (method_of request)) ≡ Some status →
+    (act_of first_methods birth position room tree target request).answer ≡ failure_of request status
+unfolding act_of
+act_refused birth position room tree target request status e = rw e refl
+
+pub act_row : (birth : Birth) (position : Position) (room : Room) (tree : Tree) (target : Option ℕ) (request : Asked) →
+    first_of (method_refusals first_methods birth (method_of request)) ≡ None →
+    act_of first_methods birth position room tree target request ≡ row_act first_methods birth position room tree target request
+unfolding act_of
+act_row birth position room tree target request e = rw e refl

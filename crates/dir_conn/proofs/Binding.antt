@@ -1,6 +1,6 @@
 -- What is bound at the end of a walk, and what the Open answers.
-use Rattle.std.proofs.Common.{◌≡◌, ℕ, true, refl, rules, arith, sym, ap, ◌∙◌, subst}
-use Rattle.std.specs.Prelude.{IsTrue, ◌↔◌, Some, IfSome}
+use Rattle.std.proofs.Common.{◌≡◌, ℕ, sym, subst}
+use Rattle.std.specs.Prelude.{IsTrue, ◌↔◌, IfSome}
 use Rattle.io_rights.specs.declared.operations.Operation.{Operation}
 use Rattle.io_rights.specs.Operations.{OperationSet, has, is_within}
 use Rattle.node_graph.specs.declared.nodes.NodeKind.{NodeKind}

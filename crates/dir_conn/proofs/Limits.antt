@@ -1,5 +1,5 @@
 -- What is granted under one limit.
-use Rattle.std.proofs.Common.{◌≡◌, ℕ, Bool, true, false, ◌&&◌, Option, Some, refl, ap, sym, ◌∙◌}
+use Rattle.std.proofs.Common.{◌≡◌, ℕ, Bool, true, false, ◌&&◌, Some, refl}
 use Rattle.io_flags.specs.Grants.{explicit_rights, granted, granted_kind, grant_of}
 use Rattle.io_rights.specs.declared.operations.Operation.{Operation}
 use Rattle.io_rights.specs.declared.operations.Operation.TheVariants as op

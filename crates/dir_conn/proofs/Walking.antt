@@ -1,12 +1,12 @@
 -- Where a walk leads by its first name.
-use Rattle.std.proofs.Common.{◌≡◌, ◌≢◌, ℕ, List, [], ◌∷◌, drop, Option, Some, None, refl, ap, ◌∙◌, sym, rules}
+use Rattle.std.proofs.Common.{◌≡◌, ◌≢◌, ℕ, List, [], ◌∷◌, drop, Some, None, refl, ap, ◌∙◌, rules}
 use Rattle.std.specs.List.{slice_get}
 use Rattle.fidl_names.specs.declared.statuses.Status.TheVariants as status
 use Rattle.io_rights.specs.Operations.{OperationSet}
 use Rattle.node_graph.specs.declared.nodes.NodeKind.{NodeKind}
 use Rattle.node_graph.specs.Tree.{Tree, EdgeTo}
 use Rattle.conn_rules.specs.Nodes.{edge_at, kind_here}
-use Rattle.conn_rules.specs.Walks.{Walk, walk, last_step, inner_step, last_by_kind, inner_by_kind}
+use Rattle.conn_rules.specs.Walks.{walk, last_step, inner_step, last_by_kind, inner_by_kind}
 use Rattle.dir_conn.specs.Reaches.{reach, at_node, at_nothing, nowhere}
 
 -- a list without a first item is empty; any other is its first item and the rest

@@ -1,3 +1,4 @@
 pub mod Reaches
 pub mod Served
 pub mod Opened
+pub mod Laws

@@ -7,7 +7,7 @@ use Rattle.io_messages.specs.declared.protocols.Protocol.{Protocol}
 use Rattle.io_messages.specs.declared.protocols.Protocol.TheVariants as protocol
 use Rattle.io_rights.specs.Operations.{OperationSet, is_within}
 use Rattle.node_graph.specs.declared.nodes.NodeKind.{NodeKind}
-use Rattle.node_graph.specs.declared.nodes.NodeKind.TheVariants.{Directory, File, Service, Mount}
+use Rattle.node_graph.specs.declared.nodes.NodeKind.TheVariants.{Directory, File, Service}
 use Rattle.node_graph.specs.Graph.{Kept, Names, kind_at, number_of}
 use Rattle.node_graph.specs.Tree.{Tree}
 use Rattle.conn_rules.specs.declared.births.Birth as code

@@ -1,5 +1,5 @@
 -- Where a walk leads, with what the masks on its way leave of some rights.
-use Rattle.std.specs.Prelude.{◌≡◌, ℕ, ◌<◌, List, length, Option, Some, None, IsTrue}
+use Rattle.std.specs.Prelude.{◌≡◌, ℕ, ◌<◌, List, length, Some, IsTrue}
 use Rattle.fidl_names.specs.declared.statuses.Status.{Status}
 use Rattle.io_flags.specs.Grants.{explicit_rights}
 use Rattle.io_rights.specs.Operations.{OperationSet, is_within}

@@ -1,5 +1,5 @@
 -- What a directory's connection answers, and what then stands in its output.
-use Rattle.std.specs.Prelude.{◌≡◌, ℕ, Bool}
+use Rattle.std.specs.Prelude.{◌≡◌, ℕ}
 use Rattle.fidl_names.specs.declared.methods.Method.TheVariants as method
 use Rattle.fidl_wire.specs.Written.{Written}
 use Rattle.io_messages.specs.Replies.{done}
@@ -17,6 +17,13 @@ Sends (binds birth announced) result = (found : code.Birth) × (result ≡ serve
 Sends (forwards mount flags rest) result = result ≡ served.Forward mount flags rest
 Sends (refuses status) result = result ≡ served.Refused status
 Sends _ result = ⊥
+
+-- an endpoint that the request carries is spoken of, and no message
+abbrev pub IsUnwritten : DirServed → Type 0
+IsUnwritten (served.Bind found) = Unit {0}
+IsUnwritten (served.Forward mount flags rest) = Unit {0}
+IsUnwritten (served.Refused status) = Unit {0}
+IsUnwritten _ = ⊥
 
 -- the call gives this answer to a request with this transaction id
 abbrev pub DirGives : Answer → ℕ → DirServed → Written → Type 0

@@ -10,7 +10,7 @@ ghost use Rattle.conn_rules.specs.Built.{first_methods, is_first_kind};
 ghost use Rattle.conn_rules.specs.Nodes.{is_file};
 ghost use Rattle.conn_rules.specs.Opens.{arrival_refusals, birth_for, binding, connects_without_right, flag_of, is_full, is_other_kind, marks_file, other_kind_status, protocol_of};
 ghost use Rattle.conn_rules.specs.Refusals.{first_of};
-ghost use Rattle.dir_conn.specs.Served.{Sends};
+ghost use Rattle.dir_conn.specs.Served.{IsUnwritten, Sends};
 ghost use Rattle.dir_conn.specs.Opened.{refused_or, FitsKind};
 
 use crate::served::DirServed;
@@ -25,10 +25,17 @@ use node_graph::{NodeKind, NodeRef};
 const MOST_CONNECTIONS: u32 = 4096;
 
 /// Binds the node that an Open leads to, unless it is refused.
-pub(crate) fn bind<'a>(flags: OpenFlags, room: Room, node: NodeRef, kind: NodeKind, limit: Rights) -> DirServed<'a>
+pub(crate) fn bind<'a>(
+    flags: OpenFlags,
+    room: Room,
+    node: NodeRef,
+    kind: NodeKind,
+    limit: Rights,
+) -> DirServed<'a>
     requires explicit { IsTrue (is_within (explicit_rights flags) limit) }
     ensures sends { Sends (refused_or (first_of (arrival_refusals first_methods room flags kind)) (binding flags limit (number_of node) kind)) result }
     ensures bound { (found : Birth) → result ≡ DirServed.Bind found → (found.node ≡ node) × IsTrue (is_within found.rights limit) × FitsKind found.protocol kind }
+    ensures unwritten { IsUnwritten result }
 {
     match refusal(flags, room, kind) {
         Some(status) => DirServed::Refused(status),
@@ -97,7 +104,8 @@ fn other_kind_status(flags: OpenFlags) -> Status
 fn marks_other_than_file(flags: OpenFlags, kind: NodeKind) -> bool
     ensures { result ≡ (marks_file flags && not (is_file kind)) }
 {
-    (flags.has(Flag::FileAppend) || flags.has(Flag::FileTruncate)) && !matches!(kind, NodeKind::File)
+    (flags.has(Flag::FileAppend) || flags.has(Flag::FileTruncate))
+        && !matches!(kind, NodeKind::File)
 }
 
 /// Nodes of this kind are served today.

@@ -93,38 +93,11 @@ impl DirConn {
         ensures ends { result ≡ DirServed.ReplyEnd → asked request.entry ≡ asks.close }
         ensures memory { result ≢ DirServed.NoMemory }
     {
-        serve(&self.birth, ordinals, graph, room, txid, request, out)
-    }
-}
-
-/// Serves one request on a connection with this birth.
-fn serve<'a>(
-    birth: &Birth,
-    ordinals: &Ordinals,
-    graph: &Graph,
-    room: Room,
-    txid: u32,
-    request: Request<'a>,
-    out: &mut Out,
-) -> DirServed<'a>
-    requires kept { Names graph.now birth.now.node }
-    requires kind { kind_at graph.now (number_of birth.now.node) ≡ Some Directory }
-    requires protocol { birth.now.protocol ≡ Protocol.Directory }
-    requires method { has_method Protocol.Directory (method_of (asked request)) ≡ true }
-    requires txid { has_txid (is_one_way (method_of (asked request))) txid ≡ true }
-    requires empty { HasNothing out.old }
-    ensures answer { (tree : Tree) → StandsFor graph.now tree → (position : Position) (target : Option ℕ) →
-        DirGives (act_of first_methods (born birth.now) position room tree target (asked request.entry)).answer txid result out.new }
-    ensures bound { (found : Birth) → result ≡ DirServed.Bind found → IsBound graph.now birth.now.rights found }
-    ensures binds { (found : Birth) → result ≡ DirServed.Bind found → method_of (asked request.entry) ≢ method.OpenPath →
-        IsCloneOf birth.now found × (method_of (asked request.entry) ≡ method.Clone) }
-    ensures ends { result ≡ DirServed.ReplyEnd → asked request.entry ≡ asks.close }
-    ensures memory { result ≢ DirServed.NoMemory }
-{
-    let method = method_of(&request);
-    match method_refusal(birth, method) {
-        Some(status) => of_node(fail(ordinals, txid, method, status, out)),
-        None => serve_row(birth, ordinals, graph, room, txid, request, out),
+        let method = method_of(&request);
+        match method_refusal(&self.birth, method) {
+            Some(status) => of_node(fail(ordinals, txid, method, status, out)),
+            None => serve_row(&self.birth, ordinals, graph, room, txid, request, out),
+        }
     }
 }
 

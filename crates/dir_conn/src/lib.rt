@@ -4,10 +4,15 @@
 mod arrive;
 mod conn;
 mod entry;
+mod laws;
 mod open;
 mod served;
 mod steps;
 mod walk;
 
 pub use conn::DirConn;
+pub use laws::opens_only_narrow;
 pub use served::DirServed;
+
+#[cfg(test)]
+mod tests;

@@ -14,7 +14,7 @@ ghost use Rattle.conn_rules.specs.Opens.{open_act};
 ghost use Rattle.conn_rules.specs.Walks.{walk};
 ghost use Rattle.dir_conn.specs.Opened.{IsBound, answer_at};
 ghost use Rattle.dir_conn.specs.Reaches.{reach, reached, Arrived};
-ghost use Rattle.dir_conn.specs.Served.{Sends};
+ghost use Rattle.dir_conn.specs.Served.{IsUnwritten, Sends};
 
 use crate::arrive::bind;
 use crate::entry::enter;
@@ -29,12 +29,19 @@ use node_graph::Graph;
 use path_walk::Path;
 
 /// Opens the node at a path: binds it, sends the Open on behind a mount, or refuses it.
-pub(crate) fn open<'a>(birth: &Birth, graph: &Graph, room: Room, text: &'a [u8], word: u64) -> DirServed<'a>
+pub(crate) fn open<'a>(
+    birth: &Birth,
+    graph: &Graph,
+    room: Room,
+    text: &'a [u8],
+    word: u64,
+) -> DirServed<'a>
     requires kept { Names graph.now birth.now.node }
     requires kind { kind_at graph.now (number_of birth.now.node) ≡ Some Directory }
     ensures sends { (tree : Tree) → StandsFor graph.now tree → (position : Position) (request : Asked) → method_of request ≡ method.OpenPath →
         Sends (open_act first_methods (born birth.now) position room tree request text.now word).answer result }
     ensures bound { (found : Birth) → result ≡ DirServed.Bind found → IsBound graph.now birth.now.rights found }
+    ensures unwritten { IsUnwritten result }
 {
     match enter(birth, text, word) {
         Err(status) => DirServed::Refused(status),
@@ -43,13 +50,20 @@ pub(crate) fn open<'a>(birth: &Birth, graph: &Graph, room: Room, text: &'a [u8],
 }
 
 /// Walks the path of an Open that was refused by none of the tests before.
-fn follow<'a>(birth: &Birth, graph: &Graph, room: Room, flags: OpenFlags, path: Path<'a>) -> DirServed<'a>
+fn follow<'a>(
+    birth: &Birth,
+    graph: &Graph,
+    room: Room,
+    flags: OpenFlags,
+    path: Path<'a>,
+) -> DirServed<'a>
     requires kept { Names graph.now birth.now.node }
     requires kind { kind_at graph.now (number_of birth.now.node) ≡ Some Directory }
     requires explicit { IsTrue (is_within (explicit_rights flags) birth.now.rights) }
     ensures sends { (tree : Tree) → StandsFor graph.now tree →
         Sends (answer_at room tree flags (reach birth.now.rights (walk tree flags path.entry (number_of birth.now.node)))) result }
     ensures bound { (found : Birth) → result ≡ DirServed.Bind found → IsBound graph.now birth.now.rights found }
+    ensures unwritten { IsUnwritten result }
 {
     let start = Spot {
         directory: birth.node,
@@ -60,10 +74,17 @@ fn follow<'a>(birth: &Birth, graph: &Graph, room: Room, flags: OpenFlags, path: 
 }
 
 /// What is answered at the end of a walk that began with these rights.
-fn answer<'a>(graph: &Graph, flags: OpenFlags, room: Room, rights: Rights, end: Walked<'a>) -> DirServed<'a>
+fn answer<'a>(
+    graph: &Graph,
+    flags: OpenFlags,
+    room: Room,
+    rights: Rights,
+    end: Walked<'a>,
+) -> DirServed<'a>
     requires arrived { Arrived graph.now flags rights end }
     ensures sends { (tree : Tree) → StandsFor graph.now tree → Sends (answer_at room tree flags (reached end.entry)) result }
     ensures bound { (found : Birth) → result ≡ DirServed.Bind found → IsBound graph.now rights found }
+    ensures unwritten { IsUnwritten result }
 {
     kept_nodes_are_rows();
     laws_of_rights();

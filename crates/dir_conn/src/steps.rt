@@ -87,7 +87,13 @@ fn stay<'a>(spot: Spot) -> Walked<'a>
 }
 
 /// Takes the last name, which alone may be missing.
-fn take_last<'a>(graph: &Graph, flags: OpenFlags, spot: Spot, name: &[u8], end: Path<'a>) -> Walked<'a>
+fn take_last<'a>(
+    graph: &Graph,
+    flags: OpenFlags,
+    spot: Spot,
+    name: &[u8],
+    end: Path<'a>,
+) -> Walked<'a>
     requires stands { Stands graph.now flags spot }
     requires end { end ≡ [] }
     ensures leads { (tree : Tree) → StandsFor graph.now tree →
@@ -101,7 +107,13 @@ fn take_last<'a>(graph: &Graph, flags: OpenFlags, spot: Spot, name: &[u8], end: 
 }
 
 /// Takes a name that others follow.
-fn take_inner<'a>(graph: &Graph, flags: OpenFlags, spot: Spot, name: &[u8], rest: Path<'a>) -> Step<'a>
+fn take_inner<'a>(
+    graph: &Graph,
+    flags: OpenFlags,
+    spot: Spot,
+    name: &[u8],
+    rest: Path<'a>,
+) -> Step<'a>
     requires stands { Stands graph.now flags spot }
     requires more { rest ≢ [] }
     ensures leads { (tree : Tree) → StandsFor graph.now tree →
@@ -151,11 +163,7 @@ fn cross<'a>(wanted: Rights, mask: Rights, mount: u32, rest: Path<'a>, limit: Ri
     ensures { result ≡ if is_within wanted mask then Walked.Crosses mount rest.entry limit else Walked.Stops Status.AccessDenied }
 {
     if wanted.within(mask) {
-        Walked::Crosses {
-            mount,
-            rest,
-            limit,
-        }
+        Walked::Crosses { mount, rest, limit }
     } else {
         Walked::Stops(Status::AccessDenied)
     }

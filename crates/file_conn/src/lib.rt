@@ -5,3 +5,6 @@ mod connection;
 mod reading;
 
 pub use connection::FileConn;
+
+#[cfg(test)]
+mod tests;

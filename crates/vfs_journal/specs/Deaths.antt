@@ -1,5 +1,5 @@
 -- Which endpoints die of a serving.
-use Rattle.std.specs.Prelude.{ℕ, ◌==◌, ◌||◌, Bool, false, not, if◌then◌else◌, List, [], ◌∷◌, ◌++◌, filter, Option}
+use Rattle.std.specs.Prelude.{ℕ, ◌==◌, ◌||◌, Bool, false, not, if◌then◌else◌, List, [], ◌∷◌, ◌++◌, filter}
 use Rattle.std.specs.Option.{option_map_or}
 use Rattle.endpoint_link.specs.Numbering.{among}
 use Rattle.vfs_journal.specs.Entries.{Sent, endpoints_in}

@@ -1,5 +1,5 @@
 -- The journal of a session: what was sent, served and refused, in order of happening.
-use Rattle.std.specs.Prelude.{ℕ, ◌≤◌, ◌==◌, Bool, true, false, nat_le, if◌then◌else◌, List, [], ◌∷◌, map, filter, Option, Some, None}
+use Rattle.std.specs.Prelude.{ℕ, Bool, true, false, nat_le, if◌then◌else◌, List, [], filter, Option}
 use Rattle.fidl_names.specs.declared.methods.Handle.{Handle}
 use Rattle.fidl_names.specs.declared.methods.Handle.TheVariants.{Endpoint, Token}
 use Rattle.endpoint_link.specs.declared.kinds.Refusal.{Refusal}

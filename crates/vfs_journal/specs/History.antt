@@ -1,5 +1,5 @@
 -- Looking back through the journal: each notion is a function of the start and of what happened.
-use Rattle.std.specs.Prelude.{ℕ, ◌+◌, ◌==◌, ◌&&◌, ◌||◌, Bool, true, false, not, is_some, if◌then◌else◌, List, [], ◌∷◌, ◌++◌, length, map, filter, filter_map, flat_map, find, reverse, count_by, Option, Some, None, slice_index_or, slice_set}
+use Rattle.std.specs.Prelude.{ℕ, ◌+◌, ◌==◌, ◌&&◌, ◌||◌, Bool, true, false, not, is_some, if◌then◌else◌, List, [], ◌∷◌, ◌++◌, length, filter, filter_map, flat_map, find, reverse, count_by, Option, Some, None, slice_index_or, slice_set}
 use Rattle.std.specs.List.{list_any}
 use Rattle.std.specs.Option.{option_map_or}
 use Rattle.endpoint_link.specs.declared.kinds.Standing.{Standing}
@@ -9,7 +9,7 @@ use Rattle.io_messages.specs.declared.protocols.Protocol.{Protocol}
 use Rattle.io_messages.specs.declared.protocols.Protocol.TheVariants as protocol
 use Rattle.node_graph.specs.Tree.{Tree, Change, bare_tree, after}
 use Rattle.conn_rules.specs.Births.{Position, fresh}
-use Rattle.vfs_journal.specs.Entries.{Sent, Entry, sends, serves, refuses, handles_of, endpoints_in, is_hang_up}
+use Rattle.vfs_journal.specs.Entries.{Sent, Entry, sends, serves, handles_of, endpoints_in, is_hang_up}
 use Rattle.vfs_journal.specs.Starts.{Bound, Start}
 use Rattle.vfs_journal.specs.Outcomes.{Outcome}
 

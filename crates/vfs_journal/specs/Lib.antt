@@ -10,3 +10,11 @@ pub mod Watching
 pub mod Output
 pub mod Session
 pub mod Lawful
+pub mod RowTree
+pub mod Rows
+pub mod RowOpens
+pub mod RowFiles
+pub mod RowLink
+pub mod RowNames
+pub mod RowMounts
+pub mod Laws

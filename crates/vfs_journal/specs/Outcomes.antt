@@ -1,6 +1,5 @@
 -- What the serving of an entry answers: its parts, each a function of the act's answer.
 use Rattle.std.specs.Prelude.{ℕ, Bool, false, if◌then◌else◌, List, [], ◌∷◌, map, Option, Some, None}
-use Rattle.fidl_names.specs.declared.methods.Handle.{Handle}
 use Rattle.fidl_names.specs.declared.methods.Method.TheVariants as method
 use Rattle.fidl_names.specs.declared.statuses.Status.{Status}
 use Rattle.fidl_names.specs.StatusNumber.{number_of}
@@ -39,9 +38,10 @@ pub record Forwarded : Type 0 where
   pub bytes : List ℕ
   pub object : ℕ
 
--- a token that was given, with the directory that it names
+-- a token that was given, with the endpoint that it was given on and the directory that it names
 pub record Given : Type 0 where
   pub token : ℕ
+  pub endpoint : ℕ
   pub server : ℕ
   pub node : ℕ
 
@@ -108,7 +108,8 @@ forward_of asker (forwards mount flags rest) =
 forward_of asker _ = None
 
 abbrev pub token_in : Asker → Answered → Option Given
-token_in asker (answered.token number) = Some (record { token = number; server = asker.server; node = asker.node })
+token_in asker (answered.token number) =
+    Some (record { token = number; endpoint = asker.endpoint; server = asker.server; node = asker.node })
 token_in asker _ = None
 
 abbrev pub token_of : Asker → Answer → Option Given

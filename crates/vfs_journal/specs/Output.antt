@@ -1,5 +1,5 @@
 -- The frames that a journal stands for.
-use Rattle.std.specs.Prelude.{ℕ, true, not, List, [], ◌∷◌, ◌++◌, map, filter, Option}
+use Rattle.std.specs.Prelude.{ℕ, true, not, List, [], ◌∷◌, ◌++◌, map, filter}
 use Rattle.std.specs.FinMap as finite
 use Rattle.std.specs.Int.{w32, cast_unsigned}
 use Rattle.std.specs.Option.{option_map_or}
@@ -16,9 +16,9 @@ use Rattle.endpoint_link.specs.Numbering.{among}
 use Rattle.conn_rules.specs.Built.{Built}
 use Rattle.vfs_journal.specs.Entries.{Entry, sends, serves, refuses, Journal}
 use Rattle.vfs_journal.specs.History.{Event, History, trees_of, tree_at}
-use Rattle.vfs_journal.specs.Outcomes.{Outcome, close_frame}
+use Rattle.vfs_journal.specs.Outcomes.{close_frame}
 use Rattle.vfs_journal.specs.Past.{history_of}
-use Rattle.vfs_journal.specs.Starts.{Bound, Start}
+use Rattle.vfs_journal.specs.Starts.{Start}
 use Rattle.vfs_journal.specs.Watching.{first_frames, told_frames}
 
 -- the status of a refusal

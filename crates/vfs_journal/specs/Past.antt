@@ -1,5 +1,5 @@
 -- The one recursion: each entry of a journal as it is seen from its past.
-use Rattle.std.specs.Prelude.{ℕ, List, [], ◌∷◌}
+use Rattle.std.specs.Prelude.{[], ◌∷◌}
 use Rattle.conn_rules.specs.Built.{Built}
 use Rattle.vfs_journal.specs.Entries.{Entry, sends, serves, refuses, Journal}
 use Rattle.vfs_journal.specs.Deaths.{deaths_of}

@@ -1,5 +1,5 @@
 -- The journal that frames make, and the servings of Turns, Picks and drains.
-use Rattle.std.specs.Prelude.{ℕ, zero, suc, ◌+◌, ◌==◌, Bool, false, List, [], ◌∷◌, length, map, find, sum_by, Option, Some, None, Result, Ok, Err, if◌then◌else◌, fold}
+use Rattle.std.specs.Prelude.{ℕ, zero, suc, ◌+◌, ◌==◌, Bool, false, List, [], ◌∷◌, length, find, sum_by, Option, Some, None, Ok, if◌then◌else◌, fold}
 use Rattle.std.specs.Option.{option_map_or}
 use Rattle.endpoint_link.specs.Admission.{LookUps, admission}
 use Rattle.endpoint_link.specs.declared.kinds.FrameKind.{FrameKind}
@@ -14,12 +14,12 @@ use Rattle.io_messages.specs.Asked as asks
 use Rattle.io_messages.specs.declared.protocols.Protocol.TheVariants as protocol
 use Rattle.path_walk.specs.Paths.{names_of}
 use Rattle.conn_rules.specs.Built.{Built}
-use Rattle.vfs_journal.specs.Entries.{Sending, message, hang_up, Sent, Entry, sends, serves, refuses, Journal}
+use Rattle.vfs_journal.specs.Entries.{Sending, message, hang_up, Sent, sends, serves, refuses, Journal}
 use Rattle.vfs_journal.specs.History.{History, bound_at, is_bound, waiting, standing_of, is_used, live_count}
 use Rattle.vfs_journal.specs.Outcomes.{Forwarded}
 use Rattle.vfs_journal.specs.Past.{history_of}
 use Rattle.vfs_journal.specs.Serving.{Read, read_by, outcome_of}
-use Rattle.vfs_journal.specs.Starts.{Bound, Start}
+use Rattle.vfs_journal.specs.Starts.{Start}
 use Rattle.vfs_journal.specs.Tokens.{is_held}
 
 -- ---- which entry is served

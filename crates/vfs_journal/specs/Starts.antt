@@ -1,5 +1,5 @@
 -- What a session begins with: each server's tree, the first connections, and the ends of mounts.
-use Rattle.std.specs.Prelude.{ℕ, ◌+◌, false, List, map, length}
+use Rattle.std.specs.Prelude.{ℕ, false, List, map, length}
 use Rattle.std.specs.List.{enumerate_from, range_with_len}
 use Rattle.io_messages.specs.declared.protocols.Protocol.TheVariants as protocol
 use Rattle.io_rights.specs.Operations.{OperationSet}

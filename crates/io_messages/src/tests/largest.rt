@@ -35,6 +35,7 @@ fn the_longest_messages_are_read_and_written(rt: HostRuntime) -> Result<(), Fail
 }
 
 #[test]
+#[tactic(auto, unfolding(fidl_wire::specs::Numbers::padding_after))]
 fn the_longest_read_is_answered(rt: HostRuntime) -> Result<(), Fail> {
     let ordinals = Ordinals::new()?;
     let mut bytes = [0x7a; 8_240];

@@ -1,7 +1,5 @@
 -- An Open without a refusal before the walk answers what its walk does.
-use Rattle.std.proofs.Common.{sym, ◌∙◌, ap, subst}
 use Rattle.conn_rules.specs.Births.{born}
-use Rattle.dir_conn.specs.Served.{Sends}
 use Rattle.dir_conn.proofs.Acting.{sends_of_open}
 use Rattle.dir_conn.proofs.open.open.Goals as goal
 

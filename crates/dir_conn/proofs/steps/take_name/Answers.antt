@@ -18,6 +18,6 @@ pub returns-in-None-first-clause-leads : goal.returns-in-None-first-clause-leads
 returns-in-None-first-clause-leads c = λ tree stands.
     let end : c.rest-rest.result ≡ [] = no_first c.rest-rest.result (sym c.in-None-first.ensures.head) in
     let whole : c.args.path ≡ c.in-Some.name.now ∷ [] =
-        first_and_rest c.args.path c.in-Some.name.now (sym c.in-Some.ensures.head) ∙ ap (λ rest. c.in-Some.name.now ∷ rest) (sym c.rest-rest.ensures ∙ end) in
+    first_and_rest c.args.path c.in-Some.name.now (sym c.in-Some.ensures.head) ∙ ap (λ rest. c.in-Some.name.now ∷ rest) (sym c.rest-rest.ensures ∙ end) in
     c.take_last.ensures.leads tree stands
     ∙ ap (λ names. reach c.args.spot.limit (walk tree c.args.flags names (number_of c.args.spot.directory))) (sym whole)

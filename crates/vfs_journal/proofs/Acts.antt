@@ -1,0 +1,309 @@
+-- What acts answer: an Open binds, is refused or goes on; only GetToken gives a token, the next one.
+use Rattle.std.proofs.Common.{◌≡◌, ℕ, ◌<◌, Bool, true, false, cond, not, nat_lt, is_some, if◌then◌else◌, List, [], ◌∷◌, ◌++◌, length, Option, Some, None, refl, ap, ◌∙◌, subst, arith}
+use Rattle.std.specs.Option.{option_map}
+use Rattle.fidl_names.specs.declared.methods.Method.TheVariants as method
+use Rattle.fidl_names.specs.declared.statuses.Status.{Status}
+use Rattle.fidl_names.specs.declared.statuses.Status.TheVariants as status
+use Rattle.io_flags.specs.Faults.{flag_fault, status_of}
+use Rattle.io_flags.specs.Grants.{onward, asked_rights, explicit_rights}
+use Rattle.io_flags.specs.Words.{has}
+use Rattle.io_flags.specs.declared.names.Flag.TheVariants as flag
+use Rattle.io_messages.specs.Asked.{Asked, method_of}
+use Rattle.io_messages.specs.Asked as asks
+use Rattle.io_messages.specs.Replies.{Answered, done, fails, counted, payload, settled, attributes, unknown}
+use Rattle.io_messages.specs.Replies as answered
+use Rattle.io_rights.specs.Operations.{OperationSet, is_within}
+use Rattle.node_graph.specs.declared.nodes.NodeKind.{NodeKind}
+use Rattle.node_graph.specs.declared.nodes.NodeKind.TheVariants.{Directory, File, Service, Mount}
+use Rattle.node_graph.specs.declared.TheConstants as limit
+use Rattle.node_graph.specs.Graph.{write_change}
+use Rattle.node_graph.specs.Tree.{Tree, EdgeTo, Change, make, fill, stay}
+use Rattle.path_walk.specs.Paths.{path_fault, names_of}
+use Rattle.conn_rules.specs.declared.births.Room.{Room}
+use Rattle.conn_rules.specs.Acts.{act_of, row_act, method_refusals}
+use Rattle.conn_rules.specs.Answers.{Answer, replies, closes, binds, watches, forwards, refuses, Act, only, failure_of}
+use Rattle.conn_rules.specs.Births.{Birth, Position}
+use Rattle.conn_rules.specs.Built.{Built}
+use Rattle.conn_rules.specs.FileRows.{write_start, is_too_much, reading_refusal, is_no_position, seek_sum}
+use Rattle.conn_rules.specs.Listings.{fits_none, listing}
+use Rattle.conn_rules.specs.NameRows.{unlink_refusals, watch_refusals, token_act, link_into, linked, name_in, rename_into, is_same_name, replacing_refusals, moving}
+use Rattle.conn_rules.specs.Nodes.{bytes_of, edge_at, kind_here, kind_behind}
+use Rattle.conn_rules.specs.Opens.{is_full, open_act, by_walk, entry_refusals, arrival_refusals, making_refusals}
+use Rattle.conn_rules.specs.Refusals.{refused_if, first_of, unless}
+use Rattle.conn_rules.specs.Walks.{Walk, arrives, missing, crosses, stops, behind, passing, last_by_kind, last_step, inner_rights, inner_by_kind, inner_step, walk, limit_of}
+
+-- ---- a walk that crosses a mount
+
+pub record Crossing (tree : Tree) (names : List (List ℕ)) (mount : ℕ) (rest : List (List ℕ)) : Type 0 where
+  pub front : List (List ℕ)
+  pub some : 0 < length front
+  pub split : names ≡ front ++ rest
+  pub node : ℕ
+  pub kind : kind_here tree node ≡ Mount mount
+
+crossing_at : (tree : Tree) (name : List ℕ) (rest : List (List ℕ)) (mount : ℕ) (node : ℕ) → kind_here tree node ≡ Mount mount → Crossing tree (name ∷ rest) mount rest
+crossing_at tree name rest mount node is = record { front = name ∷ []; some = omega arith; split = refl; node = node; kind = is }
+
+crossing_later : (tree : Tree) (name : List ℕ) (names : List (List ℕ)) (mount : ℕ) (rest : List (List ℕ)) → Crossing tree names mount rest → Crossing tree (name ∷ names) mount rest
+crossing_later tree name names mount rest h = record { front = name ∷ h.front; some = omega arith; split = ap (λ ns. name ∷ ns) h.split; node = h.node; kind = h.kind }
+
+-- the walk behind a name crosses where it did before
+crossed_behind : (mask : OperationSet) (w : Walk) (mount : ℕ) (rest : List (List ℕ)) (masks : List OperationSet) → behind mask w ≡ crosses mount rest masks → (more : List OperationSet) × (w ≡ crosses mount rest more)
+crossed_behind mask (arrives node more) mount rest masks e = absurd (cc)
+crossed_behind mask (missing directory name more) mount rest masks e = absurd (cc)
+crossed_behind mask (crosses index names more) mount rest masks e = (more, cc)
+crossed_behind mask (stops status) mount rest masks e = absurd (cc)
+
+crossed_passing : (b : Bool) (s : Status) (mask : OperationSet) (w : Walk) (mount : ℕ) (rest : List (List ℕ)) (masks : List OperationSet) → cond b (behind mask w) (stops s) ≡ crosses mount rest masks → (more : List OperationSet) × (w ≡ crosses mount rest more)
+crossed_passing true s mask w mount rest masks e = crossed_behind mask w mount rest masks e
+crossed_passing false s mask w mount rest masks e = absurd (cc)
+
+passed : (wanted mask : OperationSet) (w : Walk) (mount : ℕ) (rest : List (List ℕ)) (masks : List OperationSet) → passing wanted mask w ≡ crosses mount rest masks → (more : List OperationSet) × (w ≡ crosses mount rest more)
+passed wanted mask w mount rest masks e = crossed_passing (is_within wanted mask) _ mask w mount rest masks e
+
+last_crossing : (tree : Tree) (word : ℕ) (name : List ℕ) (edge : EdgeTo) (k : NodeKind) → kind_behind tree edge ≡ k → (mount : ℕ) (rest : List (List ℕ)) (masks : List OperationSet) →
+    last_by_kind word edge k ≡ crosses mount rest masks → Crossing tree (name ∷ []) mount rest
+last_crossing tree word name edge (Mount index) is mount rest masks e =
+    let at = passed (asked_rights word) edge.mask (crosses index [] []) mount rest masks e in
+    let same : index ≡ mount = cc at.1 in
+    let none : [] ≡ rest = cc at.1 in
+    subst (λ names. Crossing tree (name ∷ []) mount names) none (crossing_at tree name [] mount edge.child (is ∙ ap (λ (n : ℕ). Mount n) same))
+last_crossing tree word name edge Directory is mount rest masks e = let at = passed (explicit_rights word) edge.mask (arrives edge.child []) mount rest masks e in absurd (cc at.1)
+last_crossing tree word name edge File is mount rest masks e = let at = passed (explicit_rights word) edge.mask (arrives edge.child []) mount rest masks e in absurd (cc at.1)
+last_crossing tree word name edge Service is mount rest masks e = let at = passed (explicit_rights word) edge.mask (arrives edge.child []) mount rest masks e in absurd (cc at.1)
+
+inner_crossing : (tree : Tree) (word : ℕ) (name : List ℕ) (names : List (List ℕ)) (edge : EdgeTo) (w : Walk) (k : NodeKind) → kind_behind tree edge ≡ k → (mount : ℕ) (rest : List (List ℕ)) (masks : List OperationSet) →
+    ((more : List OperationSet) → w ≡ crosses mount rest more → Crossing tree names mount rest) → inner_by_kind word names edge k w ≡ crosses mount rest masks → Crossing tree (name ∷ names) mount rest
+inner_crossing tree word name names edge w (Mount index) is mount rest masks later e =
+    let at = passed (inner_rights word) edge.mask (crosses index names []) mount rest masks e in
+    let same : index ≡ mount = cc at.1 in
+    let left : names ≡ rest = cc at.1 in
+    subst (λ ns. Crossing tree (name ∷ names) mount ns) left (crossing_at tree name names mount edge.child (is ∙ ap (λ (n : ℕ). Mount n) same))
+inner_crossing tree word name names edge w Directory is mount rest masks later e =
+    let at = passed (inner_rights word) edge.mask w mount rest masks e in
+    crossing_later tree name names mount rest (later at.0 at.1)
+inner_crossing tree word name names edge w File is mount rest masks later e = absurd (cc)
+inner_crossing tree word name names edge w Service is mount rest masks later e = absurd (cc)
+
+last_edge : (tree : Tree) (word directory : ℕ) (name : List ℕ) (o : Option EdgeTo) (mount : ℕ) (rest : List (List ℕ)) (masks : List OperationSet) →
+    last_step tree word directory name o ≡ crosses mount rest masks → Crossing tree (name ∷ []) mount rest
+last_edge tree word directory name None mount rest masks e = absurd (cc)
+last_edge tree word directory name (Some edge) mount rest masks e = last_crossing tree word name edge (kind_behind tree edge) refl mount rest masks e
+
+inner_edge : (tree : Tree) (word : ℕ) (name : List ℕ) (names : List (List ℕ)) (o : Option EdgeTo) (on : ℕ → Walk) (mount : ℕ) (rest : List (List ℕ)) (masks : List OperationSet) →
+    ((node : ℕ) (more : List OperationSet) → on node ≡ crosses mount rest more → Crossing tree names mount rest) → inner_step tree word names o on ≡ crosses mount rest masks → Crossing tree (name ∷ names) mount rest
+inner_edge tree word name names None on mount rest masks later e = absurd (cc)
+inner_edge tree word name names (Some edge) on mount rest masks later e = inner_crossing tree word name names edge (on edge.child) (kind_behind tree edge) refl mount rest masks (later edge.child) e
+
+pub crossing : (tree : Tree) (word : ℕ) (names : List (List ℕ)) (directory mount : ℕ) (rest : List (List ℕ)) (masks : List OperationSet) → walk tree word names directory ≡ crosses mount rest masks → Crossing tree names mount rest
+unfolding walk
+crossing tree word [] directory mount rest masks e = absurd (cc)
+crossing tree word (name ∷ []) directory mount rest masks e = last_edge tree word directory name (edge_at tree (record { directory = directory; name = name })) mount rest masks e
+crossing tree word (name ∷ next ∷ names) directory mount rest masks e =
+    inner_edge tree word name (next ∷ names) (edge_at tree (record { directory = directory; name = name })) (walk tree word (next ∷ names)) mount rest masks
+    (λ node more f. crossing tree word (next ∷ names) node mount rest more f) e
+
+-- ---- refusals
+
+-- what holds of a failure and of the act holds of the act where nothing refuses
+pub unless_holds : (P : Act → Type 0) (o : Option Status) (position : Position) (request : Asked) (act : Act) → ((s : Status) → P (only position (failure_of request s))) → (o ≡ None → P act) → P (unless o position request act)
+unless_holds P None position request act refused passes = passes refl
+unless_holds P (Some s) position request act refused passes = refused s
+
+first_none : (o : Option Status) (rest : List (Option Status)) → first_of (o ∷ rest) ≡ None → first_of rest ≡ None
+first_none None rest e = e
+first_none (Some s) rest e = absurd (cc)
+
+not_refused : (b : Bool) (s : Status) (rest : List (Option Status)) → first_of (refused_if b s ∷ rest) ≡ None → b ≡ false
+not_refused true s rest e = absurd (cc)
+not_refused false s rest e = refl
+
+none_there : {X : Type 0} (o : Option X) → is_some o ≡ false → o ≡ None
+none_there None e = refl
+none_there (Some x) e = absurd (cc)
+
+path_passes : (built : Built) (birth : Birth) (word : ℕ) (path : List ℕ) → first_of (entry_refusals built birth word path) ≡ None → path_fault path ≡ None
+path_passes built birth word path e =
+    none_there (path_fault path)
+    (not_refused (is_some (path_fault path)) _ _ (first_none (refused_if (not (built.words word)) _) _ (first_none (option_map status_of (flag_fault word)) _ e)))
+
+-- ---- what an Open is answered
+
+pub record GoesOn (tree : Tree) (path : List ℕ) (word mount flags : ℕ) (rest : List (List ℕ)) : Type 0 where
+  pub good : path_fault path ≡ None
+  pub walked : Crossing tree (names_of path) mount rest
+  pub limit : OperationSet
+  pub left : flags ≡ onward word limit
+
+abbrev pub IsOpenAnswer : Tree → List ℕ → ℕ → Answer → Type 0
+IsOpenAnswer tree path word (binds birth announced) = Unit {0}
+IsOpenAnswer tree path word (refuses status) = Unit {0}
+IsOpenAnswer tree path word (forwards mount flags rest) = GoesOn tree path word mount flags rest
+IsOpenAnswer tree path word _ = ⊥
+
+-- no mount is made
+abbrev pub IsMade : NodeKind → Type 0
+IsMade (Mount index) = ⊥
+IsMade _ = Unit {0}
+
+abbrev pub KeepsMounts : Change → Type 0
+KeepsMounts (make key kind mask) = IsMade kind
+KeepsMounts _ = Unit {0}
+
+abbrev IsOpenAct : Tree → List ℕ → ℕ → Act → Type 0
+IsOpenAct tree path word act = IsOpenAnswer tree path word act.answer × KeepsMounts act.change
+
+fills : (b : Bool) (node : ℕ) → KeepsMounts (if b then fill node [] else stay)
+fills true node = tt
+fills false node = tt
+
+made : (b : Bool) → IsMade (if b then Directory else File)
+made true = tt
+made false = tt
+
+by_walk_answers : (built : Built) (birth : Birth) (position : Position) (room : Room) (tree : Tree) (path : List ℕ) (word : ℕ) (given : Option ℕ) (object : ℕ) → path_fault path ≡ None → (w : Walk) →
+    walk tree word (names_of path) birth.node ≡ w → IsOpenAct tree path word (by_walk built birth position room tree (asks.open_path path word given object) word w)
+by_walk_answers built birth position room tree path word given object good (arrives node masks) is =
+    unless_holds (IsOpenAct tree path word) (first_of (arrival_refusals built room word (kind_here tree node))) position (asks.open_path path word given object) _ (λ s. (tt, tt)) (λ e. (tt, fills (has word flag.FileTruncate) node))
+by_walk_answers built birth position room tree path word given object good (missing directory name masks) is =
+    unless_holds (IsOpenAct tree path word) (first_of (making_refusals tree room word directory)) position (asks.open_path path word given object) _ (λ s. (tt, tt)) (λ e. (tt, made (has word flag.ProtocolDirectory)))
+by_walk_answers built birth position room tree path word given object good (crosses mount rest masks) is =
+    (record { good = good; walked = crossing tree word (names_of path) birth.node mount rest masks is; limit = limit_of birth.rights masks; left = refl }, tt)
+by_walk_answers built birth position room tree path word given object good (stops status) is = (tt, tt)
+
+open_answers : (built : Built) (birth : Birth) (position : Position) (room : Room) (tree : Tree) (path : List ℕ) (word : ℕ) (given : Option ℕ) (object : ℕ) →
+    IsOpenAct tree path word (open_act built birth position room tree (asks.open_path path word given object) path word)
+open_answers built birth position room tree path word given object =
+    unless_holds (IsOpenAct tree path word) (first_of (entry_refusals built birth word path)) position (asks.open_path path word given object) _ (λ s. (tt, tt))
+    (λ f. by_walk_answers built birth position room tree path word given object (path_passes built birth word path f) (walk tree word (names_of path) birth.node) refl)
+
+-- ---- what every request is answered
+
+abbrev pub IsNoToken : Answered → Type 0
+IsNoToken (answered.token number) = ⊥
+IsNoToken _ = Unit {0}
+
+-- a reply that gives no token
+abbrev pub IsReply : Answer → Type 0
+IsReply (replies a) = IsNoToken a
+IsReply _ = ⊥
+
+-- the endpoint that a Clone carries is bound, or ends
+abbrev pub IsClone : Answer → Type 0
+IsClone (binds birth announced) = Unit {0}
+IsClone (refuses status) = Unit {0}
+IsClone _ = ⊥
+
+abbrev pub IsWatch : Answer → Type 0
+IsWatch (watches mask) = Unit {0}
+IsWatch (replies a) = IsNoToken a
+IsWatch _ = ⊥
+
+abbrev pub IsTokenIn : Option ℕ → Answered → Type 0
+IsTokenIn next (answered.token number) = next ≡ Some number
+IsTokenIn next _ = Unit {0}
+
+-- the token that is given is the next one
+abbrev pub IsToken : Option ℕ → Answer → Type 0
+IsToken next (replies a) = IsTokenIn next a
+IsToken next _ = ⊥
+
+abbrev pub IsClose : Answer → Type 0
+IsClose closes = Unit {0}
+IsClose (replies a) = IsNoToken a
+IsClose _ = ⊥
+
+abbrev pub IsAnswer : Room → Tree → Asked → Answer → Type 0
+IsAnswer room tree (asks.clone endpoint) answer = IsClone answer
+IsAnswer room tree asks.close answer = IsClose answer
+IsAnswer room tree (asks.open_path path flags given object) answer = IsOpenAnswer tree path flags answer
+IsAnswer room tree (asks.watch mask options watcher) answer = IsWatch answer
+IsAnswer room tree asks.get_token answer = IsToken room.token answer
+IsAnswer room tree _ answer = IsReply answer
+
+abbrev pub IsAct : Room → Tree → Asked → Act → Type 0
+IsAct room tree request act = IsAnswer room tree request act.answer × KeepsMounts act.change
+
+abbrev IsPlain : Act → Type 0
+IsPlain act = IsReply act.answer × KeepsMounts act.change
+
+written : (node : ℕ) (bytes : List ℕ) (offset : ℕ) (data' : List ℕ) → KeepsMounts (write_change node bytes offset data')
+written node bytes offset [] = tt
+written node bytes offset (byte ∷ data') = tt
+
+token_answers : (position : Position) (next : Option ℕ) → IsToken next (token_act position asks.get_token next).answer × KeepsMounts (token_act position asks.get_token next).change
+token_answers position None = (tt, tt)
+token_answers position (Some number) = (refl, tt)
+
+link_answers : (birth : Birth) (position : Position) (tree : Tree) (src : List ℕ) (token : ℕ) (dst : List ℕ) (target : Option ℕ) → IsPlain (link_into birth position tree (asks.link src token dst) src dst target)
+link_answers birth position tree src token dst None = (tt, tt)
+link_answers birth position tree src token dst (Some target) =
+    unless_holds IsPlain _ position (asks.link src token dst) _ (λ s. (tt, tt)) (λ e. by_edge (edge_at tree (name_in birth.node src))) where
+      by_edge : (o : Option EdgeTo) → IsPlain (linked position (asks.link src token dst) (name_in target dst) o)
+      by_edge None = (tt, tt)
+      by_edge (Some edge) = (tt, tt)
+
+rename_answers : (birth : Birth) (position : Position) (tree : Tree) (src : List ℕ) (token : ℕ) (dst : List ℕ) (target : Option ℕ) → IsPlain (rename_into birth position tree (asks.rename src token dst) src dst target)
+rename_answers birth position tree src token dst None = (tt, tt)
+rename_answers birth position tree src token dst (Some target) =
+    unless_holds IsPlain _ position (asks.rename src token dst) _ (λ s. (tt, tt)) (λ e. by_same (is_same_name (name_in birth.node src) (name_in target dst))) where
+      by_same : (b : Bool) → IsPlain (if b then only position (replies (done method.Rename)) else unless (first_of (replacing_refusals tree (name_in birth.node src) (name_in target dst))) position (asks.rename src token dst) (moving position tree (name_in birth.node src) (name_in target dst)))
+      by_same true = (tt, tt)
+      by_same false =
+          unless_holds IsPlain (first_of (replacing_refusals tree (name_in birth.node src) (name_in target dst))) position (asks.rename src token dst)
+          (moving position tree (name_in birth.node src) (name_in target dst)) (λ s. (tt, tt)) (λ e. (tt, tt))
+
+row_answers : (built : Built) (birth : Birth) (position : Position) (room : Room) (tree : Tree) (target : Option ℕ) (request : Asked) → IsAct room tree request (row_act built birth position room tree target request)
+row_answers built birth position room tree target (asks.clone endpoint) = unless_holds (IsAct room tree (asks.clone endpoint)) (first_of (refused_if (is_full room) status.NoResources ∷ [])) position (asks.clone endpoint) _ (λ s. (tt, tt)) (λ e. (tt, tt))
+row_answers built birth position room tree target asks.close = (tt, tt)
+row_answers built birth position room tree target asks.query = (tt, tt)
+row_answers built birth position room tree target (asks.get_attributes bits) = (tt, tt)
+row_answers built birth position room tree target asks.sync = (tt, tt)
+row_answers built birth position room tree target (asks.open_path path flags given object) = open_answers built birth position room tree path flags given object
+row_answers built birth position room tree target (asks.read_dirents most) = unless_holds IsPlain (first_of (refused_if (is_too_much most) status.InvalidArgs ∷ refused_if (fits_none (listing tree birth.node position.place) most) status.BufferTooSmall ∷ [])) position (asks.read_dirents most) _ (λ s. (tt, tt)) (λ e. (tt, tt))
+row_answers built birth position room tree target asks.rewind = (tt, tt)
+row_answers built birth position room tree target asks.get_token = token_answers position room.token
+row_answers built birth position room tree target (asks.rename src token dst) =
+    unless_holds IsPlain _ position (asks.rename src token dst) _ (λ s. (tt, tt)) (λ e. rename_answers birth position tree src token dst target)
+row_answers built birth position room tree target (asks.link src token dst) =
+    unless_holds IsPlain _ position (asks.link src token dst) _ (λ s. (tt, tt)) (λ e. link_answers birth position tree src token dst target)
+row_answers built birth position room tree target (asks.unlink name flags) = unless_holds IsPlain (first_of (unlink_refusals tree (name_in birth.node name) flags)) position (asks.unlink name flags) _ (λ s. (tt, tt)) (λ e. (tt, tt))
+row_answers built birth position room tree target (asks.watch mask options watcher) =
+    unless_holds (IsAct room tree (asks.watch mask options watcher)) (first_of (watch_refusals room mask options)) position (asks.watch mask options watcher) _ (λ s. (tt, tt)) (λ e. (tt, tt))
+row_answers built birth position room tree target (asks.read count) = unless_holds IsPlain (reading_refusal count) position (asks.read count) _ (λ s. (tt, tt)) (λ e. (tt, tt))
+row_answers built birth position room tree target (asks.read_at count offset) = unless_holds IsPlain (reading_refusal count) position (asks.read_at count offset) _ (λ s. (tt, tt)) (λ e. (tt, tt))
+row_answers built birth position room tree target (asks.write bytes) =
+    unless_holds IsPlain _ position (asks.write bytes) _ (λ s. (tt, tt)) (λ e. (tt, written birth.node (bytes_of tree birth.node) (write_start birth position tree) bytes))
+row_answers built birth position room tree target (asks.write_at bytes offset) =
+    unless_holds IsPlain _ position (asks.write_at bytes offset) _ (λ s. (tt, tt)) (λ e. (tt, written birth.node (bytes_of tree birth.node) offset bytes))
+row_answers built birth position room tree target (asks.seek origin offset) = unless_holds IsPlain (first_of (refused_if (nat_lt 2 origin) status.InvalidArgs ∷ refused_if (is_no_position (seek_sum birth position tree origin offset)) status.OutOfRange ∷ [])) position (asks.seek origin offset) _ (λ s. (tt, tt)) (λ e. (tt, tt))
+row_answers built birth position room tree target (asks.resize size) = unless_holds IsPlain (first_of (refused_if (nat_lt limit.MAX_FILE size) status.FileBig ∷ [])) position (asks.resize size) _ (λ s. (tt, tt)) (λ e. (tt, tt))
+row_answers built birth position room tree target (asks.echo_string value) = (tt, tt)
+
+refused_answers : (room : Room) (tree : Tree) (position : Position) (request : Asked) (s : Status) → IsAct room tree request (only position (failure_of request s))
+refused_answers room tree position (asks.clone endpoint) s = (tt, tt)
+refused_answers room tree position asks.close s = (tt, tt)
+refused_answers room tree position asks.query s = (tt, tt)
+refused_answers room tree position (asks.get_attributes bits) s = (tt, tt)
+refused_answers room tree position asks.sync s = (tt, tt)
+refused_answers room tree position (asks.open_path path flags given object) s = (tt, tt)
+refused_answers room tree position (asks.read_dirents most) s = (tt, tt)
+refused_answers room tree position asks.rewind s = (tt, tt)
+refused_answers room tree position asks.get_token s = (tt, tt)
+refused_answers room tree position (asks.rename src token dst) s = (tt, tt)
+refused_answers room tree position (asks.link src token dst) s = (tt, tt)
+refused_answers room tree position (asks.unlink name flags) s = (tt, tt)
+refused_answers room tree position (asks.watch mask options watcher) s = (tt, tt)
+refused_answers room tree position (asks.read count) s = (tt, tt)
+refused_answers room tree position (asks.read_at count offset) s = (tt, tt)
+refused_answers room tree position (asks.write bytes) s = (tt, tt)
+refused_answers room tree position (asks.write_at bytes offset) s = (tt, tt)
+refused_answers room tree position (asks.seek origin offset) s = (tt, tt)
+refused_answers room tree position (asks.resize size) s = (tt, tt)
+refused_answers room tree position (asks.echo_string value) s = (tt, tt)
+
+pub act_answers : (built : Built) (birth : Birth) (position : Position) (room : Room) (tree : Tree) (target : Option ℕ) (request : Asked) → IsAct room tree request (act_of built birth position room tree target request)
+unfolding act_of
+act_answers built birth position room tree target request =
+    unless_holds (IsAct room tree request) (first_of (method_refusals built birth (method_of request))) position request (row_act built birth position room tree target request)
+    (refused_answers room tree position request) (λ e. row_answers built birth position room tree target request)

@@ -1,0 +1,15 @@
+pub mod RowFrames
+pub mod RowServings
+pub mod RowSteps
+pub mod RowTrees
+pub mod Lists
+pub mod Members
+pub mod Steps
+pub mod Stepping
+pub mod Places
+pub mod Requests
+pub mod Below
+pub mod Onward
+pub mod Acts
+pub mod Outcomes
+pub mod Spreading
