@@ -4,7 +4,8 @@ use Rattle.std.specs.List.{list_any}
 use Rattle.std.proofs.lemmas.Bool.{eqb-true, eq-eqb, or_cases}
 use Rattle.endpoint_link.specs.Numbering.{among, is_client}
 use Rattle.vfs_journal.specs.Entries.{Sent, endpoints_in, handles_of}
-use Rattle.vfs_journal.proofs.Members.{contains_here, contains_later, contains_cases, contains_none, kept, kept_of, found, none_found, AllPairs-head, AllPairs-tail}
+use Rattle.vfs_journal.proofs.Lists.{pairs-head, pairs-tail}
+use Rattle.vfs_journal.proofs.Members.{contains_here, contains_later, contains_cases, contains_none, kept, kept_of, found, none_found}
 use Rattle.vfs_journal.proofs.Spreading.{among_front, among_back, among_sides}
 use Rattle.std.proofs.lemmas.List.Elements.{All-contains}
 
@@ -98,5 +99,5 @@ one_by a b x xs behind rest same (inr p) (inr q) = rest p q
 pub one_place : (xs : List Sent) (a b : Sent) → AllPairs (λ x y. x.place < y.place) xs → Contains xs a → Contains xs b → a.place ≡ b.place → a ≡ b
 one_place [] a b pairs p q same = absurd (contains_none a p)
 one_place (x ∷ xs) a b pairs p q same =
-    one_by a b x xs (AllPairs-head (λ x y. x.place < y.place) x xs pairs) (λ g h. one_place xs a b (AllPairs-tail (λ x y. x.place < y.place) x xs pairs) g h same) same
+    one_by a b x xs (pairs-head (λ x y. x.place < y.place) x xs pairs) (λ g h. one_place xs a b (pairs-tail (λ x y. x.place < y.place) x xs pairs) g h same) same
     (contains_cases a x xs p) (contains_cases b x xs q)

@@ -25,7 +25,8 @@ use Rattle.vfs_journal.specs.Starts.{Bound, Start}
 use Rattle.vfs_journal.proofs.Among.{carried_is, carrier_of}
 use Rattle.vfs_journal.proofs.Below.{Below}
 use Rattle.vfs_journal.proofs.Kept.{lawful_kept}
-use Rattle.vfs_journal.proofs.Members.{contains_here, contains_cases, found, none_found, AllPairs-head, kept}
+use Rattle.vfs_journal.proofs.Lists.{pairs-head}
+use Rattle.vfs_journal.proofs.Members.{contains_here, contains_cases, found, none_found, kept}
 use Rattle.vfs_journal.proofs.Places.{waiting_rises}
 use Rattle.vfs_journal.proofs.Stepping.{stepped}
 use Rattle.vfs_journal.proofs.TransitLaws.{in_transit}
@@ -182,7 +183,7 @@ none_by start history h transit [] e rises = refl
 none_by start history h transit (one ∷ ones) e rises =
     absurd
     (first_waits start history h transit one (subst (λ xs. Contains xs one) (sym e) (contains_here one ones))
-    (λ other q. least_by one other ones (AllPairs-head (λ x y. x.place < y.place) one ones rises) (contains_cases other one ones (subst (λ xs. Contains xs other) e q))))
+    (λ other q. least_by one other ones (pairs-head (λ x y. x.place < y.place) one ones rises) (contains_cases other one ones (subst (λ xs. Contains xs other) e q))))
 
 served_or_dead : (history : History) → waiting history ≡ [] → (one : Sent) → Contains (all_sent history) one → (was_served history one ≡ true) ⊎ (is_dead history one.endpoint ≡ true)
 served_or_dead history none one p = by_tests (was_served history one) (is_dead history one.endpoint) refl refl where

@@ -1,7 +1,8 @@
 -- Each lawful journal keeps what is sound.
-use Rattle.std.proofs.Common.{◌≡◌, ℕ, suc, ◌^◌, ◌<◌, ◌≤◌, ◌==◌, ◌&&◌, ◌||◌, ◌⊎◌, Bool, true, false, not, if◌then◌else◌, is_some, List, [], ◌∷◌, ◌++◌, length, Option, Some, None, Ok, Contains, refl, sym, ap, ◌∙◌, subst, inl, inr, arith}
-use Rattle.std.proofs.lemmas.Bool.{eqb-true, eq-eqb, or_cases, or_left, and_parts, ltb-true, not-true, not-false, cases_Bool, true≢false, false_from_ne_true}
-use Rattle.std.proofs.lemmas.List.Elements.{All-contains, Contains-append_left, Contains-append_right, Contains-append_cases}
+use Rattle.std.proofs.Common.{◌≡◌, ◌≢◌, AllPairs, ℕ, suc, ◌^◌, ◌<◌, ◌≤◌, ◌==◌, ◌&&◌, ◌||◌, ◌⊎◌, Bool, true, false, not, if◌then◌else◌, is_some, List, [], ◌∷◌, ◌++◌, length, Option, Some, None, Ok, Contains, refl, sym, ap, ◌∙◌, subst, inl, inr, arith}
+use Rattle.std.proofs.lemmas.Bool.{eqb-false, eqb-true, eq-eqb, or_cases, or_left, and_parts, ltb-true, not-true, not-false, cases_Bool, true≢false, false_from_ne_true}
+use Rattle.std.proofs.lemmas.List.Kept.{AllPairs-cons}
+use Rattle.std.proofs.lemmas.List.Elements.{All-weaker, All-contains_itself, All-contains, Contains-append_left, Contains-append_right, Contains-append_cases}
 use Rattle.endpoint_link.specs.declared.kinds.FrameKind.{FrameKind}
 use Rattle.endpoint_link.specs.declared.kinds.FrameKind.TheVariants as kind
 use Rattle.endpoint_link.specs.declared.kinds.Refusal.{Refusal}
@@ -30,7 +31,7 @@ use Rattle.vfs_journal.specs.Tokens.{all_given, is_held, was_given}
 use Rattle.vfs_journal.proofs.Acts.{KeepsMounts}
 use Rattle.vfs_journal.proofs.Among.{one_passes, passes_any, carried_is, carried_from, carrier_of, some_found, is_found}
 use Rattle.vfs_journal.proofs.Below.{Below}
-use Rattle.vfs_journal.proofs.Members.{contains_none}
+use Rattle.vfs_journal.proofs.Members.{none_passes, contains_none}
 use Rattle.vfs_journal.proofs.Onward.{AreBytes, flags_small, onward_small, onward_reads, path_left}
 use Rattle.vfs_journal.proofs.Outcomes.{HasParts, IsOpened, outcome_is, opened_ends}
 use Rattle.vfs_journal.proofs.Places.{head_is, in_order}
@@ -264,11 +265,12 @@ forward_kept below built start earlier k f s steps past h e =
 
 -- ---- an admitted sending
 
-record IsAdmitted (start : Start) (history : History) (endpoint : ℕ) (handles : List ℕ) : Type 0 where
-  alive : is_dead history endpoint ≡ false
-  live : is_live start history endpoint ≡ true
-  client : is_client endpoint ≡ true
-  travel : (n : ℕ) → among n handles ≡ true → may_travel (look_ups start history) n ≡ true
+pub record IsAdmitted (start : Start) (history : History) (endpoint : ℕ) (handles : List ℕ) : Type 0 where
+  pub alive : is_dead history endpoint ≡ false
+  pub live : is_live start history endpoint ≡ true
+  pub client : is_client endpoint ≡ true
+  pub travel : (n : ℕ) → among n handles ≡ true → may_travel (look_ups start history) n ≡ true
+  pub distinct : AllPairs (λ one other. one ≢ other) handles
 
 first_none : (o : Option Refusal) (rest : List (Option Refusal)) → first_of (o ∷ rest) ≡ None → (o ≡ None) × (first_of rest ≡ None)
 first_none None rest h = (refl, h)
@@ -299,7 +301,22 @@ travel_each l (m ∷ ms) all n h =
     let parts = three (may_travel l m) (not (among m ms)) (all_may_travel l ms) all in
     travel_by l n m parts.0 (m == n) refl (among n ms) (λ g. travel_each l ms parts.1 n g) h
 
-message_admitted : (start : Start) (history : History) (endpoint : ℕ) (handles : List ℕ) → refusal_by kind.Message (look_ups start history) endpoint handles ≡ None → IsAdmitted start history endpoint handles
+-- none of the handles stands twice
+middle : (a b c : Bool) → a && not b && c ≡ true → (b ≡ false) × (c ≡ true)
+middle true false true h = (refl, refl)
+middle true false false h = absurd (cc)
+middle true true c h = absurd (cc)
+middle false b c h = absurd (cc)
+
+handles_apart : (l : LookUps) (handles : List ℕ) → all_may_travel l handles ≡ true → AllPairs (λ one other. one ≢ other) handles
+handles_apart l [] all = λ i j d a b. absurd (omega arith)
+handles_apart l (m ∷ ms) all =
+    let parts = middle (may_travel l m) (among m ms) (all_may_travel l ms) all in
+    AllPairs-cons (λ (one other : ℕ). one ≢ other) m ms
+    (All-weaker (Contains ms) (λ n. m ≢ n) (λ n there same. eqb-false n m (none_passes (λ (x : ℕ). x == m) ms n parts.0 there) (sym same)) ms (All-contains_itself ms))
+    (handles_apart l ms parts.1)
+
+pub message_admitted : (start : Start) (history : History) (endpoint : ℕ) (handles : List ℕ) → refusal_by kind.Message (look_ups start history) endpoint handles ≡ None → IsAdmitted start history endpoint handles
 message_admitted start history endpoint handles h =
     let a = first_none (by_standing (standing_of start history endpoint)) _ h in
     let b = first_none (refused_if (not (is_client endpoint)) refusal.BadHandle) _ a.1 in
@@ -310,9 +327,10 @@ message_admitted start history endpoint handles h =
       live = live.1;
       client = not-false (is_client endpoint) (not_refused (not (is_client endpoint)) refusal.BadHandle b.0);
       travel = travel_each (look_ups start history) handles (not-false (all_may_travel (look_ups start history) handles) (not_refused _ refusal.BadHandle c.0));
+      distinct = handles_apart (look_ups start history) handles (not-false (all_may_travel (look_ups start history) handles) (not_refused _ refusal.BadHandle c.0));
     }
 
-close_admitted : (start : Start) (history : History) (endpoint : ℕ) (handles : List ℕ) → refusal_by kind.Close (look_ups start history) endpoint handles ≡ None → IsAdmitted start history endpoint []
+pub close_admitted : (start : Start) (history : History) (endpoint : ℕ) (handles : List ℕ) → refusal_by kind.Close (look_ups start history) endpoint handles ≡ None → IsAdmitted start history endpoint []
 close_admitted start history endpoint handles h =
     let a = first_none (by_standing (standing_of start history endpoint)) _ h in
     let b = first_none (refused_if (not (is_client endpoint)) refusal.BadHandle) _ a.1 in
@@ -322,6 +340,7 @@ close_admitted start history endpoint handles h =
       live = live.1;
       client = not-false (is_client endpoint) (not_refused (not (is_client endpoint)) refusal.BadHandle b.0);
       travel = λ n none. absurd (cc);
+      distinct = λ i j d a b. absurd (omega arith);
     }
 
 -- a token that is held is no endpoint
@@ -466,7 +485,7 @@ refused_kept built start earlier endpoint why past =
       transit = subst (λ v. Transit start v nothing_left) same past.transit;
     }
 
-refusal_of : (l : LookUps) (frame : Frame) (k : FrameKind) → frame.kind ≡ k → admission l frame ≡ None → refusal_by k l frame.endpoint frame.handles ≡ None
+pub refusal_of : (l : LookUps) (frame : Frame) (k : FrameKind) → frame.kind ≡ k → admission l frame ≡ None → refusal_by k l frame.endpoint frame.handles ≡ None
 refusal_of l frame k is h = ap (λ (x : FrameKind). refusal_by x l frame.endpoint frame.handles) (sym is) ∙ h
 
 pub lawful_kept : Below → (built : Built) (start : Start) → IsStart start → (journal : Journal) → Lawful built start journal → IsKept built start journal

@@ -21,3 +21,5 @@ pub mod Kept
 pub mod TransitLaws
 pub mod Weights
 pub mod Draining
+pub mod Starting
+pub mod Apart

@@ -1,8 +1,9 @@
 -- Lists in order, and what is kept of them.
-use Rattle.std.proofs.Common.{◌≡◌, ℕ, ◌==◌, ◌&&◌, Bool, true, false, cond, List, [], ◌∷◌, ◌++◌, reverse, Option, Some, None, filter, filter_map, option_to_list, refl, sym, ap, ◌∙◌}
+use Rattle.std.proofs.Common.{◌≡◌, ℕ, suc, All, AllPairs, map, arith, ◌==◌, ◌&&◌, Bool, true, false, cond, List, [], ◌∷◌, ◌++◌, reverse, Option, Some, None, filter, filter_map, option_to_list, refl, sym, ap, ◌∙◌}
 use Rattle.std.proofs.lemmas.Bool.{eqb-true, eqb-false}
 use Rattle.std.proofs.lemmas.List.{reverse-append}
-use Rattle.std.proofs.lemmas.List.Elements.{filter_map-append}
+use Rattle.std.proofs.lemmas.List.Elements.{All-append, All-head, All-tail, All-map, filter_map-append}
+use Rattle.std.proofs.lemmas.List.Kept.{AllPairs-cons}
 
 -- the newest one stands last when read in order
 pub reverse_more : {X : Type 0} (x : X) (xs : List X) → reverse (x ∷ xs) ≡ reverse xs ++ x ∷ []
@@ -38,3 +39,22 @@ eqb-swapped a b false true e f = absurd (eqb-false a b e (sym (eqb-true b a f)))
 
 pub eqb_sym : (a b : ℕ) → (a == b) ≡ (b == a)
 eqb_sym a b = eqb-swapped a b (a == b) (b == a) refl refl
+
+-- ---- pairs
+
+pub pairs-tail : {X : Type 0} (R : X → X → Type 0) (y : X) (xs : List X) → AllPairs R (y ∷ xs) → AllPairs R xs
+pairs-tail R y xs h = λ i j d l m. h (suc i) (suc j) d (omega arith) (omega arith)
+
+pub pairs-head : {X : Type 0} (R : X → X → Type 0) (y : X) (xs : List X) → AllPairs R (y ∷ xs) → All (R y) xs
+pairs-head R y xs h = λ k d l. h 0 (suc k) d (omega arith) (omega arith)
+
+pub pairs-append : {X : Type 0} (R : X → X → Type 0) (xs ys : List X) → AllPairs R xs → AllPairs R ys → All (λ x. All (R x) ys) xs → AllPairs R (xs ++ ys)
+pairs-append R [] ys a b c = b
+pairs-append R (x ∷ xs) ys a b c =
+    AllPairs-cons R x (xs ++ ys) (All-append (R x) xs ys (pairs-head R x xs a) (All-head (λ z. All (R z) ys) x xs c))
+    (pairs-append R xs ys (pairs-tail R x xs a) b (All-tail (λ z. All (R z) ys) x xs c))
+
+pub pairs-map : {X Y : Type 0} (R : Y → Y → Type 0) (f : X → Y) (xs : List X) → AllPairs (λ a b. R (f a) (f b)) xs → AllPairs R (map f xs)
+pairs-map R f [] a = λ i j d l m. absurd (omega arith)
+pairs-map R f (x ∷ xs) a =
+    AllPairs-cons R (f x) (map f xs) (All-map (R (f x)) f xs (pairs-head (λ b c. R (f b) (f c)) x xs a)) (pairs-map R f xs (pairs-tail (λ b c. R (f b) (f c)) x xs a))

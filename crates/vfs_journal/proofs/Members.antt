@@ -1,6 +1,7 @@
 -- Members of lists that are found or kept, and numbers among others.
 use Rattle.std.proofs.Common.{◌≡◌, ℕ, zero, suc, ◌<◌, ◌||◌, ◌⊎◌, Bool, true, false, cond, List, [], ◌∷◌, length, slice_index_or, Some, None, filter, find, All, AllPairs, Contains, refl, sym, ap, ◌∙◌, subst, inl, inr, arith}
 use Rattle.std.specs.List.{list_any}
+use Rattle.vfs_journal.proofs.Lists.{pairs-head, pairs-tail}
 use Rattle.std.proofs.lemmas.List.Elements.{All-filter, All-contains, All-contains_itself, filter_passes}
 
 pub contains_here : {X : Type 0} (x : X) (xs : List X) → Contains (x ∷ xs) x
@@ -49,12 +50,6 @@ pub found : {X : Type 0} (p : X → Bool) (xs : List X) (x : X) → find p xs �
 found p [] x h = absurd (cc)
 found p (y ∷ xs) x h = found_by p x y xs (found p xs x) (p y) refl h
 
-pub AllPairs-tail : {X : Type 0} (R : X → X → Type 0) (y : X) (xs : List X) → AllPairs R (y ∷ xs) → AllPairs R xs
-AllPairs-tail R y xs h = λ i j d l m. h (suc i) (suc j) d (omega arith) (omega arith)
-
-pub AllPairs-head : {X : Type 0} (R : X → X → Type 0) (y : X) (xs : List X) → AllPairs R (y ∷ xs) → All (R y) xs
-AllPairs-head R y xs h = λ k d l. h 0 (suc k) d (omega arith) (omega arith)
-
 -- of those that pass the first one is found: each other one stands behind it
 first_by : {X : Type 0} (R : X → X → Type 0) (p : X → Bool) (x y z : X) (xs : List X) → All (R y) xs → (find p xs ≡ Some x → Contains xs z → (x ≡ z) ⊎ R x z) → p z ≡ true →
     (b : Bool) → p y ≡ b → cond b (Some y) (find p xs) ≡ Some x → (y ≡ z) ⊎ Contains xs z → (x ≡ z) ⊎ R x z
@@ -66,7 +61,7 @@ first_by R p x y z xs behind rest passes false is h (inr e) = rest h e
 pub first_found : {X : Type 0} (R : X → X → Type 0) (p : X → Bool) (xs : List X) (x z : X) → AllPairs R xs → find p xs ≡ Some x → Contains xs z → p z ≡ true → (x ≡ z) ⊎ R x z
 first_found R p [] x z pairs h there passes = absurd (cc)
 first_found R p (y ∷ xs) x z pairs h there passes =
-    first_by R p x y z xs (AllPairs-head R y xs pairs) (λ f g. first_found R p xs x z (AllPairs-tail R y xs pairs) f g passes) passes (p y) refl h (contains_cases z y xs there)
+    first_by R p x y z xs (pairs-head R y xs pairs) (λ f g. first_found R p xs x z (pairs-tail R y xs pairs) f g passes) passes (p y) refl h (contains_cases z y xs there)
 
 -- where none is found, none passes
 none_by : {X : Type 0} (p : X → Bool) (y z : X) (xs : List X) → (find p xs ≡ None → Contains xs z → p z ≡ false) → (b : Bool) → p y ≡ b → cond b (Some y) (find p xs) ≡ None → (y ≡ z) ⊎ Contains xs z → p z ≡ false

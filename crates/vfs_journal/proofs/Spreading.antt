@@ -6,7 +6,8 @@ use Rattle.std.proofs.lemmas.List.Folds.{list_any-append}
 use Rattle.endpoint_link.specs.Numbering.{among}
 use Rattle.vfs_journal.specs.Deaths.{spread}
 use Rattle.vfs_journal.specs.Entries.{Sent, endpoints_in}
-use Rattle.vfs_journal.proofs.Members.{contains_here, contains_later, contains_cases, contains_none, AllPairs-head, AllPairs-tail}
+use Rattle.vfs_journal.proofs.Lists.{pairs-head, pairs-tail}
+use Rattle.vfs_journal.proofs.Members.{contains_here, contains_later, contains_cases, contains_none}
 
 pub among-append : (n : ℕ) (xs ys : List ℕ) → among n (xs ++ ys) ≡ (among n xs || among n ys)
 among-append n xs ys = list_any-append (λ m. m == n) xs ys
@@ -108,6 +109,6 @@ closed_by dying one ones behind first rest other (inr h) = rest other h
 pub spread_closed : (dying : List ℕ) (ones : List Sent) → AllPairs IsBefore ones → AreCarriersFirst (spread dying ones) ones → IsClosed (spread dying ones) ones
 spread_closed dying [] pairs first = λ one there dead n carried. absurd (contains_none one there)
 spread_closed dying (one ∷ ones) pairs first =
-    let rest = spread_closed (passing_by dying one) ones (AllPairs-tail IsBefore one ones pairs)
+    let rest = spread_closed (passing_by dying one) ones (pairs-tail IsBefore one ones pairs)
     (λ a b p q. first a b (contains_later a one ones p) (contains_later b one ones q)) in
-    λ other there. closed_by dying one ones (AllPairs-head IsBefore one ones pairs) first rest other (contains_cases other one ones there)
+    λ other there. closed_by dying one ones (pairs-head IsBefore one ones pairs) first rest other (contains_cases other one ones there)

@@ -13,6 +13,7 @@ use Rattle.vfs_journal.specs.Session.{head}
 use Rattle.vfs_journal.specs.Soundness.{IsStart, mount_ends, AreInTransit, AreKnown, DieTogether}
 use Rattle.vfs_journal.specs.Starts.{Bound, Start}
 use Rattle.vfs_journal.proofs.Among.{some_found}
+use Rattle.vfs_journal.proofs.Apart.{births_apart, travelling_apart}
 use Rattle.vfs_journal.proofs.Below.{Below}
 use Rattle.vfs_journal.proofs.Kept.{lawful_kept, is_serving, end_lives, mounts_born}
 use Rattle.vfs_journal.proofs.Members.{contains_here, contains_later, contains_cases, contains_none}
@@ -40,6 +41,7 @@ in_transit below built start journal s h =
       unbound = λ one n c. kept.transit.unbound one n c.0 c.1;
       alive = λ one n c. kept.transit.alive one n c.0 c.1;
       reached = λ one p. reached_by one.endpoint (kept.transit.reached one p);
+      apart = travelling_apart built start journal h is kept.transit;
       before = λ one other c q. before_by start history one other s kept.sound (is.waits one c.0) (is.waits other q) c.1 one.origin refl (kept.sound.right one (is.waits one c.0)).by_origin;
     }
 
@@ -66,6 +68,7 @@ are_known below built start journal s h =
           let b = some_found (λ bound. bound.endpoint == n) (living start history) yes in
           bound_by start history n b.0 (eqb-true b.0.endpoint n b.3) (kept.sound.born b.0 (is.living_born b.0 b.2).0);
       ends = λ n c. end_lives start (view start history) n s kept.sound is (mounts_born start history) c;
+      apart = births_apart below built start s s.apart journal h;
       tokens = λ given c. kept.sound.tokens given c;
     }
 

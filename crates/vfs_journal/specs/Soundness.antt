@@ -1,9 +1,11 @@
 -- What holds of each lawful journal from a start whose endpoints are apart.
-use Rattle.std.specs.Prelude.{◌≡◌, ◌<◌, ◌≤◌, ◌⊎◌, ℕ, true, false, List, [], All, Contains, map, Some}
+use Rattle.std.specs.Prelude.{◌≡◌, ◌≢◌, ◌++◌, AllPairs, ◌<◌, ◌≤◌, ◌⊎◌, ℕ, true, false, List, [], All, Contains, map, Some}
 use Rattle.io_messages.specs.declared.protocols.Protocol.TheVariants as protocol
 use Rattle.node_graph.specs.declared.nodes.NodeKind.TheVariants.{Mount}
 use Rattle.node_graph.specs.Tree.{NodeRow, Tree}
+use Rattle.tree_file.specs.Items.{Lists}
 use Rattle.tree_file.specs.Numbering.{end_of_mount}
+use Rattle.tree_file.specs.Rules.{start_from}
 use Rattle.endpoint_link.specs.declared.kinds.Mode.{Mode}
 use Rattle.endpoint_link.specs.declared.kinds.Side.TheVariants.{ToServers}
 use Rattle.endpoint_link.specs.Frames.{Frame, IsFrame}
@@ -11,13 +13,13 @@ use Rattle.endpoint_link.specs.Numbering.{among, is_client}
 use Rattle.conn_rules.specs.Built.{Built}
 use Rattle.vfs_journal.specs.Deaths.{deaths_of, others}
 use Rattle.vfs_journal.specs.Entries.{Sent, Journal, endpoints_in}
-use Rattle.vfs_journal.specs.History.{History, all_sent, was_served, waiting, travelling, is_bound, is_dead, is_used}
+use Rattle.vfs_journal.specs.History.{History, births, all_sent, was_served, waiting, travelling, is_bound, is_dead, is_used}
 use Rattle.vfs_journal.specs.Lawful.{Lawful}
 use Rattle.vfs_journal.specs.Outcomes.{Given}
 use Rattle.vfs_journal.specs.Past.{history_of}
 use Rattle.vfs_journal.specs.Serving.{outcome_of}
 use Rattle.vfs_journal.specs.Session.{head, after_serving, weight, drained, session, ended}
-use Rattle.vfs_journal.specs.Starts.{Start}
+use Rattle.vfs_journal.specs.Starts.{Bound, Start, start_of}
 use Rattle.vfs_journal.specs.Tokens.{all_given, first_token}
 
 -- ---- starts
@@ -32,11 +34,16 @@ HasEnd start row = (index : ℕ) → row.kind ≡ Mount index → Contains (moun
 abbrev pub AreMounted : Start → Tree → Type 0
 AreMounted start tree = All (HasEnd start) tree.nodes
 
--- first connections are on clients' endpoints, and the ends of mounts on others, as directories; each mount has its end
+abbrev pub OtherEndpoint : Bound → Bound → Type 0
+OtherEndpoint one other = one.endpoint ≢ other.endpoint
+
+-- first connections are on clients' endpoints, and the ends of mounts on others, as directories; no endpoint stands twice, and each mount
+-- has its end
 pub record IsStart (start : Start) : Type 0 where
   pub firsts : All (λ bound. is_client bound.endpoint ≡ true) start.firsts
   pub ends : All (λ bound. is_client bound.endpoint ≡ false) start.mounts
   pub directories : All (λ bound. bound.birth.protocol ≡ protocol.Directory) start.mounts
+  pub apart : AllPairs OtherEndpoint (start.firsts ++ start.mounts)
   pub mounted : All (AreMounted start) start.trees
 
 -- ---- endpoints in transit
@@ -45,22 +52,24 @@ pub record IsStart (start : Start) : Type 0 where
 abbrev pub Carries : History → Sent → ℕ → Type 0
 Carries history one endpoint = Contains (waiting history) one × (among endpoint (endpoints_in one) ≡ true)
 
--- an endpoint in transit is carried by one waiting entry, and is neither bound nor dead; each waiting entry's endpoint is bound or in
+-- an endpoint in transit is carried once, by one waiting entry, and is neither bound nor dead; each waiting entry's endpoint is bound or in
 -- transit; and what carries an endpoint stands before what waits on it, or stands on an endpoint that nothing carries
 pub record AreInTransit (start : Start) (history : History) : Type 0 where
   pub once : (one other : Sent) (endpoint : ℕ) → Carries history one endpoint → Carries history other endpoint → one ≡ other
   pub unbound : (one : Sent) (endpoint : ℕ) → Carries history one endpoint → is_bound start history endpoint ≡ false
   pub alive : (one : Sent) (endpoint : ℕ) → Carries history one endpoint → is_dead history endpoint ≡ false
   pub reached : (one : Sent) → Contains (waiting history) one → (is_bound start history one.endpoint ≡ true) ⊎ (among one.endpoint (travelling history) ≡ true)
+  pub apart : AllPairs (λ one other. one ≢ other) (travelling history)
   pub before : (one other : Sent) → Carries history one other.endpoint → Contains (waiting history) other → (one.place < other.place) ⊎ (is_client one.endpoint ≡ false)
 
--- what is dead or bound was known: a first connection, or a number that a message carried, or an end of a mount, and these live; tokens
--- are numbers of their own
+-- what is dead or bound was known: a first connection, or a number that a message carried, or an end of a mount, and these live; no
+-- endpoint is born twice; tokens are numbers of their own
 pub record AreKnown (start : Start) (history : History) : Type 0 where
   pub dead : (endpoint : ℕ) → is_dead history endpoint ≡ true → (is_client endpoint ≡ true) × (is_used start history endpoint ≡ true)
   pub bound : (endpoint : ℕ) → is_bound start history endpoint ≡ true →
       Contains (mount_ends start) endpoint ⊎ ((is_client endpoint ≡ true) × (is_used start history endpoint ≡ true))
   pub ends : (endpoint : ℕ) → Contains (mount_ends start) endpoint → (is_dead history endpoint ≡ false) × (is_bound start history endpoint ≡ true)
+  pub apart : AllPairs OtherEndpoint (births start history)
   pub tokens : (given : Given) → Contains (all_given history) given → first_token ≤ given.token
 
 -- ---- deaths
@@ -110,3 +119,7 @@ SessionsAreLawful =
 abbrev pub SessionsServeAll : Type 0
 SessionsServeAll =
     (built : Built) (start : Start) (by : Mode) (frames : List Frame) → IsStart start → All (IsFrame ToServers) frames → IsDrained (history_of built start (ended built start by frames))
+
+-- the start of each tree file that is read
+abbrev pub StartsAreSound : Type 0
+StartsAreSound = (text : List ℕ) (lists : Lists) → start_from text ≡ Some lists → IsStart (start_of lists)

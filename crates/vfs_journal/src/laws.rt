@@ -2,7 +2,7 @@
 
 ghost use Rattle.fidl_wire.specs.Names.{AreDistinct};
 ghost use Rattle.vfs_journal.specs.Laws.{PlacesRise, RefusalsChangeNothing, SendingsWaitLast, ServedOnce, ServingsTakeEffect};
-ghost use Rattle.vfs_journal.specs.Soundness.{DeathsReachAll, DrainsServeAll, EndpointsAreInTransit, EndpointsAreKnown, ServingsLowerTheWeight, SessionsAreLawful, SessionsServeAll};
+ghost use Rattle.vfs_journal.specs.Soundness.{DeathsReachAll, DrainsServeAll, EndpointsAreInTransit, EndpointsAreKnown, ServingsLowerTheWeight, SessionsAreLawful, SessionsServeAll, StartsAreSound};
 
 use fidl_wire::body_is_read_where_spelled;
 use io_messages::written_request_is_read;
@@ -95,3 +95,8 @@ pub fn sessions_serve_all()
     written_request_is_read();
     path_laws();
 }
+
+/// The start of each tree file that is read has its endpoints apart.
+pub fn starts_are_sound()
+    ensures { StartsAreSound }
+{}
