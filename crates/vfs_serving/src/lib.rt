@@ -12,3 +12,6 @@ mod slot;
 pub use fate::Fate;
 pub use parcel::{Parcel, Sent};
 pub use slot::Slot;
+
+#[cfg(test)]
+mod tests;
