@@ -21,7 +21,7 @@ use Rattle.vfs_journal.specs.Output.{frames_of, refused_frame}
 use Rattle.vfs_journal.specs.Past.{history_of, event_of}
 use Rattle.vfs_journal.specs.Rows.{message_on, turn_of, pick_of, written}
 use Rattle.vfs_journal.specs.Serving.{Read, read_by, outcome_of, request_act, sight_of, asker_of, object_of}
-use Rattle.vfs_journal.specs.Session.{serving, after_serving, with_forward, sent_behind, arrives, admitted, by_refusal, look_ups, serving_one, next, oldest, head, steps, session, drained, weight, weight_of, weight_of_read}
+use Rattle.vfs_journal.specs.Session.{ended, serving, after_serving, with_forward, sent_behind, arrives, admitted, by_refusal, look_ups, serving_one, next, oldest, head, steps, session, drained, weight, weight_of, weight_of_read}
 use Rattle.vfs_journal.specs.Starts.{Bound, Start}
 use Rattle.vfs_journal.specs.Watching.{first_frames, told_frames}
 use Rattle.vfs_journal.proofs.RowFrames.{was_answered, rest_of, adds}
@@ -162,7 +162,7 @@ weight_of_what_is_read : (read : Read) → (more : ℕ) × (weight_of_read read 
 weight_of_what_is_read (Ok (txid, asks.open_path path flags attributes object)) = (length (names_of path), omega arith)
 weight_of_what_is_read _ = (0, refl)
 
-weight_of_one : (sending : Sending) → (more : ℕ) × (weight_of sending ≡ suc more)
+pub weight_of_one : (sending : Sending) → (more : ℕ) × (weight_of sending ≡ suc more)
 weight_of_one (message bytes handles) = weight_of_what_is_read _
 weight_of_one hang_up = (0, refl)
 
@@ -315,3 +315,14 @@ frame_is_refused start frames past output before frame why a none =
     ∙ ap (λ h. serving (weight h) everything start (next start) (journal_of is)) end.is
     ∙ serves_none start (next start) is (output ++ refused_frame frame.endpoint why ∷ []) end none (weight is))
     end
+
+-- the drain at the end of the input, with at least so many servings
+pub drains_at_last : (start : Start) (by : Mode) (frames output : List Frame) (past end : History) (written : List Frame) → Stands start by frames past written → (times : ℕ) → weight past ≡ times
+    → Serves start (next start) times past end → Knows start end output → frames_of start (history_of everything start (ended everything start by frames)) ≡ output
+drains_at_last start by frames output past end written before times w served known =
+    ap (λ j. frames_of start (history_of everything start (drained everything start j))) before.ran
+    ∙ ap (λ h. frames_of start (history_of everything start (serving (weight h) everything start (next start) (journal_of past)))) before.known.is
+    ∙ ap (λ times. frames_of start (history_of everything start (serving times everything start (next start) (journal_of past)))) w
+    ∙ ap (λ j. frames_of start (history_of everything start j)) served
+    ∙ ap (frames_of start) known.is
+    ∙ known.shows

@@ -1,6 +1,5 @@
 -- The names of the worked trees, and the connections on them.
-use Rattle.std.proofs.Common.{◌≡◌, ℕ, Bool, zero, suc, true, false, not, cond, sym, List, [], ◌∷◌, None, Option, refl, ap, ◌∙◌, arith}
-use Rattle.std.specs.Prelude.{length}
+use Rattle.std.proofs.Common.{◌≡◌, ℕ, Bool, zero, suc, true, false, not, cond, sym, List, [], None, Option, refl, ap, ◌∙◌}
 use Rattle.std.specs.FinMap as finite
 use Rattle.std.specs.FinMap.Entries as entry
 use Rattle.std.specs.Ordering.{nat_cmp, is_eq, eq_by_cmp}

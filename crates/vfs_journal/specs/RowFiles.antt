@@ -12,7 +12,7 @@ use Rattle.io_messages.specs.Replies.{done, fails, payload, counted, attributes}
 use Rattle.io_messages.specs.ReplyWriting.{event_bytes as representation_bytes}
 use Rattle.vfs_journal.specs.Outcomes.{close_frame}
 use Rattle.vfs_journal.specs.Output.{refused_frame}
-use Rattle.vfs_journal.specs.Rows.{Asks, message_on, hang_up_on, turn_of, answer_on, attributes_with, id_alone, Writes}
+use Rattle.vfs_journal.specs.Rows.{Asks, message_on, hang_up_on, turn_of, answer_on, attributes_with, id_alone, Writes, WritesAtLast}
 
 -- an Open, and two Reads on its object before it is bound: they are served in the order of sending, and the position goes on
 abbrev pub TwoReads : Type 0
@@ -126,3 +126,14 @@ LargestFile =
     → Writes mode.Auto
     (message_on 1 opening (2 ∷ []) ∷ message_on 2 writing [] ∷ [])
     (answer_on 2 3 (fails method.WriteAt status.FileBig) ∷ [])
+
+-- what waits at the end of the input is served then
+abbrev pub LastDrain : Type 0
+LastDrain =
+    (opening reading : List ℕ)
+    → Asks protocol.Directory opening (2 ∷ []) 0 (asks.open_path (codes "d/f") 0x2 None 2)
+    → Asks protocol.File reading [] 3 (asks.read 5)
+    → Writes mode.Given (message_on 1 opening (2 ∷ []) ∷ message_on 2 reading [] ∷ []) []
+    × WritesAtLast mode.Given
+    (message_on 1 opening (2 ∷ []) ∷ message_on 2 reading [] ∷ [])
+    (answer_on 2 3 (payload method.Read (codes "hello")) ∷ [])

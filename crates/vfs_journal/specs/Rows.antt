@@ -21,7 +21,7 @@ use Rattle.vfs_journal.specs.Output.{frames_of}
 use Rattle.vfs_journal.specs.Past.{history_of}
 use Rattle.vfs_journal.specs.RowTree.{two_servers}
 use Rattle.vfs_journal.specs.Serving.{read_by}
-use Rattle.vfs_journal.specs.Session.{session}
+use Rattle.vfs_journal.specs.Session.{session, ended}
 use Rattle.vfs_journal.specs.Starts.{Start}
 
 -- a message that carries these handles is this request with this transaction id, on an endpoint of this protocol
@@ -77,3 +77,7 @@ id_alone number = record { protocols = None; abilities = None; content_size = No
 -- these frames, one after another over the two servers, are answered by these
 abbrev pub Writes : Mode → List Frame → List Frame → Type 0
 Writes by frames output = written two_servers by frames ≡ output
+
+-- the same with the drain at the end of the input
+abbrev pub WritesAtLast : Mode → List Frame → List Frame → Type 0
+WritesAtLast by frames output = frames_of two_servers (history_of everything two_servers (ended everything two_servers by frames)) ≡ output

@@ -13,11 +13,12 @@ pub use laws::{
 };
 pub use rows::{
     clone_and_hang_up, close_drops_what_waits, echo_service, file_without_a_name,
-    forbidden_numbers, hang_up_in_transit, inherited_rights, listing_goes_on, listing_sizes,
-    malformed_message, message_behind_a_refused_open, message_to_a_watcher, mount_with_a_mask,
-    node_reference, open_beyond_the_mask, open_of_a_missing_name, open_on_a_node_reference,
-    open_over_three_mounts, open_over_two_mounts, ordinary_use, read_without_the_right,
-    reads_behind_an_open, refused_watch, removed_directory, rename_into_itself,
-    rename_while_an_open_goes_on, second_name_of_a_file, token_of_another_server, unknown_methods,
-    unknown_numbers, watched_making, watched_rename, worked_start, write_beyond_the_largest_file,
+    forbidden_numbers, hang_up_in_transit, inherited_rights, last_drain, listing_goes_on,
+    listing_sizes, malformed_message, message_behind_a_refused_open, message_to_a_watcher,
+    mount_with_a_mask, node_reference, open_beyond_the_mask, open_of_a_missing_name,
+    open_on_a_node_reference, open_over_three_mounts, open_over_two_mounts, ordinary_use,
+    read_without_the_right, reads_behind_an_open, refused_watch, removed_directory,
+    rename_into_itself, rename_while_an_open_goes_on, second_name_of_a_file,
+    token_of_another_server, unknown_methods, unknown_numbers, watched_making, watched_rename,
+    worked_start, write_beyond_the_largest_file,
 };

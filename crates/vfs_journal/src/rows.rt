@@ -2,7 +2,7 @@
 
 ghost use Rattle.vfs_journal.specs.RowTree.{WorkedStart};
 ghost use Rattle.vfs_journal.specs.RowOpens.{MissingName, MaskedName, EchoService, NodeReference, OpenOnReference};
-ghost use Rattle.vfs_journal.specs.RowFiles.{TwoReads, ReadWithoutRight, InheritWrite, OrdinaryUse, CloneAndHangUp, HeldFile, LargestFile};
+ghost use Rattle.vfs_journal.specs.RowFiles.{LastDrain, TwoReads, ReadWithoutRight, InheritWrite, OrdinaryUse, CloneAndHangUp, HeldFile, LargestFile};
 ghost use Rattle.vfs_journal.specs.RowLink.{MalformedMessage, UnknownMethods, DroppedMessage, UnknownNumbers, HangUpInTransit, CloseDrops, ForbiddenNumbers};
 ghost use Rattle.vfs_journal.specs.RowNames.{RenameIntoItself, ListingSizes, WatchedMaking, WatchedRename, ListingGoesOn, RemovedDirectory, SecondName, RefusedWatch, MessageToWatcher};
 ghost use Rattle.vfs_journal.specs.RowMounts.{TwoMounts, ThreeMounts, TokenOfAnotherServer, MountWithMask, RenameMeanwhile};
@@ -200,4 +200,9 @@ pub fn mount_with_a_mask()
 /// success, on 2 NOT_FOUND, and 2 and 3 are closed.
 pub fn rename_while_an_open_goes_on()
     ensures answered { RenameMeanwhile }
+{}
+
+/// In mode given: `open 1 d/f`, with READ_BYTES and object 2, `read 2 5`. Nothing is written, and at the end of the input `hello` on 2.
+pub fn last_drain()
+    ensures answered { LastDrain }
 {}

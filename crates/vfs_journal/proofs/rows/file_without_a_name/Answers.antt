@@ -17,7 +17,6 @@ use Rattle.vfs_journal.specs.History.{History}
 use Rattle.vfs_journal.specs.Rows.{Asks, message_on, answer_on, id_alone, written}
 use Rattle.vfs_journal.specs.RowTree.{two_servers}
 use Rattle.vfs_journal.specs.Starts.{Bound}
-use Rattle.vfs_journal.specs.Watching.{deleted, added, removed}
 use Rattle.vfs_journal.proofs.RowSteps.{was_sent, request_sent, answer_to, asked, Does, Stands, begins, writes, serves_request}
 use Rattle.vfs_journal.proofs.RowTrees.{looked_through, names, connection, root, at}
 use Rattle.vfs_journal.proofs.rows.file_without_a_name.Goals as goal

@@ -13,7 +13,6 @@ use Rattle.conn_rules.specs.NameRows.{name_in}
 use Rattle.vfs_journal.specs.History.{History}
 use Rattle.vfs_journal.specs.Rows.{Asks, message_on, answer_on, entry, written}
 use Rattle.vfs_journal.specs.RowTree.{two_servers}
-use Rattle.vfs_journal.specs.Watching.{deleted, added, removed}
 use Rattle.vfs_journal.proofs.RowSteps.{was_sent, request_sent, answer_to, asked, Does, Stands, begins, writes, serves_request}
 use Rattle.vfs_journal.proofs.RowTrees.{looked_through, names, root}
 use Rattle.vfs_journal.proofs.rows.listing_goes_on.Goals as goal

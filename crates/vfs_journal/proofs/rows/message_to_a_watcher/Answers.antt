@@ -19,7 +19,7 @@ use Rattle.vfs_journal.specs.Rows.{Asks, message_on, answer_on, written}
 use Rattle.vfs_journal.specs.RowTree.{two_servers}
 use Rattle.vfs_journal.specs.Starts.{Bound}
 use Rattle.vfs_journal.specs.Serving.{outcome_of, outcome_of_sending, asker_of}
-use Rattle.vfs_journal.specs.Watching.{deleted, added, removed, event_bytes, watch_frame}
+use Rattle.vfs_journal.specs.Watching.{removed, event_bytes, watch_frame}
 use Rattle.vfs_journal.proofs.RowSteps.{was_sent, sent_now, request_sent, answer_to, asked, Does, Stands, begins, writes, serves_it, serves_request}
 use Rattle.vfs_journal.proofs.RowTrees.{looked_through, names, connection, watcher, root}
 use Rattle.vfs_journal.proofs.rows.message_to_a_watcher.Goals as goal

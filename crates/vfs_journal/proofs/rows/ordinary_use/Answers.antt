@@ -10,7 +10,6 @@ use Rattle.io_messages.specs.declared.protocols.Protocol.TheVariants as protocol
 use Rattle.io_messages.specs.Replies.{done, payload, attributes}
 use Rattle.io_messages.specs.ReplyWriting.{event_bytes as representation_bytes}
 use Rattle.io_rights.specs.declared.operations.Operation.TheVariants as op
-use Rattle.node_graph.specs.declared.nodes.NodeKind.TheVariants.{File}
 use Rattle.conn_rules.specs.Answers.{Act, only, replies, closes, binds}
 use Rattle.conn_rules.specs.Births.{fresh}
 use Rattle.vfs_journal.specs.History.{History}

@@ -18,7 +18,7 @@ use Rattle.vfs_journal.specs.Outcomes.{close_frame}
 use Rattle.vfs_journal.specs.Rows.{Asks, message_on, answer_on, epitaph_on, entry, written}
 use Rattle.vfs_journal.specs.RowTree.{two_servers}
 use Rattle.vfs_journal.specs.Starts.{Bound}
-use Rattle.vfs_journal.specs.Watching.{deleted, added, removed, event_bytes, watch_frame}
+use Rattle.vfs_journal.specs.Watching.{deleted, event_bytes, watch_frame}
 use Rattle.vfs_journal.proofs.RowSteps.{was_sent, request_sent, answer_to, asked, Does, Stands, begins, writes, serves_request}
 use Rattle.vfs_journal.proofs.RowTrees.{looked_through, names, connection, root}
 use Rattle.vfs_journal.proofs.rows.removed_directory.Goals as goal

@@ -23,7 +23,6 @@ use Rattle.vfs_journal.specs.RowTree.{two_servers}
 use Rattle.vfs_journal.specs.Starts.{Bound}
 use Rattle.vfs_journal.specs.Serving.{outcome_of}
 use Rattle.vfs_journal.specs.Session.{oldest, head}
-use Rattle.vfs_journal.specs.Watching.{deleted, added, removed}
 use Rattle.vfs_journal.proofs.RowFrames.{was_answered}
 use Rattle.vfs_journal.proofs.RowServings.{answers}
 use Rattle.vfs_journal.proofs.RowSteps.{was_sent, sent_now, gone_on, answer_to, Does, Knows, behind_sends, behind_serves, Serves, serves_zero, serves_one, forwards_one, Stands, begins, writes, sent_in, turns, picks}

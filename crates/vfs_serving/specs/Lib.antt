@@ -1,0 +1,5 @@
+pub mod Parcels
+pub mod Bindings
+pub mod Frames
+pub mod Effects
+pub mod Given

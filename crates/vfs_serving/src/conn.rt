@@ -1,0 +1,112 @@
+//! The connections of both kinds of node, as one.
+
+ghost use Rattle.std.specs.Prelude.{◌≡◌, ℕ, true, Option, IsTrue};
+ghost use Rattle.io_messages.specs.Asked.{asked, method_of};
+ghost use Rattle.io_messages.specs.Protocols.{has_method};
+ghost use Rattle.io_messages.specs.Requests.{has_txid};
+ghost use Rattle.io_messages.specs.Shapes.{is_one_way};
+ghost use Rattle.io_rights.specs.Operations.{is_within};
+ghost use Rattle.fidl_wire.specs.Written.{Written};
+ghost use Rattle.node_graph.specs.Graph.{StandsFor};
+ghost use Rattle.node_graph.specs.Tree.{Tree, stay};
+ghost use Rattle.conn_rules.specs.Acts.{act_of};
+ghost use Rattle.conn_rules.specs.Answers.{Answer, nothing_told};
+ghost use Rattle.conn_rules.specs.Births.{born, fresh};
+ghost use Rattle.conn_rules.specs.Built.{first_methods};
+ghost use Rattle.conn_rules.specs.Served.{Gives, HasNothing};
+ghost use Rattle.conn_rules.specs.Shared.{CanBeBound};
+ghost use Rattle.dir_conn.specs.Served.{DirGives, as_dir};
+ghost use Rattle.vfs_serving.specs.Bindings.{IsSpokenNow};
+ghost use Rattle.vfs_serving.specs.Given.{Speaks, connection_of};
+
+use conn_rules::{Birth, Room, Served};
+use dir_conn::{DirConn, DirServed};
+use fidl_wire::{Ordinals, Out};
+use file_conn::FileConn;
+use io_messages::{Protocol, Request};
+use io_rights::laws_of_rights;
+use node_graph::Graph;
+
+/// A connection, by what it is to.
+#[derive(Drop)]
+pub(crate) enum Conn {
+    Directory(DirConn),
+    File(FileConn),
+}
+
+impl Conn {
+    /// A connection that was just bound.
+    pub fn new(birth: Birth) -> Conn
+        requires spoken { IsSpokenNow birth.protocol }
+        ensures birth { (connection_of result).birth ≡ birth }
+        ensures position { (connection_of result).position ≡ fresh }
+        ensures speaks { Speaks result }
+    {
+        match birth.protocol {
+            Protocol::Directory => Conn::Directory(DirConn::new(birth)),
+            Protocol::File => Conn::File(FileConn::new(birth)),
+            _ => unreachable!(),
+        }
+    }
+
+    /// The protocol.
+    pub fn protocol(&self) -> Protocol
+        requires speaks { Speaks self.now }
+        ensures { result ≡ (connection_of self.now).birth.protocol }
+    {
+        match self {
+            Conn::Directory(_) => Protocol::Directory,
+            Conn::File(_) => Protocol::File,
+        }
+    }
+
+    /// Serves a request.
+    pub fn serve<'a>(
+        &mut self,
+        ordinals: &Ordinals,
+        graph: &Graph,
+        room: Room,
+        txid: u32,
+        request: Request<'a>,
+        out: &mut Out,
+    ) -> DirServed<'a>
+        requires speaks { Speaks self.old }
+        requires node { CanBeBound graph.now (connection_of self.old).birth }
+        requires method { has_method (connection_of self.old).birth.protocol (method_of (asked request)) ≡ true }
+        requires txid { has_txid (is_one_way (method_of (asked request))) txid ≡ true }
+        requires empty { HasNothing out.old }
+        ensures answer { (tree : Tree) (target : Option ℕ) → StandsFor graph.now tree →
+            DirGives (act_of first_methods (born (connection_of self.old).birth) (connection_of self.old).position room tree target (asked request.entry)).answer txid result out.new }
+        ensures position { (tree : Tree) (target : Option ℕ) → StandsFor graph.now tree →
+            (connection_of self.new).position ≡ (act_of first_methods (born (connection_of self.old).birth) (connection_of self.old).position room tree target (asked request.entry)).position }
+        ensures birth { (connection_of self.new).birth ≡ (connection_of self.old).birth }
+        ensures speaks { Speaks self.new }
+        ensures change { (tree : Tree) (target : Option ℕ) → StandsFor graph.now tree →
+            (act_of first_methods (born (connection_of self.old).birth) (connection_of self.old).position room tree target (asked request.entry)).change ≡ stay }
+        ensures told { (tree : Tree) (target : Option ℕ) → StandsFor graph.now tree →
+            (act_of first_methods (born (connection_of self.old).birth) (connection_of self.old).position room tree target (asked request.entry)).told ≡ nothing_told }
+        ensures bound { (found : Birth) → result ≡ DirServed.Bind found → CanBeBound graph.now found }
+        ensures within { (found : Birth) → result ≡ DirServed.Bind found → IsTrue (is_within found.rights (connection_of self.old).birth.rights) }
+    {
+        laws_of_rights();
+        match self {
+            Conn::Directory(conn) => conn.serve(ordinals, graph, room, txid, request, out),
+            Conn::File(conn) => of_file(conn.serve(ordinals, graph, room, txid, request, out)),
+        }
+    }
+}
+
+/// What a file's connection answers, as a directory's would.
+fn of_file<'a>(served: Served) -> DirServed<'a>
+    ensures value { result ≡ as_dir served }
+    ensures gives { (answer : Answer) (txid : ℕ) (out : Written) → Gives answer txid served out → DirGives answer txid result out }
+    ensures binds { (found : Birth) → result ≡ DirServed.Bind found → served ≡ Served.Bind found }
+{
+    match served {
+        Served::Reply => DirServed::Reply,
+        Served::ReplyEnd => DirServed::ReplyEnd,
+        Served::Bind(found) => DirServed::Bind(found),
+        Served::Refused(status) => DirServed::Refused(status),
+        Served::NoMemory => DirServed::NoMemory,
+    }
+}
