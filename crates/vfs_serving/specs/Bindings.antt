@@ -32,14 +32,15 @@ abbrev pub sight_from : Binding → Room → Tree → (ℕ → Option ℕ) → S
 sight_from binding room tree directory =
     record { bound = bound_as binding; position = binding.position; room = room; tree = tree; directory = directory }
 
--- what the serving of something that was sent answers
+-- what the serving of what was sent answers, as far as it is built today
 abbrev pub outcome_for : Binding → Room → Tree → (ℕ → Option ℕ) → Sending → Outcome
 outcome_for binding room tree directory sending = outcome_of_sending first_methods (sight_from binding room tree directory) sending
 
--- and that of a message, by the request that it is
+-- what is answered to what a message reads as
 abbrev pub read_outcome : Binding → Room → Tree → (ℕ → Option ℕ) → Read → Outcome
 read_outcome binding room tree directory found = outcome_of_read first_methods (sight_from binding room tree directory) found
 
+-- what is answered to a message
 abbrev pub message_outcome : Binding → Room → Tree → (ℕ → Option ℕ) → List ℕ → List Handle → Outcome
 message_outcome binding room tree directory bytes handles =
     read_outcome binding room tree directory (request_of binding.birth.protocol bytes handles)

@@ -16,9 +16,11 @@ pub record Effects : Type 0 where
   pub ends : List ℕ
   pub forward : Option Forwarded
 
+-- those of an outcome
 abbrev pub effects_of : Outcome → Effects
 effects_of outcome = record { bound = outcome.bound; ends = outcome.ends; forward = outcome.forward }
 
+-- those of an answer
 abbrev pub effects_by : Asker → Answer → Effects
 effects_by asker answer = record { bound = bound_of asker answer; ends = ends_of asker answer; forward = forward_of asker answer }
 
@@ -26,7 +28,7 @@ effects_by asker answer = record { bound = bound_of asker answer; ends = ends_of
 abbrev pub asker_with : ℕ → ℕ → ℕ → ℕ → ℕ → Asker
 asker_with endpoint server node txid object = record { endpoint = endpoint; server = server; node = node; txid = txid; object = object }
 
--- what a fate of an endpoint at a server says, where an Open that goes on stands in this output
+-- those that a fate tells, of the endpoint that was served at this server; an Open that goes on stands in the output
 abbrev pub effects_told : ℕ → ℕ → Fate → Written → Effects
 effects_told endpoint server fate.Stays out = record { bound = None; ends = []; forward = None }
 effects_told endpoint server fate.Ends out = record { bound = None; ends = endpoint ∷ []; forward = None }

@@ -10,7 +10,7 @@ use Rattle.vfs_serving.specs.declared.parcel.Content.TheVariants as content
 abbrev pub numbers_of : List Handle → List ℕ
 numbers_of handles = map number_of_handle handles
 
--- what was sent, with the handles as their numbers
+-- what is kept, with the handles as their numbers
 abbrev pub sending_of : Content → Sending
 sending_of (content.Message bytes handles) = message bytes.items (numbers_of handles.items)
 sending_of content.HangUp = hang_up
@@ -19,10 +19,11 @@ sending_of content.HangUp = hang_up
 abbrev pub AreByNumber : List Handle → Type 0
 AreByNumber handles = map handle_with (numbers_of handles) ≡ handles
 
+-- and so in what is kept
 abbrev pub IsByNumber : Content → Type 0
 IsByNumber (content.Message bytes handles) = AreByNumber handles.items
 IsByNumber content.HangUp = Unit {0}
 
--- these are the bytes and the handles of what was sent, or it is none
+-- a message with these bytes and handles was sent
 abbrev pub IsMessage : Sending → List ℕ → List Handle → Type 0
 IsMessage sending bytes handles = (sending ≡ message bytes (numbers_of handles)) × AreByNumber handles

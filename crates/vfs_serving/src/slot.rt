@@ -38,7 +38,6 @@ pub struct Slot {
 }
 
 impl Model for Slot {
-    ghost use Rattle.conn_rules.specs.Codes.{connection_code};
     ghost use Rattle.vfs_serving.specs.Bindings.{Binding, binding_code};
 
     ghost Value = { Binding };
