@@ -21,3 +21,9 @@ pub mod Kept
 pub mod TransitLaws
 pub mod Weights
 pub mod Draining
+pub mod KnowingLists
+pub mod KnowingServed
+pub mod KnowingCount
+pub mod KnowingAdmits
+pub mod KnowingSent
+pub mod KnowingServes
