@@ -24,3 +24,9 @@ pub mod Draining
 pub mod Starting
 pub mod Apart
 pub mod Queues
+pub mod KnowingLists
+pub mod KnowingServed
+pub mod KnowingCount
+pub mod KnowingAdmits
+pub mod KnowingSent
+pub mod KnowingServes

@@ -19,3 +19,4 @@ pub mod RowNames
 pub mod RowMounts
 pub mod Laws
 pub mod Soundness
+pub mod Knowing

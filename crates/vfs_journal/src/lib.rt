@@ -2,9 +2,14 @@
 //! it stands for, and the journals that frames and servings make.
 #![tactic(auto)]
 
+mod knowing;
 mod laws;
 mod rows;
 
+pub use knowing::{
+    hang_ups_are_known, knowers_admit, messages_are_known, refusals_are_known, servings_are_known,
+    servings_end_their_deaths, starts_are_known,
+};
 pub use laws::{
     deaths_reach_all, drains_serve_all, endpoints_are_in_transit, endpoints_are_known, places_rise,
     refusals_change_nothing, sendings_wait_last, served_once, servings_lower_the_weight,
