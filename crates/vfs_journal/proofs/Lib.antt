@@ -30,3 +30,4 @@ pub mod KnowingCount
 pub mod KnowingAdmits
 pub mod KnowingSent
 pub mod KnowingServes
+pub mod KnowingStarts

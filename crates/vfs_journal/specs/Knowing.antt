@@ -1,6 +1,7 @@
 -- That a server which keeps what it knows of endpoints and tokens knows at each point what looking back says.
 use Rattle.std.specs.Prelude.{◌≡◌, ◌≢◌, ◌+◌, ℕ, true, if◌then◌else◌, List, [], ◌∷◌, length, map, AllPairs, fold, Some, None}
 use Rattle.std.specs.List.{range_with_len}
+use Rattle.tree_file.specs.Items.{Lists}
 use Rattle.tree_file.specs.Numbering.{end_of_mount}
 use Rattle.endpoint_link.specs.declared.kinds.FrameKind.TheVariants as kind
 use Rattle.endpoint_link.specs.declared.kinds.Standing.TheVariants as standing
@@ -18,7 +19,7 @@ use Rattle.vfs_journal.specs.Past.{history_of}
 use Rattle.vfs_journal.specs.Serving.{outcome_of}
 use Rattle.vfs_journal.specs.Session.{head, look_ups, sent_behind, after_serving}
 use Rattle.vfs_journal.specs.Soundness.{IsStart, mount_ends}
-use Rattle.vfs_journal.specs.Starts.{Start}
+use Rattle.vfs_journal.specs.Starts.{Start, start_of}
 use Rattle.vfs_journal.specs.Tokens.{all_given, is_held, next_token}
 
 -- ---- what a server knows
@@ -62,6 +63,10 @@ KnowersAdmit =
 abbrev pub StartsAreKnown : Type 0
 StartsAreKnown =
     (start : Start) (known : Known) → IsNumbered start → Starts (map (λ bound. bound.endpoint) start.firsts) (length start.mounts) (length start.trees) known → Knows start [] known
+
+-- the start of a tree file is numbered, where its clients have endpoints of their own
+abbrev pub StartsOfFilesAreNumbered : Type 0
+StartsOfFilesAreNumbered = (lists : Lists) → AllPairs (λ client other. client.endpoint ≢ other.endpoint) lists.clients → IsNumbered (start_of lists)
 
 -- behind a refusal the same is known
 abbrev pub RefusalsAreKnown : Type 0

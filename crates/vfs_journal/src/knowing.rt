@@ -1,7 +1,7 @@
 //! Laws of a server that keeps what it knows of endpoints and tokens. They compute nothing: what they say is in their clauses.
 
 ghost use Rattle.fidl_wire.specs.Names.{AreDistinct};
-ghost use Rattle.vfs_journal.specs.Knowing.{KnowersAdmit, StartsAreKnown, RefusalsAreKnown, MessagesAreKnown, HangUpsAreKnown, ServingsEndTheirDeaths, ServingsAreKnown};
+ghost use Rattle.vfs_journal.specs.Knowing.{KnowersAdmit, StartsAreKnown, RefusalsAreKnown, MessagesAreKnown, HangUpsAreKnown, ServingsEndTheirDeaths, ServingsAreKnown, StartsOfFilesAreNumbered};
 
 use fidl_wire::body_is_read_where_spelled;
 use io_messages::written_request_is_read;
@@ -10,6 +10,11 @@ use path_walk::path_laws;
 /// What is known at the start is what looking back says of no past.
 pub fn starts_are_known()
     ensures { StartsAreKnown }
+{}
+
+/// The start of a tree file whose clients have endpoints of their own is numbered.
+pub fn starts_of_files_are_numbered()
+    ensures { StartsOfFilesAreNumbered }
 {}
 
 /// Behind a refusal the same is known.

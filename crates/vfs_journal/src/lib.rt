@@ -8,7 +8,7 @@ mod rows;
 
 pub use knowing::{
     hang_ups_are_known, knowers_admit, messages_are_known, refusals_are_known, servings_are_known,
-    servings_end_their_deaths, starts_are_known,
+    servings_end_their_deaths, starts_are_known, starts_of_files_are_numbered,
 };
 pub use laws::{
     deaths_reach_all, drains_serve_all, endpoints_are_in_transit, endpoints_are_known, places_rise,
