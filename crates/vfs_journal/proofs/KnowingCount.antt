@@ -34,7 +34,8 @@ use Rattle.vfs_journal.proofs.Below.{Below}
 use Rattle.vfs_journal.proofs.Kept.{lawful_kept, is_serving}
 use Rattle.vfs_journal.proofs.KnowingLists.{Apart, no_more, apart_append, apart_one, apart_filter, ends_of, still_named, apart_kept, AreOwn, own_filter, apart_carried, apart_spread}
 use Rattle.vfs_journal.proofs.KnowingServed.{after_served, unsettled, live_in, bound_lives, sent_lives, used_more}
-use Rattle.vfs_journal.proofs.Members.{contains_none, kept_of, AllPairs-head, AllPairs-tail}
+use Rattle.vfs_journal.proofs.Members.{contains_none, kept_of}
+use Rattle.vfs_journal.proofs.Lists.{pairs-head, pairs-tail}
 use Rattle.vfs_journal.proofs.Served.{IsAnswered, other_of}
 use Rattle.vfs_journal.proofs.Sound.{View, view, IsView, Transit, used, bound_in, nothing_left}
 use Rattle.vfs_journal.proofs.Spreading.{among-append, among_sides}
@@ -251,8 +252,8 @@ unlike b (x ∷ bounds) h =
 firsts_apart : (bounds : List Bound) → AllPairs (λ bound other. bound.endpoint ≢ other.endpoint) bounds → Apart (ends_of bounds)
 firsts_apart [] h = tt
 firsts_apart (b ∷ bounds) h = (
-  unlike b bounds (AllPairs-head (λ bound other. bound.endpoint ≢ other.endpoint) b bounds h),
-  firsts_apart bounds (AllPairs-tail (λ bound other. bound.endpoint ≢ other.endpoint) b bounds h),
+  unlike b bounds (pairs-head (λ bound other. bound.endpoint ≢ other.endpoint) b bounds h),
+  firsts_apart bounds (pairs-tail (λ bound other. bound.endpoint ≢ other.endpoint) b bounds h),
 )
 
 -- a name among these is that of one of them

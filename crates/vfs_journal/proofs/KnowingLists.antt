@@ -8,7 +8,8 @@ use Rattle.vfs_journal.specs.Deaths.{spread}
 use Rattle.vfs_journal.specs.Entries.{Sent, endpoints_in}
 use Rattle.vfs_journal.specs.Starts.{Bound}
 use Rattle.vfs_journal.proofs.Among.{among_of, member_of, carrier_of}
-use Rattle.vfs_journal.proofs.Members.{contains_here, contains_later, kept_of, AllPairs-head, AllPairs-tail}
+use Rattle.vfs_journal.proofs.Members.{contains_here, contains_later, kept_of}
+use Rattle.vfs_journal.proofs.Lists.{pairs-head, pairs-tail}
 use Rattle.vfs_journal.proofs.Spreading.{among-append, among_sides}
 
 pub or-none : (b : Bool) → (b || false) ≡ b
@@ -128,7 +129,7 @@ pub record AreOwn (ones : List Sent) : Type 0 where
 
 own_tail : (x : Sent) (ones : List Sent) → AreOwn (x ∷ ones) → AreOwn ones
 own_tail x ones own = record {
-  rises = AllPairs-tail Before x ones own.rises;
+  rises = pairs-tail Before x ones own.rises;
   each = λ one p. own.each one (contains_later one x ones p);
   once = λ one other n p q. own.once one other n (contains_later one x ones p) (contains_later other x ones q);
 }
@@ -145,7 +146,7 @@ own_first : (x other : Sent) (ones : List Sent) (n : ℕ) → AreOwn (x ∷ ones
 own_first x other ones n own p h = false_from_ne_true (among n (endpoints_in other))
     (λ g.
     let same : x ≡ other = own.once x other n (contains_here x ones) (contains_later other x ones p) h g in
-    let after : x.place < other.place = All-contains (Before x) ones other (AllPairs-head Before x ones own.rises) p in
+    let after : x.place < other.place = All-contains (Before x) ones other (pairs-head Before x ones own.rises) p in
     let equal : x.place ≡ other.place = ap (λ (s : Sent). s.place) same in
     omega arith)
 

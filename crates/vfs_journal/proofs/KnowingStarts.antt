@@ -8,7 +8,7 @@ use Rattle.tree_file.specs.Numbering.{end_of_mount}
 use Rattle.vfs_journal.specs.Knowing.{IsNumbered}
 use Rattle.vfs_journal.specs.Starts.{Bound, first_of_client, end_of, start_of}
 use Rattle.vfs_journal.proofs.KnowingLists.{ends_of}
-use Rattle.vfs_journal.proofs.Members.{AllPairs-head, AllPairs-tail}
+use Rattle.vfs_journal.proofs.Lists.{pairs-head, pairs-tail}
 
 abbrev DifferClients : ClientItem → ClientItem → Type 0
 DifferClients client other = client.endpoint ≢ other.endpoint
@@ -25,8 +25,8 @@ each_differs lists client (x ∷ xs) h =
 firsts_differ : (lists : Lists) (clients : List ClientItem) → AllPairs DifferClients clients → AllPairs DifferBounds (map (first_of_client lists) clients)
 firsts_differ lists [] h = λ i j d l m. absurd (omega arith)
 firsts_differ lists (x ∷ xs) h =
-    AllPairs-cons DifferBounds (first_of_client lists x) (map (first_of_client lists) xs) (each_differs lists x xs (AllPairs-head DifferClients x xs h))
-    (firsts_differ lists xs (AllPairs-tail DifferClients x xs h))
+    AllPairs-cons DifferBounds (first_of_client lists x) (map (first_of_client lists) xs) (each_differs lists x xs (pairs-head DifferClients x xs h))
+    (firsts_differ lists xs (pairs-tail DifferClients x xs h))
 
 mounts_in_order : (lists : Lists) (a : ℕ) (mounts : List MountItem) →
     ends_of (map (end_of lists) (enumerate_from a mounts)) ≡ map end_of_mount (range_with_len a (length (map (end_of lists) (enumerate_from a mounts))))
