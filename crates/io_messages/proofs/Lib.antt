@@ -10,3 +10,4 @@ pub mod ReplyLaws
 pub mod WritingLaws
 pub mod WrittenReplies
 pub mod Payloads
+pub mod Carrying

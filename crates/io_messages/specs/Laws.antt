@@ -1,8 +1,10 @@
 -- What holds of every message and all handles.
-use Rattle.std.specs.Prelude.{◌≡◌, ℕ, ◌^◌, ◌<◌, true, List}
+use Rattle.std.specs.Prelude.{◌≡◌, ℕ, ◌^◌, ◌<◌, true, List, Contains}
 use Rattle.fidl_names.specs.declared.methods.Handle.{Handle}
+use Rattle.fidl_names.specs.declared.methods.Handle.TheVariants.{Endpoint}
 use Rattle.io_messages.specs.declared.protocols.Protocol.{Protocol}
 use Rattle.io_messages.specs.Asked.{Asked, method_of}
+use Rattle.io_messages.specs.Asked as asks
 use Rattle.io_messages.specs.Protocols.{has_method}
 use Rattle.io_messages.specs.Replies.{Answered, IsFrameworkError, IsReply, ReadsReply, ReadsEvent, kind_of}
 use Rattle.io_messages.specs.ReplyWriting.{HasReply, PayloadFits, NumbersFit, reply_bytes, reply_handles, event_bytes, branch_of_kind}
@@ -42,3 +44,15 @@ WrittenRepliesAreRead =
 -- what is written for a kind is an event that tells it, or node for a service
 abbrev pub WrittenEventsAreRead : Type 0
 WrittenEventsAreRead = (k : Protocol) → ReadsEvent (event_bytes k) (kind_of (branch_of_kind k))
+
+-- the endpoint that a request carries is among these handles
+abbrev pub Carries : Asked → List Handle → Type 0
+Carries (asks.clone endpoint) handles = Contains handles (Endpoint endpoint)
+Carries (asks.open_path path flags attributes object) handles = Contains handles (Endpoint object)
+Carries (asks.watch mask options watcher) handles = Contains handles (Endpoint watcher)
+Carries _ handles = Unit {0}
+
+-- the endpoint that a request carries came with its message
+abbrev pub RequestsCarryTheirEndpoints : Type 0
+RequestsCarryTheirEndpoints =
+    (p : Protocol) (bytes : List ℕ) (handles : List Handle) (t : ℕ) (a : Asked) → Reads p bytes handles t a → Carries a handles

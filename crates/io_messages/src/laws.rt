@@ -1,7 +1,7 @@
 //! Laws of the messages. They compute nothing: what they say is in their clauses.
 
 ghost use Rattle.fidl_wire.specs.Names.{MethodsHaveTheirOwn};
-ghost use Rattle.io_messages.specs.Laws.{RequestsAreReadOnce, RepliesAreReadOnce, FrameworkErrorIsNoReply, EventsAreReadOnce, WrittenRequestsAreRead, WrittenRepliesAreRead, WrittenEventsAreRead};
+ghost use Rattle.io_messages.specs.Laws.{RequestsAreReadOnce, RequestsCarryTheirEndpoints, RepliesAreReadOnce, FrameworkErrorIsNoReply, EventsAreReadOnce, WrittenRequestsAreRead, WrittenRepliesAreRead, WrittenEventsAreRead};
 
 use fidl_wire::{body_is_read_where_spelled, spelling_is_read, written_header_is_read};
 
@@ -11,6 +11,11 @@ pub fn request_is_read_once()
 {
     body_is_read_where_spelled();
 }
+
+/// The endpoint that a Clone, an Open or a Watch carries is among the message's handles.
+pub fn carried_endpoint_is_a_handle()
+    ensures { RequestsCarryTheirEndpoints }
+{}
 
 /// Bytes and handles are at most one reply, where each method has an ordinal of its own.
 pub fn reply_is_read_once()
