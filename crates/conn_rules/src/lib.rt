@@ -1,5 +1,6 @@
 //! What serving one request does, as definitions that every connection cites: the walk over names, the refusals of each method in
-//! their order, and what each method does. The words of connections stand beside them.
+//! their order, and what each method does. Beside them stands what the connections of all nodes do alike: the refusals before a
+//! method's row, replies and failures in a method's form, and the five methods that every node has.
 #![tactic(auto)]
 
 mod births;

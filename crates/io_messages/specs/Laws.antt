@@ -1,5 +1,5 @@
 -- What holds of every message and all handles.
-use Rattle.std.specs.Prelude.{◌≡◌, ℕ, ◌^◌, ◌<◌, true, List, Contains}
+use Rattle.std.specs.Prelude.{◌≡◌, ℕ, ◌^◌, ◌<◌, true, List, Contains, Ok}
 use Rattle.fidl_names.specs.declared.methods.Handle.{Handle}
 use Rattle.fidl_names.specs.declared.methods.Handle.TheVariants.{Endpoint}
 use Rattle.io_messages.specs.declared.protocols.Protocol.{Protocol}
@@ -8,7 +8,7 @@ use Rattle.io_messages.specs.Asked as asks
 use Rattle.io_messages.specs.Protocols.{has_method}
 use Rattle.io_messages.specs.Replies.{Answered, IsFrameworkError, IsReply, ReadsReply, ReadsEvent, kind_of}
 use Rattle.io_messages.specs.ReplyWriting.{HasReply, PayloadFits, NumbersFit, reply_bytes, reply_handles, event_bytes, branch_of_kind}
-use Rattle.io_messages.specs.Requests.{Reads, has_txid}
+use Rattle.io_messages.specs.Requests.{Reads, has_txid, request_of}
 use Rattle.io_messages.specs.Shapes.{is_one_way}
 use Rattle.io_messages.specs.Writing.{request_bytes, request_handles, IsRequest}
 
@@ -56,3 +56,13 @@ Carries _ handles = Unit {0}
 abbrev pub RequestsCarryTheirEndpoints : Type 0
 RequestsCarryTheirEndpoints =
     (p : Protocol) (bytes : List ℕ) (handles : List Handle) (t : ℕ) (a : Asked) → Reads p bytes handles t a → Carries a handles
+
+-- a request that bytes and handles are is the one that reading them finds
+abbrev pub RequestsAreFound : Type 0
+RequestsAreFound =
+    (p : Protocol) (bytes : List ℕ) (handles : List Handle) (t : ℕ) (a : Asked) → Reads p bytes handles t a → request_of p bytes handles ≡ Ok (t, a)
+
+-- and what reading finds is a request that they are
+abbrev pub FoundRequestsAreRead : Type 0
+FoundRequestsAreRead =
+    (p : Protocol) (bytes : List ℕ) (handles : List Handle) (t : ℕ) (a : Asked) → request_of p bytes handles ≡ Ok (t, a) → Reads p bytes handles t a

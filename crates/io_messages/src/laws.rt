@@ -1,13 +1,21 @@
 //! Laws of the messages. They compute nothing: what they say is in their clauses.
 
 ghost use Rattle.fidl_wire.specs.Names.{MethodsHaveTheirOwn};
-ghost use Rattle.io_messages.specs.Laws.{RequestsAreReadOnce, RequestsCarryTheirEndpoints, RepliesAreReadOnce, FrameworkErrorIsNoReply, EventsAreReadOnce, WrittenRequestsAreRead, WrittenRepliesAreRead, WrittenEventsAreRead};
+ghost use Rattle.io_messages.specs.Laws.{RequestsAreReadOnce, RequestsAreFound, FoundRequestsAreRead, RequestsCarryTheirEndpoints, RepliesAreReadOnce, FrameworkErrorIsNoReply, EventsAreReadOnce, WrittenRequestsAreRead, WrittenRepliesAreRead, WrittenEventsAreRead};
 
 use fidl_wire::{body_is_read_where_spelled, spelling_is_read, written_header_is_read};
 
 /// Bytes and handles are at most one request to a protocol, where each method has an ordinal of its own.
 pub fn request_is_read_once()
     ensures { MethodsHaveTheirOwn → RequestsAreReadOnce }
+{
+    body_is_read_where_spelled();
+}
+
+/// Reading bytes and handles finds the request that they are, and no other, where each method has an ordinal of its own.
+pub fn requests_are_found()
+    ensures found { MethodsHaveTheirOwn → RequestsAreFound }
+    ensures read { FoundRequestsAreRead }
 {
     body_is_read_where_spelled();
 }

@@ -16,8 +16,8 @@ mod requests;
 
 pub use laws::{
     carried_endpoint_is_a_handle, event_is_read_once, framework_error_is_no_reply,
-    reply_is_read_once, request_is_read_once, written_event_is_read, written_reply_is_read,
-    written_request_is_read,
+    reply_is_read_once, request_is_read_once, requests_are_found, written_event_is_read,
+    written_reply_is_read, written_request_is_read,
 };
 pub use protocols::{Protocol, has_method};
 pub use replies::{Attributes, Reply};
