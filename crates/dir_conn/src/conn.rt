@@ -24,7 +24,7 @@ use conn_rules::{Birth, Room, Served, fail, method_of, method_refusal, serve_nod
 use fidl_wire::{Ordinals, Out};
 use io_messages::{Protocol, Request};
 use io_rights::laws_of_rights;
-use node_graph::Graph;
+use node_graph::{Graph, NodeRef};
 use std::marker::Model;
 
 /// A connection to a directory. Contracts see its birth and its position.
@@ -51,6 +51,13 @@ impl DirConn {
         ensures position { result.position ≡ fresh }
     {
         DirConn { birth }
+    }
+
+    /// The directory that it is to.
+    pub fn node(&self) -> NodeRef
+        ensures { result ≡ self.now.birth.node }
+    {
+        self.birth.node
     }
 
     /// Serves one request of this server's tree; what it does is said by the rows of the protocol.

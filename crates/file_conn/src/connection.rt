@@ -24,7 +24,7 @@ use conn_rules::{
 use fidl_names::{Method, Status};
 use fidl_wire::{Ordinals, Out};
 use io_messages::{Protocol, Reply, Request};
-use node_graph::{Graph, NodeKind};
+use node_graph::{Graph, NodeKind, NodeRef};
 use std::marker::Model;
 
 /// The most bytes of one Read.
@@ -58,6 +58,13 @@ impl FileConn {
         ensures position { result.position ≡ fresh }
     {
         FileConn { birth, position: 0 }
+    }
+
+    /// The file that it is to.
+    pub fn node(&self) -> NodeRef
+        ensures { result ≡ self.now.birth.node }
+    {
+        self.birth.node
     }
 
     /// Serves a request to the connection, which writes its reply into the empty output. The file

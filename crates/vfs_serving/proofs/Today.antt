@@ -41,35 +41,36 @@ use Rattle.dir_conn.specs.declared.served.DirServed.{DirServed}
 use Rattle.dir_conn.specs.declared.served.DirServed.TheVariants as served
 use Rattle.dir_conn.specs.Served.{DirGives}
 use Rattle.vfs_journal.specs.Outcomes.{Asker, token_of}
-use Rattle.vfs_serving.specs.Bindings.{IsSpokenNow}
+use Rattle.vfs_serving.specs.Bindings.{HasMount, IsSpokenNow}
 use Rattle.vfs_serving.specs.declared.conn.Conn.{Conn}
 use Rattle.vfs_serving.specs.declared.conn.Conn.TheVariants as conn
-use Rattle.vfs_serving.specs.Given.{Speaks, connection_of}
+use Rattle.vfs_serving.specs.Given.{GoesOnBehind, Speaks, connection_of}
 use Rattle.vfs_serving.proofs.Walking.{ArrivesAtNone, IsNoMount, walk_none}
 
--- an answer that can be given today
-abbrev pub IsOfToday : Answer → Type 0
-IsOfToday (replies (token number)) = ⊥
-IsOfToday (binds birth announced) = IsSpokenNow birth.protocol
-IsOfToday _ = Unit {0}
+-- an answer that can be given today, over this tree
+abbrev pub IsOfToday : Tree → Answer → Type 0
+IsOfToday tree (replies (token number)) = ⊥
+IsOfToday tree (binds birth announced) = IsSpokenNow birth.protocol
+IsOfToday tree (forwards mount flags rest) = HasMount tree mount
+IsOfToday tree _ = Unit {0}
 
-pub gives_no_token : (asker : Asker) (answer : Answer) → IsOfToday answer → token_of asker answer ≡ None
-gives_no_token asker (replies (done m)) h = refl
-gives_no_token asker (replies (fails m s)) h = refl
-gives_no_token asker (replies (counted m x)) h = refl
-gives_no_token asker (replies (payload m bytes)) h = refl
-gives_no_token asker (replies (settled m)) h = refl
-gives_no_token asker (replies (token n)) h = absurd h
-gives_no_token asker (replies (attributes a)) h = refl
-gives_no_token asker (replies (unknown ordinal)) h = refl
-gives_no_token asker closes h = refl
-gives_no_token asker (binds birth announced) h = refl
-gives_no_token asker (watches mask) h = refl
-gives_no_token asker (forwards mount flags rest) h = refl
-gives_no_token asker (refuses status) h = refl
-gives_no_token asker (ends status) h = refl
-gives_no_token asker hangs_up h = refl
-gives_no_token asker silent h = refl
+pub gives_no_token : (tree : Tree) (asker : Asker) (answer : Answer) → IsOfToday tree answer → token_of asker answer ≡ None
+gives_no_token tree asker (replies (done m)) h = refl
+gives_no_token tree asker (replies (fails m s)) h = refl
+gives_no_token tree asker (replies (counted m x)) h = refl
+gives_no_token tree asker (replies (payload m bytes)) h = refl
+gives_no_token tree asker (replies (settled m)) h = refl
+gives_no_token tree asker (replies (token n)) h = absurd h
+gives_no_token tree asker (replies (attributes a)) h = refl
+gives_no_token tree asker (replies (unknown ordinal)) h = refl
+gives_no_token tree asker closes h = refl
+gives_no_token tree asker (binds birth announced) h = refl
+gives_no_token tree asker (watches mask) h = refl
+gives_no_token tree asker (forwards mount flags rest) h = refl
+gives_no_token tree asker (refuses status) h = refl
+gives_no_token tree asker (ends status) h = refl
+gives_no_token tree asker hangs_up h = refl
+gives_no_token tree asker silent h = refl
 
 abbrev birth_in : code.Birth → DirServed → code.Birth
 birth_in other (served.Bind birth) = birth
@@ -78,32 +79,44 @@ birth_in other _ = other
 bind_injective : (a b : code.Birth) → served.Bind a ≡ served.Bind b → a ≡ b
 bind_injective a b e = ap (birth_in a) e
 
-pub bound_is_spoken : (answer : Answer) (txid : ℕ) (what : DirServed) (out : Written) (birth : code.Birth) → DirGives answer txid what out → IsOfToday answer →
+pub bound_is_spoken : (tree : Tree) (answer : Answer) (txid : ℕ) (what : DirServed) (out : Written) (birth : code.Birth) → DirGives answer txid what out → IsOfToday tree answer →
     what ≡ served.Bind birth → IsSpokenNow birth.protocol
-bound_is_spoken (replies a) txid what out birth h today e = let wrong = sym h.0 ∙ e in search rules
-bound_is_spoken closes txid what out birth h today e = let wrong = sym h.0 ∙ e in search rules
-bound_is_spoken (binds b announced) txid what out birth h today e =
+bound_is_spoken tree (replies a) txid what out birth h today e = let wrong = sym h.0 ∙ e in search rules
+bound_is_spoken tree closes txid what out birth h today e = let wrong = sym h.0 ∙ e in search rules
+bound_is_spoken tree (binds b announced) txid what out birth h today e =
     let same : h.0.0 ≡ birth = bind_injective h.0.0 birth (sym h.0.1 ∙ e) in
     subst IsSpokenNow (sym (ap (λ b. b.protocol) h.0.2.same) ∙ ap (λ found. found.protocol) same) today
-bound_is_spoken (watches mask) txid what out birth h today e = absurd h.0
-bound_is_spoken (forwards mount flags rest) txid what out birth h today e = let wrong = sym h.0 ∙ e in search rules
-bound_is_spoken (refuses status) txid what out birth h today e = let wrong = sym h.0 ∙ e in search rules
-bound_is_spoken (ends status) txid what out birth h today e = absurd h.0
-bound_is_spoken hangs_up txid what out birth h today e = absurd h.0
-bound_is_spoken silent txid what out birth h today e = absurd h.0
+bound_is_spoken tree (watches mask) txid what out birth h today e = absurd h.0
+bound_is_spoken tree (forwards mount flags rest) txid what out birth h today e = let wrong = sym h.0 ∙ e in search rules
+bound_is_spoken tree (refuses status) txid what out birth h today e = let wrong = sym h.0 ∙ e in search rules
+bound_is_spoken tree (ends status) txid what out birth h today e = absurd h.0
+bound_is_spoken tree hangs_up txid what out birth h today e = absurd h.0
+bound_is_spoken tree silent txid what out birth h today e = absurd h.0
+
+pub onward_is_mounted : (tree : Tree) (answer : Answer) (txid : ℕ) (what : DirServed) (out : Written) (mount : ℕ) → DirGives answer txid what out → IsOfToday tree answer →
+    GoesOnBehind mount what → HasMount tree mount
+onward_is_mounted tree (replies a) txid what out mount h today on = absurd (subst (GoesOnBehind mount) h.0 on)
+onward_is_mounted tree closes txid what out mount h today on = absurd (subst (GoesOnBehind mount) h.0 on)
+onward_is_mounted tree (binds b announced) txid what out mount h today on = absurd (subst (GoesOnBehind mount) h.0.1 on)
+onward_is_mounted tree (watches mask) txid what out mount h today on = absurd h.0
+onward_is_mounted tree (forwards index flags rest) txid what out mount h today on = subst (HasMount tree) (subst (GoesOnBehind mount) h.0 on) today
+onward_is_mounted tree (refuses status) txid what out mount h today on = absurd (subst (GoesOnBehind mount) h.0 on)
+onward_is_mounted tree (ends status) txid what out mount h today on = absurd h.0
+onward_is_mounted tree hangs_up txid what out mount h today on = absurd h.0
+onward_is_mounted tree silent txid what out mount h today on = absurd h.0
 
 -- ---- refusals
 
-either_today : (one_way : Bool) (request : Asked) (status : Status) → IsOfToday (if one_way then refuses status else replies (fails (method_of request) status))
-either_today true request status = tt
-either_today false request status = tt
+either_today : (tree : Tree) (one_way : Bool) (request : Asked) (status : Status) → IsOfToday tree (if one_way then refuses status else replies (fails (method_of request) status))
+either_today tree true request status = tt
+either_today tree false request status = tt
 
-failure_today : (request : Asked) (status : Status) → IsOfToday (failure_of request status)
-failure_today request status = either_today (is_one_way (method_of request)) request status
+failure_today : (tree : Tree) (request : Asked) (status : Status) → IsOfToday tree (failure_of request status)
+failure_today tree request status = either_today tree (is_one_way (method_of request)) request status
 
-unless_today : (o : Option Status) (position : Position) (request : Asked) (act : Act) → (o ≡ None → IsOfToday act.answer) → IsOfToday (unless o position request act).answer
-unless_today (Some status) position request act h = failure_today request status
-unless_today None position request act h = h refl
+unless_today : (tree : Tree) (o : Option Status) (position : Position) (request : Asked) (act : Act) → (o ≡ None → IsOfToday tree act.answer) → IsOfToday tree (unless o position request act).answer
+unless_today tree (Some status) position request act h = failure_today tree request status
+unless_today tree None position request act h = h refl
 
 second_passes : (a : Option Status) (c : Bool) (status : Status) (rest : List (Option Status)) → first_of (a ∷ refused_if (not c) status ∷ rest) ≡ None → c ≡ true
 second_passes (Some s) c status rest e = search rules
@@ -169,22 +182,22 @@ made_spoken word plain =
     (protocol_spoken word Directory plain refl refl) (protocol_spoken word File plain refl refl)
 
 walk_today : (birth : Birth) (position : Position) (room : Room) (tree : Tree) (request : Asked) (word : ℕ) (w : Walk) →
-    has word flag.ProtocolNode ≡ false → ArrivesAtNone tree w → IsOfToday (by_walk first_methods birth position room tree request word w).answer
+    has word flag.ProtocolNode ≡ false → ArrivesAtNone tree w → IsOfToday tree (by_walk first_methods birth position room tree request word w).answer
 walk_today birth position room tree request word (arrives node masks) plain at =
-    unless_today (first_of (arrival_refusals first_methods room word (kind_here tree node))) position request
+    unless_today tree (first_of (arrival_refusals first_methods room word (kind_here tree node))) position request
     (arrival position word (limit_of birth.rights masks) node (kind_here tree node))
     (λ none. protocol_spoken word (kind_here tree node) plain (arrives_built room word (kind_here tree node) none) at)
 walk_today birth position room tree request word (missing directory name masks) plain at =
-    unless_today (first_of (making_refusals tree room word directory)) position request
+    unless_today tree (first_of (making_refusals tree room word directory)) position request
     (making position tree word (limit_of birth.rights masks) (record { directory = directory; name = name }))
     (λ none. made_spoken word plain)
-walk_today birth position room tree request word (crosses mount rest masks) plain at = tt
-walk_today birth position room tree request word (stops status) plain at = failure_today request status
+walk_today birth position room tree request word (crosses mount rest masks) plain at = at
+walk_today birth position room tree request word (stops status) plain at = failure_today tree request status
 
 open_today : (birth : Birth) (position : Position) (room : Room) (tree : Tree) (request : Asked) (path : List ℕ) (word : ℕ) →
-    IsNoMount tree birth.node → IsOfToday (open_act first_methods birth position room tree request path word).answer
+    IsNoMount tree birth.node → IsOfToday tree (open_act first_methods birth position room tree request path word).answer
 open_today birth position room tree request path word here =
-    unless_today (first_of (entry_refusals first_methods birth word path)) position request
+    unless_today tree (first_of (entry_refusals first_methods birth word path)) position request
     (by_walk first_methods birth position room tree request word (walk tree word (names_of path) birth.node))
     (λ none. walk_today birth position room tree request word (walk tree word (names_of path) birth.node)
     (asks_no_reference word (opens_built birth word path none)) (walk_none tree word (names_of path) birth.node here))
@@ -192,9 +205,9 @@ open_today birth position room tree request path word here =
 -- ---- all rows
 
 row_today : (birth : Birth) (position : Position) (room : Room) (tree : Tree) (target : Option ℕ) (request : Asked) → IsSpokenNow birth.protocol →
-    IsNoMount tree birth.node → is_first_method (method_of request) ≡ true → IsOfToday (row_act first_methods birth position room tree target request).answer
+    IsNoMount tree birth.node → is_first_method (method_of request) ≡ true → IsOfToday tree (row_act first_methods birth position room tree target request).answer
 row_today birth position room tree target (asks.clone endpoint) spoken here built =
-    unless_today (first_of (refused_if (is_full room) status.NoResources ∷ [])) position (asks.clone endpoint) (only position (binds birth false)) (λ _. spoken)
+    unless_today tree (first_of (refused_if (is_full room) status.NoResources ∷ [])) position (asks.clone endpoint) (only position (binds birth false)) (λ _. spoken)
 row_today birth position room tree target asks.close spoken here built = tt
 row_today birth position room tree target asks.query spoken here built = tt
 row_today birth position room tree target (asks.get_attributes bits) spoken here built = tt
@@ -209,7 +222,7 @@ row_today birth position room tree target (asks.link src number dst) spoken here
 row_today birth position room tree target (asks.unlink name flags) spoken here built = search rules
 row_today birth position room tree target (asks.watch mask options watcher) spoken here built = search rules
 row_today birth position room tree target (asks.read count) spoken here built =
-    unless_today (reading_refusal count) position (asks.read count) _ (λ _. tt)
+    unless_today tree (reading_refusal count) position (asks.read count) _ (λ _. tt)
 row_today birth position room tree target (asks.read_at count offset) spoken here built = search rules
 row_today birth position room tree target (asks.write bytes) spoken here built = search rules
 row_today birth position room tree target (asks.write_at bytes offset) spoken here built = search rules
@@ -218,10 +231,10 @@ row_today birth position room tree target (asks.resize size) spoken here built =
 row_today birth position room tree target (asks.echo_string value) spoken here built = search rules
 
 pub act_today : (birth : Birth) (position : Position) (room : Room) (tree : Tree) (target : Option ℕ) (request : Asked) → IsSpokenNow birth.protocol →
-    IsNoMount tree birth.node → IsOfToday (act_of first_methods birth position room tree target request).answer
+    IsNoMount tree birth.node → IsOfToday tree (act_of first_methods birth position room tree target request).answer
 unfolding act_of
 act_today birth position room tree target request spoken here =
-    unless_today (first_of (method_refusals first_methods birth (method_of request))) position request
+    unless_today tree (first_of (method_refusals first_methods birth (method_of request))) position request
     (row_act first_methods birth position room tree target request)
     (λ none. row_today birth position room tree target request spoken here (method_built birth (method_of request) none))
 
@@ -253,7 +266,7 @@ speaks_now (conn.File c) speaks = rw speaks tt
 -- what a connection to a node that the graph keeps answers today
 pub conn_today : (graph : Kept) (tree : Tree) (c : Conn) (room : Room) (target : Option ℕ) (request : Asked) → Speaks c → CanBeBound graph (connection_of c).birth →
     kind_of tree (number_of (connection_of c).birth.node) ≡ kind_at graph (number_of (connection_of c).birth.node) →
-    IsOfToday (act_of first_methods (born (connection_of c).birth) (connection_of c).position room tree target request).answer
+    IsOfToday tree (act_of first_methods (born (connection_of c).birth) (connection_of c).position room tree target request).answer
 conn_today graph tree c room target request speaks can kind =
     act_today (born (connection_of c).birth) (connection_of c).position room tree target request (speaks_now c speaks)
     (no_mount graph tree (connection_of c).birth (speaks_now c speaks) can kind)

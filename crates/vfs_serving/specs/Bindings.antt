@@ -1,16 +1,18 @@
 -- A bound endpoint, and what the serving of something that was sent on it answers.
-use Rattle.std.specs.Prelude.{ℕ, Option, List, refl}
+use Rattle.std.specs.Prelude.{◌≡◌, ℕ, Option, List, refl}
 use Rattle.std.specs.Coded.{Coded, code_by, coded×, coded_ℕ}
 use Rattle.fidl_names.specs.declared.methods.Handle.{Handle}
 use Rattle.io_messages.specs.declared.protocols.Protocol.{Protocol}
 use Rattle.io_messages.specs.declared.protocols.Protocol.TheVariants as protocol
 use Rattle.io_messages.specs.Requests.{request_of}
+use Rattle.node_graph.specs.declared.nodes.NodeKind.TheVariants.{Mount}
 use Rattle.node_graph.specs.Tree.{Tree}
 use Rattle.conn_rules.specs.declared.births.Birth as code
 use Rattle.conn_rules.specs.declared.births.Room.{Room}
 use Rattle.conn_rules.specs.Births.{Position, born}
 use Rattle.conn_rules.specs.Codes.{birth_code, position_code}
 use Rattle.conn_rules.specs.Built.{first_methods}
+use Rattle.conn_rules.specs.Nodes.{kind_here}
 use Rattle.vfs_journal.specs.Entries.{Sending}
 use Rattle.vfs_journal.specs.Outcomes.{Outcome}
 use Rattle.vfs_journal.specs.Serving.{Sight, outcome_of_read, outcome_of_sending, Read}
@@ -50,6 +52,10 @@ abbrev pub IsSpokenNow : Protocol → Type 0
 IsSpokenNow protocol.Directory = Unit {0}
 IsSpokenNow protocol.File = Unit {0}
 IsSpokenNow _ = ⊥
+
+-- a node of the tree is this mount
+abbrev pub HasMount : Tree → ℕ → Type 0
+HasMount tree mount = (node : ℕ) × (kind_here tree node ≡ Mount mount)
 
 -- ---- the code by which bindings are told apart
 

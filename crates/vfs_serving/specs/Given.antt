@@ -58,3 +58,8 @@ HasTxid _ = Unit {0}
 abbrev pub BindsNoWatcher : DirServed → Type 0
 BindsNoWatcher (served.Bind birth) = birth.protocol ≢ protocol.Watcher
 BindsNoWatcher _ = Unit {0}
+
+-- an Open goes on behind this mount
+abbrev pub GoesOnBehind : ℕ → DirServed → Type 0
+GoesOnBehind mount (served.Forward index flags rest) = index ≡ mount
+GoesOnBehind mount _ = ⊥

@@ -8,7 +8,7 @@ ghost use Rattle.vfs_journal.specs.Outcomes.{announcement, ending, frames_of, on
 ghost use Rattle.vfs_journal.specs.Serving.{fault_answer, fault_txid, object_of};
 ghost use Rattle.vfs_serving.specs.Effects.{asker_with, effects_by, effects_told};
 ghost use Rattle.vfs_serving.specs.Frames.{last_frames, message_frame};
-ghost use Rattle.vfs_serving.specs.Given.{BindsNoWatcher, HasTxid, effects_given, frames_given};
+ghost use Rattle.vfs_serving.specs.Given.{BindsNoWatcher, GoesOnBehind, HasTxid, effects_given, frames_given};
 
 use crate::fate::Fate;
 use crate::frames::{put_announcement, put_ending, put_last, put_message};
@@ -46,6 +46,7 @@ pub(crate) fn answer(
     ensures frames { OnOk result (outbox.new ≡ outbox.old ++ spellings (frames_given endpoint object served.entry out.old)) }
     ensures fate { IfOk result (λ fate. (server : ℕ) → effects_given endpoint server object served.entry ≡ effects_told endpoint server fate out.new) }
     ensures bound { (from : ℕ) (birth : Birth) → result ≡ Ok (Fate.Binds from birth) → served.entry ≡ DirServed.Bind birth }
+    ensures onward { (mount from : ℕ) → result ≡ Ok (Fate.Forwards mount from) → GoesOnBehind mount served.entry }
     ensures no_memory { OnErr result (outbox.new ≡ outbox.old) }
 {
     match served {
@@ -125,6 +126,7 @@ pub(crate) fn answer_fault(
     ensures fate { IfOk result (λ fate. (server node : ℕ) →
         effects_by (asker_with endpoint server node (fault_txid fault) 0) (fault_answer fault) ≡ effects_told endpoint server fate out.new) }
     ensures bound { (from : ℕ) (birth : Birth) → result ≢ Ok (Fate.Binds from birth) }
+    ensures onward { (mount from : ℕ) → result ≢ Ok (Fate.Forwards mount from) }
     ensures no_memory { OnErr result (outbox.new ≡ outbox.old) }
 {
     match fault {

@@ -25,7 +25,7 @@ use fidl_wire::{Ordinals, Out};
 use file_conn::FileConn;
 use io_messages::{Protocol, Request};
 use io_rights::laws_of_rights;
-use node_graph::Graph;
+use node_graph::{Graph, NodeRef};
 
 /// A connection, by what it is to.
 #[derive(Drop)]
@@ -57,6 +57,16 @@ impl Conn {
         match self {
             Conn::Directory(_) => Protocol::Directory,
             Conn::File(_) => Protocol::File,
+        }
+    }
+
+    /// The node that it is bound to.
+    pub fn node(&self) -> NodeRef
+        ensures { result ≡ (connection_of self.now).birth.node }
+    {
+        match self {
+            Conn::Directory(conn) => conn.node(),
+            Conn::File(conn) => conn.node(),
         }
     }
 

@@ -13,7 +13,7 @@ ghost use Rattle.node_graph.specs.Tree.{Tree};
 ghost use Rattle.conn_rules.specs.Births.{born, fresh};
 ghost use Rattle.conn_rules.specs.Served.{HasNothing};
 ghost use Rattle.conn_rules.specs.Shared.{CanBeBound};
-ghost use Rattle.vfs_serving.specs.Bindings.{IsSpokenNow, message_outcome, outcome_for, read_outcome};
+ghost use Rattle.vfs_serving.specs.Bindings.{HasMount, IsSpokenNow, message_outcome, outcome_for, read_outcome};
 ghost use Rattle.vfs_serving.specs.Effects.{ChangesNothing, effects_of, effects_told};
 
 use crate::answers::{answer, answer_fault, object_of};
@@ -25,7 +25,7 @@ use endpoint_link::Outbox;
 use fidl_names::{Handle, NoMemory};
 use fidl_wire::{Ordinals, Out};
 use io_messages::{Request, read_request};
-use node_graph::Graph;
+use node_graph::{Graph, NodeRef};
 use std::marker::Model;
 
 /// A bound endpoint: its number, the index of the server at which it is bound, and its connection.
@@ -83,6 +83,13 @@ impl Slot {
         self.server
     }
 
+    /// The node that it is bound to.
+    pub fn node(&self) -> NodeRef
+        ensures { result ≡ self.now.birth.node }
+    {
+        self.connection.node()
+    }
+
     /// Serves what was sent on the endpoint: the frames of the answer are written to the outbox, and the
     /// call tells what becomes of endpoints. The graph is its server's, and keeps its node. An Open that
     /// goes on is left in the output; what stands there otherwise is of no account.
@@ -112,6 +119,7 @@ impl Slot {
         ensures bound { (object : ℕ) (birth : Birth) → result ≡ Ok (Fate.Binds object birth) → CanBeBound graph.now birth }
         ensures within { (object : ℕ) (birth : Birth) → result ≡ Ok (Fate.Binds object birth) → IsTrue (is_within birth.rights self.old.birth.rights) }
         ensures spoken { (tree : Tree) → StandsFor graph.now tree → (object : ℕ) (birth : Birth) → result ≡ Ok (Fate.Binds object birth) → IsSpokenNow birth.protocol }
+        ensures onward { (tree : Tree) → StandsFor graph.now tree → (mount object : ℕ) → result ≡ Ok (Fate.Forwards mount object) → HasMount tree mount }
         ensures no_memory { OnErr result (outbox.new ≡ outbox.old) }
     {
         match parcel.message() {
@@ -148,6 +156,7 @@ impl Slot {
         ensures bound { (object : ℕ) (birth : Birth) → result ≡ Ok (Fate.Binds object birth) → CanBeBound graph.now birth }
         ensures within { (object : ℕ) (birth : Birth) → result ≡ Ok (Fate.Binds object birth) → IsTrue (is_within birth.rights self.old.birth.rights) }
         ensures spoken { (tree : Tree) → StandsFor graph.now tree → (object : ℕ) (birth : Birth) → result ≡ Ok (Fate.Binds object birth) → IsSpokenNow birth.protocol }
+        ensures onward { (tree : Tree) → StandsFor graph.now tree → (mount object : ℕ) → result ≡ Ok (Fate.Forwards mount object) → HasMount tree mount }
         ensures no_memory { OnErr result (outbox.new ≡ outbox.old) }
     {
         out.clear();
@@ -188,6 +197,7 @@ impl Slot {
         ensures bound { (object : ℕ) (birth : Birth) → result ≡ Ok (Fate.Binds object birth) → CanBeBound graph.now birth }
         ensures within { (object : ℕ) (birth : Birth) → result ≡ Ok (Fate.Binds object birth) → IsTrue (is_within birth.rights self.old.birth.rights) }
         ensures spoken { (tree : Tree) → StandsFor graph.now tree → (object : ℕ) (birth : Birth) → result ≡ Ok (Fate.Binds object birth) → IsSpokenNow birth.protocol }
+        ensures onward { (tree : Tree) → StandsFor graph.now tree → (mount object : ℕ) → result ≡ Ok (Fate.Forwards mount object) → HasMount tree mount }
         ensures no_memory { OnErr result (outbox.new ≡ outbox.old) }
     {
         kept_nodes_are_rows();

@@ -7,7 +7,7 @@ use Rattle.vfs_serving.specs.Bindings.{read_outcome}
 use Rattle.vfs_serving.specs.Effects.{ChangesNothing, asker_with, effects_of, effects_told}
 use Rattle.vfs_serving.specs.Given.{connection_of, effects_given}
 use Rattle.vfs_serving.proofs.Doing.{binds_no_watcher, effects_are, ok_map}
-use Rattle.vfs_serving.proofs.Today.{bound_is_spoken, conn_today, gives_no_token}
+use Rattle.vfs_serving.proofs.Today.{bound_is_spoken, conn_today, gives_no_token, onward_is_mounted}
 use Rattle.vfs_serving.proofs.slot.Slot.serve_request.Goals as goal
 
 pub answer-requires : goal.answer-requires
@@ -39,6 +39,7 @@ returns-clause-changes c tree directory stands =
       told = c.serve-served.ensures.told tree target stands;
       token =
           gives_no_token
+          tree
           (asker_with c.self.inside.endpoint c.self.inside.server (number_of (connection_of c.self.inside.connection).birth.node) c.args.txid (object_of (asked c.args.request)))
           _
           (conn_today c.args.graph.now tree c.self.inside.connection c.args.room target (asked c.args.request) c.self.invariant node
@@ -48,7 +49,15 @@ returns-clause-changes c tree directory stands =
 pub returns-clause-spoken : goal.returns-clause-spoken
 returns-clause-spoken c tree stands object birth is =
     let node = subst (λ binding. CanBeBound c.args.graph.now binding.birth) (sym c.self.view_is) c.requires.node in
-    bound_is_spoken _ c.args.txid c.serve-served.result c.serve-served.new.out birth (c.serve-served.ensures.answer tree None stands)
+    bound_is_spoken tree _ c.args.txid c.serve-served.result c.serve-served.new.out birth (c.serve-served.ensures.answer tree None stands)
     (conn_today c.args.graph.now tree c.self.inside.connection c.args.room None (asked c.args.request) c.self.invariant node
     (c.kept_nodes_are_rows.ensures c.args.graph.now tree _ stands node.named).kind)
     (c.answer.ensures.bound object birth is)
+
+pub returns-clause-onward : goal.returns-clause-onward
+returns-clause-onward c tree stands mount object is =
+    let node = subst (λ binding. CanBeBound c.args.graph.now binding.birth) (sym c.self.view_is) c.requires.node in
+    onward_is_mounted tree _ c.args.txid c.serve-served.result c.serve-served.new.out mount (c.serve-served.ensures.answer tree None stands)
+    (conn_today c.args.graph.now tree c.self.inside.connection c.args.room None (asked c.args.request) c.self.invariant node
+    (c.kept_nodes_are_rows.ensures c.args.graph.now tree _ stands node.named).kind)
+    (c.answer.ensures.onward mount object is)
