@@ -1,5 +1,5 @@
 -- A bound endpoint, and what the serving of something that was sent on it answers.
-use Rattle.std.specs.Prelude.{◌≡◌, ℕ, Option, List, refl}
+use Rattle.std.specs.Prelude.{◌≡◌, ¬◌, ℕ, Option, List, refl}
 use Rattle.std.specs.Coded.{Coded, code_by, coded×, coded_ℕ}
 use Rattle.fidl_names.specs.declared.methods.Handle.{Handle}
 use Rattle.io_messages.specs.declared.protocols.Protocol.{Protocol}
@@ -56,6 +56,9 @@ IsSpokenNow _ = ⊥
 -- a node of the tree is this mount
 abbrev pub HasMount : Tree → ℕ → Type 0
 HasMount tree mount = (node : ℕ) × (kind_here tree node ≡ Mount mount)
+
+abbrev pub HasNoMount : Tree → Type 0
+HasNoMount tree = (mount : ℕ) → ¬ (HasMount tree mount)
 
 -- ---- the code by which bindings are told apart
 

@@ -1,0 +1,47 @@
+ghost use Rattle.std.specs.Prelude.{◌≡◌, ◌≤◌, ◌<◌, ◌^◌, ℕ, true, [], All, IfOk, length, map};
+ghost use Rattle.endpoint_link.specs.Standings.{Starts};
+ghost use Rattle.node_graph.specs.Graph.{StandsFor, holds_at, is_kept, number_of};
+ghost use Rattle.tree_file.specs.Numbering.{tree_of};
+ghost use Rattle.conn_rules.specs.Births.{fresh};
+ghost use Rattle.conn_rules.specs.Shared.{CanBeBound};
+ghost use Rattle.vfs_journal.specs.Knowing.{IsNumbered};
+ghost use Rattle.vfs_journal.specs.Starts.{start_of};
+ghost use Rattle.vfs_serving.specs.Bindings.{HasNoMount, bound_as};
+ghost use Rattle.vfs_start.specs.Accepted.{IsAccepted};
+
+use endpoint_link::Endpoints;
+use fidl_names::NoMemory;
+use node_graph::Graph;
+use std::alloc::Global;
+use tree_file::Start;
+use vfs_serving::Slot;
+
+/// What a session over one server begins with.
+#[derive(Drop)]
+pub struct Beginning {
+    /// The server's tree. It keeps each node by a name or as the root, and nothing holds one yet.
+    pub graph: Graph,
+    /// The first connections, in the order of the file.
+    pub slots: Vec<Slot>,
+    /// What is known of endpoints: the first connections live.
+    pub endpoints: Endpoints,
+}
+
+/// Makes what the start of an accepted tree file with one server and no mounts begins with.
+pub fn begin(alloc: Global, start: &Start) -> Result<Beginning, NoMemory>
+    requires accepted { IsAccepted start.now }
+    requires one { length start.now.servers ≡ 1 }
+    requires mounts { start.now.mounts ≡ [] }
+    ensures tree { IfOk result (λ b. StandsFor b.graph (tree_of start.now 0)) }
+    ensures plain { HasNoMount (tree_of start.now 0) }
+    ensures unheld { IfOk result (λ b. (number : ℕ) → holds_at b.graph number ≡ 0) }
+    ensures first { IfOk result (λ b. map bound_as b.slots.items ≡ (start_of start.now).firsts) }
+    ensures fresh { IfOk result (λ b. All (λ binding. binding.position ≡ fresh) b.slots.items) }
+    ensures bound { IfOk result (λ b. All (λ binding. CanBeBound b.graph binding.birth) b.slots.items) }
+    ensures kept { IfOk result (λ b. All (λ binding. is_kept b.graph (number_of binding.birth.node) ≡ true) b.slots.items) }
+    ensures few { IfOk result (λ b. length b.slots.items ≤ 4096) }
+    ensures known { IfOk result (λ b. Starts (map (λ bound. bound.endpoint) (start_of start.now).firsts) 0 1 b.endpoints) }
+    ensures numbered { IsNumbered (start_of start.now) }
+{
+    Err(NoMemory)
+}

@@ -1,0 +1,6 @@
+//! A session over one server: frames are accepted and served, and what is written is what the session's journal stands for.
+#![tactic(auto)]
+
+mod world;
+
+pub use world::{World, WorldFault};
