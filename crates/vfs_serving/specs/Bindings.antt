@@ -1,5 +1,5 @@
 -- A bound endpoint, and what the serving of something that was sent on it answers.
-use Rattle.std.specs.Prelude.{◌≡◌, ¬◌, ℕ, Option, List, refl}
+use Rattle.std.specs.Prelude.{◌≡◌, ℕ, Option, List, refl}
 use Rattle.std.specs.Coded.{Coded, code_by, coded×, coded_ℕ}
 use Rattle.fidl_names.specs.declared.methods.Handle.{Handle}
 use Rattle.io_messages.specs.declared.protocols.Protocol.{Protocol}
