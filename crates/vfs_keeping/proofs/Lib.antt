@@ -2,3 +2,4 @@ pub mod Finding
 pub mod Held
 pub mod Next
 pub mod Dead
+pub mod Sorted

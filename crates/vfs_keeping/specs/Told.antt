@@ -1,13 +1,14 @@
 -- What became of endpoints, as the serving of an entry tells it.
-use Rattle.std.specs.Prelude.{◌≡◌, ℕ, ◌==◌, Bool, false, not, List, [], ◌∷◌, ◌++◌, filter, Option, Some, None, option_to_list}
+use Rattle.std.specs.Prelude.{◌≡◌, ℕ, ◌==◌, Bool, false, not, List, [], ◌∷◌, ◌++◌, filter, map, Option, Some, None, option_to_list}
 use Rattle.std.specs.Option.{option_map_or}
 use Rattle.node_graph.specs.Graph.{Kept, StandsFor}
 use Rattle.node_graph.specs.Tree.{Tree}
 use Rattle.conn_rules.specs.declared.births.Room.{Room}
 use Rattle.conn_rules.specs.Births.{Position, born, fresh}
-use Rattle.endpoint_link.specs.Frames.{spellings}
+use Rattle.endpoint_link.specs.Frames.{Frame}
 use Rattle.vfs_journal.specs.Entries.{Sending, Sent, endpoints_in}
-use Rattle.vfs_journal.specs.Outcomes.{Outcome}
+use Rattle.vfs_journal.specs.Outcomes.{close_frame}
+use Rattle.vfs_journal.specs.Output.{rising}
 use Rattle.vfs_journal.specs.Starts.{Bound}
 use Rattle.vfs_serving.specs.Bindings.{Binding, outcome_for}
 use Rattle.vfs_serving.specs.Effects.{ChangesNothing}
@@ -50,3 +51,7 @@ first_told sent fate = option_to_list (end_told sent.endpoint fate) ++ carried_b
 abbrev pub GoesOn : Fate → Type 0
 GoesOn (fate.Forwards mount object) = Unit {0}
 GoesOn _ = ⊥
+
+-- the Close frames for deaths beside the one that the answer closed
+abbrev pub closed_for : Option ℕ → List ℕ → List Frame
+closed_for one deaths = map close_frame (rising (filter (λ number. not (is_it one number)) deaths))
