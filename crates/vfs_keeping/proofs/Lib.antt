@@ -3,3 +3,4 @@ pub mod Held
 pub mod Next
 pub mod Dead
 pub mod Sorted
+pub mod Taken
