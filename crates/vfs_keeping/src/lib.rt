@@ -7,5 +7,7 @@ mod hearing;
 mod holding;
 mod keeper;
 mod look_ups;
+mod serving;
+mod settling;
 
 pub use keeper::Keeper;
