@@ -45,7 +45,7 @@ pub spread_none : (others : List Sent) → spread [] others ≡ []
 spread_none [] = refl
 spread_none (sent ∷ others) = spread_none others
 
-keep_all : {X : Type 0} (xs : List X) → filter (λ _. true) xs ≡ xs
+pub keep_all : {X : Type 0} (xs : List X) → filter (λ _. true) xs ≡ xs
 keep_all [] = refl
 keep_all (x ∷ xs) = ap (λ ys. x ∷ ys) (keep_all xs)
 

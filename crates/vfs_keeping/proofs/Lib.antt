@@ -4,3 +4,5 @@ pub mod Next
 pub mod Dead
 pub mod Sorted
 pub mod Taken
+pub mod Buried
+pub mod Answered
