@@ -1,10 +1,11 @@
 -- What the serving of an entry answers, of the binding at a place.
-use Rattle.std.proofs.Common.{◌≡◌, ◌≢◌, ℕ, List, ◌++◌, Option, Some, Result, Ok, Err, IfOk, OnOk, refl, sym, ap, ◌∙◌, subst}
+use Rattle.std.proofs.Common.{◌≡◌, ◌≤◌, ℕ, List, ◌++◌, length, take, length-append, arith, Option, Some, None, Result, Ok, Err, IfOk, OnOk, refl, sym, ap, ◌∙◌, subst}
 use Rattle.std.specs.Prelude.{slice_get, slice_set}
+use Rattle.std.proofs.lemmas.List.{take_at}
 use Rattle.std.proofs.lemmas.Option.{same_Some}
 use Rattle.fidl_names.specs.declared.memory.NoMemory.{NoMemory}
 use Rattle.fidl_wire.specs.Written.{Written}
-use Rattle.endpoint_link.specs.Frames.{spellings}
+use Rattle.endpoint_link.specs.Frames.{Frame, spellings}
 use Rattle.node_graph.specs.Graph.{Kept, StandsFor}
 use Rattle.node_graph.specs.Tree.{Tree}
 use Rattle.conn_rules.specs.declared.births.Birth as code
@@ -48,3 +49,19 @@ answers_from graph room sending at out old slot now before after (Ok fate) here 
   spoken = λ object birth is. spoken plain.0 plain.1 object birth (ap Ok is);
   stays_here = λ mount object is. plain.2 mount (onward plain.0 plain.1 mount object (ap Ok is));
 }
+
+abbrev pub BeginsWith : List ℕ → List ℕ → Type 0
+BeginsWith before after = (take (length before) after ≡ before) × (length before ≤ length after)
+
+begins : (before more after : List ℕ) → after ≡ before ++ more → BeginsWith before after
+begins before more after is = (ap (take (length before)) is ∙ take_at before more (length before) refl, omega (arith, ap length is, length-append before more))
+
+-- what is written stands behind what was there
+pub written_behind : (graph : Kept) (before after : List ℕ) (frames : Tree → (ℕ → Option ℕ) → List Frame) (r : Result Fate NoMemory) → IsPlain graph →
+    ((tree : Tree) (directory : ℕ → Option ℕ) → StandsFor graph tree → OnOk r (after ≡ before ++ spellings (frames tree directory))) → OnOk r (BeginsWith before after)
+written_behind graph before after frames (Err fault) plain written = tt
+written_behind graph before after frames (Ok fate) plain written = begins before (spellings (frames plain.0 (λ _. None))) after (written plain.0 (λ _. None) plain.1)
+
+pub part_of : {X E : Type 0} {P Q : Type 0} (r : Result X E) → (P → Q) → OnOk r P → OnOk r Q
+part_of (Ok x) f h = f h
+part_of (Err e) f h = tt

@@ -6,3 +6,6 @@ pub mod Sorted
 pub mod Taken
 pub mod Buried
 pub mod Answered
+pub mod Telling
+pub mod Ordered
+pub mod Placed

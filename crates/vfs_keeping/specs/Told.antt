@@ -1,5 +1,5 @@
 -- What became of endpoints, as the serving of an entry tells it.
-use Rattle.std.specs.Prelude.{◌≡◌, ◌≢◌, ℕ, ◌+◌, ◌==◌, Bool, false, not, List, [], ◌∷◌, ◌++◌, length, filter, map, fold, Option, Some, None, option_to_list, slice_get, slice_set}
+use Rattle.std.specs.Prelude.{◌≡◌, ◌≢◌, ℕ, ◌+◌, ◌-◌, ◌==◌, Bool, false, not, List, [], ◌∷◌, ◌++◌, length, filter, find, map, fold, take, Option, Some, None, option_to_list, slice_get, slice_set}
 use Rattle.std.specs.Option.{option_map_or}
 use Rattle.fidl_wire.specs.Written.{Written}
 use Rattle.endpoint_link.specs.Frames.{Frame, spellings}
@@ -18,7 +18,7 @@ use Rattle.vfs_serving.specs.Bindings.{Binding, IsSpokenNow, outcome_for}
 use Rattle.vfs_serving.specs.Effects.{ChangesNothing, effects_of, effects_told}
 use Rattle.vfs_serving.specs.declared.fate.Fate.{Fate}
 use Rattle.vfs_serving.specs.declared.fate.Fate.TheVariants as fates
-use Rattle.vfs_keeping.specs.Keeping.{Keeping}
+use Rattle.vfs_keeping.specs.Keeping.{Keeping, binding_of, others_in, room_in}
 use Rattle.vfs_keeping.specs.Dying.{died}
 
 -- the endpoint that ends
@@ -82,3 +82,17 @@ pub record Settles (old : Keeping) (sent : Sent) (server : ℕ) (fate : Fate) (n
   pub known : new.known ≡ record (fold died old.known (deaths_told sent fate old.waiting)) { waiting = length new.waiting }
   pub places : new.places ≡ old.places + 1
   pub graph : (tree : Tree) → StandsFor old.graph tree → StandsFor new.graph tree
+
+-- the entry at a place was served on the first binding of its endpoint, and waits no more
+pub record AnswersAt (old : Keeping) (at : ℕ) (sent : Sent) (server : ℕ) (fate : Fate) (new : Keeping) (before after : List ℕ) : Type 0 where
+  pub there : slice_get old.waiting at ≡ Some sent
+  pub slot : ℕ
+  pub found : binding_of old sent.endpoint ≡ slice_get old.bindings slot
+  pub first : find (λ binding. binding.endpoint == sent.endpoint) (take slot old.bindings) ≡ None
+  pub here : (binding : Binding) → slice_get old.bindings slot ≡ Some binding → server ≡ binding.server
+  pub out : Written
+  pub answers : Answers old.graph (room_in old) sent.sending slot fate out old.bindings new.bindings before after
+  pub graph : new.graph ≡ old.graph
+  pub waiting : new.waiting ≡ others_in old sent
+  pub known : new.known ≡ record old.known { waiting = old.known.waiting - 1 }
+  pub places : new.places ≡ old.places

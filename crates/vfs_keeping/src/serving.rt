@@ -1,6 +1,6 @@
 //! The serving of one entry on the binding at a place.
 
-ghost use Rattle.std.specs.Prelude.{◌≡◌, ◌<◌, ◌^◌, length, IfOk, OnErr};
+ghost use Rattle.std.specs.Prelude.{◌≡◌, ◌<◌, ◌≤◌, ◌^◌, length, take, IfOk, OnOk, OnErr};
 ghost use Rattle.endpoint_link.specs.Standings.{next_token_of};
 ghost use Rattle.vfs_keeping.specs.Keeping.{IsPlain};
 ghost use Rattle.vfs_keeping.specs.Sound.{AreHeld};
@@ -40,6 +40,8 @@ pub(crate) fn serve_slot(
     requires held { AreHeld graph.now slots.old.items }
     requires plain { IsPlain graph.now }
     ensures answers { IfOk result (λ fate. Answers graph.now room parcel.now at fate out.new slots.old.items slots.new.items outbox.old outbox.new) }
+    ensures front { OnOk result (take (length outbox.old) outbox.new ≡ outbox.old) }
+    ensures longer { OnOk result (length outbox.old ≤ length outbox.new) }
     ensures held { AreHeld graph.now slots.new.items }
     ensures as_many { length slots.new.items ≡ length slots.old.items }
     ensures no_memory { OnErr result (outbox.new ≡ outbox.old) }
