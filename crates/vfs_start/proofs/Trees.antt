@@ -24,7 +24,7 @@ use Rattle.tree_file.specs.Numbering.{Named, number_at, last_name, edge_of, row_
 use Rattle.tree_file.specs.Texts.{parent_of, is_dot}
 use Rattle.vfs_start.specs.Growing.{with_node}
 use Rattle.vfs_start.proofs.Numbers.{at_path, At, root, there, absent, at, IsNew, number_same, number_push, number_free, number_new, number_kept}
-use Rattle.vfs_start.proofs.Paths.{same_path}
+use Rattle.vfs_start.proofs.Names.{same_path}
 
 -- ---- keys
 

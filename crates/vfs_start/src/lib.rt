@@ -2,5 +2,7 @@
 #![tactic(auto)]
 
 mod beginning;
+mod making;
+mod paths;
 
 pub use beginning::{Beginning, begin};

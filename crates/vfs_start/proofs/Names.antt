@@ -16,7 +16,7 @@ use Rattle.path_walk.specs.Paths.{IsPath, names_of, path_fault}
 use Rattle.tree_file.specs.Numbering.{last_name}
 use Rattle.tree_file.specs.Texts.{before_last_slash, parent_of, is_dot}
 
-abbrev is_slash : ℕ → Bool
+abbrev pub is_slash : ℕ → Bool
 is_slash byte = byte == slash
 
 -- ---- the last name of a text
