@@ -8,3 +8,4 @@ pub mod Trees
 pub mod Listed
 pub mod Made
 pub mod Standing
+pub mod Clients

@@ -1,28 +1,25 @@
 -- That each node of an accepted tree file fits behind those before it, and what follows of its tree.
-use Rattle.std.proofs.Common.{◌≡◌, ◌≢◌, ℕ, zero, suc, ◌+◌, ◌<◌, ◌≤◌, ◌==◌, ◌&&◌, ◌||◌, Bool, true, false, cond, List, [], ◌∷◌, ◌++◌, length, map, take, get_or, Option, Some, None, All, AllPairs, refl, sym, ap, ◌∙◌, subst, arith, nat_le}
-use Rattle.std.specs.Prelude.{slice_get, unwrap_or, is_none}
-use Rattle.std.specs.List.{find, position, count_by}
+use Rattle.std.proofs.Common.{◌≡◌, ℕ, zero, suc, ◌+◌, ◌<◌, ◌≤◌, ◌==◌, ◌&&◌, ◌||◌, Bool, true, false, cond, List, [], ◌∷◌, ◌++◌, length, map, take, get_or, Option, Some, None, All, refl, sym, ap, ◌∙◌, subst, arith}
+use Rattle.std.specs.Prelude.{slice_get, is_none}
+use Rattle.std.specs.List.{find, position}
 use Rattle.std.specs.Option.{option_map, option_map_or}
 use Rattle.std.specs.Str.{bytes_eq}
 use Rattle.std.proofs.lemmas.Bool.{and_parts, leb-true}
 use Rattle.std.proofs.lemmas.List.{take_more, length-map, map-append, length-take-le}
-use Rattle.std.proofs.lemmas.List.Elements.{All-nil, All-cons, All-head, All-tail, All-map, All-take, All-weaker, All-get_or}
+use Rattle.std.proofs.lemmas.List.Elements.{All-head, All-tail, All-take, All-get_or}
 use Rattle.std.proofs.lemmas.Option.{slice_get-map, slice_get_within, get_or_from_slice_get}
-use Rattle.path_walk.specs.Names.{IsName}
 use Rattle.path_walk.specs.Paths.{IsPath, names_of, path_fault}
 use Rattle.node_graph.specs.declared.nodes.NodeKind.{NodeKind}
 use Rattle.node_graph.specs.declared.nodes.NodeKind.TheVariants.{Directory, File, Service, Mount}
-use Rattle.node_graph.specs.Tree.{NodeRow, Tree, row_of, kind_of}
-use Rattle.conn_rules.specs.Nodes.{kind_here}
-use Rattle.tree_file.specs.Items.{NodeItem, MountItem, ClientItem, Lists}
-use Rattle.tree_file.specs.Numbering.{Named, node_named, number_at, row_of_named, tree_from, tree_of}
-use Rattle.tree_file.specs.Rules.{Place, node_place, mount_place, is_at_place, kind_among, is_directory, is_directory_kind, fits_in, node_fits, client_fits, bytes_fit, names_held, names_fit, connections_held, connections_fit}
+use Rattle.node_graph.specs.Tree.{NodeRow, kind_of}
+use Rattle.tree_file.specs.Items.{NodeItem, ClientItem, Lists}
+use Rattle.tree_file.specs.Numbering.{Named, node_named, number_at, row_of_named, tree_from}
+use Rattle.tree_file.specs.Rules.{Place, node_place, is_at_place, kind_among, is_directory, is_directory_kind, fits_in, node_fits, bytes_fit, names_held, names_fit, connections_held, connections_fit}
 use Rattle.tree_file.specs.Texts.{parent_of, is_dot}
-use Rattle.vfs_serving.specs.Bindings.{HasMount, HasNoMount}
 use Rattle.vfs_start.specs.Growing.{first_named}
-use Rattle.vfs_start.specs.Items.{IsPlain, IsNode, IsFirst}
-use Rattle.vfs_start.proofs.Accepted.{AreRead, KeepRules, AreGood, each_passes, same_count, nodes_on_one, clients_on_one, named_on_one}
-use Rattle.vfs_start.proofs.Numbers.{at_path, At, root, there, absent, at, IsNew, found_none, found_at, position_none}
+use Rattle.vfs_start.specs.Items.{IsNode}
+use Rattle.vfs_start.proofs.Accepted.{AreGood, each_passes, same_count, nodes_on_one, clients_on_one}
+use Rattle.vfs_start.proofs.Numbers.{at_path, At, root, there, absent, at, found_none, found_at, position_none}
 use Rattle.vfs_start.proofs.Trees.{Fits, Grows, bare, more}
 
 -- the law of paths
@@ -93,9 +90,6 @@ free_there nodes on path h =
     (none_mapped (find (at_path path) (map node_named nodes)) (ap is_none (sym (kinds_found nodes on path)) ∙ h))
 
 -- ---- the nodes of an accepted file
-
-
-
 
 module _ (lists : Lists) (good : AreGood lists) (one : length lists.servers ≡ 1) where
   node_at : (i : ℕ) (d : NodeItem) → i < length lists.nodes → IsNode (length lists.servers) (get_or lists.nodes i d)

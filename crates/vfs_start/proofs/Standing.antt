@@ -1,11 +1,11 @@
 -- What stands behind the first nodes, and behind one more.
-use Rattle.std.proofs.Common.{◌≡◌, ◌≢◌, ℕ, zero, suc, ◌+◌, ◌<◌, ◌≤◌, ◌==◌, ◌||◌, Bool, true, false, not, cond, if◌then◌else◌, List, [], ◌∷◌, ◌++◌, length, map, Option, Some, None, IsSome, All, refl, sym, ap, ◌∙◌, subst, arith, nat_lt, nat_le, Bor, ◌&&◌}
-use Rattle.std.specs.Prelude.{is_some, slice_get}
+use Rattle.std.proofs.Common.{◌≡◌, ℕ, suc, ◌+◌, ◌<◌, ◌≤◌, ◌==◌, ◌||◌, Bool, true, false, not, cond, if◌then◌else◌, List, [], ◌∷◌, ◌++◌, length, Option, Some, None, IsSome, All, refl, sym, ap, ◌∙◌, subst, arith, nat_lt, nat_le, Bor, ◌&&◌}
+use Rattle.std.specs.Prelude.{is_some}
 use Rattle.std.specs.BTreeMap.{BTreeMap, get, is_at}
 use Rattle.std.specs.FinMap as finite
-use Rattle.std.specs.FinMap.Entries as entry
 use Rattle.std.specs.Option.{option_map_or}
-use Rattle.std.specs.Ordering.{is_eq}
+use Rattle.std.specs.Ordering.{is_eq, nat_cmp}
+use Rattle.std.specs.Cmp.Lexicographic.{slice_cmp}
 use Rattle.std.specs.Str.{bytes_eq}
 use Rattle.std.proofs.Math.Bool.{or-true}
 use Rattle.std.proofs.lemmas.Bool.Decides.{nat_tests}
@@ -13,16 +13,16 @@ use Rattle.std.proofs.lemmas.List.{length-map}
 use Rattle.std.proofs.lemmas.List.Elements.{All-get_or}
 use Rattle.std.proofs.lemmas.Map.Text.{is_eq-slice_cmp}
 use Rattle.std.proofs.lemmas.Option.{slice_get_within, get_or_from_slice_get}
+use Rattle.std.proofs.lemmas.Slice.Eq.{bytes_eq-Decides}
 use Rattle.node_graph.specs.declared.TheConstants as limit
 use Rattle.node_graph.specs.declared.faults.GraphFault.TheVariants as fault
-use Rattle.node_graph.specs.declared.nodes.NodeKind.{NodeKind}
-use Rattle.node_graph.specs.declared.nodes.NodeKind.TheVariants.{Directory}
 use Rattle.node_graph.specs.declared.nodes.NodeRef.{NodeRef}
 use Rattle.node_graph.specs.Graph.{Kept, Names, number_of, kind_at, holds_at, is_kept, StandsFor, create_refusal}
-use Rattle.node_graph.specs.Tree.{EdgeKey, EdgeTo, edge_cmp, Edges, Tree, kind_of, is_linked, is_removed}
+use Rattle.node_graph.specs.Tree.{EdgeKey, EdgeTo, edge_cmp, Edges, bare_tree, kind_of, is_linked, is_removed}
 use Rattle.tree_file.specs.Numbering.{Named, number_at, edge_of, row_of_named, tree_from}
-use Rattle.tree_file.specs.Texts.{parent_of}
-use Rattle.vfs_start.specs.Growing.{with_node, path_cmp, Stands, Makes, key_in}
+use Rattle.path_walk.specs.Names.{dot}
+use Rattle.tree_file.specs.Texts.{is_dot, parent_of}
+use Rattle.vfs_start.specs.Growing.{with_node, path_cmp, IsNumbering, Stands, Makes, key_in}
 use Rattle.vfs_start.proofs.Made.{named_kind, named_some, linked_by}
 use Rattle.vfs_start.proofs.Numbers.{At, root, there, absent, at, at_path, number_push, number_kept}
 use Rattle.vfs_start.proofs.Trees.{edges_total, edges_in, IsPlaced, Fits, Grows, more, placed, parent_there, fresh_key, tree_push}
@@ -81,15 +81,22 @@ free_in named one grows fits few =
 
 -- ---- what stands
 
-module _ (named : List Named) (graph : Kept) (places : BTreeMap (Bor (List ℕ)) NodeRef) (stands : Stands named graph places) where
-  pub place_there : (path : Bor (List ℕ)) → 1 ≤ number_at named path.now → IsSome (get path_cmp places path)
-  place_there path some = by_place (get path_cmp places path) (stands.numbered path) where
+module _ (named : List Named) (places : BTreeMap (Bor (List ℕ)) NodeRef) (numbered : IsNumbering named places) where
+  pub place_in : (path : Bor (List ℕ)) → 1 ≤ number_at named path.now → IsSome (get path_cmp places path)
+  place_in path some = by_place (get path_cmp places path) (numbered path) where
     by_place : (o : Option NodeRef) → option_map_or number_of o 0 ≡ number_at named path.now → IsSome o
     by_place None is = absurd (omega (arith, is, some))
     by_place (Some node) is = refl
 
+  pub leads_in : (path : Bor (List ℕ)) (node : NodeRef) → get path_cmp places path ≡ Some node → number_of node ≡ number_at named path.now
+  leads_in path node at = ap (λ o. option_map_or number_of o 0) (sym at) ∙ numbered path
+
+module _ (named : List Named) (graph : Kept) (places : BTreeMap (Bor (List ℕ)) NodeRef) (stands : Stands named graph places) where
+  pub place_there : (path : Bor (List ℕ)) → 1 ≤ number_at named path.now → IsSome (get path_cmp places path)
+  place_there path some = place_in named places stands.numbered path some
+
   pub leads_to : (path : Bor (List ℕ)) (node : NodeRef) → get path_cmp places path ≡ Some node → number_of node ≡ number_at named path.now
-  leads_to path node at = ap (λ o. option_map_or number_of o 0) (sym at) ∙ stands.numbered path
+  leads_to path node at = leads_in named places stands.numbered path node at
 
   pub kind_there : (path : Bor (List ℕ)) (node : NodeRef) → get path_cmp places path ≡ Some node → kind_at graph (number_of node) ≡ kind_of (tree_from named) (number_at named path.now)
   kind_there path node at = named_kind graph (tree_from named) node stands.tree (stands.kept path node at) ∙ ap (kind_of (tree_from named)) (leads_to path node at)
@@ -170,3 +177,43 @@ module _ (named : List Named) (one : Named) (grows : Grows named) (fits : Fits n
     numbered = numbered_more;
     kept = kept_more;
   }
+
+-- ---- none
+
+turned : (a b : List ℕ) (s t : Bool) → bytes_eq a b ≡ s → bytes_eq b a ≡ t → bytes_eq a b ≡ bytes_eq b a
+turned a b true true e f = e ∙ sym f
+turned a b false false e f = e ∙ sym f
+turned a b true false e f = let back : bytes_eq b a ≡ true = (bytes_eq-Decides b a).1 (sym ((bytes_eq-Decides a b).0 e)) in absurd (let wrong : true ≡ false = sym back ∙ f in cc)
+turned a b false true e f = let there : bytes_eq a b ≡ true = (bytes_eq-Decides a b).1 (sym ((bytes_eq-Decides b a).0 f)) in absurd (let wrong : true ≡ false = sym there ∙ e in cc)
+
+number_none : (path : List ℕ) → (if is_dot path then 1 else 0) ≡ number_at [] path
+unfolding number_at
+number_none path = refl
+
+module _ (graph : Kept) (stood : StandsFor graph bare_tree) (held : (number : ℕ) → holds_at graph number ≡ 0) (top : NodeRef) (named : Names graph top) (is : number_of top ≡ 1)
+    (before now : BTreeMap (Bor (List ℕ)) NodeRef) (none : before.entries ≡ [])
+    (adds : (q : Bor (List ℕ)) → get path_cmp now q ≡ cond (is_eq (slice_cmp nat_cmp dot q.now)) (Some top) (get path_cmp before q)) where
+  found : (q : Bor (List ℕ)) → get path_cmp now q ≡ (if is_dot q.now then Some top else None)
+  found q =
+      adds q
+      ∙ ap (λ b. cond b (Some top) (get path_cmp before q)) (is_eq-slice_cmp dot q.now ∙ turned dot q.now (bytes_eq dot q.now) (bytes_eq q.now dot) refl refl)
+      ∙ ap (λ o. cond (is_dot q.now) (Some top) o) (empty q)
+    where
+      empty : (q : Bor (List ℕ)) → get path_cmp before q ≡ None
+      empty q = rw none
+
+  numbered_root : (q : Bor (List ℕ)) → option_map_or number_of (get path_cmp now q) 0 ≡ number_at [] q.now
+  numbered_root q = ap (λ o. option_map_or number_of o 0) (found q) ∙ by_test (is_dot q.now) ∙ number_none q.now where
+    by_test : (b : Bool) → option_map_or number_of (if b then Some top else None) 0 ≡ (if b then 1 else 0)
+    by_test true = is
+    by_test false = refl
+
+  kept_root : (q : Bor (List ℕ)) (node : NodeRef) → get path_cmp now q ≡ Some node → Names graph node
+  kept_root q node at = by_test (is_dot q.now) (sym (found q) ∙ at) where
+    by_test : (b : Bool) → (if b then Some top else None) ≡ Some node → Names graph node
+    by_test true e = let same_node : top ≡ node = cc in subst (Names graph) same_node named
+    by_test false e = absurd (cc)
+
+  -- the root alone
+  pub stands_bare : Stands [] graph now
+  stands_bare = record { tree = stood; unheld = held; numbered = numbered_root; kept = kept_root }

@@ -1,13 +1,11 @@
 -- How the tree of a server grows, node by node, and what stands behind each.
-use Rattle.std.specs.Prelude.{◌≡◌, ◌+◌, ℕ, List, [], ◌∷◌, ◌++◌, length, map, take, Some, None}
+use Rattle.std.specs.Prelude.{◌≡◌, ◌+◌, ℕ, List, [], ◌∷◌, ◌++◌, length, map, take, Some}
 use Rattle.std.specs.Borrow.{Bor}
 use Rattle.std.specs.BTreeMap.{BTreeMap, get}
 use Rattle.std.specs.Cmp.Lexicographic.{slice_cmp}
 use Rattle.std.specs.FinMap as finite
-use Rattle.std.specs.List.{position}
 use Rattle.std.specs.Option.{option_map_or}
 use Rattle.std.specs.Ordering.{nat_cmp}
-use Rattle.std.specs.Str.{bytes_eq}
 use Rattle.std.specs.declared.cmp.Ordering.{Ordering}
 use Rattle.io_rights.specs.Operations.{OperationSet}
 use Rattle.node_graph.specs.declared.nodes.NodeKind.{NodeKind}
@@ -33,11 +31,15 @@ path_cmp a b = slice_cmp nat_cmp a.now b.now
 abbrev pub first_named : Lists → ℕ → List Named
 first_named lists count = map node_named (take count lists.nodes)
 
+-- each path leads where it leads in the tree of these nodes
+abbrev pub IsNumbering : List Named → BTreeMap (Bor (List ℕ)) NodeRef → Type 0
+IsNumbering named places = (path : Bor (List ℕ)) → option_map_or number_of (get path_cmp places path) 0 ≡ number_at named path.now
+
 -- the graph stands for the tree of these nodes, nothing holds one, each path leads where it leads in the tree, and what a path leads to is kept
 pub record Stands (named : List Named) (graph : Kept) (places : BTreeMap (Bor (List ℕ)) NodeRef) : Type 0 where
   pub tree : StandsFor graph (tree_from named)
   pub unheld : (number : ℕ) → holds_at graph number ≡ 0
-  pub numbered : (path : Bor (List ℕ)) → option_map_or number_of (get path_cmp places path) 0 ≡ number_at named path.now
+  pub numbered : IsNumbering named places
   pub kept : (path : Bor (List ℕ)) (node : NodeRef) → get path_cmp places path ≡ Some node → Names graph node
 
 -- the graph has this node more, under a key, of the next number, and keeps what it kept

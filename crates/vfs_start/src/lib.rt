@@ -2,6 +2,7 @@
 #![tactic(auto)]
 
 mod beginning;
+mod firsts;
 mod making;
 mod paths;
 

@@ -1,6 +1,5 @@
-use Rattle.std.proofs.Common.{◌≡◌, ◌≤◌, ◌<◌, ◌+◌, ◌∙◌, ℕ, List, Some, ap, arith, length, refl, subst, sym}
-use Rattle.std.specs.Option.{option_map}
-use Rattle.node_graph.specs.Graph.{Kept, Names, create_refusal, kind_at, number_of}
+use Rattle.std.proofs.Common.{◌≡◌, ◌≤◌, ◌∙◌, ℕ, List, ap, arith, refl, subst, sym}
+use Rattle.node_graph.specs.Graph.{create_refusal, number_of}
 use Rattle.node_graph.specs.Tree.{Edges, kind_of}
 use Rattle.tree_file.specs.Lent.{node_item}
 use Rattle.tree_file.specs.Numbering.{Named, node_named, number_at, tree_from}

@@ -1,4 +1,3 @@
-use Rattle.std.proofs.Common.{◌≤◌, length}
 use Rattle.vfs_start.specs.Growing.{Stands, first_named}
 use Rattle.vfs_start.proofs.making.add_nodes.Given as goal
 
