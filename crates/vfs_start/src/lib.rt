@@ -7,3 +7,6 @@ mod making;
 mod paths;
 
 pub use beginning::{Beginning, begin};
+
+#[cfg(test)]
+mod tests;
