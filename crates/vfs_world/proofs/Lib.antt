@@ -1,0 +1,5 @@
+pub mod Lists
+pub mod LookUps
+pub mod Positions
+pub mod Dying
+pub mod Written
