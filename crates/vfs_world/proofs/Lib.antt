@@ -3,3 +3,4 @@ pub mod LookUps
 pub mod Positions
 pub mod Dying
 pub mod Written
+pub mod Served

@@ -1,8 +1,8 @@
 -- Lists that are mapped, kept and found in.
 use Rattle.std.proofs.Common.{◌≡◌, ◌≢◌, ℕ, zero, suc, ◌==◌, Bool, true, false, not, cond, List, [], ◌∷◌, ◌++◌, length, map, filter, find, count_by, All, AllPairs, Contains, Option, Some, None, is_some, option_map, refl, sym, ap, ◌∙◌, subst, arith}
-use Rattle.std.proofs.lemmas.Bool.{eqb-true, eqb-false}
+use Rattle.std.proofs.lemmas.Bool.{eqb-true, eqb-false, true≢false}
 use Rattle.std.proofs.lemmas.List.Sums.{length-filter}
-use Rattle.std.proofs.lemmas.List.Elements.{All-head, All-tail, filter_passes, All-filter, All-contains, All-contains_itself}
+use Rattle.std.proofs.lemmas.List.Elements.{All-cons, All-head, All-nil, All-tail, filter_passes, All-filter, All-contains, All-contains_itself}
 
 -- ---- what is found
 
@@ -86,6 +86,15 @@ found_by p P x y xs rest here false is h = rest h
 pub found_has : {X : Type 0} (p : X → Bool) (P : X → Type 0) (xs : List X) (x : X) → All P xs → find p xs ≡ Some x → P x × (p x ≡ true)
 found_has p P [] x all h = absurd (cc)
 found_has p P (y ∷ xs) x all h = found_by p P x y xs (λ g. found_has p P xs x (All-tail P y xs all) g) (All-head P y xs all) (p y) refl h
+
+none_by : {X : Type 0} (p : X → Bool) (y : X) (xs : List X) → (is_some (find p xs) ≡ false → All (λ x. p x ≡ false) xs) → (b : Bool) → p y ≡ b → is_some (cond b (Some y) (find p xs)) ≡ false → All (λ x. p x ≡ false) (y ∷ xs)
+none_by p y xs rest true is h = absurd (true≢false h)
+none_by p y xs rest false is h = All-cons (λ x. p x ≡ false) y xs is (rest h)
+
+-- where none is found, none passes
+pub none_found : {X : Type 0} (p : X → Bool) (xs : List X) → is_some (find p xs) ≡ false → All (λ x. p x ≡ false) xs
+none_found p [] h = All-nil (λ x. p x ≡ false)
+none_found p (y ∷ xs) h = none_by p y xs (none_found p xs) (p y) refl h
 
 -- ---- numbers are compared either way round
 
