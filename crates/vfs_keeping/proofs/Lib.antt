@@ -1,0 +1,4 @@
+pub mod Finding
+pub mod Held
+pub mod Next
+pub mod Dead
