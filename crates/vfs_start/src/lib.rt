@@ -1,6 +1,6 @@
 //! What a session over one server begins with: the server's tree as a graph, the first connections, and what is known of endpoints.
 #![tactic(auto)]
 
-mod begin;
+mod beginning;
 
-pub use begin::{Beginning, begin};
+pub use beginning::{Beginning, begin};
