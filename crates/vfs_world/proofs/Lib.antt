@@ -4,3 +4,6 @@ pub mod Positions
 pub mod Dying
 pub mod Written
 pub mod Served
+pub mod Heard
+pub mod Times
+pub mod Ready

@@ -87,6 +87,9 @@ pub found_has : {X : Type 0} (p : X → Bool) (P : X → Type 0) (xs : List X) (
 found_has p P [] x all h = absurd (cc)
 found_has p P (y ∷ xs) x all h = found_by p P x y xs (λ g. found_has p P xs x (All-tail P y xs all) g) (All-head P y xs all) (p y) refl h
 
+pub found_passes : {X : Type 0} (p : X → Bool) (xs : List X) (x : X) → find p xs ≡ Some x → p x ≡ true
+found_passes {X} p xs x h = (found_has p (λ _. Unit {0}) xs x (λ k d l. tt) h).1
+
 none_by : {X : Type 0} (p : X → Bool) (y : X) (xs : List X) → (is_some (find p xs) ≡ false → All (λ x. p x ≡ false) xs) → (b : Bool) → p y ≡ b → is_some (cond b (Some y) (find p xs)) ≡ false → All (λ x. p x ≡ false) (y ∷ xs)
 none_by p y xs rest true is h = absurd (true≢false h)
 none_by p y xs rest false is h = All-cons (λ x. p x ≡ false) y xs is (rest h)

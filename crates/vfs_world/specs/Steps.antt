@@ -1,5 +1,7 @@
 -- A step of what is kept, and the laws of journals that it stands on.
-use Rattle.std.specs.Prelude.{◌≡◌, ℕ, List, ◌++◌}
+use Rattle.std.specs.Prelude.{◌≡◌, ◌≤◌, ◌+◌, ℕ, List, ◌++◌, length}
+use Rattle.node_graph.specs.Graph.{Kept, StandsFor as GraphStandsFor}
+use Rattle.node_graph.specs.Tree.{Tree}
 use Rattle.conn_rules.specs.Built.{first_methods}
 use Rattle.vfs_journal.specs.Entries.{Journal}
 use Rattle.vfs_journal.specs.Carrying.{ServingsBindWhatTheyCarry}
@@ -17,6 +19,18 @@ pub record Leads (start : Start) (later : Journal) (new : Keeping) (earlier : Jo
   pub part : List ℕ
   pub more : output_of first_methods start later ≡ output_of first_methods start earlier ++ part
   pub written : after ≡ before ++ part
+
+-- more is written behind what was
+abbrev pub Begins : List ℕ → List ℕ → Type 0
+Begins before after = (more : List ℕ) × (after ≡ before ++ more)
+
+abbrev pub HasTree : Kept → Type 0
+HasTree graph = (tree : Tree) × GraphStandsFor graph tree
+
+-- an entry may be served: there is a tree, and the places that are taken, with those that what waits will take, are no more than so many
+pub record IsReady (most : ℕ) (keeping : Keeping) : Type 0 where
+  pub tree : HasTree keeping.graph
+  pub few : keeping.places + length keeping.waiting ≤ most
 
 -- what holds of one more entry, and of all lawful journals
 pub record JournalLaws : Type 0 where
