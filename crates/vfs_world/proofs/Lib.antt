@@ -7,3 +7,4 @@ pub mod Served
 pub mod Heard
 pub mod Times
 pub mod Ready
+pub mod Answered

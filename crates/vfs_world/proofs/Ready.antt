@@ -1,9 +1,12 @@
 -- What one serving does, whatever journal is kept: it is ready for the next one, and writes behind what was written.
-use Rattle.std.proofs.Common.{◌≡◌, ℕ, ◌+◌, ◌<◌, ◌≤◌, ◌==◌, Bool, true, false, if◌then◌else◌, List, [], ◌∷◌, ◌++◌, length, find, Option, Some, None, is_some, Result, Ok, refl, sym, ap, ◌∙◌, subst, arith, append_assoc, append-nil}
+use Rattle.std.proofs.Common.{◌≡◌, ℕ, ◌+◌, ◌<◌, ◌≤◌, ◌==◌, Bool, true, false, if◌then◌else◌, List, [], ◌∷◌, ◌++◌, length, find, Option, Some, None, is_some, Result, Ok, refl, sym, ap, ◌∙◌, subst, arith, append_assoc, append-nil, length-append}
 use Rattle.std.proofs.lemmas.Bool.{eqb-true}
-use Rattle.endpoint_link.specs.Frames.{spellings}
+use Rattle.endpoint_link.specs.Frames.{Frame, spellings}
+use Rattle.endpoint_link.specs.declared.kinds.FrameKind.{FrameKind}
+use Rattle.endpoint_link.specs.declared.kinds.FrameKind.TheVariants as kinds
 use Rattle.node_graph.specs.Graph.{Kept}
 use Rattle.vfs_journal.specs.Entries.{Sent}
+use Rattle.vfs_keeping.specs.Admitting.{Hears, sent_by_frame, sent_by_kind}
 use Rattle.vfs_keeping.specs.Dying.{Serves, ServesEntry, deaths_in, written_for}
 use Rattle.vfs_keeping.specs.Keeping.{Keeping, binding_of, is_bound_in, next_in, next_on, room_in}
 use Rattle.vfs_serving.specs.Bindings.{Binding, outcome_for}
@@ -141,3 +144,34 @@ ready_on most k new endpoint before after was ready = ready_then most k new (nex
 
 pub begins_at : (most : ℕ) (k new : Keeping) (endpoint : ℕ) (before after : List ℕ) → WasServed (next_on k endpoint) k new before after → IsReady most k → Begins before after
 begins_at most k new endpoint before after was ready = (on_goes_on k new endpoint before after ready.tree was).begins
+
+-- ---- a frame
+
+pub ready_heard : (most : ℕ) (k new : Keeping) (frame : Frame) → Hears k frame new → IsReady most k → IsReady (most + 2) new
+ready_heard most k new frame hears ready =
+    let one = at_most_one frame.kind k.places frame in
+    record {
+      tree = subst HasTree (sym hears.graph) ready.tree;
+      few =
+          let a = hears.places in
+          let b = ap length hears.waiting in
+          let d = length-append k.waiting (sent_by_frame k.places frame) in
+          let e = ready.few in
+          omega arith;
+    } where
+      at_most_one : (kind : FrameKind) (place : ℕ) (frame : Frame) → length (sent_by_kind kind place frame) ≤ 1
+      at_most_one kinds.Message place frame = omega arith
+      at_most_one kinds.Close place frame = omega arith
+      at_most_one kinds.Turn place frame = omega arith
+      at_most_one kinds.Pick place frame = omega arith
+      at_most_one kinds.Refused place frame = omega arith
+
+pub ready_refused : (most : ℕ) (k new : Keeping) → new ≡ record k { places = k.places + 1 } → IsReady most k → IsReady (most + 2) new
+ready_refused most k new left ready =
+    subst (IsReady (most + 2)) (sym left) (record { tree = ready.tree; few = let e = ready.few in omega arith })
+
+pub ready_more : (most : ℕ) (k : Keeping) → IsReady most k → IsReady (most + 2) k
+ready_more most k ready = record { tree = ready.tree; few = let e = ready.few in omega arith }
+
+pub ready_below : (most more : ℕ) (k : Keeping) → most ≤ more → IsReady most k → IsReady more k
+ready_below most more k low ready = record { tree = ready.tree; few = let e = ready.few in omega arith }

@@ -74,6 +74,7 @@ fn perform(
 }
 
 /// The number of 32 bits that some bytes begin with.
+#[tactic(auto, unfolding(endpoint_link::specs::Numbers::word_in))]
 fn number_in(bytes: &[u8]) -> u32
     requires { 4 ≤ length bytes.now }
     ensures { result ≡ word_in bytes.now }
@@ -82,6 +83,7 @@ fn number_in(bytes: &[u8]) -> u32
 }
 
 /// Answers a frame that is refused.
+#[tactic(auto, unfolding(fidl_wire::specs::Numbers::number_bytes))]
 fn refuse(endpoint: u32, why: Refusal, outbox: &mut Outbox) -> Result<(), NoMemory>
     ensures written { OnOk result (outbox.new ≡ outbox.old ++ spelling (refused_frame endpoint why)) }
     ensures no_memory { OnErr result (outbox.new ≡ outbox.old) }
