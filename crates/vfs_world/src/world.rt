@@ -1,4 +1,4 @@
-ghost use Rattle.std.specs.Prelude.{◌≡◌, ◌≢◌, ◌<◌, ◌+◌, ◌^◌, ◌×◌, ℕ, true, false, [], IfOk, OnOk, OnErr, Ok, Err, length};
+ghost use Rattle.std.specs.Prelude.{◌≡◌, ◌≢◌, ◌<◌, ◌+◌, ◌^◌, ℕ, true, false, [], IfOk, OnOk, OnErr, Ok, Err, length};
 ghost use Rattle.endpoint_link.specs.Frames.{IsFrame};
 ghost use Rattle.endpoint_link.specs.declared.kinds.Side.TheVariants as side;
 ghost use Rattle.endpoint_link.specs.Views.{frame_of};
@@ -16,7 +16,6 @@ use fidl_names::NoMemory;
 use fidl_wire::Ordinals;
 use std::alloc::Global;
 use std::marker::Model;
-use tree_file::Start;
 use vfs_keeping::Keeper;
 
 /// Why a call of a world did nothing.
@@ -38,16 +37,19 @@ pub struct World {
 }
 
 impl Model for World {
+    ghost use Rattle.vfs_world.specs.Codes.{world_code};
     ghost use Rattle.vfs_world.specs.World.{World};
 
     ghost Value = { World };
+
+    ghost coded = { world_code };
 
     ghost view = { λ world. record { keeping = world.keeper; spent = world.spent; frames = world.frames } };
 }
 
 impl World {
     /// The session of an accepted tree file with one server and no mounts, before its first frame.
-    pub fn new(alloc: Global, ordinals: Ordinals, start: &Start) -> Result<World, NoMemory>
+    pub fn new(alloc: Global, ordinals: Ordinals, start: &tree_file::Start) -> Result<World, NoMemory>
         requires accepted { IsAccepted start.now }
         requires one { length start.now.servers ≡ 1 }
         requires mounts { start.now.mounts ≡ [] }
@@ -60,7 +62,7 @@ impl World {
     /// Accepts a frame: a refused one is answered, a message or a hang-up waits, and a Turn or a Pick is
     /// served.
     pub fn accept(&mut self, frame: FrameView<'_>, outbox: &mut Outbox) -> Result<(), WorldFault>
-        requires frame { IsFrame side.ToServers (frame_of frame.entry) }
+        requires frame { IsFrame side.ToServers (frame_of frame) }
         requires few { self.old.frames < 2 ^ 48 }
         ensures arrived { (start : Start) (journal : Journal) → StandsFor start self.old journal →
             OnOk result (LeadsTo start (arrives first_methods start journal (frame_of frame.entry)) self.new journal outbox.old outbox.new) }
