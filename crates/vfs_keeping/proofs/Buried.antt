@@ -3,7 +3,7 @@ use Rattle.std.proofs.Common.{◌≡◌, ℕ, ◌≤◌, Bool, true, false, not,
 use Rattle.std.proofs.lemmas.List.{nil_from_length}
 use Rattle.std.proofs.lemmas.List.Sums.{count_by-le-length, length-filter}
 use Rattle.endpoint_link.specs.Numbering.{among}
-use Rattle.endpoint_link.specs.Standings.{Known, ended, is_live, standing_of}
+use Rattle.endpoint_link.specs.Standings.{Known, is_live, standing_of}
 use Rattle.vfs_keeping.specs.Dying.{died}
 use Rattle.vfs_keeping.proofs.Dead.{keep_all}
 

@@ -81,6 +81,7 @@ held_one old new xs x held can more keeps = all_held old new (xs ++ x ∷ []) (A
       let sum = sum_by-append (λ (binding : Binding). counts (number_of binding.birth.node == number)) xs (x ∷ []) in
       let before = held.holds number in
       omega arith
+
   counted : (number : ℕ) → holds_at new number ≡ bound_to number (xs ++ x ∷ [])
   counted number = more number ∙ by_test number (number == number_of x.birth.node) refl
 
@@ -90,6 +91,7 @@ pub held_less : (old new : Kept) (xs : List Binding) (at : ℕ) (x : Binding) �
 held_less old new xs at x within is held less keeps = all_held old new (remove xs at) all counted keeps where
   all : All (λ binding. CanBeBound old binding.birth) (remove xs at)
   all = All-append (λ binding. CanBeBound old binding.birth) (take at xs) (drop (suc at) xs) (All-take (λ binding. CanBeBound old binding.birth) at xs held.each) (All-drop (λ binding. CanBeBound old binding.birth) (suc at) xs held.each)
+
   by_test : (number : ℕ) (b : Bool) → (number == number_of x.birth.node) ≡ b → (if b then holds_at old (number_of x.birth.node) - 1 else holds_at old number) ≡ bound_to number (remove xs at)
   by_test number true e =
       let same : number ≡ number_of x.birth.node = eqb-true number (number_of x.birth.node) e in
@@ -102,6 +104,7 @@ held_less old new xs at x within is held less keeps = all_held old new (remove x
       let sum = sum_by-remove (λ (binding : Binding). counts (number_of binding.birth.node == number)) xs at x within in
       let before = held.holds number in
       omega arith
+
   counted : (number : ℕ) → holds_at new number ≡ bound_to number (remove xs at)
   counted number = less number ∙ by_test number (number == number_of x.birth.node) refl
 

@@ -9,3 +9,4 @@ pub mod Answered
 pub mod Telling
 pub mod Ordered
 pub mod Placed
+pub mod Whole

@@ -1,5 +1,5 @@
 -- Entries in order of sending.
-use Rattle.std.proofs.Common.{◌≡◌, ℕ, zero, suc, ◌+◌, ◌<◌, ◌≤◌, ◌==◌, Bool, true, false, not, cond, List, [], ◌∷◌, ◌++◌, length, take, drop, get_or, All, AllPairs, filter, Option, Some, refl, sym, ap, ◌∙◌, subst, arith}
+use Rattle.std.proofs.Common.{◌≡◌, ℕ, zero, suc, ◌+◌, ◌<◌, ◌==◌, Bool, false, not, cond, List, [], ◌∷◌, length, get_or, All, AllPairs, filter, Some, refl, sym, ap, ◌∙◌, subst, arith}
 use Rattle.std.specs.Prelude.{slice_get}
 use Rattle.std.specs.List.{remove}
 use Rattle.std.proofs.lemmas.Bool.{eq-eqb, ne_eqb}
@@ -7,7 +7,6 @@ use Rattle.std.proofs.lemmas.List.Elements.{All-filter, All-weaker, All-head, Al
 use Rattle.std.proofs.lemmas.List.Kept.{AllPairs-filter}
 use Rattle.std.proofs.lemmas.Option.{same_Some, slice_get_within, get_or_from_slice_get}
 use Rattle.vfs_journal.specs.Entries.{Sent}
-use Rattle.vfs_keeping.specs.Keeping.{Keeping, others_in}
 use Rattle.vfs_keeping.specs.Sound.{AreInOrder}
 
 -- what is kept of them is in order, and a place later too

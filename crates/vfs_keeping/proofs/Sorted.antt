@@ -1,13 +1,12 @@
 -- Numbers that rise, and stand once each.
-use Rattle.std.proofs.Common.{◌≡◌, ℕ, ◌==◌, ◌&&◌, ◌||◌, Bool, true, false, cond, List, [], ◌∷◌, map, Contains, Option, Some, None, IsTrue, refl, sym, ap, ◌∙◌, subst, arith}
+use Rattle.std.proofs.Common.{◌≡◌, ℕ, ◌==◌, ◌||◌, Bool, true, false, cond, List, [], ◌∷◌, map, Contains, Option, Some, None, refl, sym, ap, ◌∙◌, subst, arith}
 use Rattle.std.specs.FinMap as finite
 use Rattle.std.specs.FinMap.{nat_cmp-IsAntisymmetric, find, put, entries-insert, get-from_entries, len-empty, len-entries, same_map}
-use Rattle.std.specs.List.{AllByRecursion, list_any, dedup}
+use Rattle.std.specs.List.{AllByRecursion, dedup}
 use Rattle.std.specs.List.Sorted.{IsPermutation, IsSorted, IsStrictlySortedBy}
-use Rattle.std.specs.Ordering.{eq_by_cmp, is_lt, nat_cmp}
-use Rattle.std.specs.declared.cmp.Ordering.{Ordering}
+use Rattle.std.specs.Ordering.{eq_by_cmp, nat_cmp}
 use Rattle.std.specs.declared.cmp.Ordering.TheVariants.{Less}
-use Rattle.std.proofs.lemmas.Bool.{eqb-true, eq-eqb, true_from_ne_false}
+use Rattle.std.proofs.lemmas.Bool.{eqb-true, eq-eqb}
 use Rattle.std.proofs.lemmas.Bool.Decides.{nat_tests}
 use Rattle.std.proofs.lemmas.Cmp.{nat_cmp_total}
 use Rattle.std.proofs.lemmas.List.{nil_from_length}
@@ -55,8 +54,8 @@ numbers_back (y ∷ ys) = ap (λ zs. y ∷ zs) (numbers_back ys)
 pub rising_is : (xs ys : List ℕ) → IsStrictlySortedBy nat_cmp ys → ((q : ℕ) → among q xs ≡ among q ys) → rising xs ≡ ys
 rising_is xs ys rises same =
     let equal : finite.from_entries {R = nat_cmp} (entries_of xs) ≡ finite.from_entries {R = nat_cmp} (entries_of ys) =
-        same_map nat_cmp_total nat_cmp-IsAntisymmetric _ _ (λ q.
-            get-from_entries nat_cmp_total (entries_of xs) q ∙ found q xs ∙ ap (λ (b : Bool). cond b (Some true) None) (same q) ∙ sym (found q ys) ∙ sym (get-from_entries nat_cmp_total (entries_of ys) q)) in
+    same_map nat_cmp_total nat_cmp-IsAntisymmetric _ _ (λ q.
+    get-from_entries nat_cmp_total (entries_of xs) q ∙ found q xs ∙ ap (λ (b : Bool). cond b (Some true) None) (same q) ∙ sym (found q ys) ∙ sym (get-from_entries nat_cmp_total (entries_of ys) q)) in
     ap finite.keys equal ∙ ap (map (λ (e : ℕ × Bool). e.0)) (entries_back ys rises) ∙ numbers_back ys
 
 member : (q : ℕ) (xs : List ℕ) → among q xs ≡ true → Contains xs q

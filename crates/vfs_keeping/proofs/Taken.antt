@@ -1,5 +1,5 @@
 -- Lists from which some are taken out.
-use Rattle.std.proofs.Common.{◌≡◌, ℕ, suc, ◌+◌, ◌<◌, ◌≤◌, Bool, true, false, cond, List, [], ◌∷◌, ◌++◌, length, take, drop, get_or, filter, refl, sym, ap, ◌∙◌, add-one, arith}
+use Rattle.std.proofs.Common.{◌≡◌, ℕ, suc, ◌+◌, ◌<◌, ◌≤◌, Bool, true, false, cond, List, [], ◌∷◌, ◌++◌, length, take, drop, get_or, filter, map, refl, sym, ap, ◌∙◌, arith}
 use Rattle.std.specs.List.{remove}
 use Rattle.std.proofs.lemmas.List.{drop_more, take-append-drop, take_at, length-take-le}
 use Rattle.std.proofs.lemmas.List.Edits.{length-remove}
@@ -23,3 +23,12 @@ front_stays xs i within = let some : i ≤ length xs = omega arith in take_at (t
 
 pub fewer : {X : Type 0} (xs : List X) (i : ℕ) → i < length xs → length (remove xs i) + 1 ≡ length xs
 fewer xs i within = length-remove xs i within
+
+map_by : {X Y : Type 0} (f : X → Y) (b : Bool) (x : X) (xs : List X) (ys : List Y) → map f xs ≡ ys → map f (cond b (x ∷ xs) xs) ≡ cond b (f x ∷ ys) ys
+map_by f true x xs ys e = ap (λ zs. f x ∷ zs) e
+map_by f false x xs ys e = e
+
+-- what is kept by a view is what is kept of the views
+pub map_filtered : {X Y : Type 0} (f : X → Y) (p : Y → Bool) (xs : List X) → map f (filter (λ x. p (f x)) xs) ≡ filter p (map f xs)
+map_filtered f p [] = refl
+map_filtered f p (x ∷ xs) = map_by f (p (f x)) x (filter (λ x. p (f x)) xs) (filter p (map f xs)) (map_filtered f p xs)

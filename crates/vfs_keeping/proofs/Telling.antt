@@ -8,13 +8,13 @@ use Rattle.io_messages.specs.declared.protocols.Protocol.{Protocol}
 use Rattle.io_messages.specs.declared.protocols.Protocol.TheVariants as protocol
 use Rattle.endpoint_link.specs.Numbering.{among}
 use Rattle.conn_rules.specs.declared.births.Birth as code
-use Rattle.conn_rules.specs.Births.{Position, born, fresh}
-use Rattle.vfs_journal.specs.Deaths.{first_deaths, is_settled, spread}
+use Rattle.conn_rules.specs.Births.{born, fresh}
+use Rattle.vfs_journal.specs.Deaths.{first_deaths, is_settled}
 use Rattle.vfs_journal.specs.Entries.{Sent, endpoints_in}
 use Rattle.vfs_journal.specs.History.{is_watcher}
 use Rattle.vfs_journal.specs.Outcomes.{Forwarded, Outcome}
 use Rattle.vfs_journal.specs.Starts.{Bound}
-use Rattle.vfs_serving.specs.Bindings.{Binding, IsSpokenNow}
+use Rattle.vfs_serving.specs.Bindings.{IsSpokenNow}
 use Rattle.vfs_serving.specs.Effects.{effects_of, effects_told}
 use Rattle.vfs_serving.specs.declared.fate.Fate.{Fate}
 use Rattle.vfs_serving.specs.declared.fate.Fate.TheVariants as fates

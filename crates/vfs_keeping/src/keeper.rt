@@ -305,12 +305,6 @@ impl Keeper {
             Ok(answered) => answered,
             Err(fault) => return Err(fault),
         };
-        self.settle(
-            &answered.sent,
-            answered.server,
-            &answered.fate,
-            len,
-            outbox,
-        )
+        self.settle(&answered.sent, answered.server, &answered.fate, len, outbox)
     }
 }

@@ -20,12 +20,7 @@ use std::alloc::Global;
 use vfs_serving::{Fate, Sent, Slot};
 
 /// All that die of a serving.
-fn deaths_of(
-    alloc: Global,
-    sent: &Sent,
-    fate: &Fate,
-    others: &[Sent],
-) -> Result<Vec<u32>, NoMemory>
+fn deaths_of(alloc: Global, sent: &Sent, fate: &Fate, others: &[Sent]) -> Result<Vec<u32>, NoMemory>
     ensures { IfOk result (λ deaths. deaths.items ≡ deaths_told sent.now fate.now others.now) }
 {
     let mut deaths = first_deaths(alloc, sent, fate)?;

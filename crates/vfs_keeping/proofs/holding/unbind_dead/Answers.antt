@@ -7,7 +7,7 @@ pub loop-at-preserved-then-is_among : goal.loop-at-preserved-then-is_among
 loop-at-preserved-then-is_among c =
     let slots = c.loop-at.slots.items in
     let dies : not (among c.index-slot.result.now.endpoint c.args.deaths.now) ≡ false =
-        ap (λ number. not (among number c.args.deaths.now)) (sym c.endpoint.ensures) ∙ ap not (sym c.is_among.ensures ∙ c.if-is_among.true) in
+    ap (λ number. not (among number c.args.deaths.now)) (sym c.endpoint.ensures) ∙ ap not (sym c.is_among.ensures ∙ c.if-is_among.true) in
     let within : c.loop-at.at < length slots = omega arith in
     let count = fewer slots c.loop-at.at within in
     rw c.unbind.ensures.unbound

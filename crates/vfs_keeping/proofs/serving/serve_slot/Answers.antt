@@ -1,7 +1,7 @@
 use Rattle.std.proofs.Common.{refl}
 use Rattle.std.proofs.lemmas.Option.{slice_get_read}
 use Rattle.vfs_serving.specs.Bindings.{outcome_for}
-use Rattle.vfs_keeping.proofs.Answered.{BeginsWith, answers_from, part_of, written_behind}
+use Rattle.vfs_keeping.proofs.Answered.{answers_from, part_of, written_behind}
 use Rattle.vfs_keeping.proofs.serving.serve_slot.Goals as goal
 
 pub returns-clause-answers : goal.returns-clause-answers

@@ -1,4 +1,4 @@
-use Rattle.std.proofs.Common.{◌≡◌, ◌≤◌, ◌∙◌, not, length, ap, sym, arith}
+use Rattle.std.proofs.Common.{◌∙◌, not, length, ap, sym, arith}
 use Rattle.std.proofs.lemmas.Bool.{eqb-true}
 use Rattle.endpoint_link.specs.Numbering.{among}
 use Rattle.vfs_keeping.proofs.Buried.{at_most, none_died, waits_on, with_waiting}
