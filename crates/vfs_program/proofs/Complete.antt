@@ -1,7 +1,7 @@
 -- A command that has all that it needs, and meets no fault, is done unless memory runs out.
-use Rattle.std.proofs.Common.{◌≡◌, ◌≢◌, ℕ, ◌+◌, ◌<◌, List, [], ◌++◌, Option, Some, None, is_some, true≢false, length, sym, ap, ◌∙◌, subst, arith, append-nil, length-append}
+use Rattle.std.proofs.Common.{◌≡◌, ℕ, List, [], ◌++◌, Option, Some, None, is_some, true≢false, length, sym, ap, ◌∙◌, subst, arith, append-nil, length-append}
 use Rattle.std.specs.Io.KnownBytes.{Consumes, IsAtEnd}
-use Rattle.host_io.specs.Told.{Told, Holds, IsAllOf, IsLongerThan}
+use Rattle.host_io.specs.Told.{IsAllOf, IsLongerThan}
 use Rattle.tree_file.specs.Rules.{first_failure}
 use Rattle.endpoint_link.specs.Frames.{Frame, Frames, Bad}
 use Rattle.endpoint_link.specs.declared.kinds.FrameReason.{FrameReason}

@@ -5,5 +5,6 @@ pub mod SessionLemmas
 pub mod ServingLemmas
 pub mod Progress
 pub mod SessionEnds
+pub mod FileEnds
 pub mod Complete
 pub mod SeenLemmas

@@ -1,7 +1,7 @@
 -- What a command may answer, and what it did by then.
 use Rattle.std.specs.Prelude.{◌≡◌, ℕ, ◌<◌, ◌≤◌, List, [], length, Some, None}
 use Rattle.host_io.specs.Causes.{Rose}
-use Rattle.host_io.specs.Told.{Told, Holds}
+use Rattle.host_io.specs.Told.{Holds}
 use Rattle.tree_file.specs.Rules.{first_failure}
 use Rattle.vfs_program.specs.declared.statuses.Status.{Status}
 use Rattle.vfs_program.specs.declared.statuses.Status.TheVariants as status
@@ -11,6 +11,7 @@ use Rattle.endpoint_link.specs.Frames.{Frame, Frames}
 use Rattle.endpoint_link.specs.declared.kinds.Side.TheVariants.{ToServers}
 use Rattle.vfs_program.specs.Files.{IsFileFault, IsFileTooLarge, IsWithin}
 use Rattle.vfs_program.specs.Check.{CheckAnswers, most_tree}
+use Rattle.vfs_program.specs.OneFile.{output}
 use Rattle.vfs_program.specs.Session.{SessionAnswers, most_input}
 
 -- the most bytes of the file that is served
@@ -25,7 +26,8 @@ FileAnswers name before after source_same sink_same status.FileFault = IsFileFau
 FileAnswers name before after source_same sink_same status.FileTooLarge =
     IsFileTooLarge most_file name before.files after.files × source_same × sink_same
 FileAnswers name before after source_same sink_same status =
-    (file : List ℕ) × IsWithin most_file (before.files.told name) file × SessionAnswers file before.streams after.streams status
+    (file : List ℕ) × IsWithin most_file (before.files.told name) file
+    × SessionAnswers (output file) (output file) before.streams after.streams status
 
 -- what a command answers
 abbrev pub Answers : Asks → Outside → Outside → Type 0 → Type 0 → Status → Type 0

@@ -9,6 +9,7 @@ mod one_file;
 mod reads;
 mod replies;
 mod run;
+mod served;
 mod sessions;
 mod statuses;
 #[cfg(test)]
