@@ -1,5 +1,5 @@
 -- What the server of one tree keeps, and which of the entries that wait is served.
-use Rattle.std.specs.Prelude.{◌≡◌, ℕ, ◌==◌, ◌&&◌, Bool, not, is_some, if◌then◌else◌, List, [], ◌∷◌, length, filter, find, Option, None}
+use Rattle.std.specs.Prelude.{ℕ, ◌==◌, Bool, not, is_some, if◌then◌else◌, List, [], ◌∷◌, length, filter, find, Option, None}
 use Rattle.endpoint_link.specs.Standings.{Known, next_token_of}
 use Rattle.node_graph.specs.Graph.{Kept, StandsFor}
 use Rattle.node_graph.specs.Tree.{Tree}

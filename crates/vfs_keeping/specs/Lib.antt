@@ -1,3 +1,5 @@
 pub mod Keeping
+pub mod Codes
+pub mod Sound
 pub mod Admitting
 pub mod Dying

@@ -1,6 +1,6 @@
 //! The keeper of one server's endpoints and of what waits on them.
 
-ghost use Rattle.std.specs.Prelude.{◌≡◌, ◌≢◌, ◌<◌, ◌-◌, ◌^◌, ◌+◌, ◌×◌, ◌⊎◌, ℕ, true, false, List, [], All, Option, Some, None, IsTrue, IfOk, OnOk, OnErr, Ok, Err, MatchOption, length};
+ghost use Rattle.std.specs.Prelude.{◌≡◌, ◌<◌, ◌≤◌, ◌-◌, ◌^◌, ◌+◌, ◌⊎◌, ℕ, true, false, List, [], All, Option, Some, None, IsTrue, IfOk, OnOk, OnErr, Ok, Err, MatchOption, length, slice_get, IfSome, IsNone};
 ghost use Rattle.fidl_wire.specs.Names.{AreDistinct};
 ghost use Rattle.endpoint_link.specs.Admission.{admission, look_ups};
 ghost use Rattle.endpoint_link.specs.Frames.{goes_to};
@@ -13,8 +13,11 @@ ghost use Rattle.conn_rules.specs.Shared.{CanBeBound};
 ghost use Rattle.vfs_journal.specs.Entries.{Sent};
 ghost use Rattle.vfs_keeping.specs.Admitting.{Hears};
 ghost use Rattle.vfs_keeping.specs.Dying.{ServesEntry};
-ghost use Rattle.vfs_keeping.specs.Keeping.{IsPlain, next_in, next_on};
+ghost use Rattle.vfs_keeping.specs.Keeping.{IsPlain, is_bound_in, next_in, next_on};
 
+use crate::hearing::{hear, taken_by};
+use crate::holding::hold_all;
+use crate::look_ups::{first_bound, first_on, slot_of};
 use endpoint_link::{AdmitFault, Endpoints, FrameView, Outbox};
 use fidl_names::NoMemory;
 use fidl_wire::{Ordinals, Out};
@@ -37,9 +40,13 @@ pub struct Keeper {
 }
 
 impl Model for Keeper {
+    ghost use Rattle.vfs_keeping.specs.Codes.{keeping_code};
     ghost use Rattle.vfs_keeping.specs.Keeping.{Keeping};
+    ghost use Rattle.vfs_keeping.specs.Sound.{IsSound};
 
     ghost Value = { Keeping };
+
+    ghost coded = { keeping_code };
 
     ghost view = { λ keeper. record {
       graph = keeper.graph;
@@ -48,6 +55,8 @@ impl Model for Keeper {
       known = keeper.endpoints;
       places = keeper.places;
     } };
+
+    ghost invariant = { λ keeper. IsSound keeper.graph keeper.slots.items keeper.waiting.items keeper.endpoints keeper.places };
 }
 
 impl Keeper {
@@ -56,7 +65,7 @@ impl Keeper {
     pub fn new(
         alloc: Global,
         ordinals: Ordinals,
-        graph: Graph,
+        mut graph: Graph,
         slots: Vec<Slot>,
         endpoints: Endpoints,
     ) -> Result<Keeper, NoMemory>
@@ -72,7 +81,17 @@ impl Keeper {
         ensures places { IfOk result (λ keeper. keeper.places ≡ 0) }
         ensures graph { IfOk result (λ keeper. (tree : Tree) → StandsFor graph tree → StandsFor keeper.graph tree) }
     {
-        Err(NoMemory)
+        hold_all(&mut graph, &slots);
+        let out = Out::new(alloc)?;
+        Ok(Keeper {
+            ordinals,
+            graph,
+            slots,
+            waiting: Vec::new(alloc),
+            endpoints,
+            places: 0,
+            out,
+        })
     }
 
     /// How many entries wait.
@@ -107,7 +126,20 @@ impl Keeper {
         ensures admitted { OnOk result (Hears self.old (frame_of frame.entry) self.new) }
         ensures refused { (why : Refusal) → result ≡ Err (AdmitFault.Refused why) → self.new ≡ record self.old { places = self.old.places + 1 } }
     {
-        Err(AdmitFault::NoMemory)
+        if let Err(fault) = self.endpoints.admit(frame) {
+            self.places += taken_by(fault);
+            return Err(fault);
+        }
+        match hear(alloc, &mut self.waiting, self.places, frame) {
+            Ok(count) => {
+                self.places += count;
+                Ok(())
+            }
+            Err(_) => {
+                self.endpoints.dropped(1);
+                Err(AdmitFault::NoMemory)
+            }
+        }
     }
 
     /// Serves the first waiting entry whose endpoint is bound, and tells whether there was one.
@@ -120,7 +152,13 @@ impl Keeper {
         ensures counts { result ≡ Ok true → (self.new.places ≡ self.old.places + 1) × (length self.new.waiting < length self.old.waiting) }
         ensures no_memory { OnErr result (outbox.new ≡ outbox.old) }
     {
-        Err(NoMemory)
+        let Some(at) = self.place_of_next() else {
+            return Ok(false);
+        };
+        if let Err(fault) = self.serve_at(at, outbox) {
+            return Err(fault);
+        }
+        Ok(true)
     }
 
     /// Serves the first waiting entry of an endpoint that is bound, and tells whether there was one.
@@ -131,6 +169,46 @@ impl Keeper {
         ensures none { next_on self.old endpoint ≡ None → (result ≡ Ok false) × (self.new ≡ self.old) × (outbox.new ≡ outbox.old) }
         ensures served { (sent : Sent) → next_on self.old endpoint ≡ Some sent → OnOk result ((result ≡ Ok true) × ServesEntry self.old sent self.new outbox.old outbox.new) }
         ensures counts { result ≡ Ok true → (self.new.places ≡ self.old.places + 1) × (length self.new.waiting < length self.old.waiting) }
+        ensures no_memory { OnErr result (outbox.new ≡ outbox.old) }
+    {
+        let Some(at) = self.place_of_next_on(endpoint) else {
+            return Ok(false);
+        };
+        if let Err(fault) = self.serve_at(at, outbox) {
+            return Err(fault);
+        }
+        Ok(true)
+    }
+
+    /// Where the first waiting entry stands whose endpoint is bound.
+    fn place_of_next(&self) -> Option<usize>
+        ensures within { IfSome result (λ at. at < length self.now.waiting) }
+        ensures found { IfSome result (λ at. next_in self.now ≡ slice_get self.now.waiting at) }
+        ensures none { IsNone result → next_in self.now ≡ None }
+    {
+        first_bound(&self.waiting, &self.slots)
+    }
+
+    /// Where the first waiting entry of an endpoint stands, if that is bound.
+    fn place_of_next_on(&self, endpoint: u32) -> Option<usize>
+        ensures within { IfSome result (λ at. at < length self.now.waiting) }
+        ensures found { IfSome result (λ at. next_on self.now endpoint ≡ slice_get self.now.waiting at) }
+        ensures none { IsNone result → next_on self.now endpoint ≡ None }
+    {
+        if slot_of(&self.slots, endpoint).is_none() {
+            return None;
+        }
+        first_on(&self.waiting, endpoint)
+    }
+
+    /// Serves the waiting entry at a place.
+    fn serve_at(&mut self, at: usize, outbox: &mut Outbox) -> Result<(), NoMemory>
+        requires places { self.old.places < 2 ^ 64 - 1 }
+        requires within { at < length self.old.waiting }
+        requires bound { (sent : Sent) → slice_get self.old.waiting at ≡ Some sent → is_bound_in self.old sent.endpoint ≡ true }
+        ensures served { (sent : Sent) → slice_get self.old.waiting at ≡ Some sent → OnOk result (ServesEntry self.old sent self.new outbox.old outbox.new) }
+        ensures places { OnOk result (self.new.places ≡ self.old.places + 1) }
+        ensures fewer { OnOk result (length self.new.waiting < length self.old.waiting) }
         ensures no_memory { OnErr result (outbox.new ≡ outbox.old) }
     {
         Err(NoMemory)
