@@ -3,11 +3,15 @@
 PROGRAM := build/vfs
 BENCH := build/bench
 
+# The two examples: a session over a tree, and one over a file.
+SESSION := examples/exchange.sh $(PROGRAM) examples/session.hex serve examples/trees/small.toml auto
+EXCHANGE := examples/exchange.sh $(PROGRAM) examples/exchange.hex file examples/hello
+
 .PHONY: help build run test check-example bench clean
 
 help:
 	@echo "make build  prove the program and build it, as $(PROGRAM)"
-	@echo "make run    build it, serve an example (each request with what comes back), and check example trees"
+	@echo "make run    build it, serve an example tree and file (each frame with what comes back), and check example trees"
 	@echo "make test   all proofs, the edits that must be refused, the tests and the programs"
 	@echo "make bench  processor time, frames a second and memory"
 	@echo "make clean  remove what was built and what checks kept"
@@ -20,7 +24,9 @@ build:
 	@tools/build.sh vfs_program $(PROGRAM) file data/hello
 
 run: build
-	@examples/exchange.sh $(PROGRAM)
+	@$(SESSION)
+	@echo
+	@$(EXCHANGE)
 	@echo
 	@examples/trees.sh $(PROGRAM)
 
@@ -31,7 +37,8 @@ test:
 
 # What `make run` shows, beside what it is kept to show.
 check-example: build
-	@examples/exchange.sh $(PROGRAM) | diff examples/exchange.expected -
+	@$(SESSION) | diff examples/session.expected -
+	@$(EXCHANGE) | diff examples/exchange.expected -
 	@examples/trees.sh $(PROGRAM) | diff examples/trees.expected -
 	@echo "the examples show what they should"
 

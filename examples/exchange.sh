@@ -1,9 +1,10 @@
 #!/usr/bin/env bash
-# Serves examples/hello to the frames of examples/exchange.hex, and prints each request with what
-# came back for it. The first argument is the program, build/vfs if there is none.
+# exchange.sh PROGRAM FRAMES WORD..: runs the program with these words on the frames of a file, and
+# prints each frame with what came back for it.
 set -eu
 cd "$(dirname "$0")/.."
-program=${1:-build/vfs}
+program=$1 frames=$2
+shift 2
 work=$(mktemp -d)
 trap 'rm -rf "$work"' EXIT
 
@@ -12,11 +13,11 @@ explain() { # FILE FIRST-BYTE NAME NUMBER
 }
 
 # An empty line stands between two frames; what has no digits is no frame.
-awk -v RS= -v work="$work" '/(^|\n)[0-9a-f]/ { print > (work "/frame." ++n) }' examples/exchange.hex
+awk -v RS= -v work="$work" '/(^|\n)[0-9a-f]/ { print > (work "/frame." ++n) }' "$frames"
 
 # The program is run on the first frame, on the first two, and so on: what is new in the output of
 # a run is what came back for its last frame.
-echo "vfs file examples/hello, whose text is \"$(cat examples/hello)\""
+echo "vfs $*"
 : > "$work/in"
 sent=0 got=0 status=0
 for ((i = 1; ; i++)); do
@@ -25,7 +26,7 @@ for ((i = 1; ; i++)); do
     echo
     grep '^#' "$frame"
     tools/to-bytes.sh "$frame" >> "$work/in"
-    "$program" file examples/hello < "$work/in" > "$work/out" 2> "$work/notes" || status=$?
+    "$program" "$@" < "$work/in" > "$work/out" 2> "$work/notes" || status=$?
     explain "$work/in" "$sent" request "$i"
     explain "$work/out" "$got" "  answer" 1
     sent=$(wc -c < "$work/in") got=$(wc -c < "$work/out")

@@ -48,20 +48,46 @@ for others in 100 60000; do
     one_work admit-64-beside-$others 10000 0
 done
 
-# A file of 65,536 bytes, and a million frames of a Read of 5 bytes: the position passes the file's
-# end after the first 13,108 of them, and the others get no byte.
-head -c 65536 /dev/zero > "$work/file"
-tools/to-bytes.sh > "$work/frame" <<'FRAME'
-01000000 01 00 0000 18000000 01000000 02000001 4c01b891c67ff240 0500000000000000
-FRAME
-cp "$work/frame" "$work/frames"
-while [ "$(wc -c < "$work/frames")" -lt $((36 * frames)) ]; do
-    cat "$work/frames" "$work/frames" > "$work/twice"
-    mv "$work/twice" "$work/frames"
-done
-truncate -s $((36 * frames)) "$work/frames"
+# The frame on standard input so many times, in a file.
+many() { # TIMES TO
+    cat > "$work/one"
+    local size
+    size=$(wc -c < "$work/one")
+    cp "$work/one" "$2"
+    while [ "$(wc -c < "$2")" -lt $((size * $1)) ]; do
+        cat "$2" "$2" > "$work/twice"
+        mv "$work/twice" "$2"
+    done
+    truncate -s $((size * $1)) "$2"
+}
+
+# A million frames of a Read of 5 bytes on an endpoint: the position passes the end of a file of
+# 65,536 bytes after the first 13,108 of them, and the others get no byte.
+reads() { # ENDPOINT-IN-HEX TO
+    tools/to-bytes.sh <<< "$1 01 00 0000 18000000 01000000 02000001 4c01b891c67ff240 0500000000000000" | many "$frames" "$2"
+}
+
+# For each number an Open of a name of five bytes on endpoint 1, with that number as the new
+# endpoint; with `close` as the last word a Close frame on it behind each.
+opens() { # NAME FIRST LAST [close]
+    LC_ALL=C awk -v name="$1" -v first="$2" -v last="$3" -v closes="${4-}" '
+        function word(n,    i) { for (i = 0; i < 4; i++) { printf "%c", n % 256; n = int(n / 256) } }
+        function words(n, more) { word(n); word(more) }
+        function filled() { words(4294967295, 4294967295) }
+        BEGIN {
+            for (n = first; n <= last; n++) {
+                word(1); printf "%c%c%c%c", 1, 1, 0, 0; word(72); word(n)
+                word(0); printf "%c%c%c%c", 2, 0, 0, 1; words(4286338262, 800870331)
+                words(5, 0); filled(); words(2, 0); words(0, 0); filled(); words(4294967295, 0)
+                printf "%s%c%c%c", name, 0, 0, 0
+                if (closes != "") { word(n); printf "%c%c%c%c", 2, 0, 0, 0; word(0) }
+            }
+        }'
+}
 
 echo "vfs file, $frames frames of a Read of 5 bytes, $((36 * frames)) bytes in"
+head -c 65536 /dev/zero > "$work/file"
+reads 01000000 "$work/frames"
 { time "$vfs" file "$work/file" < "$work/frames" > "$work/out"; } 2> "$work/spent"
 session "from a file to a file" "$work/spent"
 cat "$work/frames" | { { time "$vfs" file "$work/file"; } 2> "$work/spent"; } | cat > /dev/null
@@ -72,3 +98,28 @@ if [ -x /usr/bin/time ]; then
     /usr/bin/time -f '%M' -o "$work/peak" "$vfs" file "$work/file" < "$work/frames" > "$work/out"
     echo "  peak memory $(cat "$work/peak") KiB, $(wc -c < "$work/out") bytes out"
 fi
+
+# A server with a directory of 4,000 files, a client at it, and one large file.
+tree() {
+    printf 'version = 1\n[[server]]\nname = "a"\n[[client]]\nendpoint = 1\nserver = "a"\npath = "."\n'
+    printf '[[node]]\nserver = "a"\npath = "large"\nkind = "file"\nhex = "%s"\n' "$(head -c 65536 /dev/zero | od -An -v -tx1 | tr -d ' \n')"
+    awk 'BEGIN { for (n = 0; n < 4000; n++) printf "[[node]]\nserver = \"a\"\npath = \"n%04d\"\nkind = \"file\"\n", n }'
+}
+
+serving() { # NAME FRAMES FILE: the time of one of so many frames
+    { time "$vfs" serve "$work/tree" auto < "$3" > "$work/out"; } 2> "$work/spent"
+    awk -v name="$1" -v frames="$2" -v bytes="$(wc -c < "$work/out")" '{
+        printf "  %-40s %8d frames %9.1f ns each, %d bytes out\n", name, frames, ($1 + $2) * 1e9 / frames, bytes
+    }' "$work/spent"
+}
+
+echo "vfs serve over a directory of 4,001 names"
+tree > "$work/tree"
+: > "$work/none"
+serving "no frame: the tree is read" 1 "$work/none"
+{ opens large 2 2; reads 02000000 "$work/reads"; cat "$work/reads"; } > "$work/frames"
+serving "Reads of 5 bytes" $((frames + 1)) "$work/frames"
+opens n2000 2 100001 close > "$work/frames"
+serving "Opens, and a Close frame behind each" 200000 "$work/frames"
+{ opens n2000 2 4000; opens large 4001 4001; reads a10f0000 "$work/reads"; cat "$work/reads"; } > "$work/frames"
+serving "Reads beside 4,000 connections" $((frames + 4000)) "$work/frames"

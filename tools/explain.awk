@@ -4,11 +4,17 @@
 
 BEGIN {
     split("Message Close Turn Pick Refused", kinds, " ")
-    method["4c01b891c67ff240"] = "the method fuchsia.io/Readable.Read"
-    method["ffffffffffffffff"] = "an epitaph: the last message of its endpoint"
+    read = "4c01b891c67ff240"; method[read] = "the method fuchsia.io/Readable.Read"
+    open = "d6547cffbb4fbc2f"; method[open] = "the method fuchsia.io/Directory.Open"
+    clone = "798a16a2aba7d820"; method[clone] = "the method fuchsia.unknown/Cloneable.Clone"
+    close_it = "58b49c8443d2f574"; method[close_it] = "the method fuchsia.unknown/Closeable.Close"
+    told = "0c510ad86705b45c"; method[told] = "the event fuchsia.io/Node.OnRepresentation"
+    epitaph = "ffffffffffffffff"; method[epitaph] = "an epitaph: the last message of its endpoint"
+    split("node directory file", representation, " ")
     status["00000000"] = "OK"; status["feffffff"] = "NOT_SUPPORTED"
     status["f6ffffff"] = "INVALID_ARGS"; status["f5ffffff"] = "BAD_HANDLE"
     status["f2ffffff"] = "OUT_OF_RANGE"; status["e8ffffff"] = "PEER_CLOSED"
+    status["e7ffffff"] = "NOT_FOUND"; status["e2ffffff"] = "ACCESS_DENIED"
     for (i = 0; i < 256; i++) value[sprintf("%02x", i)] = i
     count = 0
 }
@@ -62,15 +68,43 @@ function message(end,    digits, ordinal) {
     line(digits, "wire format 2, " (value[substr(digits, 5, 2)] >= 128 ? "flexible" : "strict"))
     ordinal = take(8)
     line(ordinal, ordinal in method ? method[ordinal] : "an ordinal of no method that is served here")
-    if (ordinal == "ffffffffffffffff" && end - place == 8) {
+    if (ordinal == epitaph && end - place == 8) {
         digits = take(4); line(digits, status_of(digits))
         line(take(4), "padding")
-    } else if (ordinal == "4c01b891c67ff240" && end - place == 8) {
+    } else if (ordinal == read && end - place == 8) {
         digits = take(8); line(digits, "asks for at most " number_of(digits) " bytes")
-    } else if (ordinal == "4c01b891c67ff240" && end - place >= 16) {
+    } else if (ordinal == open && end - place >= 48) {
+        opening(end)
+    } else if (ordinal == clone && end - place == 8) {
+        line(take(4), "the handle is there")
+        line(take(4), "padding")
+    } else if (ordinal == told && end - place == 32) {
+        event()
+    } else if ((ordinal == read || ordinal == close_it) && end - place >= 16) {
         reply(end)
     }
     if (place < end) line(take(end - place), "bytes")
+}
+
+function opening(end,    digits, size) {
+    digits = take(8); size = number_of(digits); line(digits, "a path of " size " bytes")
+    line(take(8), "which is there")
+    line(take(8), "flags")
+    line(take(8), "no options")
+    line(take(8), "in a table that is there")
+    line(take(4), "the handle is there")
+    line(take(4), "padding")
+    text(size)
+    if (place < end) line(take(end - place), "padding")
+}
+
+function event(    digits, branch) {
+    digits = take(8); branch = number_of(digits)
+    line(digits, "branch " branch (branch in representation ? ": a " representation[branch] : ""))
+    digits = take(4); line(digits, "the value has " number_of(digits) " bytes")
+    line(take(4), "no handle; the value stands behind the envelope")
+    line(take(8), "an empty table")
+    line(take(8), "which is there")
 }
 
 function reply(end,    digits, size) {
@@ -82,6 +116,11 @@ function reply(end,    digits, size) {
         return
     }
     line(digits, "branch 1: it succeeded")
+    if (end - place == 8) {
+        line(take(4), "an empty value")
+        line(take(4), "no handle; the value stands in the envelope")
+        return
+    }
     digits = take(4); line(digits, "the value has " number_of(digits) " bytes")
     line(take(4), "no handle; the value stands behind the envelope")
     digits = take(8); size = number_of(digits); line(digits, "a vector of " size " bytes")

@@ -31,3 +31,4 @@ pub mod KnowingAdmits
 pub mod KnowingSent
 pub mod KnowingServes
 pub mod KnowingStarts
+pub mod Carrying

@@ -20,3 +20,4 @@ pub mod RowMounts
 pub mod Laws
 pub mod Soundness
 pub mod Knowing
+pub mod Carrying

@@ -1,6 +1,7 @@
 //! Laws of the journal. They compute nothing: what they say is in their clauses.
 
 ghost use Rattle.fidl_wire.specs.Names.{AreDistinct};
+ghost use Rattle.vfs_journal.specs.Carrying.{ServingsBindWhatTheyCarry};
 ghost use Rattle.vfs_journal.specs.Laws.{PlacesRise, RefusalsChangeNothing, SendingsWaitLast, ServedOnce, ServingsTakeEffect, WhatIsSentWaits};
 ghost use Rattle.vfs_journal.specs.Soundness.{DeathsReachAll, DrainsServeAll, EndpointsAreInTransit, EndpointsAreKnown, ServingsLowerTheWeight, SessionsAreLawful, SessionsServeAll, StartsAreSound, WhatGoesOnWaits};
 
@@ -48,6 +49,15 @@ pub fn endpoints_are_known()
 /// bound or in transit; where no two names have equal ordinals.
 pub fn endpoints_are_in_transit()
     ensures { AreDistinct → EndpointsAreInTransit }
+{
+    body_is_read_where_spelled();
+    written_request_is_read();
+    path_laws();
+}
+
+/// In a lawful journal what a serving binds is an endpoint that the served entry carries; where no two names have equal ordinals.
+pub fn servings_bind_what_they_carry()
+    ensures { AreDistinct → ServingsBindWhatTheyCarry }
 {
     body_is_read_where_spelled();
     written_request_is_read();

@@ -12,9 +12,9 @@ pub use knowing::{
 };
 pub use laws::{
     deaths_reach_all, drains_serve_all, endpoints_are_in_transit, endpoints_are_known, places_rise,
-    refusals_change_nothing, sendings_wait_last, served_once, servings_lower_the_weight,
-    servings_take_effect, sessions_are_lawful, sessions_serve_all, starts_are_sound,
-    what_goes_on_waits, what_is_sent_waits,
+    refusals_change_nothing, sendings_wait_last, served_once, servings_bind_what_they_carry,
+    servings_lower_the_weight, servings_take_effect, sessions_are_lawful, sessions_serve_all,
+    starts_are_sound, what_goes_on_waits, what_is_sent_waits,
 };
 pub use rows::{
     clone_and_hang_up, close_drops_what_waits, echo_service, file_without_a_name,
