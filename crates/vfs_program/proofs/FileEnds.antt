@@ -12,10 +12,9 @@ use Rattle.vfs_program.specs.declared.statuses.Status.TheVariants as status
 use Rattle.vfs_program.specs.Outside.{Streams}
 use Rattle.vfs_program.specs.OneFile.{Standing, at_start, answers, after, output, outcome, IsBehind}
 use Rattle.vfs_program.specs.Pieces.{TakesPiece}
-use Rattle.vfs_program.specs.Serving.{Heard, HeardPart, PassedOn, Closes, EndsBad, end_of}
+use Rattle.vfs_program.specs.Serving.{Heard, HeardOne, HeardPart, PassedOn, Closes, EndsBad, end_of}
 use Rattle.vfs_program.specs.Session.{SessionAnswers}
 use Rattle.vfs_program.proofs.SessionLemmas.{after-append, written-append, written-more}
-use Rattle.vfs_program.proofs.ServingLemmas.{Next}
 use Rattle.vfs_program.proofs.Progress.{Progress, FramesStay, IsGrowing, cut_off, cut_behind, heard_part}
 use Rattle.vfs_program.proofs.SessionEnds.{at_the_end, at_the_limit, at_a_bad_frame}
 
@@ -28,7 +27,7 @@ file_grows file = record {
 -- one frame more
 pub file_next : (file : List ℕ) (now next : Standing) (frames : List Frame) (frame : Frame) (held held' : List ℕ) → IsBehind file now frames
     → held' ≡ held ++ spellings (outcome file now frame).frames → next ≡ (outcome file now frame).next
-    → Next (output file) (IsBehind file next) frames frame held held'
+    → HeardOne (output file) (IsBehind file next) frames frame held held'
 file_next file now next frames frame held held' s e moved = record {
   stands = moved ∙ ap (λ n. (outcome file n frame).next) s ∙ sym (after-append file at_start frames (frame ∷ []));
   part = spellings (outcome file now frame).frames;

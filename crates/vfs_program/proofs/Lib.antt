@@ -6,5 +6,8 @@ pub mod ServingLemmas
 pub mod Progress
 pub mod SessionEnds
 pub mod FileEnds
+pub mod Outputs
+pub mod TreeLemmas
+pub mod TreeEnds
 pub mod Complete
 pub mod SeenLemmas

@@ -1,5 +1,5 @@
 -- Serving one more frame.
-use Rattle.std.proofs.Common.{◌≡◌, ℕ, ◌+◌, List, [], ◌∷◌, ◌++◌, Option, length, drop, refl, sym, ap, ◌∙◌, subst, arith, append_assoc, append-nil, length-append}
+use Rattle.std.proofs.Common.{◌≡◌, ℕ, ◌+◌, List, [], ◌∷◌, ◌++◌, Option, length, drop, refl, sym, ap, ◌∙◌, subst, arith, append_assoc, append-nil, length-append, ◌≤◌}
 use Rattle.std.proofs.lemmas.List.{drop-drop}
 use Rattle.std.proofs.lemmas.List.Elements.{All-append, All-cons, All-nil}
 use Rattle.std.proofs.lemmas.List.Concat.{flat_map-append}
@@ -7,7 +7,7 @@ use Rattle.std.proofs.KnownBytes.{Appends-trans, Appends-nil}
 use Rattle.endpoint_link.specs.Frames.{Frame, IsFrame, spelling, spellings}
 use Rattle.endpoint_link.specs.Views.{IsWholeFront}
 use Rattle.endpoint_link.specs.declared.kinds.Side.TheVariants.{ToServers}
-use Rattle.vfs_program.specs.Serving.{Passes, Heard}
+use Rattle.vfs_program.specs.Serving.{Passes, Heard, HeardOne}
 
 pub Passes-none : (w : Option (List ℕ)) (held : List ℕ) → Passes w w held held
 Passes-none w held = ([], Appends-nil w, refl)
@@ -48,17 +48,10 @@ Heard-pass so_far Stands before bytes w w' w'' held held' n h p = record {
 spellings-more : (frames : List Frame) (frame : Frame) → spellings (frames ++ frame ∷ []) ≡ spellings frames ++ spelling frame
 spellings-more frames frame = flat_map-append spelling frames (frame ∷ []) ∙ ap (λ l. spellings frames ++ l) (append-nil (spelling frame))
 
--- where the session stands behind it, and what is written for it
-pub record Next (so_far : List Frame → List ℕ) (Stands : List Frame → Type 0) (frames : List Frame) (frame : Frame) (held held' : List ℕ) : Type 0 where
-  pub stands : Stands (frames ++ frame ∷ [])
-  pub part : List ℕ
-  pub more : so_far (frames ++ frame ∷ []) ≡ so_far frames ++ part
-  pub appends : held' ≡ held ++ part
-
 pub Heard-more : (so_far : List Frame → List ℕ) (Stands Stands' : List Frame → Type 0) (before : List Frame) (bytes : List ℕ) (w w' : Option (List ℕ)) (held held' : List ℕ)
     (n size : ℕ) (frame : Frame)
     → (h : Heard so_far Stands before bytes w w' held n) → IsWholeFront ToServers (drop n bytes) frame size
-    → Next so_far Stands' (before ++ h.frames) frame held held' → Heard so_far Stands' before bytes w w' held' (n + size)
+    → HeardOne so_far Stands' (before ++ h.frames) frame held held' → Heard so_far Stands' before bytes w w' held' (n + size)
 Heard-more so_far Stands Stands' before bytes w w' held held' n size frame h front next =
     let assoc = append_assoc before h.frames (frame ∷ []) in
     record {
@@ -77,3 +70,7 @@ Heard-more so_far Stands Stands' before bytes w w' held held' n size frame h fro
         ap (λ l. h.passed.0 ++ l) next.appends ∙ sym (append_assoc h.passed.0 held next.part) ∙ ap (λ l. l ++ next.part) h.passed.2,
       );
     }
+
+-- a frame has some bytes
+pub spelling_long : (frame : Frame) → 1 ≤ length (spelling frame)
+spelling_long frame = simp length-append (omega arith)

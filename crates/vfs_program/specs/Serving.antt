@@ -1,7 +1,7 @@
 -- What one piece of the input led to, in a session that served some frames before.
-use Rattle.std.specs.Prelude.{◌≡◌, ℕ, ◌-◌, ◌⊎◌, List, [], ◌∷◌, ◌++◌, length, drop, All, Option}
+use Rattle.std.specs.Prelude.{◌≡◌, ℕ, ◌+◌, ◌≤◌, ◌-◌, ◌⊎◌, List, [], ◌∷◌, ◌++◌, length, drop, All, Option}
 use Rattle.std.specs.Io.KnownBytes.{Appends}
-use Rattle.host_io.specs.Streams.{IsFlushed}
+use Rattle.host_io.specs.Streams.{AppendsPart, IsFlushed}
 use Rattle.endpoint_link.specs.Frames.{Frame, IsFrame, spellings, IsPartial, IsBadFront}
 use Rattle.endpoint_link.specs.declared.kinds.Side.TheVariants.{ToServers}
 use Rattle.endpoint_link.specs.declared.kinds.FrameReason.{FrameReason}
@@ -27,6 +27,13 @@ pub record Heard (so_far : Written) (Stands : List Frame → Type 0) (before : L
   pub more : so_far (before ++ frames) ≡ so_far before ++ owed
   pub passed : Passes written written' owed held
 
+-- one frame more: the session stands behind it, and what is written for it is held back
+pub record HeardOne (so_far : Written) (Stands : List Frame → Type 0) (before : List Frame) (frame : Frame) (held held' : List ℕ) : Type 0 where
+  pub stands : Stands (before ++ frame ∷ [])
+  pub part : List ℕ
+  pub more : so_far (before ++ frame ∷ []) ≡ so_far before ++ part
+  pub appends : held' ≡ held ++ part
+
 -- some frames stand in front, and a part of what is written for them was written
 pub record HeardPart (so_far by_end : Written) (before : List Frame) (bytes : List ℕ) (written written' : Option (List ℕ)) : Type 0 where
   pub frames : List Frame
@@ -43,6 +50,12 @@ IsServing so_far Stands before bytes written written' held (served.Bad n why) =
     Heard so_far Stands before bytes written written' held n × IsBadFront ToServers (drop n bytes) why
 IsServing so_far Stands before bytes written written' held served.Failed =
     HeardPart so_far so_far before bytes written written'
+
+-- what is left behind the frames that were served, with the number of frames before and after
+abbrev pub Leaves : List ℕ → ℕ → ℕ → Served → Type 0
+Leaves bytes count count' (served.Rest n) = (n ≤ length bytes) × (count' ≤ count + n) × IsPartial ToServers (drop n bytes)
+Leaves bytes count count' (served.Bad n why) = n ≤ length bytes
+Leaves bytes count count' served.Failed = Unit {0}
 
 -- it holds where a write failed
 abbrev pub FailsOnly : Served → Type 0 → Type 0
@@ -65,3 +78,12 @@ end_of (byte ∷ rest) taken = status.Truncated (taken - length (byte ∷ rest))
 -- a bad frame, where what was held back is passed on, and else WriteFault
 abbrev pub EndsBad : ℕ → FrameReason → Type 0 → Type 0 → Type 0 → Status → Type 0
 EndsBad at why whole part rose answer = ((answer ≡ status.BadFrame at why) × whole) ⊎ ((answer ≡ status.WriteFault) × part × rose)
+
+-- the end behind some frames: what it adds is written behind what was held back, and all is flushed; else a part of that is written;
+-- or it can't be had for want of memory, and nothing is written
+abbrev pub Finishes : Written → Written → List Frame → Status → List ℕ → Option (List ℕ) → Option (List ℕ) → ℕ → Type 0 → Status → Type 0
+Finishes so_far by_end frames wanted held written written' flushed rose answer =
+    ((answer ≡ wanted) × ((last : List ℕ) × (by_end frames ≡ so_far frames ++ last) × PassedOn written written' (held ++ last) flushed))
+    ⊎ (((answer ≡ status.WriteFault) × rose
+    × ((last : List ℕ) × (by_end frames ≡ so_far frames ++ last) × AppendsPart written written' (held ++ last)))
+    ⊎ ((answer ≡ status.NoMemory) × (written' ≡ written)))

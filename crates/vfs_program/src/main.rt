@@ -14,6 +14,8 @@ mod sessions;
 mod statuses;
 #[cfg(test)]
 mod tests;
+mod tree_session;
+mod trees;
 mod words;
 
 use host_io::{DirFiles, StdSink, StdSource};
