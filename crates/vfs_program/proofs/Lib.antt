@@ -5,5 +5,9 @@ pub mod SessionLemmas
 pub mod ServingLemmas
 pub mod Progress
 pub mod SessionEnds
+pub mod FileEnds
+pub mod Outputs
+pub mod TreeLemmas
+pub mod TreeEnds
 pub mod Complete
 pub mod SeenLemmas

@@ -1,19 +1,16 @@
 -- What comes back for the frames of one file's client.
-use Rattle.std.proofs.Common.{◌≡◌, ℕ, Bool, true, false, not, ◌&&◌, ◌||◌, ◌==◌, List, [], ◌∷◌, ◌++◌, Some, None, refl, sym, ap, ◌∙◌, subst, append_assoc, append-nil, ◌⊎◌, inl, inr}
+use Rattle.std.proofs.Common.{◌≡◌, ℕ, Bool, true, false, ◌&&◌, ◌==◌, List, [], ◌∷◌, ◌++◌, refl, sym, ap, ◌∙◌, subst, append_assoc, append-nil, ◌⊎◌, inl, inr}
 use Rattle.std.specs.Prelude.{nat_le}
 use Rattle.std.proofs.lemmas.Bool.{eqb-true}
-use Rattle.fidl_names.specs.StatusNumber.{number_of}
-use Rattle.fidl_wire.specs.Epitaphs.{epitaph_bytes}
 use Rattle.endpoint_link.specs.Frames.{Frame, frame_with}
-use Rattle.endpoint_link.specs.Admission.{admission, refused_if}
+use Rattle.endpoint_link.specs.Admission.{refused_if}
 use Rattle.endpoint_link.specs.Numbering.{is_client}
 use Rattle.endpoint_link.specs.declared.kinds.FrameKind.{FrameKind}
 use Rattle.endpoint_link.specs.declared.kinds.FrameKind.TheVariants as kind
-use Rattle.endpoint_link.specs.declared.kinds.Refusal.{Refusal}
 use Rattle.endpoint_link.specs.declared.kinds.Refusal.TheVariants as refusal
-use Rattle.vfs_program.specs.Reads.{Asked, Meaning, Reads, Ends, meaning_of}
+use Rattle.vfs_program.specs.Reads.{Meaning, Reads, Ends, meaning_of}
 use Rattle.vfs_program.specs.Replies.{reply_to, position_after}
-use Rattle.vfs_program.specs.OneFile.{Standing, Outcome, look_ups, at_start, outcome, by_refusal, answered, admitted, refused, answers, after}
+use Rattle.vfs_program.specs.OneFile.{Standing, Outcome, outcome, by_refusal, answered, answers, after}
 use Rattle.vfs_program.specs.Seen.{Use, Asks, EndsIt, Idle, use_of, use_by, use_of_message, reads_by, reads_of, epitaph_by, epitaph_of, message_in, messages_of, replies, position_after_all}
 
 messages_of-append : (a b : List Frame) → messages_of (a ++ b) ≡ messages_of a ++ messages_of b

@@ -1,12 +1,12 @@
 -- The session of one file, over frames one after another.
-use Rattle.std.proofs.Common.{◌≡◌, ℕ, ◌+◌, ◌≤◌, List, [], ◌∷◌, ◌++◌, Option, Some, None, length, refl, sym, ap, ◌∙◌, append_assoc, append-nil, ◌⊎◌, inl, inr}
+use Rattle.std.proofs.Common.{◌≡◌, ℕ, List, [], ◌∷◌, ◌++◌, Some, None, refl, sym, ap, ◌∙◌, append_assoc, append-nil, ◌⊎◌, inl, inr}
 use Rattle.std.proofs.lemmas.List.Concat.{flat_map-append}
 use Rattle.endpoint_link.specs.Frames.{Frame, spelling, spellings}
 use Rattle.endpoint_link.specs.declared.kinds.FrameKind.{FrameKind}
 use Rattle.endpoint_link.specs.declared.kinds.FrameKind.TheVariants as kind
 use Rattle.endpoint_link.specs.Admission.{admission}
 use Rattle.endpoint_link.specs.declared.kinds.Refusal.{Refusal}
-use Rattle.vfs_program.specs.OneFile.{Standing, Outcome, look_ups, outcome, by_refusal, admitted, refused, answers, after}
+use Rattle.vfs_program.specs.OneFile.{Standing, look_ups, outcome, by_refusal, admitted, refused, answers, after}
 
 -- a frame that is refused
 pub outcome_refused : (file : List ℕ) (now : Standing) (frame : Frame) (why : Refusal) → Some why ≡ admission (look_ups now.live) frame

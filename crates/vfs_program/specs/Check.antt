@@ -1,5 +1,5 @@
 -- What `check` answers, and what it writes.
-use Rattle.std.specs.Prelude.{◌≡◌, ℕ, ◌≤◌, List, ◌++◌, length, codes, decimal, Option, Some, None}
+use Rattle.std.specs.Prelude.{◌≡◌, ℕ, List, ◌++◌, length, codes, decimal, Some, None}
 use Rattle.std.specs.Io.KnownBytes.{Appends}
 use Rattle.host_io.specs.Causes.{Rose}
 use Rattle.host_io.specs.Streams.{AppendsPart, IsFlushed}

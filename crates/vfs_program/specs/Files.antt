@@ -1,5 +1,5 @@
 -- Why a command has no file.
-use Rattle.std.specs.Prelude.{◌≡◌, ℕ, ◌≤◌, List, length}
+use Rattle.std.specs.Prelude.{ℕ, ◌≤◌, List, length}
 use Rattle.host_io.specs.Causes.{Rose}
 use Rattle.host_io.specs.Told.{Told, IsAllOf, IsLongerThan}
 use Rattle.vfs_program.specs.Outside.{FilesTold}

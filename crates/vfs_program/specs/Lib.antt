@@ -11,4 +11,6 @@ pub mod Session
 pub mod Serving
 pub mod Files
 pub mod Check
+pub mod TreeSession
+pub mod Serve
 pub mod Answers

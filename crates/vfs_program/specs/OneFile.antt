@@ -1,5 +1,5 @@
 -- The session of one file: endpoint 1 is bound to it, at server 0, and nothing else is known.
-use Rattle.std.specs.Prelude.{ℕ, Bool, true, false, List, [], ◌∷◌, ◌++◌, ◌==◌, Option, Some, None, if◌then◌else◌}
+use Rattle.std.specs.Prelude.{◌≡◌, ℕ, Bool, true, false, List, [], ◌∷◌, ◌++◌, ◌==◌, Option, Some, None, if◌then◌else◌}
 use Rattle.std.specs.Int.{w32, cast_unsigned}
 use Rattle.fidl_names.specs.StatusNumber.{number_of}
 use Rattle.fidl_names.specs.declared.statuses.Status.{Status}
@@ -13,7 +13,7 @@ use Rattle.endpoint_link.specs.declared.kinds.FrameKind.TheVariants as kind
 use Rattle.endpoint_link.specs.declared.kinds.Refusal.{Refusal}
 use Rattle.endpoint_link.specs.declared.kinds.Refusal.TheVariants as refusal
 use Rattle.endpoint_link.specs.declared.kinds.Standing.TheVariants as standing
-use Rattle.vfs_program.specs.Reads.{Asked, Meaning, Reads, Ends, meaning_of}
+use Rattle.vfs_program.specs.Reads.{Meaning, Reads, Ends, meaning_of}
 use Rattle.vfs_program.specs.Replies.{reply_to, position_after}
 
 -- where the session stands: whether endpoint 1 is still live, and from where it reads
@@ -87,6 +87,10 @@ answers file now (frame ∷ frames) = (outcome file now frame).frames ++ answers
 abbrev pub after : List ℕ → Standing → List Frame → Standing
 after file now [] = now
 after file now (frame ∷ frames) = after file (outcome file now frame).next frames
+
+-- the session stands there behind these frames
+abbrev pub IsBehind : List ℕ → Standing → List Frame → Type 0
+IsBehind file now frames = now ≡ after file at_start frames
 
 -- the bytes that the session of these frames writes
 abbrev pub output : List ℕ → List Frame → List ℕ

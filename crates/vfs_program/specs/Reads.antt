@@ -1,5 +1,5 @@
 -- What a message on the one file's endpoint asks for.
-use Rattle.std.specs.Prelude.{ℕ, List, length, codes, Bool, not, ◌==◌, ◌||◌, Result, Ok, Err, if◌then◌else◌}
+use Rattle.std.specs.Prelude.{ℕ, List, length, codes, not, ◌==◌, ◌||◌, Result, Ok, Err, if◌then◌else◌}
 use Rattle.fidl_names.specs.declared.statuses.Status.{Status}
 use Rattle.fidl_names.specs.declared.statuses.Status.TheVariants as status
 use Rattle.fidl_wire.specs.Headers.{header_of}

@@ -1,46 +1,61 @@
--- What one piece of the input led to.
-use Rattle.std.specs.Prelude.{◌≡◌, ℕ, ◌-◌, ◌≤◌, ◌⊎◌, List, [], ◌∷◌, ◌++◌, length, drop, All, Option}
+-- What one piece of the input led to, in a session that served some frames before.
+use Rattle.std.specs.Prelude.{◌≡◌, ℕ, ◌+◌, ◌≤◌, ◌-◌, ◌⊎◌, List, [], ◌∷◌, ◌++◌, length, drop, All, Option}
 use Rattle.std.specs.Io.KnownBytes.{Appends}
-use Rattle.host_io.specs.Streams.{IsFlushed}
+use Rattle.host_io.specs.Streams.{AppendsPart, IsFlushed}
 use Rattle.endpoint_link.specs.Frames.{Frame, IsFrame, spellings, IsPartial, IsBadFront}
 use Rattle.endpoint_link.specs.declared.kinds.Side.TheVariants.{ToServers}
 use Rattle.endpoint_link.specs.declared.kinds.FrameReason.{FrameReason}
 use Rattle.vfs_program.specs.declared.statuses.Status.{Status}
 use Rattle.vfs_program.specs.declared.statuses.Status.TheVariants as status
-use Rattle.vfs_program.specs.declared.one_file.Served.{Served}
-use Rattle.vfs_program.specs.declared.one_file.Served.TheVariants as served
-use Rattle.vfs_program.specs.OneFile.{Standing, answers, after}
-use Rattle.vfs_program.specs.Session.{IsFront}
+use Rattle.vfs_program.specs.declared.served.Served.{Served}
+use Rattle.vfs_program.specs.declared.served.Served.TheVariants as served
+use Rattle.vfs_program.specs.Session.{IsFront, Written}
 
 -- what was held back is written in front, and the rest is still held
 abbrev pub Passes : Option (List ℕ) → Option (List ℕ) → List ℕ → List ℕ → Type 0
 Passes written written' held held' = (part : List ℕ) × Appends written written' part × (part ++ held' ≡ held)
 
 -- the first n bytes are whole frames; what is written for them went to the sink, but for what is held back
-pub record Heard (file bytes : List ℕ) (now next : Standing) (written written' : Option (List ℕ)) (held : List ℕ) (n : ℕ) : Type 0 where
+pub record Heard (so_far : Written) (Stands : List Frame → Type 0) (before : List Frame) (bytes : List ℕ)
+    (written written' : Option (List ℕ)) (held : List ℕ) (n : ℕ) : Type 0 where
   pub frames : List Frame
   pub each : All (IsFrame ToServers) frames
   pub split : bytes ≡ spellings frames ++ drop n bytes
   pub size : length (spellings frames) ≡ n
-  pub moved : next ≡ after file now frames
-  pub passed : Passes written written' (spellings (answers file now frames)) held
+  pub stands : Stands (before ++ frames)
+  pub owed : List ℕ
+  pub more : so_far (before ++ frames) ≡ so_far before ++ owed
+  pub passed : Passes written written' owed held
 
--- the same, where only a part of it could be written
-pub record HeardPart (file bytes : List ℕ) (now : Standing) (written written' : Option (List ℕ)) : Type 0 where
+-- one frame more: the session stands behind it, and what is written for it is held back
+pub record HeardOne (so_far : Written) (Stands : List Frame → Type 0) (before : List Frame) (frame : Frame) (held held' : List ℕ) : Type 0 where
+  pub stands : Stands (before ++ frame ∷ [])
+  pub part : List ℕ
+  pub more : so_far (before ++ frame ∷ []) ≡ so_far before ++ part
+  pub appends : held' ≡ held ++ part
+
+-- some frames stand in front, and a part of what is written for them was written
+pub record HeardPart (so_far by_end : Written) (before : List Frame) (bytes : List ℕ) (written written' : Option (List ℕ)) : Type 0 where
   pub frames : List Frame
   pub each : All (IsFrame ToServers) frames
   pub begins : IsFront (spellings frames) bytes
   pub part : List ℕ
-  pub front : IsFront part (spellings (answers file now frames))
+  pub lawful : IsFront (so_far before ++ part) (by_end (before ++ frames))
   pub got : Appends written written' part
 
-abbrev pub IsServing : List ℕ → List ℕ → Standing → Standing → Option (List ℕ) → Option (List ℕ) → List ℕ → Served → Type 0
-IsServing file bytes now next written written' held (served.Rest n) =
-    Heard file bytes now next written written' held n × IsPartial ToServers (drop n bytes)
-IsServing file bytes now next written written' held (served.Bad n why) =
-    Heard file bytes now next written written' held n × IsBadFront ToServers (drop n bytes) why
-IsServing file bytes now next written written' held served.Failed =
-    HeardPart file bytes now written written'
+abbrev pub IsServing : Written → (List Frame → Type 0) → List Frame → List ℕ → Option (List ℕ) → Option (List ℕ) → List ℕ → Served → Type 0
+IsServing so_far Stands before bytes written written' held (served.Rest n) =
+    Heard so_far Stands before bytes written written' held n × IsPartial ToServers (drop n bytes)
+IsServing so_far Stands before bytes written written' held (served.Bad n why) =
+    Heard so_far Stands before bytes written written' held n × IsBadFront ToServers (drop n bytes) why
+IsServing so_far Stands before bytes written written' held served.Failed =
+    HeardPart so_far so_far before bytes written written'
+
+-- what is left behind the frames that were served, with the number of frames before and after
+abbrev pub Leaves : List ℕ → ℕ → ℕ → Served → Type 0
+Leaves bytes count count' (served.Rest n) = (n ≤ length bytes) × (count' ≤ count + n) × IsPartial ToServers (drop n bytes)
+Leaves bytes count count' (served.Bad n why) = n ≤ length bytes
+Leaves bytes count count' served.Failed = Unit {0}
 
 -- it holds where a write failed
 abbrev pub FailsOnly : Served → Type 0 → Type 0
@@ -63,3 +78,12 @@ end_of (byte ∷ rest) taken = status.Truncated (taken - length (byte ∷ rest))
 -- a bad frame, where what was held back is passed on, and else WriteFault
 abbrev pub EndsBad : ℕ → FrameReason → Type 0 → Type 0 → Type 0 → Status → Type 0
 EndsBad at why whole part rose answer = ((answer ≡ status.BadFrame at why) × whole) ⊎ ((answer ≡ status.WriteFault) × part × rose)
+
+-- the end behind some frames: what it adds is written behind what was held back, and all is flushed; else a part of that is written;
+-- or it can't be had for want of memory, and nothing is written
+abbrev pub Finishes : Written → Written → List Frame → Status → List ℕ → Option (List ℕ) → Option (List ℕ) → ℕ → Type 0 → Status → Type 0
+Finishes so_far by_end frames wanted held written written' flushed rose answer =
+    ((answer ≡ wanted) × ((last : List ℕ) × (by_end frames ≡ so_far frames ++ last) × PassedOn written written' (held ++ last) flushed))
+    ⊎ (((answer ≡ status.WriteFault) × rose
+    × ((last : List ℕ) × (by_end frames ≡ so_far frames ++ last) × AppendsPart written written' (held ++ last)))
+    ⊎ ((answer ≡ status.NoMemory) × (written' ≡ written)))

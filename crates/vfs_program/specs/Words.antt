@@ -1,18 +1,21 @@
 -- The words that the program is called with.
 use Rattle.std.specs.Prelude.{◌≡◌, ℕ, List, [], ◌∷◌, codes}
 use Rattle.vfs_program.specs.declared.words.Command.{Command}
-use Rattle.vfs_program.specs.declared.words.Command.TheVariants.{File, Check}
+use Rattle.vfs_program.specs.declared.words.Command.TheVariants.{File, Serve, Check}
 
 -- what the words ask for
 pub data Asks : Type 0 where
   -- serve the file of this name on endpoint 1
   FileOf : (name : List ℕ) → Asks
+  -- serve the tree of the file of this name, in mode auto
+  ServeOf : (tree : List ℕ) → Asks
   -- tell whether the tree file of this name stands
   CheckOf : (tree : List ℕ) → Asks
 
 -- the words have this command's shape
 abbrev pub Means : List (List ℕ) → Asks → Type 0
 Means words (FileOf name) = words ≡ codes "file" ∷ name ∷ []
+Means words (ServeOf tree) = words ≡ codes "serve" ∷ tree ∷ codes "auto" ∷ []
 Means words (CheckOf tree) = words ≡ codes "check" ∷ tree ∷ []
 
 -- the words have no command's shape
@@ -22,4 +25,5 @@ MeanNothing words = (asks : Asks) → Means words asks → ⊥
 -- a command without where its words lie in memory
 abbrev pub command_seen : Command → Asks
 command_seen (File name) = FileOf name.now
+command_seen (Serve tree) = ServeOf tree.now
 command_seen (Check tree) = CheckOf tree.now

@@ -5,13 +5,11 @@ ghost use Rattle.std.specs.Io.KnownBytes.{Appends};
 ghost use Rattle.vfs_program.specs.Check.{CheckAnswers, line_of};
 
 use crate::statuses::Status;
-use host_io::{Failed, FileFault, Files, Sink, write_whole};
+use crate::trees::read_start;
+use host_io::{Failed, Files, Sink, write_whole};
 use itoa::Buffer;
 use std::alloc::{AllocError, Global};
-use tree_file::{Start, TreeFault, start_of};
-
-/// The most bytes of a tree file.
-const MOST_TREE: usize = 1_048_576;
+use tree_file::Start;
 
 /// Tells how much the tree file of this name has, where it breaks no rule.
 pub fn check_tree<F: Files, K: Sink>(
@@ -27,16 +25,9 @@ pub fn check_tree<F: Files, K: Sink>(
         (record { written = K.written sink.new; flushed = K.flushed sink.new; faults = K.faults sink.new })
         (sink.new ≡ sink.old) result }
 {
-    let text = match files.read_all(alloc, name, MOST_TREE) {
-        Ok(text) => text,
-        Err(FileFault::Failed) => return Status::FileFault,
-        Err(FileFault::TooLarge) => return Status::FileTooLarge,
-        Err(FileFault::NoMemory) => return Status::NoMemory,
-    };
-    let start = match start_of(alloc, &text) {
+    let start = match read_start(alloc, name, files) {
         Ok(start) => start,
-        Err(TreeFault::Rule { rule, item }) => return Status::TreeRefused { rule, item },
-        Err(TreeFault::NoMemory) => return Status::NoMemory,
+        Err(status) => return status,
     };
     let Ok(line) = line_of(alloc, &start) else {
         return Status::NoMemory;

@@ -9,10 +9,13 @@ mod one_file;
 mod reads;
 mod replies;
 mod run;
+mod served;
 mod sessions;
 mod statuses;
 #[cfg(test)]
 mod tests;
+mod tree_session;
+mod trees;
 mod words;
 
 use host_io::{DirFiles, StdSink, StdSource};

@@ -37,7 +37,17 @@ fn write_note<N: Sink>(notes: &mut N, status: Status) -> Result<(), Failed>
         Status::FileFault => write_line(notes, "file failed\n"),
         Status::FileTooLarge => write_line(notes, "file too large\n"),
         Status::InputTooLong => write_line(notes, "input too long\n"),
+        Status::Collision { first, second } => {
+            write_two_numbers(
+                notes,
+                "ordinals collide: ",
+                u64::from(first),
+                " ",
+                u64::from(second),
+            )
+        }
         Status::NoMemory => write_line(notes, "no memory\n"),
+        Status::Unbuilt { at } => write_numbered(notes, "not built at ", at, "", ""),
         Status::BadFrame { at, reason } => {
             write_numbered(notes, "bad frame at ", at, ": ", word_of(reason))
         }

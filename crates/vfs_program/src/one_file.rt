@@ -6,17 +6,16 @@ ghost use Rattle.endpoint_link.specs.declared.kinds.FrameKind.TheVariants as kin
 ghost use Rattle.endpoint_link.specs.declared.kinds.Refusal.TheVariants as refusal;
 ghost use Rattle.fidl_wire.specs.Epitaphs.{epitaph_bytes};
 ghost use Rattle.fidl_names.specs.StatusNumber.{number_of};
-ghost use Rattle.endpoint_link.specs.Frames.{frame_with, spellings};
+ghost use Rattle.endpoint_link.specs.Frames.{Frame, frame_with, spellings};
 ghost use Rattle.endpoint_link.specs.Views.{frame_of};
 ghost use Rattle.vfs_program.specs.Reads.{read_ordinal, meaning_of as told};
-ghost use Rattle.vfs_program.specs.OneFile.{look_ups, outcome, refused, status_of, answered};
+ghost use Rattle.vfs_program.specs.OneFile.{look_ups, outcome, output, refused, status_of, answered, IsBehind};
 ghost use Rattle.vfs_program.specs.Serving.{IsServing, FailsOnly, Passes};
 
 use crate::reads::{Meaning, READ_NAME, meaning_of};
 use crate::replies::put_reply;
-use endpoint_link::{
-    FrameKind, FrameReason, FrameRoom, FrameView, Reading, Refusal, Side, frame_at,
-};
+use crate::served::Served;
+use endpoint_link::{FrameKind, FrameRoom, FrameView, Reading, Refusal, Side, frame_at};
 use fidl_wire::{NoMemory, Out, Status as Answer, epitaph, ordinal};
 use host_io::{Failed, Sink, write_whole};
 use std::alloc::Global;
@@ -26,16 +25,6 @@ const ENDPOINT: u32 = 1;
 
 /// The most bytes that are written for one frame: the frame of the longest reply.
 pub const MOST_ANSWER: usize = 8252;
-
-/// What a piece of the input led to.
-pub enum Served {
-    /// Each whole frame was served; so many bytes these were, and what follows has begun a frame.
-    Rest(usize),
-    /// Behind so many bytes stands a bad fixed part.
-    Bad(usize, FrameReason),
-    /// The output couldn't be written.
-    Failed,
-}
 
 /// The session of one file: whether its endpoint is live, from where it reads, and room for a message.
 #[derive(Drop)]
@@ -72,9 +61,8 @@ impl Connection {
         requires within { self.old.position ≤ length file.now }
         requires empty { room.old.bytes ≡ [] }
         requires room { 8252 ≤ room.old.size }
-        ensures served { IsServing file.now bytes.now
-            (record { live = self.old.live; position = self.old.position })
-            (record { live = self.new.live; position = self.new.position })
+        ensures served { (before : List Frame) → IsBehind file.now (record { live = self.old.live; position = self.old.position }) before →
+            IsServing (output file.now) (IsBehind file.now (record { live = self.new.live; position = self.new.position })) before bytes.now
             (K.written sink.old) (K.written sink.new) room.new.bytes result }
         ensures size { room.new.size ≡ room.old.size }
         ensures within { self.new.position ≤ length file.now }

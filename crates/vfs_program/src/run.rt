@@ -11,6 +11,7 @@ use crate::checks::check_tree;
 use crate::notes::tell;
 use crate::sessions::serve_file;
 use crate::statuses::Status;
+use crate::tree_session::serve_tree;
 use crate::words::{Command, command_of};
 use endpoint_link::{joined_streams, one_reading};
 use host_io::{Files, Sink, Source};
@@ -125,6 +126,7 @@ fn answer<F: Files, S: Source, K: Sink>(
 {
     match command_of(words) {
         Some(Command::File { name }) => serve_file(alloc, name, files, source, sink),
+        Some(Command::Serve { tree }) => serve_tree(alloc, tree, files, source, sink),
         Some(Command::Check { tree }) => check_tree(alloc, tree, files, sink),
         None => Status::Usage,
     }

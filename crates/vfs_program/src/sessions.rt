@@ -3,18 +3,17 @@ ghost use Rattle.std.specs.Io.KnownBytes.{Keeps};
 ghost use Rattle.host_io.specs.Causes.{HasCause, Rose};
 ghost use Rattle.host_io.specs.Streams.{AppendsPart, IsFlushed};
 ghost use Rattle.vfs_program.specs.Answers.{FileAnswers};
+ghost use Rattle.vfs_program.specs.OneFile.{output};
 ghost use Rattle.vfs_program.specs.Serving.{PassedOn, Closes, EndsBad, end_of};
 ghost use Rattle.vfs_program.specs.Session.{SessionAnswers};
 
 use crate::input::{Input, MOST_PIECE};
-use crate::one_file::{Connection, MOST_ANSWER, Served};
+use crate::one_file::{Connection, MOST_ANSWER};
+use crate::served::{MOST_INPUT, Served, end_of};
 use crate::statuses::Status;
 use endpoint_link::{FrameReason, FrameRoom, joined_streams};
 use host_io::{Failed, FileFault, Files, Sink, Source, write_whole};
 use std::alloc::Global;
-
-/// The most bytes that one session takes.
-const MOST_INPUT: u64 = 1 << 40;
 
 /// The room in which output is gathered: a large piece, and one more answer.
 const ROOM: usize = 65_536 + MOST_ANSWER;
@@ -92,7 +91,7 @@ impl Session {
         requires input { self.input ≡ [] }
         requires connection { (self.connection.live ≡ true) × (self.connection.position ≡ 0) }
         requires room { (self.room.bytes ≡ []) × (8252 ≤ self.room.size) }
-        ensures { SessionAnswers self.file.items
+        ensures { SessionAnswers (output self.file.items) (output self.file.items)
             (record {
               left = S.left source.old;
               read_faults = S.faults source.old;
@@ -173,15 +172,7 @@ fn end<K: Sink>(rest: &[u8], taken: u64, sink: &mut K) -> Status
     ensures written { Keeps (K.written sink.old) (K.written sink.new) }
     ensures faults { K.faults sink.old ≤ K.faults sink.new }
 {
-    if rest.is_empty() {
-        return close(sink, Status::Done);
-    }
-    close(
-        sink,
-        Status::Truncated {
-            at: taken - rest.len() as u64,
-        },
-    )
+    close(sink, end_of(rest, taken))
 }
 
 /// A bad frame ends the session, behind the output for the frames before it.

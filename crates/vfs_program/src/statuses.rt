@@ -19,7 +19,11 @@ pub enum Status {
     FileTooLarge,
     /// The input was cut off at 2^40 bytes.
     InputTooLong,
+    /// The names of these two rows have equal ordinals.
+    Collision { first: u32, second: u32 },
     NoMemory,
+    /// What is asked for isn't built yet, at this place.
+    Unbuilt { at: u64 },
     /// The first bad frame stands at this offset of the input, and is bad for this first reason.
     BadFrame { at: u64, reason: FrameReason },
     /// The input ended inside the frame that begins at this offset.
@@ -41,7 +45,9 @@ impl Status {
             Status::BadFrame { .. } => 6,
             Status::Truncated { .. } => 7,
             Status::InputTooLong => 8,
+            Status::Collision { .. } => 9,
             Status::NoMemory => 10,
+            Status::Unbuilt { .. } => 11,
         }
     }
 }

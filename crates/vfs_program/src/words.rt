@@ -5,6 +5,7 @@ ghost use Rattle.vfs_program.specs.Words.{Means, MeanNothing, command_seen};
 #[derive(Clone, Copy)]
 pub enum Command<'a> {
     File { name: &'a str },
+    Serve { tree: &'a str },
     Check { tree: &'a str },
 }
 
@@ -17,6 +18,11 @@ pub fn command_of(words: &[String]) -> Option<Command<'_>>
         [first, name] if is_word(first, "file") => Some(Command::File {
             name: name.as_str(),
         }),
+        [first, tree, mode] if is_word(first, "serve") && is_word(mode, "auto") => {
+            Some(Command::Serve {
+                tree: tree.as_str(),
+            })
+        }
         [first, tree] if is_word(first, "check") => Some(Command::Check {
             tree: tree.as_str(),
         }),

@@ -1,4 +1,4 @@
-use Rattle.std.proofs.Common.{ap, ◌∙◌, arith, ◌≡◌, length, ◌<◌, ◌≤◌, ◌+◌, ◌-◌, take}
+use Rattle.std.proofs.Common.{arith, length, ◌<◌, ◌≤◌, ◌+◌, ◌-◌, take}
 use Rattle.std.proofs.lemmas.List.{length-take-le}
 use Rattle.vfs_program.proofs.Pieces.{take_kept_piece}
 use Rattle.vfs_program.proofs.input.read_behind.Goals as goal

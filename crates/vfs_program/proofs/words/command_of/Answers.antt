@@ -1,4 +1,4 @@
-use Rattle.std.proofs.Common.{rules, ◌≡◌, ◌∷◌, [], codes, map, string_bytes, ap, ◌∙◌, subst}
+use Rattle.std.proofs.Common.{◌≡◌, codes, map, string_bytes, ap, ◌∙◌}
 use Rattle.vfs_program.proofs.WordLists.{two_items}
 use Rattle.vfs_program.proofs.words.command_of.Goals as goal
 

@@ -1,4 +1,4 @@
-use Rattle.std.proofs.Common.{ap, ◌∙◌, drop, arith, sym, ◌≡◌, length, ◌≤◌, take, ◌-◌}
+use Rattle.std.proofs.Common.{ap, ◌∙◌, drop, arith, length, ◌≤◌, take, ◌-◌}
 use Rattle.std.proofs.lemmas.List.{length-take-le}
 use Rattle.vfs_program.proofs.Pieces.{take_moved}
 use Rattle.vfs_program.proofs.input.Input.drop_front.Goals as goal

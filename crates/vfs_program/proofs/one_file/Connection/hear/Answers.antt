@@ -1,5 +1,5 @@
-use Rattle.std.proofs.Common.{◌≡◌, ◌++◌, ap, ◌∙◌, sym, append-nil, List, ℕ, refl}
-use Rattle.endpoint_link.specs.Frames.{Frame, spellings}
+use Rattle.std.proofs.Common.{◌++◌, ap, ◌∙◌, sym, append-nil, refl}
+use Rattle.endpoint_link.specs.Frames.{spellings}
 use Rattle.endpoint_link.specs.Views.{frame_of}
 use Rattle.endpoint_link.specs.declared.kinds.FrameKind.{FrameKind}
 use Rattle.vfs_program.specs.OneFile.{Standing, Outcome, admitted}

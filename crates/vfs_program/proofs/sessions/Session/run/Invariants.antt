@@ -1,11 +1,13 @@
 use Rattle.std.proofs.Common.{◌≡◌, ◌≤◌, ◌-◌, ◌^◌, [], length}
+use Rattle.vfs_program.specs.OneFile.{IsBehind, output}
 use Rattle.vfs_program.proofs.Progress.{Progress}
 use Rattle.vfs_program.proofs.sessions.Session.run.Given as goal
 
 abbrev pub invariant-loop-taken : goal.invariant-loop-taken
 invariant-loop-taken g l = record {
-  progress : Progress l.initial.self.file.items (g.S.Source.left l.initial.source) (g.S.Source.left l.source) (g.K.Sink.written l.initial.sink) (g.K.Sink.written l.sink)
-      l.taken (record { live = l.self.connection.live; position = l.self.connection.position }) l.self.input;
+  progress : Progress (output l.initial.self.file.items) (IsBehind l.initial.self.file.items (record { live = l.self.connection.live; position = l.self.connection.position }))
+      (g.S.Source.left l.initial.source) (g.S.Source.left l.source) (g.K.Sink.written l.initial.sink) (g.K.Sink.written l.sink)
+      l.taken l.self.input;
   same_file : l.self.file ≡ l.initial.self.file;
   bound : l.taken ≤ 2 ^ 40;
   inside : l.self.connection.position ≤ length l.self.file.items;
