@@ -1,18 +1,16 @@
 -- What the lists of an accepted tree file have.
-use Rattle.std.proofs.Common.{◌≡◌, ◌≢◌, ℕ, zero, suc, ◌+◌, ◌<◌, ◌≤◌, ◌==◌, Bool, true, false, cond, List, [], ◌∷◌, ◌++◌, length, map, filter, take, get_or, Option, Some, None, All, AllPairs, codes, refl, sym, ap, ◌∙◌, subst, arith, append_assoc, nat_le}
+use Rattle.std.proofs.Common.{◌≡◌, ◌≢◌, ℕ, zero, suc, ◌+◌, ◌<◌, ◌==◌, Bool, true, false, cond, List, [], ◌∷◌, ◌++◌, length, map, filter, take, get_or, Option, Some, None, All, AllPairs, codes, refl, sym, ap, ◌∙◌, subst, arith, append_assoc}
 use Rattle.std.specs.Option.{option_map}
 use Rattle.std.specs.List.{enumerate_from, count_by}
 use Rattle.std.proofs.lemmas.List.Sums.{length-filter}
-use Rattle.std.proofs.lemmas.List.Elements.{All-nil, All-cons, All-head, All-tail, All-weaker}
+use Rattle.std.proofs.lemmas.List.Elements.{All-nil, All-head, All-tail, All-weaker}
 use Rattle.toml.specs.Data.{Data}
-use Rattle.node_graph.specs.declared.nodes.NodeKind.{NodeKind}
-use Rattle.node_graph.specs.declared.nodes.NodeKind.TheVariants.{Directory, File, Service, Mount}
-use Rattle.tree_file.specs.Items.{NodeItem, MountItem, ClientItem, Lists}
-use Rattle.tree_file.specs.Numbering.{Named, node_named, mount_named, named_of}
+use Rattle.tree_file.specs.Items.{NodeItem, ClientItem, Lists}
+use Rattle.tree_file.specs.Numbering.{node_named, mount_named, named_of}
 use Rattle.tree_file.specs.Reading.{node_of, client_of}
-use Rattle.tree_file.specs.Rules.{items_at, read_nodes, read_clients, servers_of, lists_of, document_of, start_from, first_failure, failure_of, first_broken, first_failing, rule_2, rule_3, rule_4, rule_5, rule_6, rule_7, rule_8, rule_9, rule_10, rule_11, rule_12, rule_13, names_held, connections_held, node_place, mount_place, node_fits, client_fits, bytes_fit, names_fit, connections_fit}
+use Rattle.tree_file.specs.Rules.{items_at, read_nodes, read_clients, servers_of, lists_of, document_of, start_from, first_failure, failure_of, first_broken, first_failing, rule_2, rule_3, rule_4, rule_5, rule_6, rule_7, rule_8, rule_9, rule_10, rule_11, rule_12, rule_13}
 use Rattle.vfs_start.specs.Accepted.{IsAccepted}
-use Rattle.vfs_start.specs.Items.{IsPlain, IsNode, IsFirst}
+use Rattle.vfs_start.specs.Items.{IsNode, IsFirst}
 use Rattle.vfs_start.proofs.Read.{all_read, some_read, apart_read, some_apart, node_read, client_read, new_client}
 
 -- ---- the lists of any document
@@ -82,7 +80,7 @@ accepted_good lists accepted = by_document (document_of accepted.0) accepted.1 a
 
 -- ---- items that pass one by one
 
-append_none : {X : Type 0} (xs : List X) → xs ++ [] ≡ xs
+pub append_none : {X : Type 0} (xs : List X) → xs ++ [] ≡ xs
 append_none [] = refl
 append_none (x ∷ xs) = ap (λ more. x ∷ more) (append_none xs)
 

@@ -1,9 +1,6 @@
 -- The tree of a list of nodes, as the list grows at its end.
-use Rattle.std.proofs.Common.{◌≡◌, ◌≢◌, ℕ, zero, suc, ◌+◌, ◌<◌, ◌≤◌, ◌==◌, ◌||◌, Bool, true, false, cond, List, [], ◌∷◌, ◌++◌, length, map, get_or, Option, Some, None, All, refl, sym, ap, ◌∙◌, subst, arith}
-use Rattle.std.specs.Prelude.{slice_get, is_some}
-use Rattle.std.specs.List.{list_any, position}
-use Rattle.std.specs.Option.{option_map}
-use Rattle.std.specs.Ordering.{nat_cmp, is_eq, eq_by_cmp}
+use Rattle.std.proofs.Common.{◌≡◌, ◌≢◌, ℕ, zero, suc, ◌+◌, ◌≤◌, Bool, true, false, cond, List, [], ◌∷◌, ◌++◌, length, map, Some, None, All, refl, sym, ap, ◌∙◌, arith}
+use Rattle.std.specs.Ordering.{nat_cmp, is_eq}
 use Rattle.std.specs.declared.cmp.Ordering.{Ordering}
 use Rattle.std.specs.declared.cmp.Ordering.TheVariants.{Less, Equal, Greater}
 use Rattle.std.specs.Cmp.{IsTotalOrder, nat_cmp_total}
@@ -12,19 +9,18 @@ use Rattle.std.specs.FinMap as finite
 use Rattle.std.specs.FinMap.Entries as entry
 use Rattle.std.proofs.lemmas.Cmp.{on_total, then_total, tied_itself}
 use Rattle.std.proofs.lemmas.Map.Lookups.{CmpEqualImpliesEq, exact_pairs, exact_unsigned, exact_bytes}
-use Rattle.std.proofs.lemmas.List.{length-map, map-append, length_push}
-use Rattle.std.proofs.lemmas.List.Elements.{All-nil, All-cons, All-head, All-tail, All-map, All-push, All-weaker, All-get_or}
-use Rattle.std.proofs.lemmas.Option.{slice_get-map, slice_get_within, get_or_from_slice_get}
+use Rattle.std.proofs.lemmas.List.{length-map, map-append}
+use Rattle.std.proofs.lemmas.List.Elements.{All-nil, All-head, All-tail, All-map, All-push, All-weaker}
 use Rattle.path_walk.specs.Names.{IsName}
-use Rattle.path_walk.specs.Paths.{IsPath, names_of, path_fault}
+use Rattle.path_walk.specs.Paths.{names_of}
 use Rattle.node_graph.specs.declared.nodes.NodeKind.{NodeKind}
 use Rattle.node_graph.specs.declared.nodes.NodeKind.TheVariants.{Directory}
-use Rattle.node_graph.specs.Tree.{NodeRow, EdgeKey, EdgeTo, edge_cmp, Edges, Tree, row_of, kind_of, is_linked}
+use Rattle.node_graph.specs.Tree.{EdgeKey, EdgeTo, edge_cmp, Edges, Tree, kind_of}
 use Rattle.tree_file.specs.Numbering.{Named, number_at, last_name, edge_of, row_of_named, tree_from}
 use Rattle.tree_file.specs.Texts.{parent_of, is_dot}
 use Rattle.vfs_start.specs.Growing.{with_node}
-use Rattle.vfs_start.proofs.Numbers.{at_path, At, root, there, absent, at, IsNew, number_same, number_push, number_free, number_new, number_kept}
-use Rattle.vfs_start.proofs.Paths.{same_path}
+use Rattle.vfs_start.proofs.Numbers.{IsNew, number_same, number_free, number_new, number_kept}
+use Rattle.vfs_start.proofs.Names.{same_path}
 
 -- ---- keys
 
@@ -79,7 +75,7 @@ pub data Grows : List Named → Type 0 where
   bare : Grows []
   more : (named : List Named) (one : Named) → Grows named → Fits named one → Grows (named ++ one ∷ [])
 
-number_some : (tree : Tree) (number : ℕ) (kind : NodeKind) → kind_of tree number ≡ Some kind → 1 ≤ number
+pub number_some : (tree : Tree) (number : ℕ) (kind : NodeKind) → kind_of tree number ≡ Some kind → 1 ≤ number
 number_some tree zero kind h = absurd (cc)
 number_some tree (suc place) kind h = omega arith
 

@@ -1,10 +1,10 @@
 -- What the items of an accepted tree file are.
-use Rattle.std.specs.Prelude.{◌≡◌, ◌≢◌, ◌≤◌, ◌<◌, ◌⊎◌, ℕ, true, false, List, [], All, AllPairs, length, map, None}
+use Rattle.std.specs.Prelude.{◌≡◌, ◌<◌, ◌⊎◌, ℕ, true, false, [], None}
 use Rattle.endpoint_link.specs.Numbering.{is_client}
 use Rattle.node_graph.specs.declared.nodes.NodeKind.{NodeKind}
 use Rattle.node_graph.specs.declared.nodes.NodeKind.TheVariants.{File, Mount}
 use Rattle.path_walk.specs.Paths.{path_fault}
-use Rattle.tree_file.specs.Items.{NodeItem, ClientItem, Lists}
+use Rattle.tree_file.specs.Items.{NodeItem, ClientItem}
 use Rattle.tree_file.specs.Texts.{is_dot}
 
 -- no mount

@@ -2,5 +2,11 @@
 #![tactic(auto)]
 
 mod beginning;
+mod firsts;
+mod making;
+mod paths;
 
 pub use beginning::{Beginning, begin};
+
+#[cfg(test)]
+mod tests;

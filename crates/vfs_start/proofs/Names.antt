@@ -1,22 +1,20 @@
 -- A path is its parent's path and its last name.
-use Rattle.std.proofs.Common.{◌≡◌, ◌≢◌, ℕ, zero, suc, ◌+◌, ◌<◌, ◌≤◌, ◌==◌, Bool, true, false, if◌then◌else◌, List, [], ◌∷◌, ◌++◌, length, take, drop, reverse, get_or, Option, Some, None, All, Contains, refl, sym, ap, ◌∙◌, subst, arith, nat_lt}
+use Rattle.std.proofs.Common.{◌≡◌, ◌≢◌, ℕ, ◌≤◌, ◌==◌, Bool, true, false, if◌then◌else◌, List, [], ◌∷◌, ◌++◌, length, reverse, Some, None, All, refl, sym, ap, ◌∙◌, subst, arith, nat_lt}
 use Rattle.std.specs.Prelude.{slice_get, unwrap_or}
-use Rattle.std.specs.List.{slice_split, onto_first, list_any}
-use Rattle.std.specs.Option.{option_or, option_map}
+use Rattle.std.specs.List.{slice_split, onto_first}
 use Rattle.std.specs.Str.{bytes_eq}
 use Rattle.std.proofs.lemmas.Bool.{ltb-false, eqb-false, eqb-true}
 use Rattle.std.proofs.lemmas.List.{reverse-append}
 use Rattle.std.proofs.lemmas.List.Elements.{All-nil, All-cons, All-head, All-contains, Contains-push}
 use Rattle.std.proofs.lemmas.List.Splits.{slice_split_none, length-slice_split, slice_split-cons_yes, slice_split-cons_no}
 use Rattle.std.proofs.lemmas.Slice.Eq.{bytes_eq-Decides}
-use Rattle.path_walk.specs.declared.faults.PathFault.{PathFault}
 use Rattle.path_walk.specs.declared.faults.PathFault.TheVariants as fault
 use Rattle.path_walk.specs.Names.{Rule, slash, dot, holds, dot_rule, first_broken, name_fault, IsName}
-use Rattle.path_walk.specs.Paths.{IsPath, names_of, path_fault}
+use Rattle.path_walk.specs.Paths.{names_of}
 use Rattle.tree_file.specs.Numbering.{last_name}
 use Rattle.tree_file.specs.Texts.{before_last_slash, parent_of, is_dot}
 
-abbrev is_slash : ℕ → Bool
+abbrev pub is_slash : ℕ → Bool
 is_slash byte = byte == slash
 
 -- ---- the last name of a text
