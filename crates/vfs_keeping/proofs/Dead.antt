@@ -1,8 +1,8 @@
 -- The endpoints that die of a serving.
-use Rattle.std.proofs.Common.{◌≡◌, ℕ, ◌+◌, ◌<◌, ◌≤◌, ◌==◌, ◌&&◌, ◌||◌, Bool, true, false, not, cond, List, [], ◌∷◌, ◌++◌, length, get_or, take, drop, map, filter, Option, Some, None, refl, sym, ap, ◌∙◌, arith}
+use Rattle.std.proofs.Common.{◌≡◌, ℕ, ◌+◌, ◌<◌, ◌≤◌, ◌&&◌, Bool, true, false, not, cond, List, [], ◌∷◌, ◌++◌, length, get_or, take, drop, filter, Option, None, refl, sym, ap, ◌∙◌}
 use Rattle.std.specs.Prelude.{if◌then◌else◌}
-use Rattle.std.proofs.lemmas.List.{map_more, append_assoc, append-nil, at_drop_more, at_drop_all}
-use Rattle.std.proofs.lemmas.List.Elements.{filter_agree, filter-append}
+use Rattle.std.proofs.lemmas.List.{map_more, at_drop_more, at_drop_all}
+use Rattle.std.proofs.lemmas.List.Elements.{filter-append}
 use Rattle.fidl_names.specs.declared.methods.Handle.{Handle}
 use Rattle.io_messages.specs.Requests.{number_of_handle}
 use Rattle.endpoint_link.specs.Numbering.{among, is_client}
@@ -45,7 +45,7 @@ pub spread_none : (others : List Sent) → spread [] others ≡ []
 spread_none [] = refl
 spread_none (sent ∷ others) = spread_none others
 
-keep_all : {X : Type 0} (xs : List X) → filter (λ _. true) xs ≡ xs
+pub keep_all : {X : Type 0} (xs : List X) → filter (λ _. true) xs ≡ xs
 keep_all [] = refl
 keep_all (x ∷ xs) = ap (λ ys. x ∷ ys) (keep_all xs)
 

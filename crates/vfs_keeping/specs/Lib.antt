@@ -1,6 +1,6 @@
 pub mod Keeping
 pub mod Codes
 pub mod Sound
-pub mod Told
 pub mod Admitting
 pub mod Dying
+pub mod Told

@@ -1,4 +1,4 @@
-use Rattle.std.proofs.Common.{◌≡◌, List, ℕ, [], length, drop, true, false, refl, ap, sym, ◌∙◌, arith}
+use Rattle.std.proofs.Common.{◌≡◌, List, ℕ, length, true, false, ap, sym, ◌∙◌, arith}
 use Rattle.std.proofs.lemmas.Bool.Decides.{nat_tests}
 use Rattle.std.proofs.lemmas.List.{nil_from_length}
 use Rattle.endpoint_link.specs.Numbering.{among}
@@ -18,16 +18,16 @@ loop-sent-preserved c =
     elim c.if-is_among.branch [
       | then-is_among+in_ok-add_carried w ↦
           let here : among c.sent-item.result.endpoint c.loop-sent.dying.items ≡ true =
-              ap (λ sent. among sent.endpoint c.loop-sent.dying.items) (sym c.sent.view_is)
-              ∙ ap (among c.sent.inside.endpoint) (sym c.deref.ensures.value)
-              ∙ sym c.is_among.ensures
-              ∙ w.if-is_among.true in
+          ap (λ sent. among sent.endpoint c.loop-sent.dying.items) (sym c.sent.view_is)
+          ∙ ap (among c.sent.inside.endpoint) (sym c.deref.ensures.value)
+          ∙ sym c.is_among.ensures
+          ∙ w.if-is_among.true in
           rw (w.dying-is) (rw w.in_ok-add_carried.ensures (spread_on c.loop-sent.dying.items c.args.others.now c.loop-sent.sent-index c.sent-item.result c.loop-sent-test.true c.sent-item.is here ∙ c.loop-sent.invariant))
       | else-is_among w ↦
           let here : among c.sent-item.result.endpoint c.loop-sent.dying.items ≡ false =
-              ap (λ sent. among sent.endpoint c.loop-sent.dying.items) (sym c.sent.view_is)
-              ∙ ap (among c.sent.inside.endpoint) (sym c.deref.ensures.value)
-              ∙ sym c.is_among.ensures
-              ∙ w.if-is_among.false in
+          ap (λ sent. among sent.endpoint c.loop-sent.dying.items) (sym c.sent.view_is)
+          ∙ ap (among c.sent.inside.endpoint) (sym c.deref.ensures.value)
+          ∙ sym c.is_among.ensures
+          ∙ w.if-is_among.false in
           rw (w.dying-is) (spread_past c.loop-sent.dying.items c.args.others.now c.loop-sent.sent-index c.sent-item.result c.loop-sent-test.true c.sent-item.is here ∙ c.loop-sent.invariant)
     ]
