@@ -43,6 +43,7 @@ fn file_laws(start: &Start)
     requires mounts { start.now.mounts ≡ [] }
     ensures plain { HasNoMount (tree_of start.now 0) }
     ensures numbered { IsNumbered (start_of start.now) }
+    ensures here { All (λ bound. bound.server ≡ 0) (start_of start.now).firsts }
 {
     starts_of_files_are_numbered();
 }
@@ -63,6 +64,7 @@ pub fn begin(alloc: Global, start: &Start) -> Result<Beginning, NoMemory>
     ensures few { IfOk result (λ b. length b.slots.items ≤ 4096) }
     ensures known { IfOk result (λ b. Starts (map (λ bound. bound.endpoint) (start_of start.now).firsts) 0 1 b.endpoints) }
     ensures numbered { IsNumbered (start_of start.now) }
+    ensures here { All (λ bound. bound.server ≡ 0) (start_of start.now).firsts }
 {
     file_laws(start);
     let mut graph = Graph::new(alloc)?;

@@ -1,5 +1,5 @@
 -- What a call's result tells.
-use Rattle.std.proofs.Common.{◌≡◌, ◌⊎◌, Option, Some, None, Result, Ok, Err, MatchOption, inl, inr, refl, sym, ap, ◌∙◌}
+use Rattle.std.proofs.Common.{◌≡◌, ◌⊎◌, Option, Some, None, Result, Ok, Err, MatchOption, inl, inr, refl}
 use Rattle.std.specs.Result.{OnOk}
 use Rattle.endpoint_link.specs.declared.kinds.AdmitFault.{AdmitFault}
 use Rattle.endpoint_link.specs.declared.kinds.AdmitFault.TheVariants as fault

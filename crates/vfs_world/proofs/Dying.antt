@@ -1,5 +1,5 @@
 -- What is known behind deaths: each was live, and dies once.
-use Rattle.std.proofs.Common.{◌≡◌, ◌≢◌, ℕ, ◌==◌, ◌||◌, Bool, true, cond, if◌then◌else◌, List, [], ◌∷◌, fold, All, AllPairs, Option, Some, refl, sym, ap, ◌∙◌, arith}
+use Rattle.std.proofs.Common.{◌≡◌, ◌≢◌, ℕ, ◌==◌, Bool, true, cond, if◌then◌else◌, List, [], ◌∷◌, fold, All, AllPairs, Option, Some, refl, sym, ap, ◌∙◌, arith}
 use Rattle.std.specs.Prelude.{unwrap_or}
 use Rattle.std.specs.Ordering.{nat_cmp, eq_by_cmp}
 use Rattle.std.specs.FinMap as map
@@ -38,7 +38,6 @@ stands_on known endpoint n apart =
 abbrev IsLiveIn : Known → ℕ → Type 0
 IsLiveIn known n = is_live (standing_of known n) ≡ true
 
-
 live_on : (known : Known) (endpoint : ℕ) (ns : List ℕ) → All (λ n. endpoint ≢ n) ns → All (IsLiveIn known) ns → All (IsLiveIn (ended known endpoint)) ns
 live_on known endpoint [] apart live = All-nil (IsLiveIn (ended known endpoint))
 live_on known endpoint (n ∷ ns) apart live =
@@ -51,4 +50,4 @@ all_end known [] apart live = refl
 all_end known (endpoint ∷ deaths) apart live =
     ap (λ (k : Known). fold died k deaths) (ap (λ (b : Bool). if b then ended known endpoint else known) (All-head (IsLiveIn known) endpoint deaths live))
     ∙ all_end (ended known endpoint) deaths (pairs-tail (λ one other. one ≢ other) endpoint deaths apart)
-      (live_on known endpoint deaths (pairs-head (λ one other. one ≢ other) endpoint deaths apart) (All-tail (IsLiveIn known) endpoint deaths live))
+    (live_on known endpoint deaths (pairs-head (λ one other. one ≢ other) endpoint deaths apart) (All-tail (IsLiveIn known) endpoint deaths live))

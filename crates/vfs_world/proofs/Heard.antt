@@ -1,5 +1,5 @@
 -- What a frame leaves before anything is served for it.
-use Rattle.std.proofs.Common.{◌≡◌, ℕ, ◌+◌, ◌<◌, ◌≤◌, Bool, true, false, not, if◌then◌else◌, nat_le, List, [], ◌∷◌, ◌++◌, length, map, All, Option, Some, None, refl, sym, ap, ◌∙◌, subst, arith, append-nil, slice_index_or, inl, inr, ◌⊎◌}
+use Rattle.std.proofs.Common.{◌≡◌, ℕ, ◌+◌, ◌<◌, Bool, true, false, if◌then◌else◌, nat_le, List, [], ◌∷◌, ◌++◌, length, map, Option, Some, None, refl, sym, ap, ◌∙◌, subst, arith, append-nil, slice_index_or, inl, inr, ◌⊎◌}
 use Rattle.std.proofs.lemmas.Bool.{cases_Bool}
 use Rattle.std.proofs.lemmas.Bool.{leb-false}
 use Rattle.std.proofs.lemmas.List.Elements.{All-same}
@@ -12,7 +12,6 @@ use Rattle.endpoint_link.specs.declared.kinds.FrameKind.TheVariants as kind
 use Rattle.endpoint_link.specs.declared.kinds.Refusal.{Refusal}
 use Rattle.endpoint_link.specs.declared.kinds.Refusal.TheVariants as refusal
 use Rattle.endpoint_link.specs.declared.kinds.Side.TheVariants.{ToServers}
-use Rattle.endpoint_link.specs.declared.kinds.Standing.{Standing}
 use Rattle.endpoint_link.specs.declared.kinds.Standing.TheVariants as standing
 use Rattle.node_graph.specs.Graph.{Kept, StandsFor as GraphStandsFor}
 use Rattle.node_graph.specs.Tree.{Tree}
@@ -24,14 +23,13 @@ use Rattle.vfs_journal.specs.Knowing.{Knows}
 use Rattle.vfs_journal.specs.Lawful.{Lawful}
 use Rattle.vfs_journal.specs.Lawful as lawful
 use Rattle.vfs_journal.specs.Laws.{HasSameEndpoints}
-use Rattle.vfs_journal.specs.Output.{output_of, refused_frame}
+use Rattle.vfs_journal.specs.Output.{refused_frame}
 use Rattle.vfs_journal.specs.Past.{history_of}
 use Rattle.vfs_journal.specs.Session.{admitted, arrives, by_refusal, look_ups, picked, sent_behind, turned}
 use Rattle.vfs_journal.specs.Starts.{Bound, Start}
 use Rattle.vfs_keeping.specs.Admitting.{Hears, at_place, sent_by_frame, sent_by_kind}
 use Rattle.vfs_keeping.specs.Dying.{IsHere}
 use Rattle.vfs_keeping.specs.Keeping.{Keeping, seen}
-use Rattle.vfs_serving.specs.Bindings.{Binding}
 use Rattle.vfs_world.specs.Steps.{JournalLaws, KnowingLaws, Leads}
 use Rattle.vfs_world.specs.World.{Keeps, Remembers, with_position}
 use Rattle.vfs_world.proofs.Written.{nothing_written, refusal_written}
@@ -104,7 +102,7 @@ alive_by : (start : Start) (history : History) (endpoint : ℕ) → by_standing 
 alive_by start history endpoint h (inr e) = e
 alive_by start history endpoint h (inl e) =
     let dead : Some refusal.PeerClosed ≡ None =
-        sym (ap (λ (b : Bool). by_standing (if b then standing.Dead else if is_live start history endpoint then (if hung_up history endpoint then standing.HungUp else standing.Live) else standing.Unused)) e) ∙ h in
+    sym (ap (λ (b : Bool). by_standing (if b then standing.Dead else if is_live start history endpoint then (if hung_up history endpoint then standing.HungUp else standing.Live) else standing.Unused)) e) ∙ h in
     absurd (cc)
 
 alive : (start : Start) (history : History) (endpoint : ℕ) → by_standing (standing_of start history endpoint) ≡ None → is_dead history endpoint ≡ false
@@ -231,9 +229,9 @@ turns_here knowing start journal k frame keeps e admits =
     let past = history_of first_methods start journal in
     let let_in = sym (admits_same knowing start journal k frame keeps) ∙ admits in
     let by_kind : refused_if (nat_le (length start.trees) frame.endpoint) refusal.BadHandle ≡ None =
-        sym (ap (λ (one : FrameKind). refusal_by one (look_ups start past) frame.endpoint frame.handles) e) ∙ let_in in
+    sym (ap (λ (one : FrameKind). refusal_by one (look_ups start past) frame.endpoint frame.handles) e) ∙ let_in in
     let low : frame.endpoint < length start.trees =
-        leb-false (length start.trees) frame.endpoint (below_by (look_ups start past) frame.endpoint by_kind (cases_Bool (nat_le (length start.trees) frame.endpoint))) in
+    leb-false (length start.trees) frame.endpoint (below_by (look_ups start past) frame.endpoint by_kind (cases_Bool (nat_le (length start.trees) frame.endpoint))) in
     let one = keeps.over.one in
     omega arith
 

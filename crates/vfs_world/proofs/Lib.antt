@@ -8,3 +8,4 @@ pub mod Heard
 pub mod Times
 pub mod Ready
 pub mod Answered
+pub mod Beginning

@@ -1,5 +1,5 @@
 -- What is looked up in what is kept is what looking back finds.
-use Rattle.std.proofs.Common.{◌≡◌, ℕ, ◌==◌, ◌&&◌, Bool, true, false, not, if◌then◌else◌, List, [], length, map, filter, find, count_by, All, Option, Some, None, is_some, option_map, refl, sym, ap, ◌∙◌}
+use Rattle.std.proofs.Common.{◌≡◌, ℕ, ◌==◌, ◌&&◌, Bool, true, false, not, if◌then◌else◌, List, length, filter, find, All, Option, Some, None, is_some, option_map, refl, sym, ap, ◌∙◌}
 use Rattle.std.specs.Option.{option_map_or}
 use Rattle.std.proofs.lemmas.Bool.{eq-eqb}
 use Rattle.std.proofs.lemmas.List.{length-map}
@@ -9,7 +9,7 @@ use Rattle.conn_rules.specs.Built.{first_methods}
 use Rattle.conn_rules.specs.declared.births.Room.{Room}
 use Rattle.vfs_journal.specs.Deaths.{deaths_of, others, spread, first_deaths}
 use Rattle.vfs_journal.specs.Entries.{Sent}
-use Rattle.vfs_journal.specs.History.{History, bound_at, connections_at, is_bound, is_watcher, living, position_of, tree_at, trees_of, waiting, watches_node, watchers_of}
+use Rattle.vfs_journal.specs.History.{History, bound_at, connections_at, is_bound, living, position_of, tree_at, trees_of, waiting, watches_node, watchers_of}
 use Rattle.vfs_journal.specs.Outcomes.{Outcome}
 use Rattle.vfs_journal.specs.Serving.{Sight, outcome_at, outcome_of, outcome_of_sending, room_of, sight_of}
 use Rattle.vfs_journal.specs.Session.{head, is_bound_at, next, oldest}
@@ -17,7 +17,7 @@ use Rattle.vfs_journal.specs.Starts.{Bound, Start}
 use Rattle.vfs_journal.specs.Tokens.{directory_of}
 use Rattle.vfs_keeping.specs.Dying.{IsHere, deaths_in}
 use Rattle.vfs_keeping.specs.Keeping.{Keeping, binding_of, is_bound_in, next_in, next_on, others_in, room_in, seen}
-use Rattle.vfs_serving.specs.Bindings.{Binding, bound_as, outcome_for, sight_from}
+use Rattle.vfs_serving.specs.Bindings.{Binding, outcome_for, sight_from}
 use Rattle.vfs_world.specs.World.{Remembers, with_position}
 use Rattle.vfs_world.proofs.Lists.{count_all, filter_none, find_mapped, find_same, found_has, is_some_mapped}
 
@@ -98,7 +98,7 @@ connections_same start history k bound r here =
     ∙ ap length r.lives
     ∙ length-map (living start history) (with_position history)
     ∙ sym (count_all (λ (b : Bound). b.server == bound.server) (living start history)
-      (All-weaker (IsHere 0) (λ b. (b.server == bound.server) ≡ true) (λ b h. eq-eqb b.server bound.server (h.here ∙ sym here.here)) (living start history) r.here))
+    (All-weaker (IsHere 0) (λ b. (b.server == bound.server) ≡ true) (λ b h. eq-eqb b.server bound.server (h.here ∙ sym here.here)) (living start history) r.here))
 
 no_watchers : (start : Start) (history : History) (k : Keeping) (bound : Bound) → Remembers start history k → 0 ≡ length (watchers_of start history bound.server bound.birth.node)
 no_watchers start history k bound r =
@@ -117,7 +117,7 @@ sight_same : (start : Start) (history : History) (k : Keeping) (endpoint : ℕ) 
 sight_same start history k endpoint r is =
     ap (λ (pair : Bound × Position). let sight : Sight = record { bound = pair.0; position = pair.1; room = room_in k; tree = tree_at (trees_of start history) is.bound.server; directory = directory_of history is.bound.server } in sight) is.same
     ∙ ap (λ (room : Room). let sight : Sight = record { bound = is.bound; position = position_of history is.bound.endpoint; room = room; tree = tree_at (trees_of start history) is.bound.server; directory = directory_of history is.bound.server } in sight)
-      (room_same start history k is.bound r is.here)
+    (room_same start history k is.bound r is.here)
 
 -- what the serving of an entry on it answers
 pub outcome_same : (start : Start) (history : History) (k : Keeping) (sent : Sent) (r : Remembers start history k) (is : IsKnownAs start history k sent.endpoint) →

@@ -1,15 +1,14 @@
 -- What is bound behind a serving, with its position.
-use Rattle.std.proofs.Common.{◌≡◌, ◌≢◌, ℕ, ◌==◌, ◌||◌, Bool, true, false, not, cond, if◌then◌else◌, List, [], ◌∷◌, ◌++◌, map, filter, All, AllPairs, Option, Some, None, option_to_list, refl, sym, ap, ◌∙◌}
+use Rattle.std.proofs.Common.{◌≡◌, ℕ, ◌==◌, ◌||◌, Bool, true, false, not, cond, if◌then◌else◌, List, [], ◌∷◌, ◌++◌, map, filter, All, AllPairs, Option, Some, None, option_to_list, refl, sym, ap, ◌∙◌}
 use Rattle.std.specs.Option.{option_map_or}
 use Rattle.std.proofs.lemmas.Bool.{eqb-true, eq-eqb, ne_eqb}
 use Rattle.std.proofs.lemmas.List.{map-append}
-use Rattle.std.proofs.lemmas.List.Elements.{All-head, All-tail, All-weaker, filter-append}
+use Rattle.std.proofs.lemmas.List.Elements.{All-weaker, filter-append}
 use Rattle.endpoint_link.specs.Numbering.{among}
 use Rattle.conn_rules.specs.Births.{Position, fresh}
 use Rattle.vfs_journal.specs.Entries.{Sent}
 use Rattle.vfs_journal.specs.History.{Event, History, binds_endpoint, is_dead, living, position_of}
 use Rattle.vfs_journal.specs.Laws.{IsServed, but_for, newly_living}
-use Rattle.vfs_journal.specs.Outcomes.{Outcome}
 use Rattle.vfs_journal.specs.Soundness.{OtherEndpoint}
 use Rattle.vfs_journal.specs.Starts.{Bound, Start}
 use Rattle.vfs_keeping.specs.Dying.{newly_seen}
@@ -93,9 +92,9 @@ newly_by start sent event now past None is e alive = refl
 newly_by start sent event now past (Some b) is e alive =
     let dead : is_dead now b.endpoint ≡ among b.endpoint event.deaths = is.dead b.endpoint ∙ ap (λ (t : Bool). among b.endpoint event.deaths || t) (alive b refl) ∙ or_none (among b.endpoint event.deaths) in
     let here : position_of now b.endpoint ≡ fresh =
-        is.positions b.endpoint
-        ∙ ap (λ (o : Option Bound). if binds_one b.endpoint o then fresh else if sent.endpoint == b.endpoint then event.outcome.position else position_of past b.endpoint) e
-        ∙ ap (λ (t : Bool). if t then fresh else if sent.endpoint == b.endpoint then event.outcome.position else position_of past b.endpoint) (eq-eqb b.endpoint b.endpoint refl) in
+    is.positions b.endpoint
+    ∙ ap (λ (o : Option Bound). if binds_one b.endpoint o then fresh else if sent.endpoint == b.endpoint then event.outcome.position else position_of past b.endpoint) e
+    ∙ ap (λ (t : Bool). if t then fresh else if sent.endpoint == b.endpoint then event.outcome.position else position_of past b.endpoint) (eq-eqb b.endpoint b.endpoint refl) in
     ap (λ (t : Bool). cond (not t) ((b, fresh) ∷ []) []) (sym dead)
     ∙ ap (λ (p : Position). cond (not (is_dead now b.endpoint)) ((b, p) ∷ []) []) (sym here)
     ∙ sym (mapped (is_dead now b.endpoint)) where
@@ -117,15 +116,15 @@ lives_then start sent event now past old is lives apart unbound alive =
     let keeps = λ (pair : Bound × Position). not (among pair.0.endpoint event.deaths) in
     let all_moved = λ (b : Bound). moved sent.endpoint event.outcome.position (with_position past b) in
     let old_seen : map seen (positioned sent.endpoint event.outcome.position old) ≡ map (with_position now) (living start past) =
-        seen_positioned sent.endpoint event.outcome.position old
-        ∙ ap (first_moved sent.endpoint event.outcome.position) lives
-        ∙ first_is_all past sent.endpoint event.outcome.position (living start past) apart
-        ∙ map_agree all_moved (with_position now) (living start past)
-          (All-weaker (λ b. binds_endpoint b.endpoint event ≡ false) (λ b. all_moved b ≡ with_position now b) (λ b no. position_then start sent event now past b is no) (living start past) unbound) in
+    seen_positioned sent.endpoint event.outcome.position old
+    ∙ ap (first_moved sent.endpoint event.outcome.position) lives
+    ∙ first_is_all past sent.endpoint event.outcome.position (living start past) apart
+    ∙ map_agree all_moved (with_position now) (living start past)
+    (All-weaker (λ b. binds_endpoint b.endpoint event ≡ false) (λ b. all_moved b ≡ with_position now b) (λ b no. position_then start sent event now past b is no) (living start past) unbound) in
     ap (λ (pairs : List (Bound × Position)). filter keeps (pairs ++ newly_seen event.outcome)) old_seen
     ∙ filter-append keeps (map (with_position now) (living start past)) (newly_seen event.outcome)
     ∙ ap (λ (pairs : List (Bound × Position)). pairs ++ filter keeps (newly_seen event.outcome)) (filter_mapped (with_position now) keeps (living start past))
     ∙ ap (λ (pairs : List (Bound × Position)). map (with_position now) (but_for event.deaths (living start past)) ++ pairs)
-      (newly_by start sent event now past event.outcome.bound is refl alive)
+    (newly_by start sent event now past event.outcome.bound is refl alive)
     ∙ sym (map-append (with_position now) (but_for event.deaths (living start past)) (newly_living now event.outcome.bound))
     ∙ ap (map (with_position now)) (sym is.alive)

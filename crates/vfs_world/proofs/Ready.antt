@@ -1,13 +1,12 @@
 -- What one serving does, whatever journal is kept: it is ready for the next one, and writes behind what was written.
-use Rattle.std.proofs.Common.{◌≡◌, ℕ, ◌+◌, ◌<◌, ◌≤◌, ◌==◌, Bool, true, false, if◌then◌else◌, List, [], ◌∷◌, ◌++◌, length, find, Option, Some, None, is_some, Result, Ok, refl, sym, ap, ◌∙◌, subst, arith, append_assoc, append-nil, length-append}
+use Rattle.std.proofs.Common.{◌≡◌, ℕ, ◌+◌, ◌<◌, ◌≤◌, ◌==◌, Bool, true, false, if◌then◌else◌, List, [], ◌++◌, length, find, Option, Some, None, is_some, Result, Ok, refl, sym, ap, ◌∙◌, subst, arith, append_assoc, append-nil, length-append}
 use Rattle.std.proofs.lemmas.Bool.{eqb-true}
 use Rattle.endpoint_link.specs.Frames.{Frame, spellings}
 use Rattle.endpoint_link.specs.declared.kinds.FrameKind.{FrameKind}
 use Rattle.endpoint_link.specs.declared.kinds.FrameKind.TheVariants as kinds
-use Rattle.node_graph.specs.Graph.{Kept}
 use Rattle.vfs_journal.specs.Entries.{Sent}
 use Rattle.vfs_keeping.specs.Admitting.{Hears, sent_by_frame, sent_by_kind}
-use Rattle.vfs_keeping.specs.Dying.{Serves, ServesEntry, deaths_in, written_for}
+use Rattle.vfs_keeping.specs.Dying.{ServesEntry, deaths_in, written_for}
 use Rattle.vfs_keeping.specs.Keeping.{Keeping, binding_of, is_bound_in, next_in, next_on, room_in}
 use Rattle.vfs_serving.specs.Bindings.{Binding, outcome_for}
 use Rattle.vfs_world.specs.Steps.{Begins, HasTree, IsReady}

@@ -1,5 +1,5 @@
 -- A serving leads from keeping a journal to keeping the journal behind it.
-use Rattle.std.proofs.Common.{◌≡◌, ℕ, ◌+◌, ◌==◌, Bool, true, false, not, if◌then◌else◌, List, [], ◌∷◌, ◌++◌, length, map, filter, find, fold, All, AllPairs, Option, Some, None, is_some, option_to_list, slice_index_or, refl, sym, ap, ◌∙◌, subst, arith}
+use Rattle.std.proofs.Common.{◌≡◌, ℕ, ◌==◌, Bool, true, false, not, if◌then◌else◌, List, [], ◌∷◌, ◌++◌, length, map, filter, find, fold, All, Option, Some, None, option_to_list, slice_index_or, refl, sym, ap, ◌∙◌, subst, arith}
 use Rattle.std.specs.Option.{option_map_or}
 use Rattle.std.proofs.lemmas.List.{set-get_or}
 use Rattle.std.proofs.lemmas.List.Elements.{All-append, All-cons, All-filter, All-nil, All-same, All-weaker}
@@ -8,34 +8,33 @@ use Rattle.endpoint_link.specs.Frames.{spellings}
 use Rattle.endpoint_link.specs.Numbering.{among}
 use Rattle.endpoint_link.specs.Standings.{Known, ended, is_live, standing_of}
 use Rattle.node_graph.specs.Graph.{StandsFor as GraphStandsFor}
-use Rattle.node_graph.specs.Tree.{Change, Tree, bare_tree}
+use Rattle.node_graph.specs.Tree.{Tree, bare_tree}
 use Rattle.conn_rules.specs.Births.{Position}
 use Rattle.conn_rules.specs.Built.{first_methods}
-use Rattle.vfs_journal.specs.Deaths.{deaths_of, others}
+use Rattle.vfs_journal.specs.Deaths.{deaths_of}
 use Rattle.vfs_journal.specs.Entries.{Journal, Sent, serves}
-use Rattle.vfs_journal.specs.History.{Event, History, binds_endpoint, births, bound_at, changed, is_bound, is_dead, living, tree_at, trees_of, waiting}
-use Rattle.vfs_journal.specs.Knowing.{AreDeaths, Knows, known_behind}
+use Rattle.vfs_journal.specs.History.{Event, History, binds_endpoint, births, changed, is_bound, is_dead, living, tree_at, trees_of, waiting}
+use Rattle.vfs_journal.specs.Knowing.{Knows, known_behind}
 use Rattle.vfs_journal.specs.Lawful.{Lawful}
 use Rattle.vfs_journal.specs.Lawful as lawful
 use Rattle.vfs_journal.specs.Laws.{IsServed, newly_living, but_for}
-use Rattle.vfs_journal.specs.Outcomes.{Forwarded, Given, Outcome}
-use Rattle.vfs_journal.specs.Output.{output_of}
+use Rattle.vfs_journal.specs.Outcomes.{Given, Outcome}
 use Rattle.vfs_journal.specs.Past.{behind, event_of, history_of}
 use Rattle.vfs_journal.specs.Serving.{outcome_of}
 use Rattle.vfs_journal.specs.Session.{after_serving, head, with_forward}
-use Rattle.vfs_journal.specs.Soundness.{Carries, OtherEndpoint}
+use Rattle.vfs_journal.specs.Soundness.{OtherEndpoint}
 use Rattle.vfs_journal.specs.Starts.{Bound, Start}
 use Rattle.vfs_journal.specs.Tokens.{all_given, directory_of}
 use Rattle.vfs_keeping.specs.Dying.{IsHere, Serves, ServesEntry, deaths_in, died, newly_seen, written_for}
 use Rattle.vfs_keeping.specs.Keeping.{Keeping, others_in, positioned, seen}
 use Rattle.vfs_serving.specs.Bindings.{Binding}
 use Rattle.vfs_world.specs.Steps.{JournalLaws, KnowingLaws, Leads}
-use Rattle.vfs_world.specs.World.{Keeps, Remembers, with_position}
+use Rattle.vfs_world.specs.World.{Keeps, Remembers}
 use Rattle.vfs_world.proofs.Dying.{all_among, all_end}
 use Rattle.vfs_world.proofs.Lists.{eqb_sym, none_found}
 use Rattle.vfs_world.proofs.LookUps.{IsKnownAs, deaths_same, known_as, others_same, outcome_same}
 use Rattle.vfs_world.proofs.Positions.{lives_then}
-use Rattle.vfs_world.proofs.Written.{IsQuiet, more_written}
+use Rattle.vfs_world.proofs.Written.{more_written}
 
 -- ---- what is served is bound
 
@@ -65,7 +64,7 @@ is_serving start journal k sent new before after r h serves' =
     let tree = tree_at (trees_of start history) is.bound.server in
     let stands : GraphStandsFor k.graph tree = subst (λ (n : ℕ). GraphStandsFor k.graph (tree_at (trees_of start history) n)) (sym is.here.here) r.tree in
     let does : Serves k sent (outcome_of first_methods start history sent) is.binding new before after =
-        subst (λ (o : Outcome). Serves k sent o is.binding new before after) (outcome_same start history k sent r is) (serves' is.binding tree (directory_of history is.bound.server) is.kept stands) in
+    subst (λ (o : Outcome). Serves k sent o is.binding new before after) (outcome_same start history k sent r is) (serves' is.binding tree (directory_of history is.bound.server) is.kept stands) in
     record {
       binding = is.binding;
       here = ap (λ (pair : Bound × Position). pair.0.server) is.same ∙ is.here.here;
@@ -110,28 +109,28 @@ served_remembers laws knowing start journal k sent new before after keeps h s =
     let carried = λ (b : Bound) (e : o.bound ≡ Some b). laws.carried first_methods start journal sent b keeps.over.sound keeps.lawful h e in
     let dead = knowing.deaths first_methods start journal sent keeps.over.sound keeps.over.numbered keeps.lawful h in
     let waits : new.waiting ≡ waiting now =
-        s.does.left.waiting
-        ∙ ap (λ (ds : List ℕ). filter (λ (other : Sent). not (among other.endpoint ds)) (others_in k sent)) s.dying
-        ∙ ap (filter (λ (other : Sent). not (among other.endpoint deaths))) (others_same start history k sent r)
-        ∙ sym is.queue in
+    s.does.left.waiting
+    ∙ ap (λ (ds : List ℕ). filter (λ (other : Sent). not (among other.endpoint ds)) (others_in k sent)) s.dying
+    ∙ ap (filter (λ (other : Sent). not (among other.endpoint deaths))) (others_same start history k sent r)
+    ∙ sym is.queue in
     let trees : trees_of start now ≡ trees_of start history =
-        is.trees ∙ ap (changed (trees_of start history) o.server) s.does.still.change ∙ set-get_or (trees_of start history) o.server bare_tree in
+    is.trees ∙ ap (changed (trees_of start history) o.server) s.does.still.change ∙ set-get_or (trees_of start history) o.server bare_tree in
     let no_tokens : all_given now ≡ [] =
-        is.tokens ∙ ap (λ (given : List Given). given ++ option_to_list o.token) r.no_tokens ∙ ap option_to_list s.does.still.token in
+    is.tokens ∙ ap (λ (given : List Given). given ++ option_to_list o.token) r.no_tokens ∙ ap option_to_list s.does.still.token in
     record {
       waits = waits;
       lives =
           s.does.left.bindings
           ∙ ap (λ (ds : List ℕ). filter (λ (pair : Bound × Position). not (among pair.0.endpoint ds)) (map seen (positioned sent.endpoint o.position k.bindings) ++ newly_seen o)) s.dying
           ∙ lives_then start sent event now history k.bindings is r.lives
-            (AllPairs-filter OtherEndpoint (λ bound. not (is_dead history bound.endpoint)) (births start history) (laws.known first_methods start journal keeps.over.sound keeps.lawful).apart)
-            (unbound_by start history event o.bound refl (λ b e. transit.unbound sent b.endpoint (carried b e)))
-            (λ b e. transit.alive sent b.endpoint (carried b e));
+          (AllPairs-filter OtherEndpoint (λ bound. not (is_dead history bound.endpoint)) (births start history) (laws.known first_methods start journal keeps.over.sound keeps.lawful).apart)
+          (unbound_by start history event o.bound refl (λ b e. transit.unbound sent b.endpoint (carried b e)))
+          (λ b e. transit.alive sent b.endpoint (carried b e));
       knows = subst (Knows start now)
           (sym (s.does.left.known
           ∙ ap (λ (ds : List ℕ). known_with (fold died k.known ds) (length new.waiting)) s.dying
           ∙ ap (λ (known : Known). known_with known (length new.waiting))
-            (all_end k.known deaths dead.distinct (All-weaker (λ n. among n deaths ≡ true) (λ n. is_live (standing_of k.known n) ≡ true) (λ n d. ap is_live (r.knows.standing n) ∙ dead.were_live n d) deaths (all_among deaths)))
+          (all_end k.known deaths dead.distinct (All-weaker (λ n. among n deaths ≡ true) (λ n. is_live (standing_of k.known n) ≡ true) (λ n d. ap is_live (r.knows.standing n) ∙ dead.were_live n d) deaths (all_among deaths)))
           ∙ ap (λ (ones : List Sent). known_with (fold ended k.known deaths) (length ones)) waits))
           (subst (λ (j : Journal). all_given (history_of first_methods start j) ≡ [] → Knows start (history_of first_methods start j) (known_behind k.known deaths (length (waiting (history_of first_methods start j))))) s.alone
           (λ none. knowing.served first_methods start journal sent k.known keeps.over.sound keeps.over.numbered keeps.lawful h none r.knows) no_tokens);
@@ -144,6 +143,7 @@ served_remembers laws knowing start journal k sent new before after keeps h s =
           (All-filter (λ bound. not (among bound.endpoint deaths)) (IsHere 0) (living start history) r.here)
           (All-filter (λ bound. not (is_dead now bound.endpoint)) (IsHere 0) (option_to_list o.bound) (new_here s.binding.server o.bound s.here s.does.bound)));
     }
+
 served_leads : JournalLaws → KnowingLaws → (start : Start) (journal : Journal) (k : Keeping) (sent : Sent) (new : Keeping) (before after : List ℕ) → Keeps start k journal →
     head start (history_of first_methods start journal) sent.endpoint ≡ Some sent → IsServing start journal k sent new before after → Leads start (serves sent ∷ journal) new journal before after
 served_leads laws knowing start journal k sent new before after keeps h s =

@@ -1,5 +1,5 @@
 -- Servings one after another: a Turn, a Pick and a drain.
-use Rattle.std.proofs.Common.{◌≡◌, ℕ, zero, suc, ◌+◌, ◌-◌, ◌<◌, ◌==◌, Bool, true, false, cond, if◌then◌else◌, List, [], ◌∷◌, ◌++◌, find, Option, Some, None, refl, sym, ap, ◌∙◌, subst, arith, append-nil, append_assoc}
+use Rattle.std.proofs.Common.{◌≡◌, ℕ, zero, suc, ◌==◌, Bool, true, false, cond, if◌then◌else◌, List, [], ◌∷◌, ◌++◌, find, Option, Some, None, refl, sym, ap, ◌∙◌, subst, append-nil, append_assoc}
 use Rattle.std.proofs.lemmas.Bool.{eqb-true, eq-eqb, true≢false}
 use Rattle.conn_rules.specs.Built.{first_methods}
 use Rattle.vfs_journal.specs.Entries.{Journal, Sent}
@@ -58,7 +58,7 @@ next_is_head start history sent h =
     let bound : is_bound start history sent.endpoint ≡ true = found_passes (λ (one : Sent). is_bound start history one.endpoint) (waiting history) sent h in
     ap (λ (b : Bool). if b then find (λ one. one.endpoint == sent.endpoint) (waiting history) else None) bound
     ∙ find_narrow (λ (one : Sent). one.endpoint == sent.endpoint) (λ (one : Sent). is_bound start history one.endpoint) sent (waiting history) (eq-eqb sent.endpoint sent.endpoint refl)
-      (λ one same. ap (is_bound start history) (eqb-true one.endpoint sent.endpoint same) ∙ bound) h
+    (λ one same. ap (is_bound start history) (eqb-true one.endpoint sent.endpoint same) ∙ bound) h
 
 picked_by : (sents : List Sent) (endpoint : ℕ) (sent : Sent) (b : Bool) → (if b then find (λ (one : Sent). one.endpoint == endpoint) sents else None) ≡ Some sent → sent.endpoint ≡ endpoint
 picked_by sents endpoint sent true h = eqb-true sent.endpoint endpoint (found_passes (λ (one : Sent). one.endpoint == endpoint) sents sent h)

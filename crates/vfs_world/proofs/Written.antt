@@ -1,5 +1,5 @@
 -- What is written for a serving, where nothing watches.
-use Rattle.std.proofs.Common.{◌≡◌, ℕ, ◌==◌, Bool, true, false, if◌then◌else◌, List, [], ◌∷◌, ◌++◌, map, Option, Some, None, Ok, Err, refl, sym, ap, ◌∙◌, append-nil}
+use Rattle.std.proofs.Common.{◌≡◌, ℕ, Bool, false, if◌then◌else◌, List, [], ◌∷◌, ◌++◌, map, Option, Some, None, Ok, Err, refl, sym, ap, ◌∙◌, append-nil}
 use Rattle.std.specs.Option.{option_map_or}
 use Rattle.std.proofs.lemmas.Bool.{true≢false}
 use Rattle.io_messages.specs.declared.protocols.Protocol.{Protocol}
@@ -12,7 +12,7 @@ use Rattle.vfs_journal.specs.Entries.{Journal, Sending, Sent, hang_up, message, 
 use Rattle.vfs_journal.specs.History.{History, bound_at, is_watcher, tree_at, trees_of}
 use Rattle.vfs_journal.specs.Outcomes.{Asker, Outcome, bound_of}
 use Rattle.vfs_journal.specs.Output.{close_frames, frames_of, frames_of_serving, output_of, refused_frame}
-use Rattle.vfs_journal.specs.Past.{behind, event_of, history_of}
+use Rattle.vfs_journal.specs.Past.{event_of, history_of}
 use Rattle.vfs_journal.specs.Serving.{Read, Sight, asker_of, fault_answer, fault_txid, object_of, outcome_at, outcome_of, outcome_of_message, outcome_of_read, outcome_of_sending, read_by, request_act, sight_of}
 use Rattle.vfs_journal.specs.Starts.{Bound, Start}
 use Rattle.vfs_journal.specs.Watching.{asks_for, event_bytes, existing, first_frames, idle, snapshot, told_frames, watch_frame}
@@ -20,7 +20,6 @@ use Rattle.endpoint_link.specs.Frames.{Frame, spelling, spellings}
 use Rattle.endpoint_link.specs.declared.kinds.Refusal.{Refusal}
 use Rattle.std.proofs.lemmas.Grind.{flat_map-append}
 use Rattle.vfs_keeping.specs.Dying.{written_for}
-use Rattle.vfs_serving.specs.Effects.{ChangesNothing}
 
 -- ---- what is bound, but for watchers, has no mask
 
@@ -98,7 +97,7 @@ quiet_frames built start past sent quiet =
     let closes = close_frames (event_of built start past (serves sent)) in
     let firsts = option_map_or (λ (bound : Bound). first_frames (tree_at (trees_of start past) bound.server) bound) o.bound [] in
     ap (λ (frames : List Frame). o.frames ++ frames ++ told_frames start past o.server o.told ++ closes)
-      (no_first_of (tree_at (trees_of start past)) o.bound (mask_at built start past sent (bound_at start past sent.endpoint)) quiet.speaks)
+    (no_first_of (tree_at (trees_of start past)) o.bound (mask_at built start past sent (bound_at start past sent.endpoint)) quiet.speaks)
     ∙ ap (λ (told : Told). o.frames ++ [] ++ told_frames start past o.server told ++ closes) quiet.told
     ∙ ap (λ (frames : List Frame). frames ++ [] ++ closes) (append-nil o.frames)
     ∙ ap (λ (frames : List Frame). frames ++ closes) (append-nil o.frames)

@@ -1,11 +1,11 @@
 -- A step of what is kept, and the laws of journals that it stands on.
-use Rattle.std.specs.Prelude.{◌≡◌, ◌≤◌, ◌+◌, ℕ, List, ◌++◌, length}
+use Rattle.std.specs.Prelude.{◌≡◌, ◌≤◌, ◌+◌, ◌*◌, ◌^◌, ℕ, Bool, false, List, ◌++◌, length}
 use Rattle.node_graph.specs.Graph.{Kept, StandsFor as GraphStandsFor}
 use Rattle.node_graph.specs.Tree.{Tree}
 use Rattle.conn_rules.specs.Built.{first_methods}
 use Rattle.vfs_journal.specs.Entries.{Journal}
 use Rattle.vfs_journal.specs.Carrying.{ServingsBindWhatTheyCarry}
-use Rattle.vfs_journal.specs.Knowing.{HangUpsAreKnown, KnowersAdmit, MessagesAreKnown, RefusalsAreKnown, ServingsAreKnown, ServingsEndTheirDeaths, StartsAreKnown}
+use Rattle.vfs_journal.specs.Knowing.{HangUpsAreKnown, KnowersAdmit, MessagesAreKnown, RefusalsAreKnown, ServingsAreKnown, ServingsEndTheirDeaths}
 use Rattle.vfs_journal.specs.Laws.{RefusalsChangeNothing, SendingsWaitLast, ServingsTakeEffect, WhatIsSentWaits}
 use Rattle.vfs_journal.specs.Output.{output_of}
 use Rattle.vfs_journal.specs.Soundness.{DrainsServeAll, EndpointsAreInTransit, EndpointsAreKnown}
@@ -31,6 +31,10 @@ HasTree graph = (tree : Tree) × GraphStandsFor graph tree
 pub record IsReady (most : ℕ) (keeping : Keeping) : Type 0 where
   pub tree : HasTree keeping.graph
   pub few : keeping.places + length keeping.waiting ≤ most
+
+-- each accepted frame takes two places at most, its own and that of its serving, so that places don't run out
+abbrev pub IsWithin : Keeping → Bool → ℕ → Type 0
+IsWithin keeping spent frames = spent ≡ false → IsReady (2 * frames) keeping × (frames ≤ 2 ^ 48)
 
 -- what holds of one more entry, and of all lawful journals
 pub record JournalLaws : Type 0 where

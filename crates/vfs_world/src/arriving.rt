@@ -49,11 +49,7 @@ pub fn arrive(
 
 /// Does what an admitted frame asks, behind its admission: a Turn or a Pick is served, and anything else
 /// waits.
-fn perform(
-    keeper: &mut Keeper,
-    frame: FrameView<'_>,
-    outbox: &mut Outbox,
-) -> Result<(), NoMemory>
+fn perform(keeper: &mut Keeper, frame: FrameView<'_>, outbox: &mut Outbox) -> Result<(), NoMemory>
     requires frame { IsFrame side.ToServers (frame_of frame) }
     requires ready { IsReady (2 ^ 61) keeper.old }
     ensures arrived { (start : Start) (journal : Journal) (before : Keeping) → Keeps start before journal → Hears before (frame_of frame.entry) keeper.old →

@@ -4,6 +4,8 @@
 mod arriving;
 mod laws;
 mod serving;
+#[cfg(test)]
+mod tests;
 mod world;
 
 pub use world::{World, WorldFault};

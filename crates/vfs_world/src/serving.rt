@@ -1,8 +1,10 @@
 //! Servings one after another: a Turn, a Pick and a drain.
 
-ghost use Rattle.std.specs.Prelude.{◌≡◌, ◌^◌, ℕ, None, OnOk, Ok};
+ghost use Rattle.std.specs.Prelude.{◌≡◌, ◌^◌, ℕ, [], None, OnOk, Ok};
 ghost use Rattle.conn_rules.specs.Built.{first_methods};
 ghost use Rattle.vfs_journal.specs.Entries.{Journal};
+ghost use Rattle.vfs_journal.specs.History.{waiting};
+ghost use Rattle.vfs_journal.specs.Past.{history_of};
 ghost use Rattle.vfs_journal.specs.Session.{drained, picked, turned};
 ghost use Rattle.vfs_journal.specs.Starts.{Start};
 ghost use Rattle.vfs_keeping.specs.Keeping.{next_in};
@@ -56,6 +58,7 @@ pub fn drain(keeper: &mut Keeper, outbox: &mut Outbox) -> Result<(), NoMemory>
     requires ready { IsReady (2 ^ 61) keeper.old }
     ensures drained { (start : Start) (journal : Journal) → Keeps start keeper.old journal →
         OnOk result (Leads start (drained first_methods start journal) keeper.new journal outbox.old outbox.new) }
+    ensures none { (start : Start) (journal : Journal) → Keeps start keeper.old journal → waiting (history_of first_methods start (drained first_methods start journal)) ≡ [] }
     ensures idle { next_in keeper.old ≡ None → result ≡ Ok tt }
     ensures ready { (most : ℕ) → IsReady most keeper.old → OnOk result (IsReady most keeper.new) }
     ensures begins { Begins outbox.old outbox.new }

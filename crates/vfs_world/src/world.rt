@@ -11,12 +11,16 @@ ghost use Rattle.vfs_journal.specs.Starts.{Start, start_of};
 ghost use Rattle.vfs_start.specs.Accepted.{IsAccepted};
 ghost use Rattle.vfs_world.specs.World.{LeadsTo, StandsFor};
 
+use crate::arriving::arrive;
+use crate::serving::drain;
 use endpoint_link::{FrameView, Outbox};
 use fidl_names::NoMemory;
 use fidl_wire::Ordinals;
 use std::alloc::Global;
 use std::marker::Model;
+use vfs_journal::{starts_are_known, starts_are_sound};
 use vfs_keeping::Keeper;
+use vfs_start::begin;
 
 /// Why a call of a world did nothing.
 #[derive(Clone, Copy, Debug, PartialEq, Eq)]
@@ -45,18 +49,41 @@ impl Model for World {
     ghost coded = { world_code };
 
     ghost view = { λ world. record { keeping = world.keeper; spent = world.spent; frames = world.frames } };
+
+    ghost use Rattle.vfs_world.specs.Steps.{IsWithin};
+
+    ghost invariant = { λ world. IsWithin world.keeper world.spent world.frames };
 }
 
 impl World {
     /// The session of an accepted tree file with one server and no mounts, before its first frame.
-    pub fn new(alloc: Global, ordinals: Ordinals, start: &tree_file::Start) -> Result<World, NoMemory>
+    pub fn new(
+        alloc: Global,
+        ordinals: Ordinals,
+        start: &tree_file::Start,
+    ) -> Result<World, NoMemory>
         requires accepted { IsAccepted start.now }
         requires one { length start.now.servers ≡ 1 }
         requires mounts { start.now.mounts ≡ [] }
         ensures stands { IfOk result (λ world. StandsFor (start_of start.now) world []) }
         ensures frames { IfOk result (λ world. world.frames ≡ 0) }
     {
-        Err(NoMemory)
+        starts_are_sound();
+        starts_are_known();
+        let beginning = begin(alloc, start)?;
+        let keeper = Keeper::new(
+            alloc,
+            ordinals,
+            beginning.graph,
+            beginning.slots,
+            beginning.endpoints,
+        )?;
+        Ok(World {
+            alloc,
+            keeper,
+            spent: false,
+            frames: 0,
+        })
     }
 
     /// Accepts a frame: a refused one is answered, a message or a hang-up waits, and a Turn or a Pick is
@@ -76,8 +103,14 @@ impl World {
         if self.spent {
             return Err(WorldFault::Spent);
         }
-        self.spent = true;
-        Err(WorldFault::NoMemory)
+        let begun = outbox.len();
+        if let Err(NoMemory) = arrive(&mut self.keeper, self.alloc, frame, outbox) {
+            outbox.truncate(begun);
+            self.spent = true;
+            return Err(WorldFault::NoMemory);
+        }
+        self.frames += 1;
+        Ok(())
     }
 
     /// Serves all that can be served. Nothing waits then.
@@ -97,11 +130,13 @@ impl World {
         if self.spent {
             return Err(WorldFault::Spent);
         }
-        if self.keeper.waiting() == 0 {
-            return Ok(());
+        let begun = outbox.len();
+        if let Err(NoMemory) = drain(&mut self.keeper, outbox) {
+            outbox.truncate(begun);
+            self.spent = true;
+            return Err(WorldFault::NoMemory);
         }
-        self.spent = true;
-        Err(WorldFault::NoMemory)
+        Ok(())
     }
 
     /// How many entries wait.

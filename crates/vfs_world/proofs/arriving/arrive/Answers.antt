@@ -1,4 +1,4 @@
-use Rattle.std.proofs.Common.{◌≡◌, ℕ, ◌+◌, ◌^◌, arith, ap}
+use Rattle.std.proofs.Common.{◌+◌, ◌^◌, arith, ap}
 use Rattle.endpoint_link.specs.Admission.{admission, look_ups}
 use Rattle.endpoint_link.specs.Views.{frame_of}
 use Rattle.vfs_world.proofs.Answered.{failed, none_refused, ok_anyway, on_ok, refused_why}

@@ -23,7 +23,7 @@ returns-in-Turn-clause-arrived c =
     λ start journal before keeps hears admits.
     let frame = frame_of c.args.frame in
     let turned_so = subst (λ (times : ℕ). OnOk c.turn.result (Leads start (turned first_methods start 0 times journal) c.turn.new.keeper journal c.args.outbox.now c.turn.new.outbox)) c.number_in.ensures
-        (c.turn.ensures.turned start journal (turn_keeps start journal before frame c.args.keeper.now keeps hears c.in-Turn.is)) in
+    (c.turn.ensures.turned start journal (turn_keeps start journal before frame c.args.keeper.now keeps hears c.in-Turn.is)) in
     subst (λ (later : Journal). OnOk c.turn.result (Leads start later c.turn.new.keeper journal c.args.outbox.now c.turn.new.outbox))
     (sym (turn_is c.knowing_laws.ensures start journal before frame keeps c.in-Turn.is admits)) turned_so
 
