@@ -132,7 +132,7 @@ impl Keeper {
 
     /// Admits a frame, or refuses it. What it sends waits behind all others; nothing is served. After want
     /// of memory nothing is promised of the keeper.
-    pub fn admit(&mut self, alloc: Global, frame: FrameView<'_>) -> Result<(), AdmitFault>
+    pub fn admit(&mut self, frame: FrameView<'_>) -> Result<(), AdmitFault>
         requires side { IsTrue (goes_to side.ToServers frame.kind) }
         requires places { self.old.places < 2 ^ 64 - 1 }
         ensures first { MatchOption (admission (look_ups self.old.known) (frame_of frame.entry))
@@ -145,7 +145,7 @@ impl Keeper {
             self.places += taken_by(fault);
             return Err(fault);
         }
-        match hear(alloc, &mut self.waiting, self.places, frame) {
+        match hear(self.alloc, &mut self.waiting, self.places, frame) {
             Ok(count) => {
                 self.places += count;
                 Ok(())

@@ -21,13 +21,11 @@ use crate::serving::{pick, turn};
 use byteorder::{ByteOrder, LittleEndian};
 use endpoint_link::{AdmitFault, FrameKind, FrameView, Outbox, Refusal, write_frame};
 use fidl_names::NoMemory;
-use std::alloc::Global;
 use vfs_keeping::Keeper;
 
 /// Accepts a frame.
 pub fn arrive(
     keeper: &mut Keeper,
-    alloc: Global,
     frame: FrameView<'_>,
     outbox: &mut Outbox,
 ) -> Result<(), NoMemory>
@@ -40,7 +38,7 @@ pub fn arrive(
 {
     journal_laws(keeper);
     knowing_laws(keeper);
-    match keeper.admit(alloc, frame) {
+    match keeper.admit(frame) {
         Err(AdmitFault::NoMemory) => Err(NoMemory),
         Err(AdmitFault::Refused(why)) => refuse(frame.endpoint, why, outbox),
         Ok(()) => perform(keeper, frame, outbox),

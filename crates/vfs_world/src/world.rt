@@ -34,7 +34,6 @@ pub enum WorldFault {
 /// A session over one server.
 #[derive(Drop)]
 pub struct World {
-    alloc: Global,
     keeper: Keeper,
     spent: bool,
     frames: u64,
@@ -79,7 +78,6 @@ impl World {
             beginning.endpoints,
         )?;
         Ok(World {
-            alloc,
             keeper,
             spent: false,
             frames: 0,
@@ -104,7 +102,7 @@ impl World {
             return Err(WorldFault::Spent);
         }
         let begun = outbox.len();
-        if let Err(NoMemory) = arrive(&mut self.keeper, self.alloc, frame, outbox) {
+        if let Err(NoMemory) = arrive(&mut self.keeper, frame, outbox) {
             outbox.truncate(begun);
             self.spent = true;
             return Err(WorldFault::NoMemory);
