@@ -11,3 +11,6 @@ mod serving;
 mod settling;
 
 pub use keeper::Keeper;
+
+#[cfg(test)]
+mod tests;
