@@ -1,4 +1,4 @@
-ghost use Rattle.std.specs.Prelude.{◌≡◌, ◌≢◌, ◌<◌, ◌+◌, ◌^◌, ℕ, true, false, [], IfOk, OnOk, OnErr, Ok, Err, length};
+ghost use Rattle.std.specs.Prelude.{◌≡◌, ◌<◌, ◌+◌, ◌^◌, ℕ, true, false, [], IfOk, IfErr, OnOk, OnErr, Ok, Err, length};
 ghost use Rattle.endpoint_link.specs.Frames.{IsFrame};
 ghost use Rattle.endpoint_link.specs.declared.kinds.Side.TheVariants as side;
 ghost use Rattle.endpoint_link.specs.Views.{frame_of};
@@ -98,8 +98,8 @@ impl World {
         ensures only_spent { result ≡ Err WorldFault.Spent → self.old.spent ≡ true }
         ensures silent { OnErr result (outbox.new ≡ outbox.old) }
     {
-        if self.spent {
-            return Err(WorldFault::Spent);
+        if let Err(fault) = self.able() {
+            return Err(fault);
         }
         let begun = outbox.len();
         if let Err(NoMemory) = arrive(&mut self.keeper, frame, outbox) {
@@ -125,14 +125,25 @@ impl World {
         ensures only_spent { result ≡ Err WorldFault.Spent → self.old.spent ≡ true }
         ensures silent { OnErr result (outbox.new ≡ outbox.old) }
     {
-        if self.spent {
-            return Err(WorldFault::Spent);
+        if let Err(fault) = self.able() {
+            return Err(fault);
         }
         let begun = outbox.len();
         if let Err(NoMemory) = drain(&mut self.keeper, outbox) {
             outbox.truncate(begun);
             self.spent = true;
             return Err(WorldFault::NoMemory);
+        }
+        Ok(())
+    }
+
+    /// A spent world does nothing more.
+    fn able(&self) -> Result<(), WorldFault>
+        ensures able { OnOk result (self.now.spent ≡ false) }
+        ensures spent { IfErr result (λ fault. (fault ≡ WorldFault.Spent) × (self.now.spent ≡ true)) }
+    {
+        if self.spent {
+            return Err(WorldFault::Spent);
         }
         Ok(())
     }
