@@ -1,7 +1,9 @@
 -- Looking for the first that passes, from front to back.
-use Rattle.std.proofs.Common.{◌≡◌, ℕ, ◌+◌, ◌<◌, ◌≤◌, ◌⊎◌, IfSome, is_some, inl, inr, arith, Bool, true, false, cond, List, [], ◌∷◌, length, get_or, drop, Option, Some, None, find, refl, sym, ap, ◌∙◌}
+use Rattle.std.proofs.Common.{◌≡◌, ℕ, ◌+◌, ◌<◌, ◌≤◌, ◌⊎◌, IfSome, is_some, inl, inr, arith, Bool, true, false, cond, List, [], ◌∷◌, ◌++◌, length, get_or, drop, take, Option, Some, None, find, refl, sym, ap, ◌∙◌}
 use Rattle.std.specs.Prelude.{slice_get}
-use Rattle.std.proofs.lemmas.List.{at_drop_more, at_drop_all}
+use Rattle.std.proofs.lemmas.List.{at_drop_more, at_drop_all, take_more}
+use Rattle.std.proofs.lemmas.List.Folds.{find-append}
+use Rattle.std.specs.Option.{option_or}
 use Rattle.std.proofs.lemmas.Option.{slice_get_read, slice_get_cases, none-some, same_Some}
 
 at_place : {X : Type 0} (p : X → Bool) (xs : List X) (i : ℕ) (x : X) → i < length xs → x ≡ get_or xs i x → find p (drop i xs) ≡ cond (p x) (Some x) (find p (drop (i + 1) xs))
@@ -46,3 +48,11 @@ isnt_none found xs i within is none = by_cases (slice_get_cases xs i).1 where
   by_cases : ((x : _) × (i < length xs) × (slice_get xs i ≡ Some x) × (get_or xs i x ≡ x)) ⊎ ((length xs ≤ i) × (slice_get xs i ≡ None)) → ⊥
   by_cases (inl here) = none-some here.0 (sym none ∙ is ∙ here.2)
   by_cases (inr past) = let n = past.0 in omega arith
+
+find_push : {X : Type 0} (p : X → Bool) (xs : List X) (y : X) → find p xs ≡ None → p y ≡ false → find p (xs ++ y ∷ []) ≡ None
+find_push p xs y none fails = find-append p xs (y ∷ []) ∙ ap (λ o. option_or o (find p (y ∷ []))) none ∙ ap (λ b. cond b (Some y) None) fails
+
+-- none so far, and none here
+pub none_more : {X : Type 0} (p : X → Bool) (xs : List X) (i : ℕ) (x : X) → i < length xs → x ≡ get_or xs i x → p x ≡ false → find p (take i xs) ≡ None → find p (take (i + 1) xs) ≡ None
+none_more p xs i x within is fails none =
+    ap (find p) (take_more xs i x within) ∙ find_push p (take i xs) (get_or xs i x) none (ap p (sym is) ∙ fails)

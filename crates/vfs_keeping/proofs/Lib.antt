@@ -1,3 +1,12 @@
 pub mod Finding
 pub mod Held
 pub mod Next
+pub mod Dead
+pub mod Sorted
+pub mod Taken
+pub mod Buried
+pub mod Answered
+pub mod Telling
+pub mod Ordered
+pub mod Placed
+pub mod Whole

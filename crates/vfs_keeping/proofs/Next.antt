@@ -1,7 +1,8 @@
 -- What is served next is bound.
-use Rattle.std.proofs.Common.{◌≡◌, ℕ, ◌==◌, Bool, true, false, is_some, IfSome, List, find, Option, Some, None, refl, sym, ap, ◌∙◌}
+use Rattle.std.proofs.Common.{◌≡◌, ℕ, ◌==◌, Bool, true, false, is_some, IfSome, List, take, find, Option, Some, None, refl, sym, ap, ◌∙◌}
 use Rattle.std.specs.Prelude.{slice_get, if◌then◌else◌}
-use Rattle.std.proofs.lemmas.Bool.{eqb-true}
+use Rattle.std.proofs.lemmas.Bool.{eqb-true, false≢true}
+use Rattle.conn_rules.specs.declared.births.Room.{Room}
 use Rattle.std.proofs.lemmas.Option.{none-some}
 use Rattle.vfs_journal.specs.Entries.{Sent}
 use Rattle.vfs_serving.specs.Bindings.{Binding}
@@ -34,3 +35,26 @@ next_on_found keeping endpoint bindings waiting (Some i) same same_too bound fou
     ∙ ap (find (λ sent. sent.endpoint == endpoint)) same_too
     ∙ found
     ∙ ap (λ (all : List Sent). slice_get all i) (sym same_too)
+
+-- a bound endpoint has a binding
+pub has_binding : (keeping : Keeping) (bindings : List Binding) (bound endpoint : ℕ) → keeping.bindings ≡ bindings → bound ≡ endpoint → is_bound_in keeping bound ≡ true → find (λ binding. binding.endpoint == endpoint) bindings ≡ None → ⊥
+has_binding keeping bindings bound endpoint same same_too is none =
+    let isnt : is_some (find (λ binding. binding.endpoint == endpoint) bindings) ≡ false = ap is_some none in
+    let also : is_bound_in keeping bound ≡ is_some (find (λ binding. binding.endpoint == endpoint) bindings) = λ i. is_some (find (λ binding. binding.endpoint == same_too i) (same i)) in
+    false≢true (sym isnt ∙ sym also ∙ is)
+
+-- where a binding stands, whatever the same endpoint and bindings are called
+pub found_too : (here too : List Binding) (endpoint also : ℕ) (slot : ℕ) → here ≡ too → endpoint ≡ also →
+    find (λ binding. binding.endpoint == endpoint) here ≡ slice_get here slot → find (λ binding. binding.endpoint == also) too ≡ slice_get too slot
+found_too here too endpoint also slot same same_too found =
+    sym (λ i. find (λ binding. binding.endpoint == same_too i) (same i)) ∙ found ∙ ap (λ (bindings : List Binding). slice_get bindings slot) same
+
+pub first_too : (here too : List Binding) (endpoint also : ℕ) (slot : ℕ) → here ≡ too → endpoint ≡ also →
+    find (λ binding. binding.endpoint == endpoint) (take slot here) ≡ None → find (λ binding. binding.endpoint == also) (take slot too) ≡ None
+first_too here too endpoint also slot same same_too none =
+    sym (λ i. find (λ binding. binding.endpoint == same_too i) (take slot (same i))) ∙ none
+
+-- the room, by its parts
+pub same_room : (connections count : ℕ) (token given : Option ℕ) → connections ≡ count → token ≡ given →
+    ◌≡◌ {A = Room} (record { connections = connections; watchers = 0; token = token }) (record { connections = count; watchers = 0; token = given })
+same_room connections count token given p q = λ i. record { connections = p i; watchers = 0; token = q i }

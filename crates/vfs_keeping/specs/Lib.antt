@@ -3,3 +3,4 @@ pub mod Codes
 pub mod Sound
 pub mod Admitting
 pub mod Dying
+pub mod Told

@@ -1,9 +1,9 @@
 //! The keeper of one server's endpoints and of what waits on them.
 
-ghost use Rattle.std.specs.Prelude.{◌≡◌, ◌<◌, ◌≤◌, ◌-◌, ◌^◌, ◌+◌, ◌⊎◌, ℕ, true, false, List, [], All, Option, Some, None, IsTrue, IfOk, OnOk, OnErr, Ok, Err, MatchOption, length, slice_get, IfSome, IsNone};
+ghost use Rattle.std.specs.Prelude.{◌≡◌, ◌<◌, ◌≤◌, ◌-◌, ◌^◌, ◌+◌, ◌⊎◌, ℕ, true, false, List, [], All, Option, Some, None, IsTrue, IfOk, OnOk, OnErr, Ok, Err, MatchOption, length, slice_get, IfSome, IsNone, take, ◌++◌};
 ghost use Rattle.fidl_wire.specs.Names.{AreDistinct};
 ghost use Rattle.endpoint_link.specs.Admission.{admission, look_ups};
-ghost use Rattle.endpoint_link.specs.Frames.{goes_to};
+ghost use Rattle.endpoint_link.specs.Frames.{goes_to, spellings};
 ghost use Rattle.endpoint_link.specs.declared.kinds.Side.TheVariants as side;
 ghost use Rattle.endpoint_link.specs.declared.kinds.Refusal.{Refusal};
 ghost use Rattle.endpoint_link.specs.Views.{frame_of};
@@ -11,25 +11,39 @@ ghost use Rattle.node_graph.specs.Graph.{StandsFor, holds_at, is_kept, number_of
 ghost use Rattle.node_graph.specs.Tree.{Tree};
 ghost use Rattle.conn_rules.specs.Shared.{CanBeBound};
 ghost use Rattle.vfs_journal.specs.Entries.{Sent};
+ghost use Rattle.vfs_serving.specs.Bindings.{IsSpokenNow};
 ghost use Rattle.vfs_keeping.specs.Admitting.{Hears};
 ghost use Rattle.vfs_keeping.specs.Dying.{ServesEntry};
 ghost use Rattle.vfs_keeping.specs.Keeping.{IsPlain, is_bound_in, next_in, next_on};
+ghost use Rattle.vfs_keeping.specs.Told.{AnswersAt, Settles, closed_for, deaths_told, end_told};
 
 use crate::hearing::{hear, taken_by};
-use crate::holding::hold_all;
+use crate::holding::{bind, hold_all};
 use crate::look_ups::{first_bound, first_on, slot_of};
+use crate::serving::{room_of, serve_slot};
+use crate::settling::{bury, write_deaths};
+use conn_rules::Birth;
 use endpoint_link::{AdmitFault, Endpoints, FrameView, Outbox};
 use fidl_names::NoMemory;
 use fidl_wire::{Ordinals, Out};
 use node_graph::Graph;
 use std::alloc::Global;
 use std::marker::Model;
-use vfs_serving::{Sent, Slot};
+use vfs_serving::{Fate, Sent, Slot};
+
+/// An entry that was answered, the server at which its endpoint is bound, and what becomes of endpoints.
+#[derive(Drop)]
+struct Answered {
+    sent: Sent,
+    server: u32,
+    fate: Fate,
+}
 
 /// What the server of one tree keeps: its graph, what is bound, what waits in order of sending, and what
 /// is known of endpoints and tokens. It holds the node of each endpoint that is bound.
 #[derive(Drop)]
 pub struct Keeper {
+    alloc: Global,
     ordinals: Ordinals,
     graph: Graph,
     slots: Vec<Slot>,
@@ -84,6 +98,7 @@ impl Keeper {
         hold_all(&mut graph, &slots);
         let out = Out::new(alloc)?;
         Ok(Keeper {
+            alloc,
             ordinals,
             graph,
             slots,
@@ -201,6 +216,80 @@ impl Keeper {
         first_on(&self.waiting, endpoint)
     }
 
+    /// Answers the waiting entry at a place: it waits no more, and the frames of the answer are written.
+    fn answer(&mut self, at: usize, outbox: &mut Outbox) -> Result<Answered, NoMemory>
+        requires within { at < length self.old.waiting }
+        requires bound { (sent : Sent) → slice_get self.old.waiting at ≡ Some sent → is_bound_in self.old sent.endpoint ≡ true }
+        ensures answers { IfOk result (λ answered. AnswersAt self.old at answered.sent answered.server answered.fate self.new outbox.old outbox.new) }
+        ensures bound { IfOk result (λ answered. (object : ℕ) (birth : Birth) → answered.fate ≡ Fate.Binds object birth → CanBeBound self.new.graph birth) }
+        ensures spoken { IfOk result (λ answered. (object : ℕ) (birth : Birth) → answered.fate ≡ Fate.Binds object birth → IsSpokenNow birth.protocol) }
+        ensures front { OnOk result (take (length outbox.old) outbox.new ≡ outbox.old) }
+        ensures longer { OnOk result (length outbox.old ≤ length outbox.new) }
+        ensures places { OnOk result (self.new.places ≡ self.old.places) }
+        ensures fewer { OnOk result (length self.new.waiting < length self.old.waiting) }
+        ensures no_memory { OnErr result (outbox.new ≡ outbox.old) }
+    {
+        let sent = self.waiting.remove(at);
+        self.endpoints.served();
+        let Some(place) = slot_of(&self.slots, sent.endpoint) else {
+            unreachable!();
+        };
+        let server = self.slots[place].server();
+        let room = room_of(&self.slots, &self.endpoints);
+        let fate = match serve_slot(
+            &mut self.slots,
+            place,
+            &self.ordinals,
+            &self.graph,
+            room,
+            &sent.parcel,
+            &mut self.out,
+            outbox,
+        ) {
+            Ok(fate) => fate,
+            Err(fault) => return Err(fault),
+        };
+        Ok(Answered { sent, server, fate })
+    }
+
+    /// Binds and buries what an answer binds and what dies of it, and writes the Close frames that are left
+    /// to be written; or cuts back to a length.
+    fn settle(
+        &mut self,
+        sent: &Sent,
+        server: u32,
+        fate: &Fate,
+        len: usize,
+        outbox: &mut Outbox,
+    ) -> Result<(), NoMemory>
+        requires places { self.old.places < 2 ^ 64 - 1 }
+        requires bound { (object : ℕ) (birth : Birth) → fate.now ≡ Fate.Binds object birth → CanBeBound self.old.graph birth }
+        requires spoken { (object : ℕ) (birth : Birth) → fate.now ≡ Fate.Binds object birth → IsSpokenNow birth.protocol }
+        requires within { len ≤ length outbox.old }
+        ensures settled { OnOk result (Settles self.old sent.now server fate.now self.new) }
+        ensures written { OnOk result (outbox.new ≡ outbox.old ++ spellings (closed_for (end_told sent.now.endpoint fate.now) (deaths_told sent.now fate.now self.old.waiting))) }
+        ensures fewer { OnOk result (length self.new.waiting ≤ length self.old.waiting) }
+        ensures no_memory { OnErr result (outbox.new ≡ take len outbox.old) }
+    {
+        let deaths = match write_deaths(self.alloc, sent, fate, &self.waiting, len, outbox) {
+            Ok(deaths) => deaths,
+            Err(fault) => return Err(fault),
+        };
+        if let Err(fault) = bind(&mut self.graph, &mut self.slots, server, fate) {
+            outbox.truncate(len);
+            return Err(fault);
+        }
+        bury(
+            &mut self.graph,
+            &mut self.slots,
+            &mut self.waiting,
+            &mut self.endpoints,
+            &deaths,
+        );
+        self.places += 1;
+        Ok(())
+    }
+
     /// Serves the waiting entry at a place.
     fn serve_at(&mut self, at: usize, outbox: &mut Outbox) -> Result<(), NoMemory>
         requires places { self.old.places < 2 ^ 64 - 1 }
@@ -211,6 +300,11 @@ impl Keeper {
         ensures fewer { OnOk result (length self.new.waiting < length self.old.waiting) }
         ensures no_memory { OnErr result (outbox.new ≡ outbox.old) }
     {
-        Err(NoMemory)
+        let len = outbox.len();
+        let answered = match self.answer(at, outbox) {
+            Ok(answered) => answered,
+            Err(fault) => return Err(fault),
+        };
+        self.settle(&answered.sent, answered.server, &answered.fate, len, outbox)
     }
 }

@@ -1,6 +1,6 @@
 //! Where a binding stands, and which entry is served next.
 
-ghost use Rattle.std.specs.Prelude.{◌≡◌, ◌<◌, ◌==◌, is_some, find, slice_get, length, None, IfSome, IsNone};
+ghost use Rattle.std.specs.Prelude.{◌≡◌, ◌<◌, ◌==◌, is_some, find, slice_get, take, length, None, IfSome, IsNone};
 
 use vfs_serving::{Sent, Slot};
 
@@ -8,6 +8,7 @@ use vfs_serving::{Sent, Slot};
 pub(crate) fn slot_of(slots: &[Slot], endpoint: u32) -> Option<usize>
     ensures within { IfSome result (λ at. at < length slots.now) }
     ensures found { IfSome result (λ at. find (λ binding. binding.endpoint == endpoint) slots.now ≡ slice_get slots.now at) }
+    ensures first { IfSome result (λ at. find (λ binding. binding.endpoint == endpoint) (take at slots.now) ≡ None) }
     ensures none { IsNone result → find (λ binding. binding.endpoint == endpoint) slots.now ≡ None }
 {
     for at in 0..slots.len() {

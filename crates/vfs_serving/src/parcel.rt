@@ -2,8 +2,8 @@
 
 ghost use Rattle.std.specs.Prelude.{◌≡◌, ◌≤◌, ◌<◌, ℕ, List, [], ◌∷◌, map, take, length, IfOk, IfSome, IsNone};
 ghost use Rattle.endpoint_link.specs.Views.{handle_numbers};
-ghost use Rattle.vfs_journal.specs.Entries.{message, hang_up, handle_with};
-ghost use Rattle.vfs_serving.specs.Parcels.{IsMessage};
+ghost use Rattle.vfs_journal.specs.Entries.{message, hang_up, handle_with, handles_of};
+ghost use Rattle.vfs_serving.specs.Parcels.{IsMessage, numbers_of};
 
 use endpoint_link::{FrameView, HandleBytes};
 use fidl_names::{Handle, NoMemory};
@@ -86,6 +86,16 @@ impl Parcel {
     {
         Parcel {
             content: Content::HangUp,
+        }
+    }
+
+    /// The handles that it carries: none with a hang-up.
+    pub fn handles(&self) -> &[Handle]
+        ensures { numbers_of result.now ≡ handles_of self.now }
+    {
+        match &self.content {
+            Content::Message { handles, .. } => handles,
+            Content::HangUp => &[],
         }
     }
 

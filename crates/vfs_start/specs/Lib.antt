@@ -1,1 +1,4 @@
 pub mod Accepted
+pub mod Items
+pub mod Growing
+pub mod Firsts

@@ -9,12 +9,18 @@ ghost use Rattle.vfs_journal.specs.Starts.{start_of};
 ghost use Rattle.vfs_serving.specs.Bindings.{HasNoMount, bound_as};
 ghost use Rattle.vfs_start.specs.Accepted.{IsAccepted};
 
+use crate::firsts::{bind_firsts, known_endpoints};
+use crate::making::{Places, add_nodes};
 use endpoint_link::Endpoints;
 use fidl_names::NoMemory;
 use node_graph::Graph;
 use std::alloc::Global;
+use std::collections::BTreeMap;
 use tree_file::Start;
+use vfs_journal::starts_of_files_are_numbered;
 use vfs_serving::Slot;
+
+const ROOT: &[u8] = b".";
 
 /// What a session over one server begins with.
 #[derive(Drop)]
@@ -25,6 +31,18 @@ pub struct Beginning {
     pub slots: Vec<Slot>,
     /// What is known of endpoints: the first connections live.
     pub endpoints: Endpoints,
+}
+
+// What holds of each accepted file with one server and no mounts.
+fn file_laws(start: &Start)
+    requires accepted { IsAccepted start.now }
+    requires one { length start.now.servers ≡ 1 }
+    requires mounts { start.now.mounts ≡ [] }
+    ensures plain { HasNoMount (tree_of start.now 0) }
+    ensures numbered { IsNumbered (start_of start.now) }
+    ensures here { All (λ bound. bound.server ≡ 0) (start_of start.now).firsts }
+{
+    starts_of_files_are_numbered();
 }
 
 /// Makes what the start of an accepted tree file with one server and no mounts begins with.
@@ -42,6 +60,18 @@ pub fn begin(alloc: Global, start: &Start) -> Result<Beginning, NoMemory>
     ensures few { IfOk result (λ b. length b.slots.items ≤ 4096) }
     ensures known { IfOk result (λ b. Starts (map (λ bound. bound.endpoint) (start_of start.now).firsts) 0 1 b.endpoints) }
     ensures numbered { IsNumbered (start_of start.now) }
+    ensures here { All (λ bound. bound.server ≡ 0) (start_of start.now).firsts }
 {
-    Err(NoMemory)
+    file_laws(start);
+    let mut graph = Graph::new(alloc)?;
+    let mut places: Places<'_> = BTreeMap::new(alloc);
+    places.insert(ROOT, graph.root())?;
+    add_nodes(start, &mut graph, &mut places)?;
+    let slots = bind_firsts(alloc, start, &places)?;
+    let endpoints = known_endpoints(alloc, start)?;
+    Ok(Beginning {
+        graph,
+        slots,
+        endpoints,
+    })
 }

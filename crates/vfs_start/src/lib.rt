@@ -1,6 +1,12 @@
 //! What a session over one server begins with: the server's tree as a graph, the first connections, and what is known of endpoints.
 #![tactic(auto)]
 
-mod begin;
+mod beginning;
+mod firsts;
+mod making;
+mod paths;
 
-pub use begin::{Beginning, begin};
+pub use beginning::{Beginning, begin};
+
+#[cfg(test)]
+mod tests;

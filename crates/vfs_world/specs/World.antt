@@ -24,7 +24,7 @@ pub record World : Type 0 where
 
 -- a start with one server and no mounts
 pub record IsOneServer (start : Start) : Type 0 where
-  pub start : IsStart start
+  pub sound : IsStart start
   pub numbered : IsNumbered start
   pub one : length start.trees ≡ 1
   pub no_mounts : start.mounts ≡ []
@@ -46,13 +46,17 @@ pub record Remembers (start : Start) (history : History) (keeping : Keeping) : T
   pub no_tokens : all_given history ≡ []
   pub here : All (IsHere 0) (living start history)
 
--- a world that isn't spent stands for a lawful journal
-pub record StandsFor (start : Start) (world : World) (journal : Journal) : Type 0 where
-  pub able : world.spent ≡ false
+-- what is kept is what a lawful journal over one server makes
+pub record Keeps (start : Start) (keeping : Keeping) (journal : Journal) : Type 0 where
   pub over : IsOneServer start
   pub lawful : Lawful first_methods start journal
-  pub places : world.keeping.places ≡ length journal
-  pub remembers : Remembers start (history_of first_methods start journal) world.keeping
+  pub places : keeping.places ≡ length journal
+  pub remembers : Remembers start (history_of first_methods start journal) keeping
+
+-- a world that isn't spent stands for the journal that it keeps
+pub record StandsFor (start : Start) (world : World) (journal : Journal) : Type 0 where
+  pub able : world.spent ≡ false
+  pub keeps : Keeps start world.keeping journal
 
 -- from standing for one journal a call leads to standing for another, and writes exactly what that has more of output
 pub record LeadsTo (start : Start) (later : Journal) (new : World) (earlier : Journal) (before after : List ℕ) : Type 0 where

@@ -1,4 +1,4 @@
-ghost use Rattle.std.specs.Prelude.{◌≡◌, ◌≢◌, ◌<◌, ◌+◌, ◌^◌, ◌×◌, ℕ, true, false, [], IfOk, OnOk, OnErr, Ok, Err, length};
+ghost use Rattle.std.specs.Prelude.{◌≡◌, ◌<◌, ◌+◌, ◌^◌, ℕ, true, false, [], IfOk, IfErr, OnOk, OnErr, Ok, Err, length};
 ghost use Rattle.endpoint_link.specs.Frames.{IsFrame};
 ghost use Rattle.endpoint_link.specs.declared.kinds.Side.TheVariants as side;
 ghost use Rattle.endpoint_link.specs.Views.{frame_of};
@@ -11,13 +11,16 @@ ghost use Rattle.vfs_journal.specs.Starts.{Start, start_of};
 ghost use Rattle.vfs_start.specs.Accepted.{IsAccepted};
 ghost use Rattle.vfs_world.specs.World.{LeadsTo, StandsFor};
 
+use crate::arriving::arrive;
+use crate::serving::drain;
 use endpoint_link::{FrameView, Outbox};
 use fidl_names::NoMemory;
 use fidl_wire::Ordinals;
 use std::alloc::Global;
 use std::marker::Model;
-use tree_file::Start;
+use vfs_journal::{starts_are_known, starts_are_sound};
 use vfs_keeping::Keeper;
+use vfs_start::begin;
 
 /// Why a call of a world did nothing.
 #[derive(Clone, Copy, Debug, PartialEq, Eq)]
@@ -38,29 +41,55 @@ pub struct World {
 }
 
 impl Model for World {
+    ghost use Rattle.vfs_world.specs.Codes.{world_code};
     ghost use Rattle.vfs_world.specs.World.{World};
 
     ghost Value = { World };
 
+    ghost coded = { world_code };
+
     ghost view = { λ world. record { keeping = world.keeper; spent = world.spent; frames = world.frames } };
+
+    ghost use Rattle.vfs_world.specs.Steps.{IsWithin};
+
+    ghost invariant = { λ world. IsWithin world.keeper world.spent world.frames };
 }
 
 impl World {
     /// The session of an accepted tree file with one server and no mounts, before its first frame.
-    pub fn new(alloc: Global, ordinals: Ordinals, start: &Start) -> Result<World, NoMemory>
+    pub fn new(
+        alloc: Global,
+        ordinals: Ordinals,
+        start: &tree_file::Start,
+    ) -> Result<World, NoMemory>
         requires accepted { IsAccepted start.now }
         requires one { length start.now.servers ≡ 1 }
         requires mounts { start.now.mounts ≡ [] }
         ensures stands { IfOk result (λ world. StandsFor (start_of start.now) world []) }
         ensures frames { IfOk result (λ world. world.frames ≡ 0) }
     {
-        Err(NoMemory)
+        starts_are_sound();
+        starts_are_known();
+        let beginning = begin(alloc, start)?;
+        let keeper = Keeper::new(
+            alloc,
+            ordinals,
+            beginning.graph,
+            beginning.slots,
+            beginning.endpoints,
+        )?;
+        Ok(World {
+            alloc,
+            keeper,
+            spent: false,
+            frames: 0,
+        })
     }
 
     /// Accepts a frame: a refused one is answered, a message or a hang-up waits, and a Turn or a Pick is
     /// served.
     pub fn accept(&mut self, frame: FrameView<'_>, outbox: &mut Outbox) -> Result<(), WorldFault>
-        requires frame { IsFrame side.ToServers (frame_of frame.entry) }
+        requires frame { IsFrame side.ToServers (frame_of frame) }
         requires few { self.old.frames < 2 ^ 48 }
         ensures arrived { (start : Start) (journal : Journal) → StandsFor start self.old journal →
             OnOk result (LeadsTo start (arrives first_methods start journal (frame_of frame.entry)) self.new journal outbox.old outbox.new) }
@@ -71,11 +100,17 @@ impl World {
         ensures only_spent { result ≡ Err WorldFault.Spent → self.old.spent ≡ true }
         ensures silent { OnErr result (outbox.new ≡ outbox.old) }
     {
-        if self.spent {
-            return Err(WorldFault::Spent);
+        if let Err(fault) = self.able() {
+            return Err(fault);
         }
-        self.spent = true;
-        Err(WorldFault::NoMemory)
+        let begun = outbox.len();
+        if let Err(NoMemory) = arrive(&mut self.keeper, self.alloc, frame, outbox) {
+            outbox.truncate(begun);
+            self.spent = true;
+            return Err(WorldFault::NoMemory);
+        }
+        self.frames += 1;
+        Ok(())
     }
 
     /// Serves all that can be served. Nothing waits then.
@@ -92,14 +127,27 @@ impl World {
         ensures only_spent { result ≡ Err WorldFault.Spent → self.old.spent ≡ true }
         ensures silent { OnErr result (outbox.new ≡ outbox.old) }
     {
+        if let Err(fault) = self.able() {
+            return Err(fault);
+        }
+        let begun = outbox.len();
+        if let Err(NoMemory) = drain(&mut self.keeper, outbox) {
+            outbox.truncate(begun);
+            self.spent = true;
+            return Err(WorldFault::NoMemory);
+        }
+        Ok(())
+    }
+
+    /// A spent world does nothing more.
+    fn able(&self) -> Result<(), WorldFault>
+        ensures able { OnOk result (self.now.spent ≡ false) }
+        ensures spent { IfErr result (λ fault. (fault ≡ WorldFault.Spent) × (self.now.spent ≡ true)) }
+    {
         if self.spent {
             return Err(WorldFault::Spent);
         }
-        if self.keeper.waiting() == 0 {
-            return Ok(());
-        }
-        self.spent = true;
-        Err(WorldFault::NoMemory)
+        Ok(())
     }
 
     /// How many entries wait.

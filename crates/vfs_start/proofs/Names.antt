@@ -1,0 +1,129 @@
+-- A path is its parent's path and its last name.
+use Rattle.std.proofs.Common.{◌≡◌, ◌≢◌, ℕ, ◌≤◌, ◌==◌, Bool, true, false, if◌then◌else◌, List, [], ◌∷◌, ◌++◌, length, reverse, Some, None, All, refl, sym, ap, ◌∙◌, subst, arith, nat_lt}
+use Rattle.std.specs.Prelude.{slice_get, unwrap_or}
+use Rattle.std.specs.List.{slice_split, onto_first}
+use Rattle.std.specs.Str.{bytes_eq}
+use Rattle.std.proofs.lemmas.Bool.{ltb-false, eqb-false, eqb-true}
+use Rattle.std.proofs.lemmas.List.{reverse-append}
+use Rattle.std.proofs.lemmas.List.Elements.{All-nil, All-cons, All-head, All-contains, Contains-push}
+use Rattle.std.proofs.lemmas.List.Splits.{slice_split_none, length-slice_split, slice_split-cons_yes, slice_split-cons_no}
+use Rattle.std.proofs.lemmas.Slice.Eq.{bytes_eq-Decides}
+use Rattle.path_walk.specs.declared.faults.PathFault.TheVariants as fault
+use Rattle.path_walk.specs.Names.{Rule, slash, dot, holds, dot_rule, first_broken, name_fault, IsName}
+use Rattle.path_walk.specs.Paths.{names_of}
+use Rattle.tree_file.specs.Numbering.{last_name}
+use Rattle.tree_file.specs.Texts.{before_last_slash, parent_of, is_dot}
+
+abbrev pub is_slash : ℕ → Bool
+is_slash byte = byte == slash
+
+-- ---- the last name of a text
+
+-- a text without a slash, or one parted at its last slash
+data Parted (text : List ℕ) : Type 0 where
+  whole : before_last_slash text ≡ None → All (λ byte. is_slash byte ≡ false) text → Parted text
+  parted : (front back : List ℕ) → before_last_slash text ≡ Some front → text ≡ front ++ slash ∷ back → All (λ byte. is_slash byte ≡ false) back → Parted text
+
+parted_by : (byte : ℕ) (rest : List ℕ) → Parted rest → (b : Bool) → is_slash byte ≡ b → Parted (byte ∷ rest)
+unfolding before_last_slash
+parted_by byte rest (whole e h) true is = parted [] rest (rw (e, is)) (ap (λ first. first ∷ rest) (eqb-true byte slash is)) h
+parted_by byte rest (whole e h) false is = whole (rw (e, is)) (All-cons (λ b. is_slash b ≡ false) byte rest is h)
+parted_by byte rest (parted front back e same h) b is = parted (byte ∷ front) back (rw e) (ap (λ more. byte ∷ more) same) h
+
+parted_at : (text : List ℕ) → Parted text
+unfolding before_last_slash
+parted_at [] = whole refl (All-nil (λ byte. is_slash byte ≡ false))
+parted_at (byte ∷ rest) = parted_by byte rest (parted_at rest) (is_slash byte) refl
+
+onto_push : (byte : ℕ) (parts : List (List ℕ)) (back : List ℕ) → 1 ≤ length parts → onto_first byte (parts ++ back ∷ []) ≡ onto_first byte parts ++ back ∷ []
+onto_push byte [] back some = absurd (omega arith)
+onto_push byte (part ∷ parts) back some = refl
+
+split_by : (byte : ℕ) (front back : List ℕ) → slice_split is_slash (front ++ slash ∷ back) ≡ slice_split is_slash front ++ back ∷ [] → (b : Bool) → is_slash byte ≡ b →
+    slice_split is_slash ((byte ∷ front) ++ slash ∷ back) ≡ slice_split is_slash (byte ∷ front) ++ back ∷ []
+split_by byte front back rest true is =
+    slice_split-cons_yes is_slash byte (front ++ slash ∷ back) is ∙ ap (λ parts. [] ∷ parts) rest
+    ∙ ap (λ parts. parts ++ back ∷ []) (sym (slice_split-cons_yes is_slash byte front is))
+split_by byte front back rest false is =
+    let some : 1 ≤ length (slice_split is_slash front) = rw (length-slice_split is_slash front) (omega arith) in
+    slice_split-cons_no is_slash byte (front ++ slash ∷ back) is ∙ ap (onto_first byte) rest ∙ onto_push byte (slice_split is_slash front) back some
+    ∙ ap (λ parts. parts ++ back ∷ []) (sym (slice_split-cons_no is_slash byte front is))
+
+-- the parts of a text but for the last are those of its front
+split_last : (front back : List ℕ) → All (λ byte. is_slash byte ≡ false) back → slice_split is_slash (front ++ slash ∷ back) ≡ slice_split is_slash front ++ back ∷ []
+split_last [] back h = ap (λ parts. [] ∷ parts) (slice_split_none is_slash back h)
+split_last (byte ∷ front) back h = split_by byte front back (split_last front back h) (is_slash byte) refl
+
+names_below : (text : List ℕ) → is_dot text ≡ false → names_of text ≡ slice_split is_slash text
+unfolding names_of
+names_below text below = rw below
+
+last_of : (names : List (List ℕ)) (name : List ℕ) → unwrap_or (slice_get (reverse (names ++ name ∷ [])) 0) [] ≡ name
+last_of names name = ap (λ turned. unwrap_or (slice_get turned 0) []) (reverse-append names (name ∷ []))
+
+pub last_whole : (text : List ℕ) → is_dot text ≡ false → All (λ byte. is_slash byte ≡ false) text → last_name text ≡ text
+last_whole text below h =
+    ap (λ names. unwrap_or (slice_get (reverse names) 0) []) (names_below text below ∙ slice_split_none is_slash text h)
+
+pub last_parted : (text front back : List ℕ) → is_dot text ≡ false → text ≡ front ++ slash ∷ back → All (λ byte. is_slash byte ≡ false) back → last_name text ≡ back
+last_parted text front back below same h =
+    ap (λ names. unwrap_or (slice_get (reverse names) 0) []) (names_below text below ∙ ap (slice_split is_slash) same ∙ split_last front back h)
+    ∙ last_of (slice_split is_slash front) back
+
+-- ---- what a path is
+
+broken_none : (rule : Rule) (rules : List Rule) → first_broken (rule ∷ rules) ≡ None → (rule.0 ≡ false) × (first_broken rules ≡ None)
+broken_none (true, found) rules e = absurd (cc)
+broken_none (false, found) rules e = (refl, e)
+
+pub name_short : (name : List ℕ) → IsName name → (1 ≤ length name) × (length name ≤ 255)
+unfolding name_fault
+name_short name h =
+    let later : List Rule = (holds 0 name, fault.ZeroByte) ∷ (holds slash name, fault.Slash) ∷ dot_rule name ∷ [] in
+    let a = broken_none (length name == 0, fault.EmptyName) ((nat_lt 255 (length name), fault.NameTooLong) ∷ later) h in
+    let b = broken_none (nat_lt 255 (length name), fault.NameTooLong) later a.1 in
+    let some : length name ≢ 0 = eqb-false (length name) 0 a.0 in
+    (omega arith, ltb-false 255 (length name) b.0)
+
+dot_no_name : IsName dot → ⊥
+unfolding name_fault
+dot_no_name h = cc
+
+abbrev pub joined : List ℕ → List ℕ → List ℕ
+joined parent name = if is_dot parent then name else parent ++ slash ∷ name
+
+same_text : (a b : List ℕ) → bytes_eq a b ≡ true → a ≡ b
+same_text a b h = (bytes_eq-Decides a b).0 h
+
+no_dot_front : (text front back : List ℕ) → is_dot text ≡ false → text ≡ front ++ slash ∷ back → All (λ byte. is_slash byte ≡ false) back → All IsName (names_of text) → is_dot front ≡ false
+no_dot_front text front back below same h valid = by_test (is_dot front) refl where
+  by_test : (b : Bool) → is_dot front ≡ b → is_dot front ≡ false
+  by_test false is = is
+  by_test true is =
+      let parts : names_of text ≡ dot ∷ back ∷ [] =
+      names_below text below ∙ ap (slice_split is_slash) (same ∙ ap (λ first. first ++ slash ∷ back) (same_text front dot is)) ∙ split_last dot back h in
+      absurd (dot_no_name (All-head IsName dot (back ∷ []) (subst (All IsName) parts valid)))
+
+pub path_joined : (text : List ℕ) → is_dot text ≡ false → All IsName (names_of text) → text ≡ joined (parent_of text) (last_name text)
+unfolding parent_of
+path_joined text below valid = by_parts (parted_at text) where
+  by_parts : Parted text → text ≡ joined (unwrap_or (before_last_slash text) dot) (last_name text)
+  by_parts (whole e h) = rw e (sym (last_whole text below h))
+  by_parts (parted front back e same h) =
+      rw (e, no_dot_front text front back below same h valid) (same ∙ ap (λ name. front ++ slash ∷ name) (sym (last_parted text front back below same h)))
+
+-- a path is found again from its parent's path and its last name
+pub same_path : (a b : List ℕ) → is_dot a ≡ false → is_dot b ≡ false → All IsName (names_of a) → All IsName (names_of b) → parent_of a ≡ parent_of b → last_name a ≡ last_name b → a ≡ b
+same_path a b below_a below_b valid_a valid_b parents names =
+    path_joined a below_a valid_a ∙ ap (λ parent. joined parent (last_name a)) parents ∙ ap (joined (parent_of b)) names ∙ sym (path_joined b below_b valid_b)
+
+pub last_valid : (text : List ℕ) → is_dot text ≡ false → All IsName (names_of text) → IsName (last_name text)
+last_valid text below valid = by_parts (parted_at text) where
+  by_parts : Parted text → IsName (last_name text)
+  by_parts (whole e h) =
+      let names : names_of text ≡ text ∷ [] = names_below text below ∙ slice_split_none is_slash text h in
+      subst IsName (sym (last_whole text below h)) (All-head IsName text [] (subst (All IsName) names valid))
+  by_parts (parted front back e same h) =
+      let names : names_of text ≡ slice_split is_slash front ++ back ∷ [] = names_below text below ∙ ap (slice_split is_slash) same ∙ split_last front back h in
+      subst IsName (sym (last_parted text front back below same h))
+      (All-contains IsName (slice_split is_slash front ++ back ∷ []) back (subst (All IsName) names valid) (Contains-push (slice_split is_slash front) back))

@@ -1,0 +1,13 @@
+use Rattle.std.proofs.Common.{arith}
+use Rattle.tree_file.specs.Texts.{parent_of}
+use Rattle.vfs_start.proofs.Slashes.{no_slash, last_slash}
+use Rattle.vfs_start.proofs.paths.parent_of.Goals as goal
+
+pub returns-in-Some : goal.returns-in-Some
+unfolding parent_of
+returns-in-Some c =
+    rw (last_slash c.args.path.now c.in-Some.place c.in-Some.ensures.0.high c.in-Some.ensures.1 c.in-Some.ensures.0.after)
+
+pub returns-in-None : goal.returns-in-None
+unfolding parent_of
+returns-in-None c = rw (no_slash c.args.path.now (λ k within is. c.in-None.ensures k (omega arith) within is))

@@ -1,0 +1,35 @@
+-- What a call's result tells.
+use Rattle.std.proofs.Common.{◌≡◌, ◌⊎◌, Option, Some, None, Result, Ok, Err, MatchOption, inl, inr, refl}
+use Rattle.std.specs.Result.{OnOk}
+use Rattle.endpoint_link.specs.declared.kinds.AdmitFault.{AdmitFault}
+use Rattle.endpoint_link.specs.declared.kinds.AdmitFault.TheVariants as fault
+use Rattle.endpoint_link.specs.declared.kinds.Refusal.{Refusal}
+
+pub on_ok : {T E P Q : Type 0} (r : Result T E) → (P → Q) → OnOk r P → OnOk r Q
+on_ok (Ok x) f h = f h
+on_ok (Err e) f h = h
+
+pub ok_anyway : {T E P : Type 0} (r : Result T E) → P → OnOk r P
+ok_anyway (Ok x) h = h
+ok_anyway (Err e) h = tt
+
+-- ---- what admission answers
+
+abbrev pub failed : AdmitFault → Result (Unit {0}) AdmitFault
+failed why = Err why
+
+abbrev pub admitted : Result (Unit {0}) AdmitFault
+admitted = Ok tt
+
+-- the first refusal, which is answered
+pub refused_why : (first : Option Refusal) (answer : AdmitFault) (why : Refusal) → answer ≡ fault.Refused why →
+    MatchOption first ((failed answer ≡ admitted) ⊎ (failed answer ≡ failed fault.NoMemory)) (λ one. failed answer ≡ failed (fault.Refused one)) → first ≡ Some why
+refused_why None answer why is (inl e) = absurd (cc)
+refused_why None answer why is (inr e) = absurd (cc)
+refused_why (Some one) answer why is e = cc
+
+-- an admitted frame has none
+pub none_refused : (first : Option Refusal) →
+    MatchOption first ((admitted ≡ admitted) ⊎ (admitted ≡ failed fault.NoMemory)) (λ one. admitted ≡ failed (fault.Refused one)) → first ≡ None
+none_refused None h = refl
+none_refused (Some one) e = absurd (cc)
