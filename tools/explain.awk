@@ -52,7 +52,7 @@ function frame(number,    kind, handles, size, digits) {
     digits = take(4); line(digits, "endpoint " number_of(digits))
     digits = take(1); kind = number_of(digits)
     line(digits, "kind " kind (kind in kinds ? ", " kinds[kind] : ""))
-    digits = take(1); handles = number_of(digits); line(digits, handles " handles")
+    digits = take(1); handles = number_of(digits); line(digits, handles (handles == 1 ? " handle" : " handles"))
     line(take(2), "always zero")
     digits = take(4); size = number_of(digits); line(digits, size " bytes follow")
     for (; handles > 0; handles--) { digits = take(4); line(digits, "handle " number_of(digits)) }

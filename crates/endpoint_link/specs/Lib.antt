@@ -8,3 +8,4 @@ pub mod Numbering
 pub mod Tables
 pub mod Standings
 pub mod Admission
+pub mod Refusals

@@ -1,8 +1,9 @@
 // The small types of the link.
 
 ghost use Rattle.std.specs.Prelude.{◌≡◌};
+ghost use Rattle.endpoint_link.specs.Refusals.{status_of};
 
-use fidl_names::NoMemory;
+use fidl_names::{NoMemory, Status};
 
 /// What a frame is for.
 #[derive(Clone, Copy, Debug, PartialEq, Eq)]
@@ -72,6 +73,20 @@ pub enum Refusal {
     BadHandle,
     ShouldWait,
     NoResources,
+}
+
+impl Refusal {
+    /// The status that tells it to the client.
+    pub fn status(self) -> Status
+        ensures { result ≡ status_of self }
+    {
+        match self {
+            Refusal::PeerClosed => Status::PeerClosed,
+            Refusal::BadHandle => Status::BadHandle,
+            Refusal::ShouldWait => Status::ShouldWait,
+            Refusal::NoResources => Status::NoResources,
+        }
+    }
 }
 
 /// What `admit` answers of a frame that it didn't admit.

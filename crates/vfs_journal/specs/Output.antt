@@ -4,14 +4,12 @@ use Rattle.std.specs.FinMap as finite
 use Rattle.std.specs.Int.{w32, cast_unsigned}
 use Rattle.std.specs.Option.{option_map_or}
 use Rattle.std.specs.Ordering.{nat_cmp}
-use Rattle.fidl_names.specs.declared.statuses.Status.{Status}
-use Rattle.fidl_names.specs.declared.statuses.Status.TheVariants as status
 use Rattle.fidl_names.specs.StatusNumber.{number_of}
 use Rattle.fidl_wire.specs.Numbers.{number_bytes}
 use Rattle.endpoint_link.specs.Frames.{Frame, frame_with, spellings}
 use Rattle.endpoint_link.specs.declared.kinds.FrameKind.TheVariants as kind
 use Rattle.endpoint_link.specs.declared.kinds.Refusal.{Refusal}
-use Rattle.endpoint_link.specs.declared.kinds.Refusal.TheVariants as refusal
+use Rattle.endpoint_link.specs.Refusals.{status_of}
 use Rattle.endpoint_link.specs.Numbering.{among}
 use Rattle.conn_rules.specs.Built.{Built}
 use Rattle.vfs_journal.specs.Entries.{Entry, sends, serves, refuses, Journal}
@@ -20,13 +18,6 @@ use Rattle.vfs_journal.specs.Outcomes.{close_frame}
 use Rattle.vfs_journal.specs.Past.{history_of}
 use Rattle.vfs_journal.specs.Starts.{Start}
 use Rattle.vfs_journal.specs.Watching.{first_frames, told_frames}
-
--- the status of a refusal
-abbrev pub status_of : Refusal → Status
-status_of refusal.PeerClosed = status.PeerClosed
-status_of refusal.BadHandle = status.BadHandle
-status_of refusal.ShouldWait = status.ShouldWait
-status_of refusal.NoResources = status.NoResources
 
 -- a Refused frame, on the number that the refused frame had
 abbrev pub refused_frame : ℕ → Refusal → Frame

@@ -6,11 +6,12 @@ use Rattle.endpoint_link.specs.declared.kinds.FrameKind.{FrameKind}
 use Rattle.endpoint_link.specs.declared.kinds.FrameKind.TheVariants as kind
 use Rattle.endpoint_link.specs.Admission.{admission}
 use Rattle.endpoint_link.specs.declared.kinds.Refusal.{Refusal}
-use Rattle.vfs_program.specs.OneFile.{Standing, look_ups, outcome, by_refusal, admitted, refused, answers, after}
+use Rattle.vfs_journal.specs.Output.{refused_frame}
+use Rattle.vfs_program.specs.OneFile.{Standing, look_ups, outcome, by_refusal, admitted, answers, after}
 
 -- a frame that is refused
 pub outcome_refused : (file : List ℕ) (now : Standing) (frame : Frame) (why : Refusal) → Some why ≡ admission (look_ups now.live) frame
-    → record { frames = refused frame.endpoint why ∷ []; next = now } ≡ outcome file now frame
+    → record { frames = refused_frame frame.endpoint why ∷ []; next = now } ≡ outcome file now frame
 unfolding outcome
 outcome_refused file now frame why e = ap (by_refusal file now frame) e
 

@@ -1,18 +1,14 @@
 -- The session of one file: endpoint 1 is bound to it, at server 0, and nothing else is known.
 use Rattle.std.specs.Prelude.{◌≡◌, ℕ, Bool, true, false, List, [], ◌∷◌, ◌++◌, ◌==◌, Option, Some, None, if◌then◌else◌}
-use Rattle.std.specs.Int.{w32, cast_unsigned}
 use Rattle.fidl_names.specs.StatusNumber.{number_of}
-use Rattle.fidl_names.specs.declared.statuses.Status.{Status}
-use Rattle.fidl_names.specs.declared.statuses.Status.TheVariants as status
-use Rattle.fidl_wire.specs.Numbers.{number_bytes}
 use Rattle.fidl_wire.specs.Epitaphs.{epitaph_bytes}
 use Rattle.endpoint_link.specs.Frames.{Frame, frame_with, spellings}
 use Rattle.endpoint_link.specs.Admission.{LookUps, admission}
 use Rattle.endpoint_link.specs.declared.kinds.FrameKind.{FrameKind}
 use Rattle.endpoint_link.specs.declared.kinds.FrameKind.TheVariants as kind
 use Rattle.endpoint_link.specs.declared.kinds.Refusal.{Refusal}
-use Rattle.endpoint_link.specs.declared.kinds.Refusal.TheVariants as refusal
 use Rattle.endpoint_link.specs.declared.kinds.Standing.TheVariants as standing
+use Rattle.vfs_journal.specs.Output.{refused_frame}
 use Rattle.vfs_program.specs.Reads.{Meaning, Reads, Ends, meaning_of}
 use Rattle.vfs_program.specs.Replies.{reply_to, position_after}
 
@@ -34,17 +30,6 @@ look_ups live = record {
   live = 1;
   servers = 1;
 }
-
--- the status of a refusal
-abbrev pub status_of : Refusal → Status
-status_of refusal.PeerClosed = status.PeerClosed
-status_of refusal.BadHandle = status.BadHandle
-status_of refusal.ShouldWait = status.ShouldWait
-status_of refusal.NoResources = status.NoResources
-
--- a Refused frame, on the number that the refused frame had
-abbrev pub refused : ℕ → Refusal → Frame
-refused number why = frame_with number kind.Refused [] (number_bytes 4 (cast_unsigned w32 (number_of (status_of why))))
 
 -- what a frame led to: the frames that are written for it, and where the session stands then
 pub record Outcome : Type 0 where
@@ -72,7 +57,7 @@ admitted file now kind.Refused message = record { frames = []; next = now }
 
 -- a frame is refused by the first reason of the link, and else admitted
 abbrev pub by_refusal : List ℕ → Standing → Frame → Option Refusal → Outcome
-by_refusal file now frame (Some why) = record { frames = refused frame.endpoint why ∷ []; next = now }
+by_refusal file now frame (Some why) = record { frames = refused_frame frame.endpoint why ∷ []; next = now }
 by_refusal file now frame None = admitted file now frame.kind frame.bytes
 
 unfoldable pub outcome : List ℕ → Standing → Frame → Outcome

@@ -9,7 +9,8 @@ ghost use Rattle.fidl_names.specs.StatusNumber.{number_of};
 ghost use Rattle.endpoint_link.specs.Frames.{Frame, frame_with, spellings};
 ghost use Rattle.endpoint_link.specs.Views.{frame_of};
 ghost use Rattle.vfs_program.specs.Reads.{read_ordinal, meaning_of as told};
-ghost use Rattle.vfs_program.specs.OneFile.{look_ups, outcome, output, refused, status_of, answered, IsBehind};
+ghost use Rattle.vfs_journal.specs.Output.{refused_frame};
+ghost use Rattle.vfs_program.specs.OneFile.{look_ups, outcome, output, answered, IsBehind};
 ghost use Rattle.vfs_program.specs.Serving.{IsServing, FailsOnly, Passes};
 
 use crate::reads::{Meaning, READ_NAME, meaning_of};
@@ -147,24 +148,12 @@ fn put_end(out: &mut Out, status: Answer, room: &mut FrameRoom)
 /// Puts the frame that refuses one with this number.
 fn put_refusal(out: &mut Out, number: u32, why: Refusal, room: &mut FrameRoom)
     requires { length room.old.bytes + 8252 ≤ room.old.size }
-    ensures frames { room.new.bytes ≡ room.old.bytes ++ spellings (refused number why ∷ []) }
+    ensures frames { room.new.bytes ≡ room.old.bytes ++ spellings (refused_frame number why ∷ []) }
     ensures size { room.new.size ≡ room.old.size }
 {
     out.clear();
-    out.put_i32(status_of(why).number());
+    out.put_i32(why.status().number());
     room.put_frame(number, FrameKind::Refused, &[], out.as_bytes());
-}
-
-/// The status of a refusal.
-fn status_of(why: Refusal) -> Answer
-    ensures { result ≡ status_of why }
-{
-    match why {
-        Refusal::PeerClosed => Answer::PeerClosed,
-        Refusal::BadHandle => Answer::BadHandle,
-        Refusal::ShouldWait => Answer::ShouldWait,
-        Refusal::NoResources => Answer::NoResources,
-    }
 }
 
 /// The first reason against a frame, where the file's endpoint alone was ever known.

@@ -15,6 +15,7 @@ use Rattle.node_graph.specs.declared.nodes.NodeRef.{NodeRef}
 use Rattle.node_graph.specs.Graph.{Seat, Kept, seat_of, Names, number_of, kind_at, bytes_at, holds_at, is_kept, StandsFor, Leads, SameHolds, KeepsNames, write_change, overwritten}
 use Rattle.node_graph.specs.Tree.{NodeRow, EdgeKey, EdgeTo, edge_cmp, Edges, Tree, Change, make, filled, row_of, kind_of, is_linked, after}
 use Rattle.vfs_start.specs.Growing.{with_node, Makes}
+use Rattle.vfs_start.proofs.Accepted.{append_none}
 use Rattle.vfs_start.proofs.Trees.{edges_total}
 
 -- ---- a node that is named
@@ -88,10 +89,6 @@ filled_last rows kind bytes =
 drop_none : (n : ℕ) → drop {A = ℕ} n [] ≡ []
 drop_none zero = refl
 drop_none (suc n) = refl
-
-append_none : {X : Type 0} (xs : List X) → xs ++ [] ≡ xs
-append_none [] = refl
-append_none (x ∷ xs) = ap (λ more. x ∷ more) (append_none xs)
 
 -- bytes written over none
 over_none : (bytes : List ℕ) → overwritten [] 0 bytes ≡ bytes

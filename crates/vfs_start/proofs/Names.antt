@@ -92,7 +92,7 @@ dot_no_name h = cc
 abbrev pub joined : List ℕ → List ℕ → List ℕ
 joined parent name = if is_dot parent then name else parent ++ slash ∷ name
 
-same_text : (a b : List ℕ) → bytes_eq a b ≡ true → a ≡ b
+pub same_text : (a b : List ℕ) → bytes_eq a b ≡ true → a ≡ b
 same_text a b h = (bytes_eq-Decides a b).0 h
 
 no_dot_front : (text front back : List ℕ) → is_dot text ≡ false → text ≡ front ++ slash ∷ back → All (λ byte. is_slash byte ≡ false) back → All IsName (names_of text) → is_dot front ≡ false

@@ -15,6 +15,8 @@ use Rattle.std.proofs.lemmas.Slice.Eq.{bytes_eq-Decides}
 use Rattle.path_walk.specs.Names.{dot}
 use Rattle.tree_file.specs.Numbering.{Named, number_at}
 use Rattle.tree_file.specs.Texts.{is_dot}
+use Rattle.vfs_start.proofs.Names.{same_text}
+use Rattle.vfs_start.proofs.Read.{same_some}
 
 abbrev pub at_path : List ℕ → Named → Bool
 at_path path one = bytes_eq one.path path
@@ -69,9 +71,6 @@ pub data At (named : List Named) (path : List ℕ) : Type 0 where
   there : (k : ℕ) (one : Named) → is_dot path ≡ false → position (at_path path) named ≡ Some k → slice_get named k ≡ Some one → one.path ≡ path → number_at named path ≡ k + 2 → At named path
   absent : is_dot path ≡ false → position (at_path path) named ≡ None → number_at named path ≡ 0 → At named path
 
-same_text : (a b : List ℕ) → bytes_eq a b ≡ true → a ≡ b
-same_text a b h = (bytes_eq-Decides a b).0 h
-
 number_dot : (named : List Named) (path : List ℕ) → is_dot path ≡ true → number_at named path ≡ 1
 unfolding number_at
 number_dot named path is = rw is
@@ -91,9 +90,6 @@ at named path = by_dot (is_dot path) refl where
   by_dot : (b : Bool) → is_dot path ≡ b → At named path
   by_dot true is = root is (number_dot named path is)
   by_dot false is = at_below named path is (position (at_path path) named) refl
-
-same_some : {A : Type 0} {x y : A} → Some x ≡ Some y → x ≡ y
-same_some e = cc
 
 -- paths that lead to one node are one
 pub number_same : (named : List Named) (p q : List ℕ) → 1 ≤ number_at named p → number_at named p ≡ number_at named q → p ≡ q

@@ -141,7 +141,7 @@ endpoint_in value n h = let at = bind_some (get (codes "endpoint") value >>= as_
 
 -- ---- nodes
 
-same_some : {A : Type 0} {x y : A} → Some x ≡ Some y → x ≡ y
+pub same_some : {A : Type 0} {x y : A} → Some x ≡ Some y → x ≡ y
 same_some e = cc
 
 node_by : (b : Bool) (names : List (List ℕ)) (value : Data) (node : NodeItem) →

@@ -1,4 +1,6 @@
-ghost use Rattle.std.specs.Prelude.{◌≡◌, ◌≤◌, ◌<◌, ◌^◌, ℕ, true, [], All, IfOk, length, map};
+//! What a session over one server begins with.
+
+ghost use Rattle.std.specs.Prelude.{◌≡◌, ◌≤◌, ◌<◌, ◌^◌, ℕ, false, true, [], All, IfOk, length, map};
 ghost use Rattle.endpoint_link.specs.Standings.{Starts};
 ghost use Rattle.node_graph.specs.Graph.{StandsFor, holds_at, is_kept, number_of};
 ghost use Rattle.tree_file.specs.Numbering.{tree_of};
@@ -20,6 +22,7 @@ use tree_file::Start;
 use vfs_journal::starts_of_files_are_numbered;
 use vfs_serving::Slot;
 
+// The path of the root.
 const ROOT: &[u8] = b".";
 
 /// What a session over one server begins with.
@@ -56,6 +59,7 @@ pub fn begin(alloc: Global, start: &Start) -> Result<Beginning, NoMemory>
     ensures first { IfOk result (λ b. map bound_as b.slots.items ≡ (start_of start.now).firsts) }
     ensures fresh { IfOk result (λ b. All (λ binding. binding.position ≡ fresh) b.slots.items) }
     ensures bound { IfOk result (λ b. All (λ binding. CanBeBound b.graph binding.birth) b.slots.items) }
+    ensures silent { IfOk result (λ b. All (λ binding. binding.birth.announce ≡ false) b.slots.items) }
     ensures kept { IfOk result (λ b. All (λ binding. is_kept b.graph (number_of binding.birth.node) ≡ true) b.slots.items) }
     ensures few { IfOk result (λ b. length b.slots.items ≤ 4096) }
     ensures known { IfOk result (λ b. Starts (map (λ bound. bound.endpoint) (start_of start.now).firsts) 0 1 b.endpoints) }

@@ -8,7 +8,7 @@ ghost use Rattle.endpoint_link.specs.Views.{frame_of};
 ghost use Rattle.endpoint_link.specs.declared.kinds.Side.TheVariants as side;
 ghost use Rattle.conn_rules.specs.Built.{first_methods};
 ghost use Rattle.vfs_journal.specs.Entries.{Journal};
-ghost use Rattle.vfs_journal.specs.Output.{refused_frame, status_of};
+ghost use Rattle.vfs_journal.specs.Output.{refused_frame};
 ghost use Rattle.vfs_journal.specs.Session.{arrives};
 ghost use Rattle.vfs_journal.specs.Starts.{Start};
 ghost use Rattle.vfs_keeping.specs.Admitting.{Hears};
@@ -20,7 +20,7 @@ use crate::laws::{journal_laws, knowing_laws};
 use crate::serving::{pick, turn};
 use byteorder::{ByteOrder, LittleEndian};
 use endpoint_link::{AdmitFault, FrameKind, FrameView, Outbox, Refusal, write_frame};
-use fidl_names::{NoMemory, Status};
+use fidl_names::NoMemory;
 use std::alloc::Global;
 use vfs_keeping::Keeper;
 
@@ -85,18 +85,6 @@ fn refuse(endpoint: u32, why: Refusal, outbox: &mut Outbox) -> Result<(), NoMemo
     ensures no_memory { OnErr result (outbox.new ≡ outbox.old) }
 {
     let mut number = [0; 4];
-    LittleEndian::write_u32(&mut number, status_of(why).number().cast_unsigned());
+    LittleEndian::write_u32(&mut number, why.status().number().cast_unsigned());
     write_frame(outbox, endpoint, FrameKind::Refused, &[], &number)
-}
-
-/// The status of a refusal.
-fn status_of(why: Refusal) -> Status
-    ensures { result ≡ status_of why }
-{
-    match why {
-        Refusal::PeerClosed => Status::PeerClosed,
-        Refusal::BadHandle => Status::BadHandle,
-        Refusal::ShouldWait => Status::ShouldWait,
-        Refusal::NoResources => Status::NoResources,
-    }
 }

@@ -1,4 +1,4 @@
-use Rattle.std.proofs.Common.{◌≡◌, subst, sym}
+use Rattle.std.proofs.Common.{◌≡◌, false, subst, sym}
 use Rattle.std.proofs.lemmas.List.Elements.{All-weaker}
 use Rattle.node_graph.specs.Graph.{StandsFor}
 use Rattle.conn_rules.specs.Births.{fresh}
@@ -22,4 +22,9 @@ returns-clause-tree c =
 pub returns-clause-fresh : goal.returns-clause-fresh
 returns-clause-fresh c =
     All-weaker (IsBound c.add_nodes.new.graph) (λ (binding : Binding). binding.position ≡ fresh) (λ binding is. is.position) c.in_ok-slots.slots.items
+    (c.in_ok-slots.ensures.bound c.add_nodes.new.graph c.in_ok-add_nodes.ensures)
+
+pub returns-clause-silent : goal.returns-clause-silent
+returns-clause-silent c =
+    All-weaker (IsBound c.add_nodes.new.graph) (λ (binding : Binding). binding.birth.announce ≡ false) (λ binding is. is.silent) c.in_ok-slots.slots.items
     (c.in_ok-slots.ensures.bound c.add_nodes.new.graph c.in_ok-add_nodes.ensures)

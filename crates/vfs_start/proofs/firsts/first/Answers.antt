@@ -1,4 +1,4 @@
-use Rattle.std.proofs.Common.{◌≡◌, ◌∙◌, ℕ, List, Some, ap, arith, false, length, refl, subst, sym}
+use Rattle.std.proofs.Common.{◌≡◌, ◌∙◌, ℕ, List, ap, arith, false, length, refl, subst, sym}
 use Rattle.std.specs.Option.{option_map_or}
 use Rattle.io_messages.specs.declared.protocols.Protocol.TheVariants as protocol
 use Rattle.node_graph.specs.Graph.{number_of}
@@ -13,12 +13,10 @@ use Rattle.vfs_start.specs.Growing.{first_named}
 use Rattle.vfs_start.proofs.Accepted.{accepted_good}
 use Rattle.vfs_start.proofs.Clients.{client_directory, client_number}
 use Rattle.vfs_start.proofs.Listed.{grows_to}
+use Rattle.vfs_start.proofs.Read.{same_some}
 use Rattle.vfs_start.proofs.Standing.{place_in, leads_in, kind_there, kept_there}
 use Rattle.vfs_start.proofs.Trees.{number_some}
 use Rattle.vfs_start.proofs.firsts.first.Goals as goal
-
-same_some : {x y : ClientItem} → Some x ≡ Some y → x ≡ y
-same_some e = cc
 
 pub node_at-requires : goal.node_at-requires
 node_at-requires c =
@@ -53,5 +51,6 @@ returns-clause-bound c graph stands =
         named = stands.kept lent.path c.node_at.result c.node_at.ensures;
         spoken = ap (λ o. option_map_or (is_spoken_at protocol.Directory) o false) kind;
       };
+      silent = refl;
       kept = kept_there named graph c.args.places.now stands (grows_to lists good c.requires.one c.path_laws.ensures.sound (length lists.nodes) (omega arith)) lent.path c.node_at.result c.node_at.ensures;
     })
