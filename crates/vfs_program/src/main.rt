@@ -9,6 +9,8 @@ mod one_file;
 mod reads;
 mod replies;
 mod run;
+#[cfg(test)]
+mod serve_tests;
 mod served;
 mod sessions;
 mod statuses;

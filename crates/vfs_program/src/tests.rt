@@ -98,11 +98,11 @@ const ROWS: [Row; 11] = [
 ];
 
 /// The bytes that a text of digits stands for.
-fn bytes_of(alloc: Global, text: &str) -> Result<Vec<u8>, Fail> {
+pub fn bytes_of(alloc: Global, text: &str) -> Result<Vec<u8>, Fail> {
     Ok(hex::decode(alloc, text)?)
 }
 
-fn words_of(alloc: Global, words: &[&str]) -> Result<Vec<String>, Fail> {
+pub fn words_of(alloc: Global, words: &[&str]) -> Result<Vec<String>, Fail> {
     let mut all = Vec::new(alloc);
     for word in words {
         all.push(String::from_str(alloc, word)?)?;
@@ -110,12 +110,12 @@ fn words_of(alloc: Global, words: &[&str]) -> Result<Vec<String>, Fail> {
     Ok(all)
 }
 
-/// What a run of `file hello` answered, wrote and told.
+/// What a run of a command answered, wrote and told.
 #[derive(Drop)]
-struct Ran {
-    status: Status,
-    sink: MemSink,
-    notes: MemSink,
+pub struct Ran {
+    pub status: Status,
+    pub sink: MemSink,
+    pub notes: MemSink,
 }
 
 fn run(
@@ -148,11 +148,11 @@ fn run(
     })
 }
 
-fn source_of(alloc: Global, bytes: &[u8], piece: usize) -> Result<MemSource, Fail> {
+pub fn source_of(alloc: Global, bytes: &[u8], piece: usize) -> Result<MemSource, Fail> {
     Ok(MemSource::new(Vec::from_slice(alloc, bytes)?, piece, Vec::new(alloc)))
 }
 
-fn wide_sink(alloc: Global) -> Result<MemSink, Fail> {
+pub fn wide_sink(alloc: Global) -> Result<MemSink, Fail> {
     Ok(MemSink::new(alloc, 100_000, 100_000, Vec::new(alloc))?)
 }
 
@@ -254,12 +254,19 @@ fn each_call_fails_in_turn(rt: HostRuntime) -> Result<(), Fail> {
 }
 
 /// Words, and the note and the exit status of what they answer on an input of one frame of a bad kind.
-const WORDS: [(&[&str], &str, u8); 9] = [
+const WORDS: [(&[&str], &str, u8); 12] = [
     (&["file", "hello"], "bad frame at 0: kind\n", 6),
     (&["file", "nothing"], "file failed\n", 5),
     (&["file"], USAGE, 1),
     (&["file", "hello", "hello"], USAGE, 1),
-    (&["serve", "hello", "auto"], USAGE, 1),
+    (
+        &["serve", "hello", "auto"],
+        "tree refused: rule 1 item 0\n",
+        2,
+    ),
+    (&["serve", "nothing", "auto"], "file failed\n", 5),
+    (&["serve", "hello", "given"], USAGE, 1),
+    (&["serve", "hello"], USAGE, 1),
     (&["check"], USAGE, 1),
     (&["check", "hello"], "tree refused: rule 1 item 0\n", 2),
     (&["check", "nothing"], "file failed\n", 5),
