@@ -65,7 +65,3 @@ written_behind graph before after frames (Ok fate) plain written = begins before
 pub part_of : {X E : Type 0} {P Q : Type 0} (r : Result X E) → (P → Q) → OnOk r P → OnOk r Q
 part_of (Ok x) f h = f h
 part_of (Err e) f h = tt
-
-pub of_both : {X E : Type 0} {P Q R : Type 0} (r : Result X E) → (P → Q → R) → OnOk r P → OnOk r Q → OnOk r R
-of_both (Ok x) f h k = f h k
-of_both (Err e) f h k = tt

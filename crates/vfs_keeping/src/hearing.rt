@@ -37,9 +37,10 @@ fn wait(waiting: &mut Vec<Sent>, place: u64, endpoint: u32, parcel: Parcel) -> R
     Ok(1)
 }
 
-/// Lets a frame's message wait.
+/// Lets a frame's message wait, with its bytes in this room.
 fn hear_message(
     alloc: Global,
+    room: Vec<u8>,
     waiting: &mut Vec<Sent>,
     place: u64,
     frame: FrameView<'_>,
@@ -48,15 +49,17 @@ fn hear_message(
     ensures count { IfOk result (λ count. count ≡ 1) }
     ensures no_memory { OnErr result (waiting.new.items ≡ waiting.old.items) }
 {
-    match Parcel::of_message(alloc, frame) {
+    match Parcel::of_message(alloc, room, frame) {
         Ok(parcel) => wait(waiting, place, frame.endpoint, parcel),
         Err(fault) => Err(fault),
     }
 }
 
-/// Lets wait what a frame sends, and tells how many entries that is.
+/// Lets wait what a frame sends, and tells how many entries that is. The bytes of a message go to this
+/// room.
 pub(crate) fn hear(
     alloc: Global,
+    room: Vec<u8>,
     waiting: &mut Vec<Sent>,
     place: u64,
     frame: FrameView<'_>,
@@ -67,7 +70,7 @@ pub(crate) fn hear(
     ensures one { OnErr result (length (sent_by_frame place (frame_of frame.entry)) ≡ 1) }
 {
     match frame.kind {
-        FrameKind::Message => hear_message(alloc, waiting, place, frame),
+        FrameKind::Message => hear_message(alloc, room, waiting, place, frame),
         FrameKind::Close => wait(waiting, place, frame.endpoint, Parcel::hang_up()),
         FrameKind::Turn | FrameKind::Pick | FrameKind::Refused => Ok(0),
     }

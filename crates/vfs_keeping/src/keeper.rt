@@ -29,7 +29,8 @@ use fidl_wire::{Ordinals, Out};
 use node_graph::Graph;
 use std::alloc::Global;
 use std::marker::Model;
-use vfs_serving::{Fate, Sent, Slot};
+use std::mem;
+use vfs_serving::{Fate, Parcel, Sent, Slot};
 
 /// An entry that was answered, the server at which its endpoint is bound, and what becomes of endpoints.
 #[derive(Drop)]
@@ -51,6 +52,8 @@ pub struct Keeper {
     endpoints: Endpoints,
     places: u64,
     out: Out,
+    /// Where the bytes of the message were that was served last. The next one's go there.
+    room: Vec<u8>,
 }
 
 impl Model for Keeper {
@@ -106,6 +109,7 @@ impl Keeper {
             endpoints,
             places: 0,
             out,
+            room: Vec::new(alloc),
         })
     }
 
@@ -145,7 +149,8 @@ impl Keeper {
             self.places += taken_by(fault);
             return Err(fault);
         }
-        match hear(self.alloc, &mut self.waiting, self.places, frame) {
+        let room = mem::replace(&mut self.room, Vec::new(self.alloc));
+        match hear(self.alloc, room, &mut self.waiting, self.places, frame) {
             Ok(count) => {
                 self.places += count;
                 Ok(())
@@ -305,6 +310,20 @@ impl Keeper {
             Ok(answered) => answered,
             Err(fault) => return Err(fault),
         };
-        self.settle(&answered.sent, answered.server, &answered.fate, len, outbox)
+        let Answered { sent, server, fate } = answered;
+        if let Err(fault) = self.settle(&sent, server, &fate, len, outbox) {
+            return Err(fault);
+        }
+        self.keep_room(sent.parcel);
+        Ok(())
+    }
+
+    /// Keeps the room of a message's bytes for the next one.
+    fn keep_room(&mut self, parcel: Parcel)
+        ensures { self.new ≡ self.old }
+    {
+        if let Some(room) = parcel.into_room() {
+            self.room = room;
+        }
     }
 }

@@ -41,6 +41,9 @@ pub(crate) fn put_message(endpoint: u32, out: &Out, outbox: &mut Outbox) -> Resu
     ensures no_memory { OnErr result (outbox.new ≡ outbox.old) }
 {
     let handles = out.handles();
+    if handles.is_empty() {
+        return write_frame(outbox, endpoint, FrameKind::Message, &[], out.as_bytes());
+    }
     let mut numbers = [0; MOST_HANDLES];
     put_numbers(handles, &mut numbers);
     write_frame(

@@ -58,15 +58,32 @@ impl Model for Sent {
 }
 
 impl Parcel {
-    /// The message of a frame.
-    pub fn of_message(alloc: Global, frame: FrameView<'_>) -> Result<Parcel, NoMemory>
+    /// The message of a frame. Its bytes are put into this room, which that of an earlier message may be:
+    /// then they take no memory.
+    pub fn of_message(
+        alloc: Global,
+        mut room: Vec<u8>,
+        frame: FrameView<'_>,
+    ) -> Result<Parcel, NoMemory>
         ensures message { IfOk result (λ parcel. parcel ≡ message frame.entry.bytes.now (handle_numbers frame.entry.handles)) }
     {
-        let bytes = Vec::from_slice(alloc, frame.bytes)?;
+        room.clear();
+        room.extend_from_slice(frame.bytes)?;
         let handles = handles_of(alloc, frame.handles)?;
         Ok(Parcel {
-            content: Content::Message { bytes, handles },
+            content: Content::Message {
+                bytes: room,
+                handles,
+            },
         })
+    }
+
+    /// Takes it apart, and gives the room of its bytes to another.
+    pub fn into_room(self) -> Option<Vec<u8>> {
+        match self.content {
+            Content::Message { bytes, .. } => Some(bytes),
+            Content::HangUp => None,
+        }
     }
 
     /// A message that carries one handle, by its number.

@@ -87,7 +87,7 @@ fn file_slot(graph: &Graph) -> Option<Slot>
 // What was sent, from a frame.
 fn sent(rt: &impl Abort, alloc: Global, frame: &[u8]) -> Result<Parcel, Fail> {
     match frame_at(Side::ToServers, frame) {
-        Reading::Whole { frame, .. } => Ok(Parcel::of_message(alloc, frame)?),
+        Reading::Whole { frame, .. } => Ok(Parcel::of_message(alloc, Vec::new(alloc), frame)?),
         _ => {
             assert!(rt; false, "a whole frame");
             Ok(Parcel::hang_up())

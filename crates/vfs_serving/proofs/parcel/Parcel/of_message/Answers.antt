@@ -7,4 +7,4 @@ pub invariant_of-result : goal.invariant_of-result
 invariant_of-result c = are_by_number _ (handle_numbers c.args.frame.handles) c.in_ok-handles.ensures
 
 pub returns : goal.returns
-returns c = record { message = rw (c.in_ok-bytes.ensures.items, c.in_ok-handles.ensures, numbers_back (handle_numbers c.args.frame.handles)) refl }
+returns c = record { message = rw (c.in_ok-extend_from_slice.ensures.items, c.clear.ensures.items, c.in_ok-handles.ensures, numbers_back (handle_numbers c.args.frame.handles)) refl }
