@@ -4,7 +4,7 @@ use Rattle.std.specs.List.{flat_map}
 use Rattle.std.specs.Str.{bytes_eq}
 use Rattle.fidl_names.specs.declared.methods.Method.TheVariants as method
 use Rattle.fidl_names.specs.declared.statuses.Status.TheVariants as status
-use Rattle.fidl_wire.specs.Numbers.{number_bytes}
+use Rattle.fidl_names.specs.Numbers.{number_bytes}
 use Rattle.io_messages.specs.Asked.{Asked}
 use Rattle.io_messages.specs.Replies.{payload, settled}
 use Rattle.node_graph.specs.declared.nodes.NodeKind.{NodeKind}

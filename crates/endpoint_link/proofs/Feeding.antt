@@ -7,7 +7,8 @@ use Rattle.std.proofs.lemmas.List.Elements.{All-append, All-take}
 use Rattle.endpoint_link.specs.declared.kinds.FrameReason.{FrameReason}
 use Rattle.endpoint_link.specs.declared.kinds.LinkFault.{LinkFault}
 use Rattle.endpoint_link.specs.declared.kinds.Side.{Side}
-use Rattle.endpoint_link.specs.Numbers.{AreBytes, word_in, half_in}
+use Rattle.fidl_names.specs.Numbers.{AreBytes}
+use Rattle.endpoint_link.specs.Numbers.{word_in, half_in}
 use Rattle.endpoint_link.specs.Frames.{Frame, IsFrame, spelling, kind_of, first_reason, size_of}
 use Rattle.endpoint_link.specs.Deframing.{flaw, end_of, front, Fed, KeepsFrame}
 use Rattle.endpoint_link.proofs.Words.{take-add}

@@ -6,7 +6,8 @@ use Rattle.std.proofs.lemmas.List.Folds.{list_any-append}
 use Rattle.std.proofs.lemmas.List.Sums.{sum_by-append}
 use Rattle.endpoint_link.specs.declared.kinds.Standing.{Standing}
 use Rattle.endpoint_link.specs.declared.kinds.Standing.TheVariants as standing
-use Rattle.endpoint_link.specs.Numbering.{among, is_client}
+use Rattle.fidl_names.specs.HandleNumber.{is_client}
+use Rattle.endpoint_link.specs.Numbering.{among}
 use Rattle.endpoint_link.specs.Tables.{value_at, AreNew, Makes, TakesBack}
 
 -- what is among the first so many is among all

@@ -6,7 +6,7 @@ use Rattle.std.proofs.lemmas.List.{take_all, append-nil, drop_at}
 use Rattle.std.proofs.lemmas.List.Elements.{All-nil, All-cons, All-append, All-drop}
 use Rattle.endpoint_link.specs.declared.kinds.FrameReason.{FrameReason}
 use Rattle.endpoint_link.specs.declared.kinds.Side.{Side}
-use Rattle.endpoint_link.specs.Numbers.{AreBytes}
+use Rattle.fidl_names.specs.Numbers.{AreBytes}
 use Rattle.endpoint_link.specs.Frames.{Frame, IsFrame, spelling, spellings, size_of, IsPartial, IsBadFront, Frames, Bad}
 use Rattle.endpoint_link.specs.Deframing.{Deframing, fresh, flaw, end_of, IsKept, Call, Feeds, Shows, Drops, Step, Run, bytes_of, frames_of, stream_of, dropped_by, Follows}
 use Rattle.endpoint_link.proofs.Spelled.{frame_in, spelling-frame_in, first_reason-append}

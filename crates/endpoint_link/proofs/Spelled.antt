@@ -10,7 +10,8 @@ use Rattle.endpoint_link.specs.declared.kinds.FrameKind.TheVariants as kind
 use Rattle.endpoint_link.specs.declared.kinds.FrameReason.TheVariants as reason
 use Rattle.endpoint_link.specs.declared.kinds.Side.{Side}
 use Rattle.endpoint_link.specs.declared.kinds.Side.TheVariants as side
-use Rattle.endpoint_link.specs.Numbers.{AreBytes, word_of, half_in, word_in, words_in}
+use Rattle.fidl_names.specs.Numbers.{AreBytes}
+use Rattle.endpoint_link.specs.Numbers.{word_of, half_in, word_in, words_in}
 use Rattle.endpoint_link.specs.Frames.{Frame, number_of, goes_to, keeps_shape, HasShape, IsFrame, fixed_part, spelling, kind_of, reason_of, first_reason, size_of}
 use Rattle.endpoint_link.proofs.Words.{word_in-word_of, word_in-lt, word_in-append, half_in-append, word_of-word_in, words_in-flat_map, length-flat_map_word_of, length-words_in, words_in-lt, take-add, flat_map-words_in}
 

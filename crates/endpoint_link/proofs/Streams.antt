@@ -6,7 +6,7 @@ use Rattle.std.proofs.lemmas.List.{take_all, take-append-drop, append-nil, lengt
 use Rattle.std.proofs.lemmas.List.Elements.{All-nil, All-cons, All-drop, All-append, All-head, All-tail, All-replicate}
 use Rattle.endpoint_link.specs.declared.kinds.FrameReason.{FrameReason}
 use Rattle.endpoint_link.specs.declared.kinds.Side.{Side}
-use Rattle.endpoint_link.specs.Numbers.{AreBytes}
+use Rattle.fidl_names.specs.Numbers.{AreBytes}
 use Rattle.endpoint_link.specs.Frames.{Frame, IsFrame, spelling, spellings, first_reason, size_of, IsPartial, IsBadFront, Frames, Bad}
 use Rattle.endpoint_link.specs.Laws.{HasFrames, IsBad}
 use Rattle.endpoint_link.proofs.Spelled.{length-spelling, first_reason-spelling, size_of-spelling, frame_in, spelling-injective, first_reason-append, size_of-append, size_of-long, spelling-frame_in}

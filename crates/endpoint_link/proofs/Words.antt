@@ -8,7 +8,8 @@ use Rattle.std.proofs.lemmas.List.Elements.{All-nil, All-cons, All-take, All-dro
 use Rattle.std.proofs.lemmas.Nat.{le_bytes_4}
 use Rattle.byteorder.specs.Endian.{little_number}
 use Rattle.byteorder.specs.Numbers.{little_number-reads_back, little_from-append, little_from-lt, length-bytes_low_first}
-use Rattle.endpoint_link.specs.Numbers.{AreBytes, word_of, half_in, word_in, words_in}
+use Rattle.fidl_names.specs.Numbers.{AreBytes}
+use Rattle.endpoint_link.specs.Numbers.{word_of, half_in, word_in, words_in}
 
 -- a number has four bytes
 pub length-word_of : (x : ℕ) → length (word_of x) ≡ 4

@@ -8,7 +8,8 @@ use Rattle.endpoint_link.specs.declared.kinds.Standing.{Standing}
 use Rattle.endpoint_link.specs.declared.kinds.Standing.TheVariants as standing
 use Rattle.endpoint_link.specs.Frames.{Frame}
 use Rattle.endpoint_link.specs.Standings.{Known, standing_of, holds, is_used, Sends, hung_up}
-use Rattle.endpoint_link.specs.Numbering.{among, is_client}
+use Rattle.fidl_names.specs.HandleNumber.{is_client}
+use Rattle.endpoint_link.specs.Numbering.{among}
 
 -- what admission looks up
 pub record LookUps : Type 0 where

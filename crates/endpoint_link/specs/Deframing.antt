@@ -4,7 +4,7 @@ use Rattle.std.specs.List.{flat_map}
 use Rattle.endpoint_link.specs.declared.kinds.FrameReason.{FrameReason}
 use Rattle.endpoint_link.specs.declared.kinds.LinkFault.{LinkFault}
 use Rattle.endpoint_link.specs.declared.kinds.Side.{Side}
-use Rattle.endpoint_link.specs.Numbers.{AreBytes}
+use Rattle.fidl_names.specs.Numbers.{AreBytes}
 use Rattle.endpoint_link.specs.Frames.{Frame, Frames, Bad, IsFrame, IsPartial, spelling, first_reason, size_of}
 
 -- the side, where in the stream the frame in hand begins, and what there is of it

@@ -1,10 +1,6 @@
 -- Numbers of 16 and 32 bits in bytes, the low byte first, and lists of them one after another.
-use Rattle.std.specs.Prelude.{◌<◌, ℕ, zero, suc, List, [], ◌∷◌, drop, All}
+use Rattle.std.specs.Prelude.{ℕ, zero, suc, List, [], ◌∷◌, drop}
 use Rattle.byteorder.specs.Endian.{little_bytes, little_number}
-
--- numbers that are bytes
-abbrev pub AreBytes : List ℕ → Type 0
-AreBytes b = All (λ x. x < 256) b
 
 -- a number of 32 bits
 unfoldable pub word_of : ℕ → List ℕ

@@ -1,7 +1,8 @@
 -- What is known of the numbers of endpoints and tokens.
 use Rattle.std.specs.Prelude.{◌≡◌, ◌+◌, ◌-◌, ◌&&◌, ◌||◌, ℕ, Bool, true, false, not, if◌then◌else◌, nat_le, List, length, count_by, Option, Some, None, unwrap_or, refl}
 use Rattle.std.specs.Coded.{Coded, code_by, coded×, coded_ℕ, coded_bool}
-use Rattle.endpoint_link.specs.Numbering.{among, is_client, is_mount_end}
+use Rattle.fidl_names.specs.HandleNumber.{is_client, is_mount_end}
+use Rattle.endpoint_link.specs.Numbering.{among}
 use Rattle.std.specs.Ordering.{nat_cmp}
 use Rattle.std.specs.FinMap as map
 use Rattle.endpoint_link.specs.declared.kinds.Standing.{Standing}

@@ -5,7 +5,8 @@ use Rattle.std.specs.List.{sum_by}
 use Rattle.std.specs.List.Sorted.{IsStrictlySortedBy}
 use Rattle.std.specs.Map.{keys_of, values_of, lookup}
 use Rattle.std.specs.Ordering.{nat_cmp}
-use Rattle.endpoint_link.specs.Numbering.{is_client, among}
+use Rattle.fidl_names.specs.HandleNumber.{is_client}
+use Rattle.endpoint_link.specs.Numbering.{among}
 use Rattle.endpoint_link.specs.declared.kinds.Standing.{Standing}
 use Rattle.endpoint_link.specs.declared.kinds.Standing.TheVariants as standing
 

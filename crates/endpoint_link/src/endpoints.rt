@@ -2,7 +2,8 @@
 
 ghost use Rattle.std.specs.Prelude.{◌≡◌, ◌≢◌, ◌≤◌, ◌<◌, ◌+◌, ◌-◌, ◌⊎◌, ℕ, true, false, [], All, Some, IsTrue, length, drop, count_by, IfOk, OnOk, OnErr, MatchOption};
 ghost use Rattle.std.specs.FinMap as map;
-ghost use Rattle.endpoint_link.specs.Numbering.{is_client, among};
+ghost use Rattle.fidl_names.specs.HandleNumber.{is_client};
+ghost use Rattle.endpoint_link.specs.Numbering.{among};
 ghost use Rattle.endpoint_link.specs.Tables.{AreDistinct};
 ghost use Rattle.endpoint_link.specs.Standings.{standing_of, holds, is_used, is_live, next_token_of, Starts, Sends, hung_up, ended, given, gone};
 ghost use Rattle.endpoint_link.specs.Admission.{look_ups, by_standing, may_travel, all_may_travel, is_full, too_many, refusal_by, admission, Admits};

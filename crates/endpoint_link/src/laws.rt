@@ -4,7 +4,7 @@ ghost use Rattle.std.specs.Prelude.{◌≡◌, ◌≤◌, ◌<◌, ◌⊎◌, �
 ghost use Rattle.endpoint_link.specs.Frames.{Frame, Frames, Bad, IsFrame, IsPartial, spelling, first_reason, size_of};
 ghost use Rattle.endpoint_link.specs.Deframing.{Deframing, Call, Run, fresh, stream_of, dropped_by, Follows};
 ghost use Rattle.endpoint_link.specs.Laws.{HasFrames, IsBad};
-ghost use Rattle.endpoint_link.specs.Numbers.{AreBytes};
+ghost use Rattle.fidl_names.specs.Numbers.{AreBytes};
 ghost use Rattle.endpoint_link.specs.declared.kinds.FrameReason.{FrameReason};
 ghost use Rattle.endpoint_link.specs.declared.kinds.Side.{Side as TheSide};
 

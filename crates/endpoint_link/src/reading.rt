@@ -2,7 +2,7 @@
 
 ghost use Rattle.std.specs.Prelude.{◌≡◌, ◌≤◌, length, take, None};
 ghost use Rattle.endpoint_link.specs.Frames.{IsFrame, spelling, kind_of, first_reason, size_of};
-ghost use Rattle.endpoint_link.specs.Numbers.{AreBytes};
+ghost use Rattle.fidl_names.specs.Numbers.{AreBytes};
 ghost use Rattle.endpoint_link.specs.Views.{Reads, frame_of};
 
 use crate::fixed::{FIXED_LEN, first_reason, kind_of, size_of, word_in};

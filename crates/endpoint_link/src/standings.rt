@@ -2,7 +2,8 @@
 
 ghost use Rattle.std.specs.Prelude.{◌≡◌, ◌≤◌, ◌<◌, ◌+◌, ◌==◌, ◌&&◌, if◌then◌else◌, ℕ, true, [], ◌∷◌, Some, None, IsSome, IsOk, OnOk, OnErr, unwrap_or, take, length, count_by};
 ghost use Rattle.endpoint_link.specs.Tables.{value_at, ChangesAt, weight};
-ghost use Rattle.endpoint_link.specs.Numbering.{is_client, among, is_mount_end};
+ghost use Rattle.fidl_names.specs.HandleNumber.{is_client, is_mount_end};
+ghost use Rattle.endpoint_link.specs.Numbering.{among};
 
 use crate::frame::HandleBytes;
 use crate::kinds::Standing;

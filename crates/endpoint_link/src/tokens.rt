@@ -2,7 +2,8 @@
 
 ghost use Rattle.std.specs.Prelude.{◌≡◌, ◌≤◌, ◌<◌, ◌+◌, ◌^◌, ◌||◌, if◌then◌else◌, ℕ, true, false, [], Some, None, IsSome, OnOk, OnErr, unwrap_or, length, nat_le};
 ghost use Rattle.endpoint_link.specs.Tables.{value_at, ChangesAt};
-ghost use Rattle.endpoint_link.specs.Numbering.{is_client, among};
+ghost use Rattle.fidl_names.specs.HandleNumber.{is_client};
+ghost use Rattle.endpoint_link.specs.Numbering.{among};
 
 use crate::frame::HandleBytes;
 use crate::standings::is_client;

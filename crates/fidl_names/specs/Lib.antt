@@ -1,1 +1,4 @@
 pub mod StatusNumber
+pub mod First
+pub mod HandleNumber
+pub mod Numbers

@@ -8,7 +8,8 @@ use Rattle.fidl_wire.specs.declared.cursor.Opened.{Opened}
 use Rattle.fidl_wire.specs.declared.faults.WireFault.{WireFault}
 use Rattle.fidl_wire.specs.declared.faults.WireWhat.TheVariants.{Short, Envelope}
 use Rattle.fidl_wire.specs.Headers.{fault}
-use Rattle.fidl_wire.specs.Numbers.{number_at, padding_after, padded}
+use Rattle.fidl_names.specs.Numbers.{number_at}
+use Rattle.fidl_wire.specs.Numbers.{padding_after, padded}
 use Rattle.fidl_wire.specs.Written.{padded_bytes}
 use Rattle.fidl_wire.specs.Layout.{Cell, Item, Variant, Layout, Content, num, empty, word, object, struct, union, fields, branch, sizes_of, variant_of}
 use Rattle.fidl_wire.specs.Cursor.{Cursor, start, start_of, outside_of}

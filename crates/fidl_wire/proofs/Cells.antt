@@ -4,7 +4,7 @@ use Rattle.fidl_names.specs.declared.methods.Handle.{Handle}
 use Rattle.fidl_wire.specs.declared.kinds.HandleKind.{HandleKind}
 use Rattle.fidl_wire.specs.declared.faults.WireWhat.TheVariants.{Handles, Presence}
 use Rattle.fidl_wire.specs.Headers.{fault}
-use Rattle.fidl_wire.specs.Numbers.{number_at}
+use Rattle.fidl_names.specs.Numbers.{number_at}
 use Rattle.fidl_wire.specs.Layout.{Cell, Item, number, pad, handle, num, blank, held, is_kind, size_of}
 use Rattle.fidl_wire.specs.Cursor.{Cursor}
 use Rattle.fidl_wire.specs.Reading.{◌>>=◌, passed, all_blank, number_cell, pad_cell, handle_cell, handle_word, next_handle, present_word, cell_at}

@@ -5,7 +5,8 @@ use Rattle.fidl_wire.specs.declared.faults.WireFault.{WireFault}
 use Rattle.fidl_wire.specs.declared.faults.WireWhat.TheVariants.{Short, Magic, Version, Overflow}
 use Rattle.fidl_wire.specs.declared.headers.Header.{Header}
 use Rattle.fidl_wire.specs.Headers.{header_of, header_bytes, fields_of, flags_of, fault}
-use Rattle.fidl_wire.specs.Numbers.{number_at, number_bytes, has_bit}
+use Rattle.fidl_names.specs.Numbers.{number_at, number_bytes}
+use Rattle.fidl_wire.specs.Numbers.{has_bit}
 use Rattle.fidl_wire.proofs.Spelled.{length-number_bytes, number_front, number_behind}
 
 -- the four bytes behind the transaction id

@@ -2,7 +2,7 @@
 use Rattle.std.proofs.Common.{◌≡◌, ℕ, zero, suc, ◌+◌, ◌-◌, ◌≤◌, List, [], ◌∷◌, ◌++◌, length, take, drop, slice_range, refl, ap, ◌∙◌, length-take, arith}
 use Rattle.std.proofs.lemmas.List.{drop-drop, drop-take}
 use Rattle.byteorder.specs.Numbers.{little_from-take}
-use Rattle.fidl_wire.specs.Numbers.{number_at}
+use Rattle.fidl_names.specs.Numbers.{number_at}
 
 -- the list begins with this one
 abbrev pub Begins : {A : Type 0} → List A → List A → Type 0

@@ -4,7 +4,7 @@ use Rattle.std.proofs.lemmas.List.{append-nil}
 use Rattle.std.proofs.Math.Seq.{drop-append_seam, take-append_seam}
 use Rattle.byteorder.specs.Numbers.{length-bytes_low_first, little_number-reads_back}
 use Rattle.fidl_names.specs.declared.methods.Handle.{Handle}
-use Rattle.fidl_wire.specs.Numbers.{number_at, number_bytes}
+use Rattle.fidl_names.specs.Numbers.{number_at, number_bytes}
 use Rattle.fidl_wire.specs.Layout.{Cell, Item, Variant, Layout, Content, number, pad, handle, text, vector, table, num, blank, held, seq, members, empty, word, object, struct, union, fields, branch, is_kind, variant_of}
 use Rattle.fidl_wire.specs.Reading.{present_word, present_list}
 use Rattle.fidl_wire.specs.Grammar.{Part, IsNumber, IsCount, IsList, IsHandle, IsEnvelope, IsNumberMember, IsMember, AreMembers, Spells, Lays, IsObject, IsInlinedUnion, IsObjectUnion, IsVariant, SpellsBody, IsSpelled}

@@ -5,7 +5,8 @@ use Rattle.fidl_names.specs.declared.methods.Handle.{Handle}
 use Rattle.fidl_wire.specs.declared.envelopes.Outside.{Outside}
 use Rattle.fidl_wire.specs.declared.faults.WireWhat.TheVariants.{Envelope, Handles}
 use Rattle.fidl_wire.specs.Headers.{fault}
-use Rattle.fidl_wire.specs.Numbers.{number_at, padding_after, padded}
+use Rattle.fidl_names.specs.Numbers.{number_at}
+use Rattle.fidl_wire.specs.Numbers.{padding_after, padded}
 use Rattle.fidl_wire.specs.Reading.{◌>>=◌, check, bytes_at, handles_at, flags_at, is_absent, is_inlined, is_outside, enough_handles, entered, skipped, number_member, member_at}
 use Rattle.fidl_wire.specs.Grammar.{Part, IsAbsent, IsEnvelope, IsSkippedShort, IsSkippedLong, IsNumberMember, IsMember}
 use Rattle.fidl_wire.proofs.Slices.{Begins, begins_front, begins-length}

@@ -6,7 +6,8 @@ use Rattle.std.specs.Str.{IsUtf8, is_utf8}
 use Rattle.std.proofs.lemmas.Str.{IsUtf8-from_is_utf8, is_utf8-from_IsUtf8}
 use Rattle.fidl_wire.specs.declared.faults.WireWhat.TheVariants.{Presence, Count, Utf8}
 use Rattle.fidl_wire.specs.Headers.{fault}
-use Rattle.fidl_wire.specs.Numbers.{number_at, padding_after, padded}
+use Rattle.fidl_names.specs.Numbers.{number_at}
+use Rattle.fidl_wire.specs.Numbers.{padding_after, padded}
 use Rattle.fidl_wire.specs.Written.{padded_bytes}
 use Rattle.fidl_wire.specs.Layout.{Item, text, vector, seq}
 use Rattle.fidl_wire.specs.Cursor.{Cursor}

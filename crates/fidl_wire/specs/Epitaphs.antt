@@ -2,7 +2,7 @@
 use Rattle.std.specs.Prelude.{◌≡◌, ℕ, ℤ, List, ◌++◌, length, Ok, false}
 use Rattle.std.specs.Int.{w32, cast_unsigned}
 use Rattle.fidl_wire.specs.declared.headers.Header.{Header}
-use Rattle.fidl_wire.specs.Numbers.{number_at, number_bytes}
+use Rattle.fidl_names.specs.Numbers.{number_at, number_bytes}
 use Rattle.fidl_wire.specs.Headers.{header_of, header_bytes}
 
 -- no method has this ordinal

@@ -2,7 +2,7 @@
 use Rattle.std.specs.Prelude.{◌≡◌, ℕ, zero, suc, ◌+◌, ◌-◌, ◌%◌, ◌<◌, ◌≤◌, ◌⊎◌, Bool, true, false, List, [], ◌∷◌, ◌++◌, length, drop, replicate, slice_range, Option, Some, None}
 use Rattle.std.specs.Str.{IsUtf8}
 use Rattle.fidl_names.specs.declared.methods.Handle.{Handle}
-use Rattle.fidl_wire.specs.Numbers.{number_at}
+use Rattle.fidl_names.specs.Numbers.{number_at}
 use Rattle.fidl_wire.specs.Written.{padded_bytes}
 use Rattle.fidl_wire.specs.Layout.{Cell, Item, Variant, Layout, Content, number, pad, handle, text, vector, table, num, blank, held, seq, members, empty, word, object, struct, union, fields, branch, is_kind, is_known, later, with_member, sizes_of, variant_of}
 use Rattle.fidl_wire.specs.Reading.{present_word, present_list}

@@ -4,7 +4,8 @@ use Rattle.fidl_wire.specs.declared.headers.Header.{Header}
 use Rattle.fidl_wire.specs.declared.faults.WireFault.{WireFault}
 use Rattle.fidl_wire.specs.declared.faults.WireWhat.{WireWhat}
 use Rattle.fidl_wire.specs.declared.faults.WireWhat.TheVariants.{Short, Magic, Version, Overflow}
-use Rattle.fidl_wire.specs.Numbers.{number_at, number_bytes, has_bit}
+use Rattle.fidl_names.specs.Numbers.{number_at, number_bytes}
+use Rattle.fidl_wire.specs.Numbers.{has_bit}
 
 -- the fault of this reason at this offset
 abbrev pub fault : ℕ → WireWhat → WireFault

@@ -3,7 +3,7 @@ use Rattle.std.specs.Prelude.{◌≡◌, ◌≢◌, ℕ, ◌%◌, ◌^◌, ◌<�
 use Rattle.sha2.specs.Sha256.{sha256}
 use Rattle.fidl_names.specs.declared.methods.Method.{Method}
 use Rattle.fidl_names.specs.declared.methods.Method.TheVariants as method
-use Rattle.fidl_wire.specs.Numbers.{number_at}
+use Rattle.fidl_names.specs.Numbers.{number_at}
 
 -- the first eight bytes of the name's SHA-256, with the top bit cleared
 abbrev pub ordinal_of : List ℕ → ℕ

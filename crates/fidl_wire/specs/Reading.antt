@@ -9,7 +9,8 @@ use Rattle.fidl_wire.specs.declared.envelopes.Outside.{Outside}
 use Rattle.fidl_wire.specs.declared.faults.WireFault.{WireFault}
 use Rattle.fidl_wire.specs.declared.kinds.HandleKind.{HandleKind}
 use Rattle.fidl_wire.specs.declared.faults.WireWhat.TheVariants.{Short, Padding, Presence, Count, Utf8, Envelope, Ordinal, Handles, Trailing}
-use Rattle.fidl_wire.specs.Numbers.{number_at, padded}
+use Rattle.fidl_names.specs.Numbers.{number_at}
+use Rattle.fidl_wire.specs.Numbers.{padded}
 use Rattle.fidl_wire.specs.Headers.{fault}
 use Rattle.fidl_wire.specs.Layout.{Cell, Item, Variant, Layout, Content, empty, word, object, struct, union, fields, branch, sizes_of, variant_of, number, pad, handle, text, vector, table, num, blank, held, seq, members, is_kind, is_known, later, with_member}
 use Rattle.fidl_wire.specs.Cursor.{Cursor, outside_of, start_of}

@@ -2,7 +2,7 @@
 use Rattle.std.specs.Prelude.{◌≡◌, ℕ, ◌^◌, ◌<◌, Bool, true, List, [], ◌∷◌, ◌++◌, length, replicate, Option, Some, None}
 use Rattle.std.specs.Str.{IsUtf8}
 use Rattle.fidl_names.specs.declared.methods.Handle.{Handle}
-use Rattle.fidl_wire.specs.Numbers.{number_bytes}
+use Rattle.fidl_names.specs.Numbers.{number_bytes}
 use Rattle.fidl_wire.specs.Written.{padded_bytes}
 use Rattle.fidl_wire.specs.Layout.{Cell, Item, Variant, Layout, Content, number, pad, handle, text, vector, table, num, blank, held, seq, members, empty, word, object, struct, union, fields, branch, is_kind, sizes_of, variant_of}
 use Rattle.fidl_wire.specs.Reading.{present_word, present_list}

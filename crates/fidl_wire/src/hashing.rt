@@ -9,7 +9,7 @@ const LOW_BITS: u64 = 0x7fff_ffff_ffff_ffff;
 
 /// The ordinal of a method by its full name, as `library/Protocol.Method`: the first eight bytes
 /// of the name's SHA-256, little-endian, with the top bit cleared. It takes no memory.
-#[tactic(auto, unfolding(crate::specs::Numbers::number_at))]
+#[tactic(auto, unfolding(fidl_names::specs::Numbers::number_at))]
 pub fn ordinal(name: &[u8]) -> u64
     ensures { result ≡ ordinal_of name.now }
 {

@@ -32,7 +32,7 @@ pub struct Header {
 impl Header {
     /// The header at the front of a message, by the FIDL wire format, version 2. The checks come
     /// in the order `Short`, `Magic`, `Version`, `Overflow`; other bits are ignored.
-    #[tactic(auto, unfolding(crate::specs::Numbers::number_at))]
+    #[tactic(auto, unfolding(fidl_names::specs::Numbers::number_at))]
     pub fn read(bytes: &[u8]) -> Result<Header, WireFault>
         ensures { result ≡ header_of bytes.now }
     {

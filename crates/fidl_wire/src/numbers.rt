@@ -1,10 +1,10 @@
 ghost use Rattle.std.specs.Prelude.{◌≡◌, ◌+◌, ◌≤◌, length};
-ghost use Rattle.fidl_wire.specs.Numbers.{number_at};
+ghost use Rattle.fidl_names.specs.Numbers.{number_at};
 
 use byteorder::{ByteOrder, LittleEndian};
 
 /// The number in two bytes from a place on.
-#[tactic(auto, unfolding(crate::specs::Numbers::number_at))]
+#[tactic(auto, unfolding(fidl_names::specs::Numbers::number_at))]
 pub fn u16_at(bytes: &[u8], at: usize) -> u16
     requires { at + 2 ≤ length bytes.now }
     ensures { result ≡ number_at 2 at bytes.now }
@@ -13,7 +13,7 @@ pub fn u16_at(bytes: &[u8], at: usize) -> u16
 }
 
 /// The number in four bytes from a place on.
-#[tactic(auto, unfolding(crate::specs::Numbers::number_at))]
+#[tactic(auto, unfolding(fidl_names::specs::Numbers::number_at))]
 pub fn u32_at(bytes: &[u8], at: usize) -> u32
     requires { at + 4 ≤ length bytes.now }
     ensures { result ≡ number_at 4 at bytes.now }
@@ -22,7 +22,7 @@ pub fn u32_at(bytes: &[u8], at: usize) -> u32
 }
 
 /// The number in eight bytes from a place on.
-#[tactic(auto, unfolding(crate::specs::Numbers::number_at))]
+#[tactic(auto, unfolding(fidl_names::specs::Numbers::number_at))]
 pub fn u64_at(bytes: &[u8], at: usize) -> u64
     requires { at + 8 ≤ length bytes.now }
     ensures { result ≡ number_at 8 at bytes.now }

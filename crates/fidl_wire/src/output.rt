@@ -1,7 +1,8 @@
 ghost use Rattle.std.specs.Prelude.{◌≡◌, ◌+◌, ◌≤◌, List, [], ◌∷◌, ◌++◌, length, IfOk};
 ghost use Rattle.std.specs.Int.{w32, cast_unsigned};
 ghost use Rattle.fidl_wire.specs.Headers.{header_bytes, flags_of};
-ghost use Rattle.fidl_wire.specs.Numbers.{number_bytes, padding_after, padded};
+ghost use Rattle.fidl_names.specs.Numbers.{number_bytes};
+ghost use Rattle.fidl_wire.specs.Numbers.{padding_after, padded};
 ghost use Rattle.fidl_wire.specs.Written.{Written, most_bytes, most_handles, padded_bytes};
 
 use crate::headers::{FLEXIBLE_BIT, Header, MAGIC, VERSION_BIT};
@@ -68,7 +69,7 @@ impl Out {
     }
 
     /// Appends four bytes.
-    #[tactic(auto, unfolding(crate::specs::Numbers::number_bytes))]
+    #[tactic(auto, unfolding(fidl_names::specs::Numbers::number_bytes))]
     pub fn put_u32(&mut self, v: u32)
         requires { length self.old.bytes + 4 ≤ most_bytes }
         ensures bytes { self.new.bytes ≡ self.old.bytes ++ number_bytes 4 v }
@@ -91,7 +92,7 @@ impl Out {
     }
 
     /// Appends eight bytes.
-    #[tactic(auto, unfolding(crate::specs::Numbers::number_bytes))]
+    #[tactic(auto, unfolding(fidl_names::specs::Numbers::number_bytes))]
     pub fn put_u64(&mut self, v: u64)
         requires { length self.old.bytes + 8 ≤ most_bytes }
         ensures bytes { self.new.bytes ≡ self.old.bytes ++ number_bytes 8 v }

@@ -6,7 +6,8 @@ use Rattle.fidl_wire.specs.declared.faults.WireFault.{WireFault}
 use Rattle.fidl_wire.specs.declared.kinds.HandleKind.TheVariants.{AToken}
 use Rattle.fidl_wire.specs.Cursor.{Cursor, start}
 use Rattle.fidl_wire.specs.Layout.{Item, Content, Variant, struct, fields, number, handle, text, vector, num, held, empty, object}
-use Rattle.fidl_wire.specs.Numbers.{padding_after, number_at}
+use Rattle.fidl_names.specs.Numbers.{number_at}
+use Rattle.fidl_wire.specs.Numbers.{padding_after}
 use Rattle.fidl_wire.specs.Reading.{body_of, cells_at, cell_at, list_cell, count_at, passed, ordinal_at, present_list}
 use Rattle.io_messages.specs.declared.replies.Shape.{Shape}
 use Rattle.io_messages.specs.declared.replies.Shape.TheVariants as shape

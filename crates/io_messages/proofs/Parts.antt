@@ -9,7 +9,8 @@ use Rattle.fidl_wire.specs.declared.faults.WireFault.{WireFault}
 use Rattle.fidl_wire.specs.declared.kinds.HandleKind.{HandleKind}
 use Rattle.fidl_wire.specs.Cursor.{Cursor, start_of, start, IsPart}
 use Rattle.fidl_wire.specs.Layout.{Item, handle, pad, text, blank, held, seq, is_kind}
-use Rattle.fidl_wire.specs.Numbers.{padded, padding_after, number_at}
+use Rattle.fidl_names.specs.Numbers.{number_at}
+use Rattle.fidl_wire.specs.Numbers.{padded, padding_after}
 use Rattle.fidl_wire.specs.Reading.{◌>>=◌, check, inline_at, count_at, passed, next_handle, handle_word, handle_cell, all_blank, list_part, list_at, list_cell, pad_cell, cell_at, Step}
 use Rattle.io_messages.specs.Requests.{IsPartAt}
 

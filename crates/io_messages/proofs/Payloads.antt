@@ -12,7 +12,8 @@ use Rattle.fidl_wire.specs.declared.faults.WireWhat.TheVariants.{Value}
 use Rattle.fidl_wire.specs.Headers.{fault}
 use Rattle.fidl_wire.specs.Laws.{ReadsWhatIsSpelled, SpelledWhereRead}
 use Rattle.fidl_wire.specs.Layout.{Cell, Item, Content, Variant, struct, branch, pad, text, vector, num, seq, object}
-use Rattle.fidl_wire.specs.Numbers.{padded, padding_after, number_at}
+use Rattle.fidl_names.specs.Numbers.{number_at}
+use Rattle.fidl_wire.specs.Numbers.{padded, padding_after}
 use Rattle.fidl_wire.specs.Reading.{body_of, known_variant, variant_items, cells_at, cell_at, list_cell, list_part, count_at, inline_at, passed, ordinal_at, branch_of, object_at, entered, within_branch, all_blank, finish_of}
 use Rattle.io_messages.specs.declared.replies.Reply.{Reply}
 use Rattle.io_messages.specs.declared.replies.Shape.{Shape}

@@ -1,7 +1,8 @@
 -- The bytes of unions and of small objects.
 use Rattle.std.proofs.Common.{◌≡◌, ℕ, ◌+◌, ◌%◌, ◌≤◌, List, [], ◌∷◌, ◌++◌, length, refl, ap, ◌∙◌, append_assoc, length-append, add-zero, ◌<◌, Option, Some, MatchOption, subst, arith}
 use Rattle.fidl_wire.specs.Grammar.{Part, join, nothing}
-use Rattle.fidl_wire.specs.Numbers.{number_bytes, padding_after, padded}
+use Rattle.fidl_names.specs.Numbers.{number_bytes}
+use Rattle.fidl_wire.specs.Numbers.{padding_after, padded}
 use Rattle.fidl_wire.specs.Spelling.{envelope_bytes, object_bytes, inline_part, list_part_of, table_part, given, count_bytes}
 use Rattle.fidl_wire.specs.Written.{padded_bytes, most_bytes}
 use Rattle.io_messages.specs.declared.fields.Field.{Field}

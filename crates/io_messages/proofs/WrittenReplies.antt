@@ -13,7 +13,8 @@ use Rattle.fidl_wire.specs.Headers.{header_bytes}
 use Rattle.fidl_wire.specs.Laws.{HeadersAreRead, SpellingIsRead, SpellingIsSpelled}
 use Rattle.fidl_wire.specs.Layout.{Content, struct, fields, branch, object, number, vector, num, blank, held, seq, members}
 use Rattle.fidl_wire.specs.Names.{method_ordinal}
-use Rattle.fidl_wire.specs.Numbers.{number_bytes, padded}
+use Rattle.fidl_names.specs.Numbers.{number_bytes}
+use Rattle.fidl_wire.specs.Numbers.{padded}
 use Rattle.fidl_wire.specs.Spelling.{FitMembers, FitsBody, FitsVariant, body_bytes, body_handles, given, inline_part, members_part}
 use Rattle.fidl_wire.specs.Written.{most_bytes}
 use Rattle.io_messages.specs.declared.replies.Attributes.{Attributes}

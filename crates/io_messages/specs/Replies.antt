@@ -25,7 +25,8 @@ use Rattle.io_messages.specs.declared.replies.Reply.TheVariants as reply
 use Rattle.io_messages.specs.declared.replies.Shape.{Shape}
 use Rattle.io_messages.specs.declared.replies.Shape.TheVariants as shape
 use Rattle.io_messages.specs.Protocols.{all_methods}
-use Rattle.io_messages.specs.Requests.{IsPartAt, item, num_in, seq_in, items_in, number_of_handle}
+use Rattle.fidl_names.specs.HandleNumber.{number_of_handle}
+use Rattle.io_messages.specs.Requests.{IsPartAt, item, num_in, seq_in, items_in}
 use Rattle.io_messages.specs.Shapes.{shape_of}
 
 -- ---- what a reply says, without where its bytes lie in memory

@@ -3,6 +3,7 @@ use Rattle.std.specs.Prelude.{◌≡◌, ℕ, ◌+◌, ◌==◌, ◌&&◌, Bool,
 use Rattle.std.specs.Int.{w64, cast_unsigned, cast_signed}
 use Rattle.fidl_names.specs.declared.methods.Handle.{Handle}
 use Rattle.fidl_names.specs.declared.methods.Handle.TheVariants.{Endpoint, Token}
+use Rattle.fidl_names.specs.HandleNumber.{number_of_handle}
 use Rattle.fidl_names.specs.declared.methods.Method.{Method}
 use Rattle.fidl_names.specs.declared.methods.Method.TheVariants as method
 use Rattle.fidl_wire.specs.declared.faults.WireFault.{WireFault}
@@ -109,10 +110,6 @@ num_of _ = 0
 abbrev pub seq_of : Item → List ℕ
 seq_of (seq xs) = xs
 seq_of _ = []
-
-abbrev pub number_of_handle : Handle → ℕ
-number_of_handle (Endpoint n) = n
-number_of_handle (Token n) = n
 
 abbrev pub handle_of : Item → ℕ
 handle_of (held (Some h)) = number_of_handle h

@@ -1,6 +1,7 @@
 ghost use Rattle.std.specs.Prelude.{◌≡◌, ◌≢◌, ℕ, ◌+◌, ◌%◌, ◌<◌, ◌≤◌, ◌++◌, [], Some, None, length};
 ghost use Rattle.fidl_wire.specs.Headers.{header_bytes};
-ghost use Rattle.fidl_wire.specs.Numbers.{number_bytes, padded};
+ghost use Rattle.fidl_names.specs.Numbers.{number_bytes};
+ghost use Rattle.fidl_wire.specs.Numbers.{padded};
 ghost use Rattle.fidl_wire.specs.Spelling.{object_bytes, envelope_bytes, body_bytes, body_handles};
 ghost use Rattle.fidl_wire.specs.Written.{most_bytes};
 ghost use Rattle.io_messages.specs.Fields.{parts_of};

@@ -10,7 +10,8 @@ use Rattle.endpoint_link.specs.declared.kinds.Standing.{Standing}
 use Rattle.endpoint_link.specs.declared.kinds.Standing.TheVariants as standing
 use Rattle.endpoint_link.specs.Admission.{LookUps, admission, first_of, refused_if, refusal_by, by_standing, may_travel, all_may_travel, look_ups as known_look_ups}
 use Rattle.endpoint_link.specs.Frames.{Frame}
-use Rattle.endpoint_link.specs.Numbering.{among, is_client}
+use Rattle.fidl_names.specs.HandleNumber.{is_client}
+use Rattle.endpoint_link.specs.Numbering.{among}
 use Rattle.endpoint_link.specs.Standings.{Known, holds, is_used as is_used_standing, standing_of as known_standing}
 use Rattle.io_rights.specs.Operations.{none}
 use Rattle.conn_rules.specs.Built.{Built}

@@ -16,7 +16,8 @@ use Rattle.endpoint_link.specs.declared.kinds.Standing.{Standing}
 use Rattle.endpoint_link.specs.declared.kinds.Standing.TheVariants as standing
 use Rattle.endpoint_link.specs.Admission.{admission, may_travel, all_may_travel, Admits, AdmitsKind}
 use Rattle.endpoint_link.specs.Frames.{Frame}
-use Rattle.endpoint_link.specs.Numbering.{among, is_client}
+use Rattle.fidl_names.specs.HandleNumber.{is_client}
+use Rattle.endpoint_link.specs.Numbering.{among}
 use Rattle.endpoint_link.specs.Standings.{Known, Sends, holds, hung_up as hung_up_in}
 use Rattle.endpoint_link.proofs.Travelling.{travel_each, unused_by, held_by as held_when}
 use Rattle.conn_rules.specs.Built.{Built}

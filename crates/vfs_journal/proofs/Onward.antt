@@ -14,7 +14,7 @@ use Rattle.fidl_names.specs.declared.methods.Method.{Method}
 use Rattle.fidl_names.specs.declared.methods.Method.TheVariants as method
 use Rattle.fidl_wire.specs.Grammar.{IsNumber, IsSpelled, Lays, Part, Spells}
 use Rattle.fidl_wire.specs.Layout.{Cell, Item, struct, fields, held, num, blank, seq, members, number}
-use Rattle.fidl_wire.specs.Numbers.{number_at}
+use Rattle.fidl_names.specs.Numbers.{number_at}
 use Rattle.io_flags.specs.Grants.{onward, kept_within, without, write_set, execute_set}
 use Rattle.io_flags.specs.Words.{place}
 use Rattle.io_flags.specs.declared.names.Flag.{Flag}

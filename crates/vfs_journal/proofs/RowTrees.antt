@@ -17,7 +17,7 @@ use Rattle.node_graph.specs.Tree.{EdgeKey, EdgeTo, edge_cmp, Edges}
 use Rattle.path_walk.specs.Names.{name_fault}
 use Rattle.path_walk.specs.Paths.{names_of, path_fault}
 use Rattle.tree_file.specs.Numbering.{end_of_mount}
-use Rattle.fidl_wire.specs.Numbers.{number_bytes}
+use Rattle.fidl_names.specs.Numbers.{number_bytes}
 use Rattle.conn_rules.specs.Acts.{act_of}
 use Rattle.conn_rules.specs.Nodes.{attributes_of}
 use Rattle.conn_rules.specs.Walks.{walk}

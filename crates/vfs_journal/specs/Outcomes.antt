@@ -13,7 +13,7 @@ use Rattle.io_messages.specs.declared.protocols.Protocol.TheVariants as protocol
 use Rattle.io_messages.specs.Replies.{Answered, done, settled}
 use Rattle.io_messages.specs.Replies as answered
 use Rattle.io_messages.specs.ReplyWriting.{reply_bytes, reply_handles, event_bytes}
-use Rattle.io_messages.specs.Requests.{number_of_handle}
+use Rattle.fidl_names.specs.HandleNumber.{number_of_handle}
 use Rattle.io_messages.specs.Writing.{request_bytes}
 use Rattle.io_rights.specs.Operations.{none}
 use Rattle.node_graph.specs.Tree.{Change, stay}

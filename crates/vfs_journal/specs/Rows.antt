@@ -14,7 +14,7 @@ use Rattle.io_messages.specs.declared.protocols.Protocol.TheVariants as protocol
 use Rattle.io_messages.specs.declared.replies.Attributes.{Attributes}
 use Rattle.io_messages.specs.Replies.{Answered}
 use Rattle.io_messages.specs.ReplyWriting.{reply_bytes, reply_handles}
-use Rattle.io_messages.specs.Requests.{number_of_handle}
+use Rattle.fidl_names.specs.HandleNumber.{number_of_handle}
 use Rattle.conn_rules.specs.Built.{everything}
 use Rattle.vfs_journal.specs.Outcomes.{onward_bytes}
 use Rattle.vfs_journal.specs.Output.{frames_of}

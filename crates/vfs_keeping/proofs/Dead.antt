@@ -4,8 +4,9 @@ use Rattle.std.specs.Prelude.{if◌then◌else◌}
 use Rattle.std.proofs.lemmas.List.{map_more, at_drop_more, at_drop_all}
 use Rattle.std.proofs.lemmas.List.Elements.{filter-append}
 use Rattle.fidl_names.specs.declared.methods.Handle.{Handle}
-use Rattle.io_messages.specs.Requests.{number_of_handle}
-use Rattle.endpoint_link.specs.Numbering.{among, is_client}
+use Rattle.fidl_names.specs.HandleNumber.{number_of_handle}
+use Rattle.fidl_names.specs.HandleNumber.{is_client}
+use Rattle.endpoint_link.specs.Numbering.{among}
 use Rattle.vfs_journal.specs.Deaths.{spread}
 use Rattle.vfs_journal.specs.Entries.{Sent, endpoints_in, handles_of}
 use Rattle.vfs_serving.specs.Parcels.{numbers_of}

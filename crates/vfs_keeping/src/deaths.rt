@@ -1,8 +1,9 @@
 //! The endpoints that die of a serving.
 
 ghost use Rattle.std.specs.Prelude.{◌≡◌, ◌++◌, IfOk, OnOk, None};
-ghost use Rattle.endpoint_link.specs.Numbering.{among, is_client};
-ghost use Rattle.io_messages.specs.Requests.{number_of_handle};
+ghost use Rattle.fidl_names.specs.HandleNumber.{is_client};
+ghost use Rattle.endpoint_link.specs.Numbering.{among};
+ghost use Rattle.fidl_names.specs.HandleNumber.{number_of_handle};
 ghost use Rattle.vfs_journal.specs.Deaths.{spread};
 ghost use Rattle.vfs_journal.specs.Entries.{endpoints_in};
 ghost use Rattle.vfs_keeping.specs.Told.{carried_but, end_told, first_told, is_it, settled_told};

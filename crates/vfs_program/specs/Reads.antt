@@ -4,7 +4,7 @@ use Rattle.fidl_names.specs.declared.statuses.Status.{Status}
 use Rattle.fidl_names.specs.declared.statuses.Status.TheVariants as status
 use Rattle.fidl_wire.specs.Headers.{header_of}
 use Rattle.fidl_wire.specs.Names.{ordinal_of}
-use Rattle.fidl_wire.specs.Numbers.{number_at}
+use Rattle.fidl_names.specs.Numbers.{number_at}
 use Rattle.fidl_wire.specs.declared.faults.WireFault.{WireFault}
 use Rattle.fidl_wire.specs.declared.headers.Header.{Header}
 

@@ -1,7 +1,8 @@
 -- What one file answers to a Read.
 use Rattle.std.specs.Prelude.{ℕ, ◌+◌, ◌-◌, ◌^◌, List, [], ◌∷◌, ◌++◌, length, take, drop, nat_lt, if◌then◌else◌, false}
 use Rattle.fidl_wire.specs.Headers.{header_bytes}
-use Rattle.fidl_wire.specs.Numbers.{number_bytes, padded}
+use Rattle.fidl_names.specs.Numbers.{number_bytes}
+use Rattle.fidl_wire.specs.Numbers.{padded}
 use Rattle.fidl_wire.specs.Written.{padded_bytes}
 use Rattle.vfs_program.specs.Reads.{Asked, read_ordinal}
 

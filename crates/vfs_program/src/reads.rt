@@ -1,5 +1,5 @@
 ghost use Rattle.std.specs.Prelude.{◌≡◌, ◌<◌, ◌≤◌, length, Ok};
-ghost use Rattle.fidl_wire.specs.Numbers.{number_at};
+ghost use Rattle.fidl_names.specs.Numbers.{number_at};
 ghost use Rattle.vfs_program.specs.Reads.{meaning_of, read_ordinal};
 ghost use Rattle.vfs_program.specs.Meanings.{seen};
 

@@ -3,7 +3,7 @@ use Rattle.std.proofs.Common.{◌≡◌, ℕ, Bool, true, false, List, [], ◌�
 use Rattle.std.specs.Prelude.{if◌then◌else◌}
 use Rattle.fidl_names.specs.declared.methods.Handle.{Handle}
 use Rattle.fidl_names.specs.declared.methods.Handle.TheVariants.{Endpoint, Token}
-use Rattle.io_messages.specs.Requests.{number_of_handle}
+use Rattle.fidl_names.specs.HandleNumber.{number_of_handle}
 use Rattle.vfs_journal.specs.Entries.{handle_with}
 use Rattle.vfs_serving.specs.Parcels.{AreByNumber, numbers_of}
 

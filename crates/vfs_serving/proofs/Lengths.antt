@@ -4,7 +4,8 @@ use Rattle.std.proofs.lemmas.List.{append-nil, length-replicate}
 use Rattle.byteorder.specs.Numbers.{length-bytes_low_first}
 use Rattle.fidl_wire.specs.declared.headers.Header.{Header}
 use Rattle.fidl_wire.specs.Headers.{header_bytes, flags_of}
-use Rattle.fidl_wire.specs.Numbers.{number_bytes, padding_after}
+use Rattle.fidl_names.specs.Numbers.{number_bytes}
+use Rattle.fidl_wire.specs.Numbers.{padding_after}
 use Rattle.fidl_wire.specs.Reading.{present_word, present_list}
 use Rattle.fidl_wire.specs.Spelling.{count_bytes}
 use Rattle.fidl_wire.specs.Written.{padded_bytes, most_bytes}

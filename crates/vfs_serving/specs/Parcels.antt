@@ -1,7 +1,7 @@
 -- What was sent, as it is kept while it waits.
 use Rattle.std.specs.Prelude.{◌≡◌, ℕ, List, map}
 use Rattle.fidl_names.specs.declared.methods.Handle.{Handle}
-use Rattle.io_messages.specs.Requests.{number_of_handle}
+use Rattle.fidl_names.specs.HandleNumber.{number_of_handle}
 use Rattle.vfs_journal.specs.Entries.{Sending, message, hang_up, handle_with}
 use Rattle.vfs_serving.specs.declared.parcel.Content.{Content}
 use Rattle.vfs_serving.specs.declared.parcel.Content.TheVariants as content

@@ -3,7 +3,7 @@
 ghost use Rattle.std.specs.Prelude.{◌≡◌, ◌≢◌, ◌≤◌, ◌++◌, [], ◌∷◌, length, take, OnOk, OnErr};
 ghost use Rattle.fidl_names.specs.StatusNumber.{number_of};
 ghost use Rattle.endpoint_link.specs.Frames.{spelling, spellings};
-ghost use Rattle.io_messages.specs.Requests.{number_of_handle};
+ghost use Rattle.fidl_names.specs.HandleNumber.{number_of_handle};
 ghost use Rattle.vfs_journal.specs.Outcomes.{announcement, close_frame, ending};
 ghost use Rattle.vfs_serving.specs.Frames.{last_frames, message_frame};
 ghost use Rattle.vfs_serving.specs.Parcels.{numbers_of};

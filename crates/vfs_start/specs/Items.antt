@@ -1,6 +1,6 @@
 -- What the items of an accepted tree file are.
 use Rattle.std.specs.Prelude.{◌≡◌, ◌<◌, ◌⊎◌, ℕ, true, false, [], None}
-use Rattle.endpoint_link.specs.Numbering.{is_client}
+use Rattle.fidl_names.specs.HandleNumber.{is_client}
 use Rattle.node_graph.specs.declared.nodes.NodeKind.{NodeKind}
 use Rattle.node_graph.specs.declared.nodes.NodeKind.TheVariants.{File, Mount}
 use Rattle.path_walk.specs.Paths.{path_fault}

@@ -77,7 +77,7 @@ fn number_in(bytes: &[u8]) -> u32
 }
 
 /// Answers a frame that is refused.
-#[tactic(auto, unfolding(fidl_wire::specs::Numbers::number_bytes))]
+#[tactic(auto, unfolding(fidl_names::specs::Numbers::number_bytes))]
 fn refuse(endpoint: u32, why: Refusal, outbox: &mut Outbox) -> Result<(), NoMemory>
     ensures written { OnOk result (outbox.new ≡ outbox.old ++ spelling (refused_frame endpoint why)) }
     ensures no_memory { OnErr result (outbox.new ≡ outbox.old) }

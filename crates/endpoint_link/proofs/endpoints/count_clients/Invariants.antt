@@ -1,6 +1,6 @@
 use Rattle.std.specs.Prelude.{◌≡◌, take, count_by}
 use Rattle.endpoint_link.specs.Views.{handle_numbers}
-use Rattle.endpoint_link.specs.Numbering.{is_client}
+use Rattle.fidl_names.specs.HandleNumber.{is_client}
 use Rattle.endpoint_link.proofs.endpoints.count_clients.Given as goal
 
 abbrev pub invariant-loop-i : goal.invariant-loop-i

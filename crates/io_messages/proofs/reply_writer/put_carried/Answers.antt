@@ -1,5 +1,5 @@
 use Rattle.std.proofs.Common.{ℕ, ◌%◌, [], length, Some, refl, ap, arith}
-use Rattle.fidl_wire.specs.Numbers.{number_bytes}
+use Rattle.fidl_names.specs.Numbers.{number_bytes}
 use Rattle.fidl_wire.specs.Spelling.{count_bytes}
 use Rattle.io_messages.specs.declared.replies.Shape.{Shape}
 use Rattle.io_messages.specs.Replies.{beside_payload}

@@ -1,6 +1,6 @@
 use Rattle.std.proofs.Common.{[], ◌∷◌, refl, arith}
 use Rattle.fidl_wire.specs.Grammar.{join, nothing}
-use Rattle.fidl_wire.specs.Numbers.{number_bytes}
+use Rattle.fidl_names.specs.Numbers.{number_bytes}
 use Rattle.fidl_wire.specs.Spelling.{inline_part, list_part_of, count_bytes}
 use Rattle.fidl_wire.specs.Written.{padded_bytes}
 use Rattle.io_messages.proofs.Lengths.{length-number, length-count}

@@ -1,6 +1,6 @@
 use Rattle.std.proofs.Common.{ℕ, ◌%◌, [], Some, refl, ap, arith}
 use Rattle.fidl_wire.specs.Grammar.{join, nothing}
-use Rattle.fidl_wire.specs.Numbers.{number_bytes}
+use Rattle.fidl_names.specs.Numbers.{number_bytes}
 use Rattle.fidl_wire.specs.Spelling.{inline_part, handle_part}
 use Rattle.fidl_wire.specs.Reading.{present_word}
 use Rattle.fidl_names.specs.declared.methods.Handle.TheVariants.{Token}

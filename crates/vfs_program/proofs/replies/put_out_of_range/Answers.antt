@@ -1,5 +1,5 @@
 use Rattle.std.proofs.Common.{ap, ◌∙◌, ◌++◌}
-use Rattle.fidl_wire.specs.Numbers.{number_bytes}
+use Rattle.fidl_names.specs.Numbers.{number_bytes}
 use Rattle.vfs_program.specs.Replies.{reply_header}
 use Rattle.vfs_program.proofs.ReplyLemmas.{inlined}
 use Rattle.vfs_program.proofs.replies.put_out_of_range.Goals as goal

@@ -1,6 +1,6 @@
 use Rattle.std.proofs.Common.{◌≡◌, ◌∙◌, ℕ, All, IfOk, List, arith, subst, sym, true}
 use Rattle.std.proofs.lemmas.List.{length-map}
-use Rattle.endpoint_link.specs.Numbering.{is_client}
+use Rattle.fidl_names.specs.HandleNumber.{is_client}
 use Rattle.endpoint_link.specs.Standings.{Starts}
 use Rattle.endpoint_link.specs.Tables.{AreDistinct}
 use Rattle.tree_file.specs.Items.{ClientItem}

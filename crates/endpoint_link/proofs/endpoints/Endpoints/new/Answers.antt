@@ -7,7 +7,8 @@ use Rattle.std.proofs.lemmas.Bool.Decides.{nat_tests}
 use Rattle.std.proofs.lemmas.List.Elements.{All-head, All-tail}
 use Rattle.endpoint_link.specs.declared.kinds.Standing.{Standing}
 use Rattle.endpoint_link.specs.declared.kinds.Standing.TheVariants as standing
-use Rattle.endpoint_link.specs.Numbering.{among, is_client, is_mount_end}
+use Rattle.fidl_names.specs.HandleNumber.{is_client, is_mount_end}
+use Rattle.endpoint_link.specs.Numbering.{among}
 use Rattle.endpoint_link.proofs.Tabled.{standing-table}
 use Rattle.endpoint_link.proofs.endpoints.Endpoints.new.Goals as goal
 

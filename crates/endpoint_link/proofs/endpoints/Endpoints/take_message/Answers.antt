@@ -3,7 +3,8 @@ use Rattle.std.specs.Prelude.{Option, Some, unwrap_or}
 use Rattle.endpoint_link.specs.declared.kinds.Standing.{Standing}
 use Rattle.endpoint_link.specs.declared.kinds.Standing.TheVariants as standing
 use Rattle.endpoint_link.specs.Admission.{look_ups, all_may_travel}
-use Rattle.endpoint_link.specs.Numbering.{among, is_client}
+use Rattle.fidl_names.specs.HandleNumber.{is_client}
+use Rattle.endpoint_link.specs.Numbering.{among}
 use Rattle.endpoint_link.specs.Standings.{Known, Sends, is_used}
 use Rattle.endpoint_link.specs.Tables.{value_at}
 use Rattle.endpoint_link.specs.Views.{handle_numbers}

@@ -1,7 +1,7 @@
 use Rattle.std.proofs.Common.{◌/◌, length, arith}
 use Rattle.std.proofs.lemmas.List.Sums.{count_by-le-length}
 use Rattle.endpoint_link.specs.Views.{handle_numbers}
-use Rattle.endpoint_link.specs.Numbering.{is_client}
+use Rattle.fidl_names.specs.HandleNumber.{is_client}
 use Rattle.endpoint_link.proofs.Words.{length-words_in}
 use Rattle.endpoint_link.proofs.endpoints.Endpoints.too_many.Goals as goal
 

@@ -3,7 +3,7 @@ use Rattle.std.specs.Prelude.{count_by}
 use Rattle.std.proofs.lemmas.Cmp.{nat_cmp_total}
 use Rattle.std.proofs.lemmas.Map.Lookups.{btree_map_from_get, exact_unsigned}
 use Rattle.endpoint_link.specs.Views.{handle_numbers}
-use Rattle.endpoint_link.specs.Numbering.{is_client}
+use Rattle.fidl_names.specs.HandleNumber.{is_client}
 use Rattle.endpoint_link.specs.Tables.{Counted, live_in, AreNew, Makes, TakesBack}
 use Rattle.endpoint_link.proofs.Made.{count_by-one, undone}
 use Rattle.endpoint_link.proofs.standings.Standings.make_all.Goals as goal

@@ -1,6 +1,6 @@
 use Rattle.std.specs.Prelude.{◌≡◌, ◌+◌, take, count_by}
 use Rattle.endpoint_link.specs.Views.{handle_numbers}
-use Rattle.endpoint_link.specs.Numbering.{is_client}
+use Rattle.fidl_names.specs.HandleNumber.{is_client}
 use Rattle.endpoint_link.specs.Tables.{Makes}
 use Rattle.endpoint_link.proofs.standings.Standings.make_all.Given as goal
 

@@ -1,6 +1,6 @@
 use Rattle.std.specs.Prelude.{◌≡◌, ◌+◌, ℕ, if◌then◌else◌, Some}
 use Rattle.endpoint_link.specs.declared.kinds.Standing.TheVariants as standing
-use Rattle.endpoint_link.specs.Numbering.{is_mount_end}
+use Rattle.fidl_names.specs.HandleNumber.{is_mount_end}
 use Rattle.endpoint_link.specs.Tables.{value_at}
 use Rattle.endpoint_link.proofs.standings.Standings.make_mounts.Given as goal
 
