@@ -8,7 +8,7 @@ use Rattle.fidl_wire.specs.Reading.{blank_or, all_blank}
 is_zero : ℕ → Bool
 is_zero b = not (not (nat_eq b 0))
 
-abbrev zeros_len : List ℕ → ℕ
+abbrev pub zeros_len : List ℕ → ℕ
 zeros_len xs = prefix_len (λ b. not (not (nat_eq b 0))) xs
 
 zeros_len-replicate : (n : ℕ) → zeros_len (replicate n 0) ≡ n
@@ -18,7 +18,7 @@ zeros_len-replicate (suc n) = rw (zeros_len-replicate n) (omega arith)
 not_zero : (b : ℕ) → nat_eq (suc b) 0 ≡ false
 not_zero b = grind (arith, nat_tests)
 
-zeros_len-used : (b : ℕ) (xs : List ℕ) → zeros_len (suc b ∷ xs) ≡ 0
+pub zeros_len-used : (b : ℕ) (xs : List ℕ) → zeros_len (suc b ∷ xs) ≡ 0
 zeros_len-used b xs = rw (not_zero b) refl
 
 zeros_len-le : (xs : List ℕ) → zeros_len xs ≤ length xs
@@ -43,7 +43,7 @@ none_used xs h = all_zeros xs (none_past (zeros_len xs) (length xs) h)
 used_none : (n : ℕ) → position (λ b. not (nat_eq b 0)) (replicate n 0) ≡ None
 used_none n = past_none (zeros_len (replicate n 0)) (length (replicate n 0)) (omega (arith, zeros_len-replicate n, length-replicate {A = ℕ} n 0))
 
-length-slice_range : (m : List ℕ) (from until : ℕ) → from ≤ until → until ≤ length m → length (slice_range m from until) ≡ until - from
+pub length-slice_range : (m : List ℕ) (from until : ℕ) → from ≤ until → until ≤ length m → length (slice_range m from until) ≡ until - from
 length-slice_range m from until h k = omega (arith, length-take (until - from) (drop from m), length-drop from m)
 
 blank_or_ok : (from : ℕ) (p : Option ℕ) (u : Unit {0}) → blank_or from p ≡ Ok u → p ≡ None

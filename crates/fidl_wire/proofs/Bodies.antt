@@ -57,11 +57,11 @@ struct_sound cells content m hs h =
 
 -- ---- unions
 
-number_at-drop : (size k at : ℕ) (m : List ℕ) → number_at size k (drop at m) ≡ number_at size (at + k) m
+pub number_at-drop : (size k at : ℕ) (m : List ℕ) → number_at size k (drop at m) ≡ number_at size (at + k) m
 unfolding number_at
 number_at-drop size k at m = rw (drop-drop k at m) refl
 
-padding_sixteen : padding_after 16 ≡ 0
+pub padding_sixteen : padding_after 16 ≡ 0
 unfolding padding_after
 padding_sixteen = refl
 
@@ -72,10 +72,10 @@ padding_union = refl
 blank_none : (m : List ℕ) (at : ℕ) → all_blank m at at ≡ Ok tt
 blank_none m at = zeros-all_blank m at at (let none : at - at ≡ 0 = omega arith in rw none refl)
 
-blank_union : (m : List ℕ) → all_blank m 32 (padded 32) ≡ Ok tt
+pub blank_union : (m : List ℕ) → all_blank m 32 (padded 32) ≡ Ok tt
 blank_union m = rw padding_union (blank_none m 32)
 
-ordinal_read : (m : List ℕ) (hs : List Handle) → ordinal_at (start m hs 16) ≡ Ok (number_at 8 16 m)
+pub ordinal_read : (m : List ℕ) (hs : List Handle) → ordinal_at (start m hs 16) ≡ Ok (number_at 8 16 m)
 unfolding ordinal_at
 ordinal_read m hs = refl
 
@@ -157,7 +157,7 @@ inlined_sound size m hs b small room h done =
 
 -- ---- a branch out of line
 
-abbrev opened_by : List ℕ → List Handle → Opened
+abbrev pub opened_by : List ℕ → List Handle → Opened
 opened_by m hs = record { at = 24; until = 32 + bytes_at 24 m; left = length hs - handles_at 24 m }
 
 union_part : (m : List ℕ) → slice_range (drop 16 m) 8 16 ≡ take 8 (drop 24 m)
@@ -181,7 +181,7 @@ counts_of cells ordinal xs m hs u =
 object_behind : (cells : List Cell) (xs : List Item) (m : List ℕ) (hs : List Handle) → IsObject cells xs (drop 16 (drop 16 m)) hs → IsObject cells xs (drop 32 m) hs
 object_behind cells xs m hs o = subst (λ (bytes : List ℕ). IsObject cells xs bytes hs) (drop-drop 16 16 m) o
 
-within_is : (size : ℕ) (m : List ℕ) (hs : List Handle) → within_branch size 24 (start m hs 16) ≡ before_object m hs 32 size (Some (opened_by m hs))
+pub within_is : (size : ℕ) (m : List ℕ) (hs : List Handle) → within_branch size 24 (start m hs 16) ≡ before_object m hs 32 size (Some (opened_by m hs))
 within_is size m hs = rw padding_sixteen refl
 
 object_enters : (cells : List Cell) (xs : List Item) (m : List ℕ) (hs : List Handle) → 32 ≤ length m → 4 < sizes_of cells → Counts m hs → IsObject cells xs (drop 32 m) hs →

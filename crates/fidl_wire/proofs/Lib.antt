@@ -1,10 +1,14 @@
 pub mod Blanks
 pub mod Bodies
+pub mod BodyFaults
+pub mod CellFaults
 pub mod Cells
 pub mod Endings
+pub mod FaultSteps
 pub mod ReadEpitaphs
 pub mod ReadHeaders
 pub mod Members
+pub mod ObjectFaults
 pub mod Objects
 pub mod Padded
 pub mod Parts
@@ -14,5 +18,6 @@ pub mod Slices
 pub mod Spelled
 pub mod Steps
 pub mod TableCells
+pub mod TableFaults
 pub mod Vectors
 pub mod WholeTables

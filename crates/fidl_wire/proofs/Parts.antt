@@ -4,14 +4,9 @@ use Rattle.std.proofs.lemmas.List.{drop-drop}
 use Rattle.fidl_names.specs.declared.methods.Handle.{Handle}
 use Rattle.fidl_wire.specs.Cursor.{Cursor}
 use Rattle.fidl_wire.specs.Reading.{passed}
+pub use Rattle.fidl_wire.specs.Meanings.{Stands}
 use Rattle.fidl_wire.specs.Grammar.{Part, nothing, join, IsInline}
 use Rattle.fidl_wire.proofs.Slices.{Begins, begins-append, begins-append_first, begins-append_rest}
-
--- a part stands in a message: its inline bytes at one place, those out of line at another, and its handles are the next
-pub record Stands (m : List ℕ) (at out : ℕ) (hs : List Handle) (p : Part) : Type 0 where
-  pub inline : Begins (drop at m) p.inline
-  pub outside : Begins (drop out m) p.outside
-  pub handles : Begins hs p.handles
 
 -- behind a part
 abbrev pub moved : Cursor → Part → Cursor

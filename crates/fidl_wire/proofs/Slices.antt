@@ -3,10 +3,7 @@ use Rattle.std.proofs.Common.{◌≡◌, ℕ, zero, suc, ◌+◌, ◌-◌, ◌�
 use Rattle.std.proofs.lemmas.List.{drop-drop, drop-take}
 use Rattle.byteorder.specs.Numbers.{little_from-take}
 use Rattle.fidl_names.specs.Numbers.{number_at}
-
--- the list begins with this one
-abbrev pub Begins : {A : Type 0} → List A → List A → Type 0
-Begins xs front = take (length front) xs ≡ front
+pub use Rattle.fidl_wire.specs.Meanings.{Begins}
 
 pub begins_front : {A : Type 0} → (n : ℕ) (xs : List A) → Begins xs (take n xs)
 begins_front zero xs = refl

@@ -71,7 +71,7 @@ pub record Enters (at size : ℕ) (m : List ℕ) (o : Outside) : Type 0 where
   pub size_fits : o.out + padded size ≤ length m
   pub enough : handles_at at m ≤ o.left
 
-outside_true : (at : ℕ) (m : List ℕ) → flags_at at m ≡ 0 → 0 < bytes_at at m → bytes_at at m % 8 ≡ 0 → is_outside at m ≡ true
+pub outside_true : (at : ℕ) (m : List ℕ) → flags_at at m ≡ 0 → 0 < bytes_at at m → bytes_at at m % 8 ≡ 0 → is_outside at m ≡ true
 outside_true at m flags some aligned =
     rw (true_eq (flags_at at m) 0 flags, false_eq (bytes_at at m) 0 (λ z. omega arith), true_eq (bytes_at at m % 8) 0 aligned) refl
 

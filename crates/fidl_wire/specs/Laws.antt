@@ -1,14 +1,16 @@
 -- What holds of every header, every layout, every message and all handles.
-use Rattle.std.specs.Prelude.{◌≡◌, ℕ, ℤ, ◌^◌, ◌<◌, List, ◌++◌, length, Ok}
+use Rattle.std.specs.Prelude.{◌≡◌, ℕ, ℤ, ◌^◌, ◌<◌, List, ◌++◌, length, Ok, Err}
 use Rattle.fidl_names.specs.declared.methods.Handle.{Handle}
 use Rattle.fidl_names.specs.declared.statuses.Status.{Status}
 use Rattle.fidl_names.specs.StatusNumber.{number_of}
+use Rattle.fidl_wire.specs.declared.faults.WireFault.{WireFault}
 use Rattle.fidl_wire.specs.declared.headers.Header.{Header}
 use Rattle.fidl_wire.specs.Epitaphs.{epitaph_bytes, IsEpitaph}
 use Rattle.fidl_wire.specs.Headers.{header_of, header_bytes}
 use Rattle.fidl_wire.specs.Layout.{Layout, Content}
 use Rattle.fidl_wire.specs.Reading.{body_of}
 use Rattle.fidl_wire.specs.Grammar.{IsSpelled}
+use Rattle.fidl_wire.specs.Meanings.{IsFaultOf}
 use Rattle.fidl_wire.specs.Spelling.{FitsBody, body_bytes, body_handles}
 
 -- what bytes and handles spell is read
@@ -37,6 +39,11 @@ abbrev pub SpellingIsRead : Type 0
 SpellingIsRead =
     (layout : Layout) (content : Content) (header : List ℕ) → length header ≡ 16 → FitsBody layout content →
     body_of layout (header ++ body_bytes layout content) (body_handles layout content) ≡ Ok content
+
+-- a fault that is answered is what it says, and no value is spelled there
+abbrev pub FaultsAreMeant : Type 0
+FaultsAreMeant =
+    (layout : Layout) (message : List ℕ) (handles : List Handle) (e : WireFault) → body_of layout message handles ≡ Err e → IsFaultOf layout message handles e
 
 -- a header that was written is read back, whatever follows it
 abbrev pub HeadersAreRead : Type 0

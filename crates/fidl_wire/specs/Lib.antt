@@ -9,5 +9,6 @@ pub mod Collisions
 pub mod Faults
 pub mod Epitaphs
 pub mod Grammar
+pub mod Meanings
 pub mod Laws
 pub mod Spelling

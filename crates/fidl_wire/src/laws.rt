@@ -1,7 +1,7 @@
 //! Laws of the format, for every header and every layout. They compute nothing: what they say is in
 //! their clauses.
 
-ghost use Rattle.fidl_wire.specs.Laws.{EpitaphsAreReadOnce, HeadersAreRead, ReadsWhatIsSpelled, SpelledWhereRead, SpelledOnce, SpellingIsSpelled, SpellingIsRead, WrittenEpitaphsAreRead};
+ghost use Rattle.fidl_wire.specs.Laws.{EpitaphsAreReadOnce, FaultsAreMeant, HeadersAreRead, ReadsWhatIsSpelled, SpelledWhereRead, SpelledOnce, SpellingIsSpelled, SpellingIsRead, WrittenEpitaphsAreRead};
 
 /// A body is read as a value exactly where the message's bytes and handles spell that value, each
 /// cell at its place and with nothing left over.
@@ -13,6 +13,12 @@ pub fn body_is_read_where_spelled()
 /// Bytes and handles spell at most one value of a layout.
 pub fn body_is_spelled_once()
     ensures { SpelledOnce }
+{}
+
+/// A fault of a body is what its reason says of the bytes and handles at its offset. What stands before
+/// it is spelled, and nothing that stands there spells what the layout has next.
+pub fn body_fault_is_meant()
+    ensures { FaultsAreMeant }
 {}
 
 /// What is written for a value, behind any header, is spelled by the grammar and reads as it.
