@@ -1,4 +1,5 @@
 use crate::words;
+use fidl_names::Handle;
 use std::alloc::{AllocError, Global};
 
 /// A line of a text: its cells, with `|` between them. The first cell is the row's name.
@@ -53,6 +54,14 @@ impl<'a> Row<'a> {
     pub fn numbers(&self, alloc: Global, at: usize) -> Result<Vec<u64>, BadCell<'a>> {
         match words::numbers(alloc, self.cell(at)?) {
             Ok(Some(numbers)) => Ok(numbers),
+            Ok(None) => Err(self.bad(at)),
+            Err(AllocError) => Err(BadCell::NoMemory { row: self.name() }),
+        }
+    }
+
+    pub fn handles(&self, alloc: Global, at: usize) -> Result<Vec<Handle>, BadCell<'a>> {
+        match words::handles(alloc, self.cell(at)?) {
+            Ok(Some(handles)) => Ok(handles),
             Ok(None) => Err(self.bad(at)),
             Err(AllocError) => Err(BadCell::NoMemory { row: self.name() }),
         }

@@ -1,4 +1,5 @@
-use crate::{bytes, number, numbers, rows};
+use crate::{bytes, handles, number, numbers, rows};
+use fidl_names::Handle;
 use std::test::Fail;
 
 const TEXT: &str = "
@@ -31,6 +32,12 @@ fn rows_have_their_cells(rt: HostRuntime) -> Result<(), Fail> {
     assert!(rt; last.bytes(alloc, 2).is_err());
     assert!(rt; last.numbers(alloc, 3).is_err());
     assert!(rt; last.cell(4).is_err());
+    assert_eq!(rt;
+        handles(alloc, "e5,t2147483648")?
+            .ok_or("handles")?
+            .as_slice(),
+        &[Handle::Endpoint(5), Handle::Token(2_147_483_648)][..]
+    );
     Ok(())
 }
 
@@ -42,6 +49,9 @@ fn words_that_say_nothing(rt: HostRuntime) -> Result<(), Fail> {
     }
     for word in ["", "1,", "1,-"] {
         assert!(rt; numbers(alloc, word)?.is_none(), "{word}");
+    }
+    for word in ["", "5", "e", "e5,", "t4294967296"] {
+        assert!(rt; handles(alloc, word)?.is_none(), "{word}");
     }
     for word in ["0", "0g", "[61]", "[61*]", "[6161*2]", "[61*2"] {
         assert!(rt; bytes(alloc, word)?.is_none(), "{word}");

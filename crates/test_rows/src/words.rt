@@ -1,3 +1,4 @@
+use fidl_names::Handle;
 use std::alloc::{AllocError, Global};
 
 /// The number that a word says, in decimal or behind `0x` in hexadecimal digits.
@@ -21,6 +22,28 @@ pub fn numbers(alloc: Global, word: &str) -> Result<Option<Vec<u64>>, AllocError
         }
     }
     Ok(Some(all))
+}
+
+/// The handles between the commas of a word, as `e5` for an endpoint and `t2147483648` for a token; `-` says none.
+pub fn handles(alloc: Global, word: &str) -> Result<Option<Vec<Handle>>, AllocError> {
+    let mut all = Vec::new(alloc);
+    if word == "-" {
+        return Ok(Some(all));
+    }
+    for part in word.split(',') {
+        match handle(part) {
+            Some(handle) => all.push(handle)?,
+            None => return Ok(None),
+        }
+    }
+    Ok(Some(all))
+}
+
+fn handle(word: &str) -> Option<Handle> {
+    match word.strip_prefix('t') {
+        Some(digits) => Some(Handle::Token(digits.parse::<u32>().ok()?)),
+        None => Some(Handle::Endpoint(word.strip_prefix('e')?.parse::<u32>().ok()?)),
+    }
 }
 
 /// The bytes that a word's hexadecimal digits say, in which `[61*255]` stands for the byte 61, 255 times; `-` says none.
