@@ -62,6 +62,7 @@ fn put_open(out: &mut Out, path: &[u8], flags: u64)
     out.put_u32(u32::MAX);
     out.put_u32(0);
     out.put_bytes(path);
+    out.pad();
 }
 
 impl Reads {
@@ -149,6 +150,7 @@ pub fn put_reply(out: &mut Out, txid: u32, part: &[u8], ordinal: u64)
     out.put_u64(part.len() as u64);
     out.put_u64(u64::MAX);
     out.put_bytes(part);
+    out.pad();
 }
 
 /// What a Read asks for, with its txid.

@@ -2,9 +2,11 @@ pub mod Blanks
 pub mod Bodies
 pub mod Cells
 pub mod Endings
+pub mod ReadEpitaphs
 pub mod ReadHeaders
 pub mod Members
 pub mod Objects
+pub mod Padded
 pub mod Parts
 pub mod Rows
 pub mod Sizes

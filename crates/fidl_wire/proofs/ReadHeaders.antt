@@ -38,7 +38,7 @@ overflow_bit false = refl
 not_short : (n : ℕ) → 16 ≤ n → nat_lt n 16 ≡ false
 not_short n h = grind (arith, nat_tests)
 
-length-header : (h : Header) → length (header_bytes h) ≡ 16
+pub length-header : (h : Header) → length (header_bytes h) ≡ 16
 length-header h = length-three (number_bytes 4 h.txid) (0x02 ∷ 0 ∷ flags_of h.flexible ∷ 1 ∷ []) (number_bytes 8 h.ordinal) (length-number_bytes 4 h.txid) refl (length-number_bytes 8 h.ordinal)
   where
     length-three : (a b c : List ℕ) → length a ≡ 4 → length b ≡ 4 → length c ≡ 8 → length (a ++ b ++ c) ≡ 16

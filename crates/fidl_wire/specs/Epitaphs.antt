@@ -1,5 +1,5 @@
 -- The last message of a channel, with the status that it closes with.
-use Rattle.std.specs.Prelude.{◌≡◌, ℕ, ℤ, List, ◌++◌, length, Ok, false}
+use Rattle.std.specs.Prelude.{◌≡◌, ℕ, ℤ, List, ◌++◌, length, Ok, false, FitsSigned}
 use Rattle.std.specs.Int.{w32, cast_unsigned}
 use Rattle.fidl_wire.specs.declared.headers.Header.{Header}
 use Rattle.fidl_names.specs.Numbers.{number_at, number_bytes}
@@ -16,8 +16,10 @@ epitaph_header = record { txid = 0; flexible = false; ordinal = epitaph_ordinal 
 abbrev pub epitaph_bytes : ℤ → List ℕ
 epitaph_bytes status = header_bytes epitaph_header ++ number_bytes 4 (cast_unsigned w32 status) ++ number_bytes 4 0
 
--- these are an epitaph with this status: a header without a flaw, with txid 0 and the ordinal, the status, and four zero bytes
+-- these are an epitaph with this status, a number of 32 bits: a header without a flaw, with txid 0 and the ordinal, the status, and
+-- four zero bytes
 pub record IsEpitaph (bytes : List ℕ) (status : ℤ) : Type 0 where
+  pub fits : FitsSigned w32 status
   pub size : length bytes ≡ 24
   pub header : (h : Header) × (header_of bytes ≡ Ok h) × (h.txid ≡ 0) × (h.ordinal ≡ epitaph_ordinal)
   pub number : number_at 4 16 bytes ≡ cast_unsigned w32 status

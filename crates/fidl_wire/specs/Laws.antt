@@ -1,7 +1,10 @@
 -- What holds of every header, every layout, every message and all handles.
-use Rattle.std.specs.Prelude.{◌≡◌, ℕ, ◌^◌, ◌<◌, List, ◌++◌, length, Ok}
+use Rattle.std.specs.Prelude.{◌≡◌, ℕ, ℤ, ◌^◌, ◌<◌, List, ◌++◌, length, Ok}
 use Rattle.fidl_names.specs.declared.methods.Handle.{Handle}
+use Rattle.fidl_names.specs.declared.statuses.Status.{Status}
+use Rattle.fidl_names.specs.StatusNumber.{number_of}
 use Rattle.fidl_wire.specs.declared.headers.Header.{Header}
+use Rattle.fidl_wire.specs.Epitaphs.{epitaph_bytes, IsEpitaph}
 use Rattle.fidl_wire.specs.Headers.{header_of, header_bytes}
 use Rattle.fidl_wire.specs.Layout.{Layout, Content}
 use Rattle.fidl_wire.specs.Reading.{body_of}
@@ -39,3 +42,11 @@ SpellingIsRead =
 abbrev pub HeadersAreRead : Type 0
 HeadersAreRead =
     (h : Header) (rest : List ℕ) → h.txid < 2 ^ 32 → h.ordinal < 2 ^ 64 → header_of (header_bytes h ++ rest) ≡ Ok h
+
+-- what is written for a status is an epitaph with its number
+abbrev pub WrittenEpitaphsAreRead : Type 0
+WrittenEpitaphsAreRead = (status : Status) → IsEpitaph (epitaph_bytes (number_of status)) (number_of status)
+
+-- two readings as an epitaph are one
+abbrev pub EpitaphsAreReadOnce : Type 0
+EpitaphsAreReadOnce = (bytes : List ℕ) (a b : ℤ) → IsEpitaph bytes a → IsEpitaph bytes b → a ≡ b

@@ -1,7 +1,7 @@
 //! Laws of the format, for every header and every layout. They compute nothing: what they say is in
 //! their clauses.
 
-ghost use Rattle.fidl_wire.specs.Laws.{HeadersAreRead, ReadsWhatIsSpelled, SpelledWhereRead, SpelledOnce, SpellingIsSpelled, SpellingIsRead};
+ghost use Rattle.fidl_wire.specs.Laws.{EpitaphsAreReadOnce, HeadersAreRead, ReadsWhatIsSpelled, SpelledWhereRead, SpelledOnce, SpellingIsSpelled, SpellingIsRead, WrittenEpitaphsAreRead};
 
 /// A body is read as a value exactly where the message's bytes and handles spell that value, each
 /// cell at its place and with nothing left over.
@@ -24,4 +24,14 @@ pub fn spelling_is_read()
 /// A header that was written is read back, whatever follows it.
 pub fn written_header_is_read()
     ensures { HeadersAreRead }
+{}
+
+/// What is written for a status is an epitaph, which is read as that status.
+pub fn written_epitaph_is_read()
+    ensures { WrittenEpitaphsAreRead }
+{}
+
+/// Bytes are at most one epitaph.
+pub fn epitaph_is_read_once()
+    ensures { EpitaphsAreReadOnce }
 {}

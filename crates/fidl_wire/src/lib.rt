@@ -24,7 +24,8 @@ pub use hashing::ordinal;
 pub use headers::Header;
 pub use kinds::HandleKind;
 pub use laws::{
-    body_is_read_where_spelled, body_is_spelled_once, spelling_is_read, written_header_is_read,
+    body_is_read_where_spelled, body_is_spelled_once, epitaph_is_read_once, spelling_is_read,
+    written_epitaph_is_read, written_header_is_read,
 };
 pub use ordinals::{OrdinalFault, Ordinals};
 pub use output::Out;

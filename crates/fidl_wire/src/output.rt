@@ -2,24 +2,19 @@ ghost use Rattle.std.specs.Prelude.{◌≡◌, ◌+◌, ◌≤◌, List, [], ◌
 ghost use Rattle.std.specs.Int.{w32, cast_unsigned};
 ghost use Rattle.fidl_wire.specs.Headers.{header_bytes, flags_of};
 ghost use Rattle.fidl_names.specs.Numbers.{number_bytes};
-ghost use Rattle.fidl_wire.specs.Numbers.{padding_after, padded};
-ghost use Rattle.fidl_wire.specs.Written.{Written, most_bytes, most_handles, padded_bytes};
+ghost use Rattle.fidl_wire.specs.Numbers.{padded};
+ghost use Rattle.fidl_wire.specs.Written.{Written, padded_bytes};
 
 use crate::headers::{FLEXIBLE_BIT, Header, MAGIC, VERSION_BIT};
+use crate::padding::padding_after;
 use byteorder::{ByteOrder, LittleEndian};
-use fidl_names::{Handle, NoMemory};
+use fidl_names::{Handle, MAX_BYTES, MAX_HANDLES, NoMemory};
 use std::alloc::Global;
 use std::marker::Model;
 
-/// The most bytes of a message.
-pub const MAX_BYTES: usize = 65_536;
-
-/// The most handles of a message.
-pub const MAX_HANDLES: usize = 64;
-
-/// A message that is being written, of at most 65,536 bytes and 64 handles. The room for all of
-/// them is reserved when it is made, so that no other call takes memory. The caller of each call
-/// that appends knows that the message still fits.
+/// A message that is being written, of at most `MAX_BYTES` bytes and `MAX_HANDLES` handles. The room
+/// for all of them is reserved when it is made, so that no other call takes memory. The caller of
+/// each call that appends knows that the message still fits.
 #[derive(Drop)]
 pub struct Out {
     bytes: Vec<u8>,
@@ -58,32 +53,32 @@ impl Out {
 
     /// Appends a header.
     pub fn begin(&mut self, header: Header)
-        requires { length self.old.bytes + 16 ≤ most_bytes }
+        requires { length self.old.bytes + 16 ≤ MAX_BYTES }
         ensures bytes { self.new.bytes ≡ self.old.bytes ++ header_bytes header }
         ensures len { length self.new.bytes ≡ length self.old.bytes + 16 }
         ensures handles { self.new.handles ≡ self.old.handles }
     {
         self.put_u32(header.txid);
-        self.append(&[VERSION_BIT, 0, dynamic_flags(header.flexible), MAGIC]);
+        self.put_bytes(&[VERSION_BIT, 0, dynamic_flags(header.flexible), MAGIC]);
         self.put_u64(header.ordinal);
     }
 
     /// Appends four bytes.
     #[tactic(auto, unfolding(fidl_names::specs::Numbers::number_bytes))]
     pub fn put_u32(&mut self, v: u32)
-        requires { length self.old.bytes + 4 ≤ most_bytes }
+        requires { length self.old.bytes + 4 ≤ MAX_BYTES }
         ensures bytes { self.new.bytes ≡ self.old.bytes ++ number_bytes 4 v }
         ensures len { length self.new.bytes ≡ length self.old.bytes + 4 }
         ensures handles { self.new.handles ≡ self.old.handles }
     {
         let mut word = [0; 4];
         LittleEndian::write_u32(&mut word, v);
-        self.append(&word);
+        self.put_bytes(&word);
     }
 
     /// Appends four bytes, the number's bits.
     pub fn put_i32(&mut self, v: i32)
-        requires { length self.old.bytes + 4 ≤ most_bytes }
+        requires { length self.old.bytes + 4 ≤ MAX_BYTES }
         ensures bytes { self.new.bytes ≡ self.old.bytes ++ number_bytes 4 (cast_unsigned w32 v) }
         ensures len { length self.new.bytes ≡ length self.old.bytes + 4 }
         ensures handles { self.new.handles ≡ self.old.handles }
@@ -94,33 +89,42 @@ impl Out {
     /// Appends eight bytes.
     #[tactic(auto, unfolding(fidl_names::specs::Numbers::number_bytes))]
     pub fn put_u64(&mut self, v: u64)
-        requires { length self.old.bytes + 8 ≤ most_bytes }
+        requires { length self.old.bytes + 8 ≤ MAX_BYTES }
         ensures bytes { self.new.bytes ≡ self.old.bytes ++ number_bytes 8 v }
         ensures len { length self.new.bytes ≡ length self.old.bytes + 8 }
         ensures handles { self.new.handles ≡ self.old.handles }
     {
         let mut word = [0; 8];
         LittleEndian::write_u64(&mut word, v);
-        self.append(&word);
+        self.put_bytes(&word);
     }
 
-    /// Appends the bytes of an out-of-line object, and the zeros that bring their number to a
-    /// multiple of eight.
-    #[tactic(auto, unfolding(crate::specs::Numbers::padding_after))]
+    /// Appends the bytes.
     pub fn put_bytes(&mut self, v: &[u8])
-        requires { length self.old.bytes + padded (length v.now) ≤ most_bytes }
-        ensures bytes { self.new.bytes ≡ self.old.bytes ++ padded_bytes v.now }
-        ensures len { length self.new.bytes ≡ length self.old.bytes + padded (length v.now) }
+        requires { length self.old.bytes + length v.now ≤ MAX_BYTES }
+        ensures bytes { self.new.bytes ≡ self.old.bytes ++ v.now }
+        ensures len { length self.new.bytes ≡ length self.old.bytes + length v.now }
+        ensures handles { self.new.handles ≡ self.old.handles }
+    {
+        self.bytes.extend_from_slice(v).unwrap();
+    }
+
+    /// Appends the zeros that bring the number of bytes to a multiple of eight. There is always room
+    /// for them.
+    #[tactic(auto, unfolding(crate::specs::Numbers::padding_after))]
+    pub fn pad(&mut self)
+        ensures bytes { self.new.bytes ≡ padded_bytes self.old.bytes }
+        ensures len { length self.new.bytes ≡ padded (length self.old.bytes) }
         ensures handles { self.new.handles ≡ self.old.handles }
     {
         let zeros = [0; 8];
-        self.append(v);
-        self.append(&zeros[..(8 - v.len() % 8) % 8]);
+        let size = padding_after(self.bytes.len());
+        self.put_bytes(&zeros[..size]);
     }
 
     /// Appends a handle.
     pub fn put_handle(&mut self, h: Handle)
-        requires { length self.old.handles + 1 ≤ most_handles }
+        requires { length self.old.handles + 1 ≤ MAX_HANDLES }
         ensures handles { self.new.handles ≡ self.old.handles ++ h ∷ [] }
         ensures len { length self.new.handles ≡ length self.old.handles + 1 }
         ensures bytes { self.new.bytes ≡ self.old.bytes }
@@ -140,7 +144,7 @@ impl Out {
     /// The bytes that were written.
     pub fn as_bytes(&self) -> &[u8]
         ensures bytes { result.now ≡ self.now.bytes }
-        ensures bound { length result.now ≤ most_bytes }
+        ensures bound { length result.now ≤ MAX_BYTES }
     {
         self.bytes.as_slice()
     }
@@ -148,17 +152,8 @@ impl Out {
     /// The handles that were written.
     pub fn handles(&self) -> &[Handle]
         ensures handles { result.now ≡ self.now.handles }
-        ensures bound { length result.now ≤ most_handles }
+        ensures bound { length result.now ≤ MAX_HANDLES }
     {
         self.handles.as_slice()
-    }
-
-    fn append(&mut self, part: &[u8])
-        requires { length self.old.bytes + length part.now ≤ most_bytes }
-        ensures bytes { self.new.bytes ≡ self.old.bytes ++ part.now }
-        ensures len { length self.new.bytes ≡ length self.old.bytes + length part.now }
-        ensures handles { self.new.handles ≡ self.old.handles }
-    {
-        self.bytes.extend_from_slice(part).unwrap();
     }
 }

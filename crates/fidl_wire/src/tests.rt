@@ -258,6 +258,7 @@ fn what_is_put_stands_in_order(rt: HostRuntime) -> Result<(), Fail> {
     out.put_u64(2);
     out.put_u64(u64::MAX);
     out.put_bytes(b"!!");
+    out.pad();
     out.put_handle(Handle::Token(0x8000_0000));
     let expected = b"\x01\x00\x00\x00\x02\x00\x80\x01\x4c\x01\xb8\x91\xc6\x7f\xf2\x40\
         \x02\x00\x00\x00\x00\x00\x00\x00\xff\xff\xff\xff\xff\xff\xff\xff\x21\x21\x00\x00\x00\x00\x00\x00";

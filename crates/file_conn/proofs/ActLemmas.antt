@@ -1,11 +1,12 @@
 -- What a request to a file does, by whether it is refused before its row.
 use Rattle.std.proofs.Common.{◌≡◌, ◌∙◌, ℕ, ◌+◌, ◌<◌, ◌≤◌, Bool, true, false, not, [], ◌∷◌, Option, Some, None, refl, sym, ap, arith}
 use Rattle.std.proofs.lemmas.Bool.{lt-ltb}
+use Rattle.fidl_names.specs.declared.limits.TheConstants as limit
 use Rattle.fidl_names.specs.declared.methods.Method.{Method}
 use Rattle.fidl_names.specs.declared.statuses.Status.{Status}
 use Rattle.fidl_names.specs.declared.statuses.Status.TheVariants as status
 use Rattle.fidl_wire.specs.Numbers.{padded, padding_after}
-use Rattle.fidl_wire.specs.Written.{Written, most_bytes}
+use Rattle.fidl_wire.specs.Written.{Written}
 use Rattle.io_messages.specs.Asked.{Asked, method_of}
 use Rattle.io_messages.specs.Asked as asks
 use Rattle.io_messages.specs.declared.protocols.Protocol.TheVariants as protocol
@@ -124,6 +125,6 @@ pub too_much : (count : ℕ) → 8192 < count → reading_refusal count ≡ Some
 too_much count more = rw (lt-ltb 8192 count more) refl
 
 -- what may be read at once fits into a reply
-pub few_fit : (size : ℕ) → size ≤ 8192 → 48 + padded size ≤ most_bytes
+pub few_fit : (size : ℕ) → size ≤ 8192 → 48 + padded size ≤ limit.MAX_BYTES
 unfolding padding_after
 few_fit size few = omega arith

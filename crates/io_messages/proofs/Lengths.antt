@@ -12,6 +12,7 @@ use Rattle.fidl_wire.specs.Headers.{header_bytes, flags_of}
 use Rattle.fidl_wire.specs.Written.{padded_bytes}
 use Rattle.fidl_wire.specs.Reading.{present_word, present_list}
 use Rattle.fidl_wire.specs.Spelling.{count_bytes, envelope_bytes, member_part, members_part, given, kept, table_part, object_bytes}
+use Rattle.fidl_wire.proofs.Padded.{padded_behind}
 use Rattle.io_messages.specs.declared.fields.Field.{Field}
 use Rattle.io_messages.specs.declared.fields.Field.TheVariants.{Word, Long, Blank, Held, Absent, Bytes, Table}
 use Rattle.io_messages.specs.Fields.{part_of, parts_of, part_size, parts_size, slot_of, slots_of}
@@ -106,36 +107,10 @@ room_first all each step front total xs i most d below h fits =
     let size = ap length h in
     omega (arith, size, ap length split, length-append front (all (drop i xs)), length-append (each (get_or xs i d)) (all (drop (i + 1) xs)))
 
-aligned_part : (f : Field) → length (part_of f).inline % 4 ≡ 0
-aligned_part (Word x) = omega (arith, length-number 4 x)
-aligned_part (Long x) = omega (arith, length-number 8 x)
-aligned_part Blank = refl
-aligned_part (Held h) = omega (arith, length-number 4 present_word)
-aligned_part Absent = omega (arith, length-number 4 0)
-aligned_part (Bytes xs) = omega (arith, length-count (length xs.now))
-aligned_part (Table vs) = omega (arith, length-count (length (given vs.now)))
-
-pub aligned_parts : (fs : List Field) → length (parts_of fs).inline % 4 ≡ 0
-aligned_parts [] = refl
-aligned_parts (f ∷ fs) = omega (arith, length-append (part_of f).inline (parts_of fs).inline, aligned_part f, aligned_parts fs)
-
 -- four zeros
 pub four_zeros : number_bytes 4 0 ≡ replicate 4 0
 unfolding number_bytes
 four_zeros = refl
-
--- an object's padding: nothing, or four zeros
-pub padding_none : (xs : List ℕ) → length xs % 8 ≡ 0 → padded_bytes xs ≡ xs
-unfolding padding_after
-padding_none xs h =
-    let none : padding_after (length xs) ≡ 0 = omega arith in
-    ap (λ (n : ℕ). xs ++ replicate n 0) none ∙ append-nil xs
-
-pub padding_four : (xs : List ℕ) → length xs % 4 ≡ 0 → (length xs % 8 ≡ 0 → ⊥) → padded_bytes xs ≡ xs ++ number_bytes 4 0
-unfolding padding_after
-padding_four xs h k =
-    let four : padding_after (length xs) ≡ 4 = omega arith in
-    ap (λ (n : ℕ). xs ++ replicate n 0) four ∙ ap (λ (four : List ℕ). xs ++ four) (sym four_zeros)
 
 -- ---- how many bytes a field has
 
@@ -207,30 +182,14 @@ length-object fs = omega (arith, length-append (padded_bytes (parts_of fs).inlin
 pub padded-least : (n : ℕ) → n ≤ padded n
 padded-least n = omega arith
 
--- where the object isn't aligned, its padding has four bytes
-pub padded_four : (n : ℕ) → n % 4 ≡ 0 → (n % 8 ≡ 0 → ⊥) → padded n ≡ n + 4
-unfolding padding_after
-padded_four n h k = omega arith
-
 pub padded_none : (n : ℕ) → n % 8 ≡ 0 → padded n ≡ n
 unfolding padding_after
 padded_none n h = omega arith
 
-pub no_padding : (out : List ℕ) (size : ℕ) → size % 8 ≡ 0 → out ≡ out ++ replicate (padding_after size) 0
-unfolding padding_after
-no_padding out size h =
-    let none : padding_after size ≡ 0 = omega arith in
-    sym (ap (λ (n : ℕ). out ++ replicate n 0) none ∙ append-nil out)
-
-pub four_of_padding : (size : ℕ) → size % 4 ≡ 0 → (size % 8 ≡ 0 → ⊥) → padding_after size ≡ 4
-unfolding padding_after
-four_of_padding size h k = omega arith
-
 -- an object's parts, one behind another
-pub object_is : (a inline pads outside w x y z : List ℕ) → w ≡ a ++ inline → x ≡ w ++ pads → y ≡ x ++ outside → z ≡ y → z ≡ a ++ ((inline ++ pads) ++ outside)
-object_is a inline pads outside w x y z hw hx hy hz =
-    hz ∙ hy ∙ ap (λ (v : List ℕ). v ++ outside) (hx ∙ ap (λ (v : List ℕ). v ++ pads) hw)
-    ∙ ap (λ (v : List ℕ). v ++ outside) (append_assoc a inline pads) ∙ append_assoc a (inline ++ pads) outside
+pub object_is : (a inline outside w x y z : List ℕ) → length a % 8 ≡ 0 → w ≡ a ++ inline → x ≡ padded_bytes w → y ≡ x ++ outside → z ≡ y → z ≡ a ++ (padded_bytes inline ++ outside)
+object_is a inline outside w x y z aligned hw hx hy hz =
+    hz ∙ hy ∙ ap (λ (v : List ℕ). v ++ outside) (hx ∙ ap padded_bytes hw ∙ padded_behind a inline aligned) ∙ append_assoc a (padded_bytes inline) outside
 
 -- a table that has more members than there is room
 pub many_slots : (f : Field) (vs : Bor (List (Option ℕ))) (room count : ℕ) → f ≡ Table vs → take count vs.now ≡ given vs.now → count ≤ length vs.now → room < count → room < part_size f
@@ -258,7 +217,7 @@ aligned_out Absent = refl
 aligned_out (Bytes xs) = aligned_list xs.now
 aligned_out (Table vs) = omega (arith, length-table vs.now, slots-aligned (given vs.now))
 
-aligned_outside : (fs : List Field) → length (parts_of fs).outside % 8 ≡ 0
+pub aligned_outside : (fs : List Field) → length (parts_of fs).outside % 8 ≡ 0
 aligned_outside [] = refl
 aligned_outside (f ∷ fs) = omega (arith, length-append (part_of f).outside (parts_of fs).outside, aligned_out f, aligned_outside fs)
 

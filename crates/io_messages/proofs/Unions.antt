@@ -1,10 +1,11 @@
 -- The bytes of unions and of small objects.
 use Rattle.std.proofs.Common.{◌≡◌, ℕ, ◌+◌, ◌%◌, ◌≤◌, List, [], ◌∷◌, ◌++◌, length, refl, ap, ◌∙◌, append_assoc, length-append, add-zero, ◌<◌, Option, Some, MatchOption, subst, arith}
+use Rattle.fidl_names.specs.declared.limits.TheConstants as limit
 use Rattle.fidl_wire.specs.Grammar.{Part, join, nothing}
 use Rattle.fidl_names.specs.Numbers.{number_bytes}
 use Rattle.fidl_wire.specs.Numbers.{padding_after, padded}
 use Rattle.fidl_wire.specs.Spelling.{envelope_bytes, object_bytes, inline_part, list_part_of, table_part, given, count_bytes}
-use Rattle.fidl_wire.specs.Written.{padded_bytes, most_bytes}
+use Rattle.fidl_wire.specs.Written.{padded_bytes}
 use Rattle.io_messages.specs.declared.fields.Field.{Field}
 use Rattle.io_messages.specs.Fields.{parts_of, parts_size, slots_of}
 use Rattle.io_messages.proofs.Lengths.{length-count, length-table, length-given, slots-most, length-number, length-envelope, length-padded, length-object, padded_none}
@@ -64,9 +65,9 @@ inlined_is out first second third ordinal value h1 h2 h3 =
     ∙ inlined_groups out (number_bytes 8 ordinal) (number_bytes 4 value) (number_bytes 2 0) (number_bytes 2 1)
 
 -- the size that was found
-pub size_found : (o : Option ℕ) (x size : ℕ) → o ≡ Some x → MatchOption o (most_bytes < 16 + size) (λ n. (n ≡ size) × (16 + n ≤ most_bytes)) → x ≡ size
+pub size_found : (o : Option ℕ) (x size : ℕ) → o ≡ Some x → MatchOption o (limit.MAX_BYTES < 16 + size) (λ n. (n ≡ size) × (16 + n ≤ limit.MAX_BYTES)) → x ≡ size
 size_found o x size e h =
-    let here = subst (λ (v : Option ℕ). MatchOption v (most_bytes < 16 + size) (λ n. (n ≡ size) × (16 + n ≤ most_bytes))) e h in here.0
+    let here = subst (λ (v : Option ℕ). MatchOption v (limit.MAX_BYTES < 16 + size) (λ n. (n ≡ size) × (16 + n ≤ limit.MAX_BYTES))) e h in here.0
 
 pub padded_nothing : length (padded_bytes []) ≡ 0
 padded_nothing = length-padded [] ∙ padded_none 0 refl

@@ -1,6 +1,7 @@
 -- What is written for a reply is read.
 use Rattle.std.proofs.Common.{◌≡◌, ◌≢◌, ℕ, ◌+◌, ◌^◌, ◌<◌, ◌≤◌, Bool, true, false, cond, nat_eq, List, [], ◌∷◌, ◌++◌, length, Option, Some, None, Result, Ok, Err, inl, inr, refl, sym, ap, ◌∙◌, subst, lit<, arith}
 use Rattle.std.proofs.lemmas.Bool.Decides.{nat_tests}
+use Rattle.fidl_names.specs.declared.limits.TheConstants as limit
 use Rattle.fidl_names.specs.declared.methods.Handle.{Handle}
 use Rattle.fidl_names.specs.declared.methods.Handle.TheVariants.{Token}
 use Rattle.fidl_names.specs.declared.methods.Method.{Method}
@@ -16,7 +17,6 @@ use Rattle.fidl_wire.specs.Names.{method_ordinal}
 use Rattle.fidl_names.specs.Numbers.{number_bytes}
 use Rattle.fidl_wire.specs.Numbers.{padded}
 use Rattle.fidl_wire.specs.Spelling.{FitMembers, FitsBody, FitsVariant, body_bytes, body_handles, given, inline_part, members_part}
-use Rattle.fidl_wire.specs.Written.{most_bytes}
 use Rattle.io_messages.specs.declared.replies.Attributes.{Attributes}
 use Rattle.io_messages.specs.declared.replies.Shape.{Shape}
 use Rattle.io_messages.specs.declared.replies.Shape.TheVariants as shape
@@ -127,14 +127,14 @@ failure_written law again t m s (Some shape.Token) way small shaped can set =
 
 -- ---- payloads
 
-few : (xs : List ℕ) (n : ℕ) → n + padded (length xs) ≤ most_bytes → length xs < 256 ^ 8
+few : (xs : List ℕ) (n : ℕ) → n + padded (length xs) ≤ limit.MAX_BYTES → length xs < 256 ^ 8
 few xs n h = omega (arith, padded-least (length xs), h)
 
-list_fits : (xs : List ℕ) → 48 + padded (length xs) ≤ most_bytes → FitsVariant (object (vector ∷ [])) (seq xs ∷ [])
+list_fits : (xs : List ℕ) → 48 + padded (length xs) ≤ limit.MAX_BYTES → FitsVariant (object (vector ∷ [])) (seq xs ∷ [])
 list_fits xs h = ((few xs 48 h, tt), lit< tt, omega (arith, list_length xs, h), lit< tt)
 
 payload_written : SpellingIsSpelled → HeadersAreRead → (t : ℕ) (m : Method) (xs : List ℕ) (o : Option Shape) → 0 < t → t < 2 ^ 32 → shape_of m ≡ o → CanCarry o xs →
-    beside_payload o + padded (length xs) ≤ most_bytes → IsWritten t m o (carried o xs) (answers.payload m xs)
+    beside_payload o + padded (length xs) ≤ limit.MAX_BYTES → IsWritten t m o (carried o xs) (answers.payload m xs)
 payload_written law again t m xs (Some shape.Bytes) way small shaped can fits =
     is_written law again t m shape.Bytes (branch 1 (seq xs ∷ [])) (answers.payload m xs) way small shaped (lit< tt, list_fits xs fits) refl
 payload_written law again t m xs (Some shape.Vector) way small shaped can fits =

@@ -2,6 +2,7 @@
 use Rattle.std.specs.Prelude.{◌≡◌, ◌≢◌, ℕ, ◌+◌, ◌^◌, ◌<◌, ◌≤◌, true, List, [], ◌∷◌, ◌++◌, length, Option, Some, None, IfSome}
 use Rattle.std.specs.Int.{w32, cast_unsigned}
 use Rattle.std.specs.Str.{IsUtf8}
+use Rattle.fidl_names.specs.declared.limits.TheConstants as limit
 use Rattle.fidl_names.specs.declared.methods.Handle.{Handle}
 use Rattle.fidl_names.specs.declared.methods.Handle.TheVariants.{Token}
 use Rattle.fidl_names.specs.declared.methods.Method.TheVariants as method
@@ -14,7 +15,6 @@ use Rattle.fidl_wire.specs.Layout.{Content, Layout, struct, fields, branch, num,
 use Rattle.fidl_wire.specs.Names.{method_ordinal, event_ordinal}
 use Rattle.fidl_wire.specs.Numbers.{padded}
 use Rattle.fidl_wire.specs.Spelling.{body_bytes, body_handles}
-use Rattle.fidl_wire.specs.Written.{most_bytes}
 use Rattle.io_messages.specs.declared.protocols.Protocol.{Protocol}
 use Rattle.io_messages.specs.declared.protocols.Protocol.TheVariants as protocol
 use Rattle.io_messages.specs.declared.replies.Attributes.{Attributes}
@@ -54,7 +54,7 @@ HasReply (answers.unknown ordinal) = Unit {0}
 
 -- a payload fits into a message; every other reply does
 abbrev pub PayloadFits : Answered → Type 0
-PayloadFits (answers.payload m bytes) = beside_payload (shape_of m) + padded (length bytes) ≤ most_bytes
+PayloadFits (answers.payload m bytes) = beside_payload (shape_of m) + padded (length bytes) ≤ limit.MAX_BYTES
 PayloadFits _ = Unit {0}
 
 -- a number that is there has eight bytes

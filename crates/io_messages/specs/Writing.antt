@@ -2,13 +2,14 @@
 use Rattle.std.specs.Prelude.{FitsSigned, ◌≡◌, ℕ, ◌<◌, ◌≤◌, false, List, ◌++◌, length, Result, Ok, Err}
 use Rattle.std.specs.Int.{w64}
 use Rattle.std.specs.Str.{IsUtf8}
+use Rattle.fidl_names.specs.declared.limits.TheConstants as limit
 use Rattle.fidl_names.specs.declared.methods.Handle.{Handle}
 use Rattle.fidl_wire.specs.declared.headers.Header.{Header}
 use Rattle.fidl_wire.specs.Headers.{header_bytes}
 use Rattle.fidl_wire.specs.Layout.{struct, fields}
 use Rattle.fidl_wire.specs.Names.{method_ordinal}
 use Rattle.fidl_wire.specs.Spelling.{body_bytes, body_handles, FitsBody}
-use Rattle.fidl_wire.specs.Written.{Written, most_bytes}
+use Rattle.fidl_wire.specs.Written.{Written}
 use Rattle.io_messages.specs.declared.requests.TooLong.{TooLong}
 use Rattle.io_messages.specs.Asked.{Asked, method_of}
 use Rattle.io_messages.specs.Asked as asks
@@ -39,8 +40,8 @@ HasTexts _ = Unit {0}
 
 -- an output has these bytes and handles now; or they are more than a message may have, and it is as it was
 abbrev pub Wrote : List ℕ → List Handle → Result (Unit {0}) TooLong → Written → Written → Type 0
-Wrote bytes handles (Ok u) old new = (new.bytes ≡ bytes) × (new.handles ≡ handles) × (length bytes ≤ most_bytes)
-Wrote bytes handles (Err e) old new = (new ≡ old) × (most_bytes < length bytes)
+Wrote bytes handles (Ok u) old new = (new.bytes ≡ bytes) × (new.handles ≡ handles) × (length bytes ≤ limit.MAX_BYTES)
+Wrote bytes handles (Err e) old new = (new ≡ old) × (limit.MAX_BYTES < length bytes)
 
 -- a seek's offset is a signed number of eight bytes
 abbrev pub HasOffset : Asked → Type 0

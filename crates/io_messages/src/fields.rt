@@ -1,10 +1,9 @@
-ghost use Rattle.std.specs.Prelude.{◌≡◌, ◌+◌, ◌%◌, ◌<◌, ◌≤◌, ◌++◌, length, replicate, take, MatchOption};
-ghost use Rattle.fidl_wire.specs.Numbers.{padding_after};
-ghost use Rattle.fidl_wire.specs.Written.{most_bytes, most_handles};
+ghost use Rattle.std.specs.Prelude.{◌≡◌, ◌+◌, ◌%◌, ◌<◌, ◌≤◌, ◌++◌, length, take, MatchOption};
+ghost use Rattle.fidl_wire.specs.Written.{padded_bytes};
 ghost use Rattle.fidl_wire.specs.Spelling.{given, member_part, members_part, object_bytes, count_bytes};
 ghost use Rattle.io_messages.specs.Fields.{part_of, parts_of, part_size, parts_size, slots_of};
 
-use fidl_names::Handle;
+use fidl_names::{Handle, MAX_BYTES, MAX_HANDLES};
 use fidl_wire::Out;
 
 /// What marks a list or a handle as present.
@@ -14,7 +13,7 @@ const PRESENT: u64 = u64::MAX;
 const MEMBER_SIZE: u64 = 8;
 
 /// The most bytes of a message behind its header.
-const MOST_BODY: usize = 65_520;
+const MOST_BODY: usize = MAX_BYTES - 16;
 
 /// What is written in a field.
 #[derive(Clone, Copy, Debug)]
@@ -32,38 +31,25 @@ pub enum Field<'a, 'b> {
     Table(&'b [Option<u64>]),
 }
 
-/// Appends an object: its fields, their padding, and what they have out of line. `out` has room.
+/// Appends an object behind a multiple of eight bytes: its fields, their padding, and what they have
+/// out of line. `out` has room.
 pub fn put_object(out: &mut Out, fields: &[Field<'_, '_>])
-    requires bytes { length out.old.bytes + length (object_bytes (parts_of fields.now)) ≤ most_bytes }
-    requires handles { length out.old.handles + length (parts_of fields.now).handles ≤ most_handles }
+    requires aligned { length out.old.bytes % 8 ≡ 0 }
+    requires bytes { length out.old.bytes + length (object_bytes (parts_of fields.now)) ≤ MAX_BYTES }
+    requires handles { length out.old.handles + length (parts_of fields.now).handles ≤ MAX_HANDLES }
     ensures bytes { out.new.bytes ≡ out.old.bytes ++ object_bytes (parts_of fields.now) }
     ensures handles { out.new.handles ≡ out.old.handles ++ (parts_of fields.now).handles }
 {
-    let start = out.as_bytes().len();
     put_all_inline(out, fields);
-    let end = out.as_bytes().len();
-    put_padding(out, end - start);
+    out.pad();
     put_all_outside(out, fields);
     put_all_handles(out, fields);
-}
-
-/// Appends the padding of an object of so many bytes.
-fn put_padding(out: &mut Out, size: usize)
-    requires aligned { size % 4 ≡ 0 }
-    requires room { length out.old.bytes + padding_after size ≤ most_bytes }
-    ensures bytes { out.new.bytes ≡ out.old.bytes ++ replicate (padding_after size) 0 }
-    ensures handles { out.new.handles ≡ out.old.handles }
-{
-    if size % 8 == 0 {
-        return;
-    }
-    out.put_u32(0);
 }
 
 /// How many bytes the fields have, without the padding behind them; `None` where a message can't
 /// have so many.
 pub fn size_of(fields: &[Field<'_, '_>]) -> Option<usize>
-    ensures { MatchOption result (most_bytes < 16 + parts_size fields.now) (λ n. (n ≡ parts_size fields.now) × (16 + n ≤ most_bytes)) }
+    ensures { MatchOption result (MAX_BYTES < 16 + parts_size fields.now) (λ n. (n ≡ parts_size fields.now) × (16 + n ≤ MAX_BYTES)) }
 {
     let mut room = MOST_BODY;
     for field in fields {
@@ -74,7 +60,7 @@ pub fn size_of(fields: &[Field<'_, '_>]) -> Option<usize>
 
 /// What is left of so many bytes behind a field.
 fn room_behind(field: Field<'_, '_>, room: usize) -> Option<usize>
-    requires { room ≤ most_bytes }
+    requires { room ≤ MAX_BYTES }
     ensures { MatchOption result (room < part_size field.entry) (λ left. left + part_size field.entry ≡ room) }
 {
     match field {
@@ -115,7 +101,7 @@ fn given_count(members: &[Option<u64>]) -> usize
 
 /// How many bytes the envelopes of these members have, with what they hold.
 fn slots_size(members: &[Option<u64>]) -> usize
-    requires { length members.now ≤ most_bytes }
+    requires { length members.now ≤ MAX_BYTES }
     ensures size { result ≡ slots_of members.now }
 {
     let mut size = 0;
@@ -127,7 +113,7 @@ fn slots_size(members: &[Option<u64>]) -> usize
 
 /// Appends what stands in the object.
 fn put_inline(out: &mut Out, field: Field<'_, '_>)
-    requires { length out.old.bytes + length (part_of field).inline ≤ most_bytes }
+    requires { length out.old.bytes + length (part_of field).inline ≤ MAX_BYTES }
     ensures bytes { out.new.bytes ≡ out.old.bytes ++ (part_of field.entry).inline }
     ensures handles { out.new.handles ≡ out.old.handles }
 {
@@ -144,7 +130,7 @@ fn put_inline(out: &mut Out, field: Field<'_, '_>)
 
 /// Appends the count of a list that is present.
 fn put_count(out: &mut Out, count: usize)
-    requires { length out.old.bytes + 16 ≤ most_bytes }
+    requires { length out.old.bytes + 16 ≤ MAX_BYTES }
     ensures bytes { out.new.bytes ≡ out.old.bytes ++ count_bytes count }
     ensures len { length out.new.bytes ≡ length out.old.bytes + 16 }
     ensures handles { out.new.handles ≡ out.old.handles }
@@ -155,12 +141,13 @@ fn put_count(out: &mut Out, count: usize)
 
 /// Appends what stands out of line.
 fn put_outside(out: &mut Out, field: Field<'_, '_>)
-    requires { length out.old.bytes + length (part_of field).outside ≤ most_bytes }
+    requires aligned { length out.old.bytes % 8 ≡ 0 }
+    requires room { length out.old.bytes + length (part_of field).outside ≤ MAX_BYTES }
     ensures bytes { out.new.bytes ≡ out.old.bytes ++ (part_of field.entry).outside }
     ensures handles { out.new.handles ≡ out.old.handles }
 {
     match field {
-        Field::Bytes(bytes) => out.put_bytes(bytes),
+        Field::Bytes(bytes) => put_padded(out, bytes),
         Field::Table(members) => {
             let given = &members[..given_count(members)];
             put_envelopes(out, given);
@@ -170,9 +157,20 @@ fn put_outside(out: &mut Out, field: Field<'_, '_>)
     }
 }
 
+/// Appends bytes and the padding behind them.
+fn put_padded(out: &mut Out, bytes: &[u8])
+    requires aligned { length out.old.bytes % 8 ≡ 0 }
+    requires room { length out.old.bytes + length (padded_bytes bytes.now) ≤ MAX_BYTES }
+    ensures bytes { out.new.bytes ≡ out.old.bytes ++ padded_bytes bytes.now }
+    ensures handles { out.new.handles ≡ out.old.handles }
+{
+    out.put_bytes(bytes);
+    out.pad();
+}
+
 /// Appends the envelopes of members.
 fn put_envelopes(out: &mut Out, members: &[Option<u64>])
-    requires { length out.old.bytes + length (members_part members.now).inline ≤ most_bytes }
+    requires { length out.old.bytes + length (members_part members.now).inline ≤ MAX_BYTES }
     ensures bytes { out.new.bytes ≡ out.old.bytes ++ (members_part members.now).inline }
     ensures handles { out.new.handles ≡ out.old.handles }
 {
@@ -182,7 +180,7 @@ fn put_envelopes(out: &mut Out, members: &[Option<u64>])
 }
 
 fn put_envelope(out: &mut Out, member: Option<u64>)
-    requires { length out.old.bytes + length (member_part member).inline ≤ most_bytes }
+    requires { length out.old.bytes + length (member_part member).inline ≤ MAX_BYTES }
     ensures bytes { out.new.bytes ≡ out.old.bytes ++ (member_part member).inline }
     ensures handles { out.new.handles ≡ out.old.handles }
 {
@@ -194,7 +192,7 @@ fn put_envelope(out: &mut Out, member: Option<u64>)
 
 /// Appends the members that are given.
 fn put_members(out: &mut Out, members: &[Option<u64>])
-    requires { length out.old.bytes + length (members_part members.now).outside ≤ most_bytes }
+    requires { length out.old.bytes + length (members_part members.now).outside ≤ MAX_BYTES }
     ensures bytes { out.new.bytes ≡ out.old.bytes ++ (members_part members.now).outside }
     ensures handles { out.new.handles ≡ out.old.handles }
 {
@@ -204,7 +202,7 @@ fn put_members(out: &mut Out, members: &[Option<u64>])
 }
 
 fn put_member(out: &mut Out, member: Option<u64>)
-    requires { length out.old.bytes + length (member_part member).outside ≤ most_bytes }
+    requires { length out.old.bytes + length (member_part member).outside ≤ MAX_BYTES }
     ensures bytes { out.new.bytes ≡ out.old.bytes ++ (member_part member).outside }
     ensures handles { out.new.handles ≡ out.old.handles }
 {
@@ -214,7 +212,7 @@ fn put_member(out: &mut Out, member: Option<u64>)
 }
 
 fn put_all_inline(out: &mut Out, fields: &[Field<'_, '_>])
-    requires { length out.old.bytes + length (parts_of fields.now).inline ≤ most_bytes }
+    requires { length out.old.bytes + length (parts_of fields.now).inline ≤ MAX_BYTES }
     ensures bytes { out.new.bytes ≡ out.old.bytes ++ (parts_of fields.now).inline }
     ensures handles { out.new.handles ≡ out.old.handles }
 {
@@ -224,7 +222,8 @@ fn put_all_inline(out: &mut Out, fields: &[Field<'_, '_>])
 }
 
 fn put_all_outside(out: &mut Out, fields: &[Field<'_, '_>])
-    requires { length out.old.bytes + length (parts_of fields.now).outside ≤ most_bytes }
+    requires aligned { length out.old.bytes % 8 ≡ 0 }
+    requires room { length out.old.bytes + length (parts_of fields.now).outside ≤ MAX_BYTES }
     ensures bytes { out.new.bytes ≡ out.old.bytes ++ (parts_of fields.now).outside }
     ensures handles { out.new.handles ≡ out.old.handles }
 {
@@ -234,7 +233,7 @@ fn put_all_outside(out: &mut Out, fields: &[Field<'_, '_>])
 }
 
 fn put_all_handles(out: &mut Out, fields: &[Field<'_, '_>])
-    requires { length out.old.handles + length (parts_of fields.now).handles ≤ most_handles }
+    requires { length out.old.handles + length (parts_of fields.now).handles ≤ MAX_HANDLES }
     ensures handles { out.new.handles ≡ out.old.handles ++ (parts_of fields.now).handles }
     ensures bytes { out.new.bytes ≡ out.old.bytes }
 {
@@ -245,7 +244,7 @@ fn put_all_handles(out: &mut Out, fields: &[Field<'_, '_>])
 
 /// Appends the field's handle, where it has one.
 fn put_held(out: &mut Out, field: Field<'_, '_>)
-    requires { length out.old.handles + length (part_of field).handles ≤ most_handles }
+    requires { length out.old.handles + length (part_of field).handles ≤ MAX_HANDLES }
     ensures handles { out.new.handles ≡ out.old.handles ++ (part_of field.entry).handles }
     ensures bytes { out.new.bytes ≡ out.old.bytes }
 {

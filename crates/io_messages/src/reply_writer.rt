@@ -3,7 +3,6 @@ ghost use Rattle.fidl_wire.specs.Headers.{header_bytes};
 ghost use Rattle.fidl_names.specs.Numbers.{number_bytes};
 ghost use Rattle.fidl_wire.specs.Numbers.{padded};
 ghost use Rattle.fidl_wire.specs.Spelling.{object_bytes, envelope_bytes, body_bytes, body_handles};
-ghost use Rattle.fidl_wire.specs.Written.{most_bytes};
 ghost use Rattle.io_messages.specs.Fields.{parts_of};
 ghost use Rattle.io_messages.specs.Shapes.{shape_of};
 ghost use Rattle.io_messages.specs.Replies.{answered, attributes, beside_payload, reply_layout};
@@ -13,7 +12,7 @@ use crate::fields::{Field, put_object, size_of};
 use crate::protocols::Protocol;
 use crate::replies::{Attributes, Reply, Shape, shape_of};
 use crate::reply_reader::{FRAMEWORK_ENVELOPE, FRAMEWORK_ORDINAL};
-use fidl_names::{Handle, Method, Status};
+use fidl_names::{Handle, MAX_BYTES, Method, Status};
 use fidl_wire::{Header, Ordinals, Out};
 
 /// The branches of a result.
@@ -26,7 +25,7 @@ const INLINED: u32 = 0x0001_0000;
 
 /// Writes a reply into an empty output, in its one spelling. The caller sees to it that the
 /// transaction id is not 0, that the reply is one that its method has, that a failure's status is not
-/// `Ok`, and that a payload leaves the message at most 65,536 bytes.
+/// `Ok`, and that a payload leaves the message at most `MAX_BYTES` bytes.
 pub fn write_reply(ordinals: &Ordinals, txid: u32, reply: Reply<'_>, out: &mut Out)
     requires empty { out.old ≡ record { bytes = []; handles = [] } }
     requires way { 0 < txid }
@@ -91,7 +90,7 @@ fn put_reply(reply: Reply<'_>, out: &mut Out)
 
 /// Appends a union whose value stands in its envelope.
 fn put_inlined(ordinal: u64, value: u32, out: &mut Out)
-    requires { length out.old.bytes + 16 ≤ most_bytes }
+    requires { length out.old.bytes + 16 ≤ MAX_BYTES }
     ensures bytes { out.new.bytes ≡ out.old.bytes ++ (number_bytes 8 ordinal ++ envelope_bytes value 0 1) }
     ensures handles { out.new.handles ≡ out.old.handles }
 {
@@ -104,8 +103,8 @@ fn put_inlined(ordinal: u64, value: u32, out: &mut Out)
 fn put_branch(ordinal: u64, fields: &[Field<'_, '_>], out: &mut Out)
     requires aligned { length (parts_of fields.now).inline % 8 ≡ 0 }
     requires free { (parts_of fields.now).handles ≡ [] }
-    requires room { length out.old.bytes + 16 + length (object_bytes (parts_of fields.now)) ≤ most_bytes }
-    requires head { 16 ≤ length out.old.bytes }
+    requires room { 32 + length (object_bytes (parts_of fields.now)) ≤ MAX_BYTES }
+    requires head { length out.old.bytes ≡ 16 }
     requires handles { out.old.handles ≡ [] }
     ensures bytes { out.new.bytes ≡ out.old.bytes ++ (number_bytes 8 ordinal ++ envelope_bytes (length (object_bytes (parts_of fields.now))) 0 0 ++ object_bytes (parts_of fields.now)) }
     ensures handles { out.new.handles ≡ [] }
@@ -146,7 +145,7 @@ fn put_payload(shape: Option<Shape>, bytes: &[u8], out: &mut Out)
     requires can { CanCarry shape bytes.now }
     requires head { length out.old.bytes ≡ 16 }
     requires free { out.old.handles ≡ [] }
-    requires fits { beside_payload shape + padded (length bytes.now) ≤ most_bytes }
+    requires fits { beside_payload shape + padded (length bytes.now) ≤ MAX_BYTES }
     ensures bytes { out.new.bytes ≡ out.old.bytes ++ body_bytes (layout_of shape) (carried shape bytes.now) }
     ensures handles { out.new.handles ≡ body_handles (layout_of shape) (carried shape bytes.now) }
 {
@@ -160,7 +159,7 @@ fn put_carried(shape: Shape, bytes: &[u8], out: &mut Out)
     requires can { CanCarry (Some shape) bytes.now }
     requires head { length out.old.bytes ≡ 16 }
     requires free { out.old.handles ≡ [] }
-    requires fits { beside_payload (Some shape) + padded (length bytes.now) ≤ most_bytes }
+    requires fits { beside_payload (Some shape) + padded (length bytes.now) ≤ MAX_BYTES }
     ensures bytes { out.new.bytes ≡ out.old.bytes ++ body_bytes (reply_layout shape) (carried (Some shape) bytes.now) }
     ensures handles { out.new.handles ≡ body_handles (reply_layout shape) (carried (Some shape) bytes.now) }
 {

@@ -1,7 +1,6 @@
 ghost use Rattle.std.specs.Prelude.{◌≡◌, ◌≤◌, ◌<◌, ◌++◌, [], true, length, OnOk, OnErr, MatchResult};
 ghost use Rattle.fidl_wire.specs.Headers.{header_bytes};
 ghost use Rattle.fidl_wire.specs.Spelling.{object_bytes};
-ghost use Rattle.fidl_wire.specs.Written.{most_bytes, most_handles};
 ghost use Rattle.io_messages.specs.Asked.{asked, method_of, open_path, rename, unlink};
 ghost use Rattle.io_messages.specs.Fields.{parts_of};
 ghost use Rattle.io_messages.specs.Requests.{has_txid};
@@ -10,12 +9,12 @@ ghost use Rattle.io_messages.specs.Writing.{request_bytes, request_body, request
 
 use crate::fields::{Field, put_object, size_of};
 use crate::requests::{Request, TooLong, method_of};
-use fidl_names::Handle;
+use fidl_names::{Handle, MAX_BYTES, MAX_HANDLES};
 use fidl_wire::{Header, Ordinals, Out};
 
 /// Writes a request into an empty output, in its one spelling: no other header bit, no unknown
 /// member, no absent one at a table's end, and none for Unlink's flags where they are 0. `TooLong`
-/// exactly where the message would have more than 65,536 bytes; the output stays empty then.
+/// exactly where the message would have more than `MAX_BYTES` bytes; the output stays empty then.
 ///
 /// The caller sees to it that texts are UTF-8, and that the transaction id is 0 exactly where the
 /// request is Clone or OpenPath.
@@ -30,8 +29,8 @@ pub fn write_request(
     requires way { has_txid (is_one_way (method_of (asked request))) txid ≡ true }
     ensures bytes { OnOk result (out.new.bytes ≡ request_bytes txid (asked request.entry)) }
     ensures handles { OnOk result (out.new.handles ≡ request_handles (asked request.entry)) }
-    ensures fits { OnOk result (length (request_bytes txid (asked request.entry)) ≤ most_bytes) }
-    ensures long { OnErr result (most_bytes < length (request_bytes txid (asked request.entry))) }
+    ensures fits { OnOk result (length (request_bytes txid (asked request.entry)) ≤ MAX_BYTES) }
+    ensures long { OnErr result (MAX_BYTES < length (request_bytes txid (asked request.entry))) }
     ensures unchanged { OnErr result (out.new ≡ out.old) }
 {
     let header = Header {
@@ -161,7 +160,7 @@ fn write_unlink(header: Header, name: &[u8], flags: u64, out: &mut Out) -> Resul
 /// Writes a message, unless it is too long.
 fn write_fields(header: Header, fields: &[Field<'_, '_>], out: &mut Out) -> Result<(), TooLong>
     requires empty { out.old ≡ record { bytes = []; handles = [] } }
-    requires few { length (parts_of fields.now).handles ≤ most_handles }
+    requires few { length (parts_of fields.now).handles ≤ MAX_HANDLES }
     ensures { Wrote (header_bytes header ++ object_bytes (parts_of fields.now)) (parts_of fields.now).handles result out.old out.new }
 {
     match size_of(fields) {

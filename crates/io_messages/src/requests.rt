@@ -101,7 +101,7 @@ impl From<WireFault> for RequestFault {
     }
 }
 
-/// A message would have more than 65,536 bytes.
+/// A message would have more than `MAX_BYTES` bytes.
 #[derive(Clone, Copy, Debug, PartialEq, Eq)]
 pub struct TooLong;
 

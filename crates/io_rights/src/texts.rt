@@ -1,7 +1,7 @@
-ghost use Rattle.std.specs.Prelude.{◌≡◌, ◌≤◌, ◌<◌, ◌==◌, ◌↔◌, List, [], ◌∷◌, ◌++◌, length, IsTrue, IfSome};
-ghost use Rattle.std.specs.List.{list_any};
-ghost use Rattle.io_rights.specs.Operations.{OperationSet, set_of};
-ghost use Rattle.io_rights.specs.Letters.{letter_of, letters_of};
+ghost use Rattle.std.specs.Prelude.{◌≡◌, ◌≤◌, ◌<◌, ◌↔◌, List, [], ◌∷◌, ◌++◌, length, IsTrue, IfSome};
+ghost use Rattle.io_rights.specs.Operations.{OperationSet};
+ghost use Rattle.io_rights.specs.Letters.{letters_of, named_in, rights_of};
+ghost use Rattle.io_rights.specs.declared.texts.TheConstants as limit;
 
 use crate::operations::Operation;
 use crate::sets::Rights;
@@ -20,12 +20,13 @@ pub struct Letters {
 
 impl Model for Letters {
     ghost use Rattle.std.specs.Prelude.{ℕ, List, take, ◌≤◌};
+    ghost use Rattle.io_rights.specs.declared.texts.TheConstants as limit;
 
     ghost Value = { List ℕ };
 
     ghost view = { λ letters. take letters.count letters.bytes };
 
-    ghost invariant = { λ letters. letters.count ≤ 9 };
+    ghost invariant = { λ letters. letters.count ≤ limit.MOST_LETTERS };
 }
 
 impl Letters {
@@ -45,7 +46,7 @@ impl Letters {
     }
 
     fn push(&mut self, letter: u8)
-        requires { length self.old < 9 }
+        requires { length self.old < limit.MOST_LETTERS }
         ensures { self.new ≡ self.old ++ letter ∷ [] }
     {
         self.bytes[self.count] = letter;
@@ -93,6 +94,7 @@ impl Rights {
 
 /// The rights whose letters are this text; `None` exactly where there are none.
 pub fn read_rights(text: &[u8]) -> Option<Rights>
+    ensures value { result ≡ rights_of text.now }
     ensures found { IfSome result (λ rights. text.now ≡ letters_of rights) }
     ensures only { (rights : OperationSet) → text.now ≡ letters_of rights → result ≡ Some rights }
 {
@@ -106,7 +108,7 @@ pub fn read_rights(text: &[u8]) -> Option<Rights>
 
 // The operations whose letter stands somewhere in the text.
 fn named_in(text: &[u8]) -> Rights
-    ensures { result ≡ set_of (λ operation. list_any (λ byte. byte == letter_of operation) text.now) }
+    ensures { result ≡ named_in text.now }
 {
     let mut rights = Rights::none();
     for operation in Operation::ALL {

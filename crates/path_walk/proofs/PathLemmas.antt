@@ -1,10 +1,11 @@
 -- Texts, the names between their slashes, and the first fault.
 use Rattle.std.proofs.Common.{◌≡◌, ℕ, ◌+◌, ◌<◌, ◌≤◌, ◌==◌, Bool, true, false, not, List, [], ◌∷◌, ◌++◌, length, get_or, take, drop, Option, Some, None, refl, sym, ap, ◌∙◌, subst, rules, nat_lt, arith, inl, inr, length-append}
 use Rattle.std.specs.Prelude.{All, IsUtf8, Result, Ok, Err, MatchResult, is_err, unwrap_or}
+use Rattle.std.specs.Option.{option_or}
 use Rattle.std.specs.List.{slice_split, join_with_byte, position_or_len, slice_get}
 use Rattle.std.specs.Str.{bytes_eq, is_utf8}
 use Rattle.std.specs.Cmp.Lexicographic.{same_text}
-use Rattle.std.proofs.lemmas.Bool.{cases_Bool, cases_lt, or_parts, or_from, ltb-false, le-ltb, ne_eqb, eqb-true, not_from_false, false_from_ne_true}
+use Rattle.std.proofs.lemmas.Bool.{cases_Bool, cases_lt, or_parts, or_from, ltb-false, le-ltb, ne_eqb, eqb-true, false_from_ne_true}
 use Rattle.std.proofs.lemmas.List.Elements.{All-nil, All-cons, All-head, All-tail, All-from_get_or}
 use Rattle.std.proofs.lemmas.List.Folds.{list_any-append, list_any_none}
 use Rattle.std.proofs.lemmas.List.Splits.{slice_split_none, slice_split_at, slice_split_first, join_with_byte-slice_split, length-slice_split}
@@ -13,11 +14,14 @@ use Rattle.std.proofs.lemmas.List.{take-append-drop, length-drop, length-take, g
 use Rattle.std.proofs.Math.Seq.{take-length}
 use Rattle.std.proofs.lemmas.Str.{IsUtf8-from_is_utf8, is_utf8-from_IsUtf8, IsUtf8-drop, IsCharBoundary-after_ascii, IsUtf8-from_ascii}
 use Rattle.memchr.specs.Find.{IsFirstByte, is_byte}
+use Rattle.fidl_names.specs.First.{cause_if, first_of}
+use Rattle.fidl_names.specs.declared.limits.TheConstants as limit
+use Rattle.fidl_names.proofs.FirstLaws.{first_of-append, first_of-head, first_of-none, cause_if-none}
 use Rattle.path_walk.specs.declared.faults.PathFault.{PathFault}
 use Rattle.path_walk.specs.declared.faults.PathFault.TheVariants as fault
-use Rattle.path_walk.specs.Names.{Rule, first_broken, slash, dot, holds, name_fault, IsName}
-use Rattle.path_walk.specs.Paths.{text_of, IsPath, names_of, text_rules, first_bad_name, path_fault}
-use Rattle.path_walk.proofs.NameLemmas.{broken_none, not_broken, broken, or_at_some, or_at_none, or_none_left, or_none_right, name-some, name-no_zero, name-no_slash, empty_is_no_name, dot_is_no_name}
+use Rattle.path_walk.specs.Names.{slash, dot, holds, name_fault, IsName}
+use Rattle.path_walk.specs.Paths.{text_of, IsPath, names_of, text_faults, name_faults, path_fault}
+use Rattle.path_walk.proofs.NameLemmas.{or_at_some, or_at_none, or_none_left, or_none_right, name-some, name-no_zero, name-no_slash, empty_is_no_name, dot_is_no_name}
 
 abbrev pub is_slash : ℕ → Bool
 is_slash byte = byte == slash
@@ -25,17 +29,28 @@ is_slash byte = byte == slash
 abbrev pub pieces : List ℕ → List (List ℕ)
 pieces text = slice_split is_slash text
 
+-- the first bad name
+abbrev pub first_bad_name : List (List ℕ) → Option PathFault
+first_bad_name names = first_of (name_faults names)
+
+-- the first bad piece of a text
+abbrev pub piece_fault : List ℕ → Option PathFault
+piece_fault text = first_bad_name (pieces text)
+
 -- ---- names with and without a fault
 
-pub no_bad_name : (names : List (List ℕ)) → first_bad_name names ≡ None → All IsName names
+pub no_bad_name : (names : List (List ℕ)) → first_of (name_faults names) ≡ None → All IsName names
 no_bad_name [] e = All-nil IsName
 no_bad_name (name ∷ names) e =
-    All-cons IsName name names (or_none_left _ _ e) (no_bad_name names (or_none_right _ _ e))
+    let both = first_of-none (name_fault name) (name_faults names) e in
+    All-cons IsName name names both.0 (no_bad_name names both.1)
 
-pub first_bad_name-none : (names : List (List ℕ)) → All IsName names → first_bad_name names ≡ None
+pub first_bad_name-none : (names : List (List ℕ)) → All IsName names → first_of (name_faults names) ≡ None
 first_bad_name-none [] h = refl
 first_bad_name-none (name ∷ names) h =
-    or_at_none _ _ (All-head IsName name names h) ∙ first_bad_name-none names (All-tail IsName name names h)
+    first_of-head (name_fault name) (name_faults names)
+    ∙ or_at_none _ _ (All-head IsName name names h)
+    ∙ first_bad_name-none names (All-tail IsName name names h)
 
 -- ---- a text without a byte, and its parts
 
@@ -127,7 +142,7 @@ text_of-names_of text =
 
 pub record TextParts (text : List ℕ) : Type 0 where
   pub some : (length text == 0) ≡ false
-  pub short : nat_lt 4095 (length text) ≡ false
+  pub short : nat_lt limit.MAX_PATH (length text) ≡ false
   pub utf8 : is_utf8 text ≡ true
   pub no_zero : holds 0 text ≡ false
   pub names : All IsName (names_of text)
@@ -136,54 +151,51 @@ from_not : (b : Bool) → not b ≡ false → b ≡ true
 from_not true e = refl
 from_not false e = cc
 
-to_not : (b : Bool) → b ≡ true → not b ≡ false
-to_not true e = refl
-to_not false e = cc
+abbrev fault_some : List ℕ → Option PathFault
+fault_some text = cause_if (length text == 0) fault.Empty
 
-abbrev rule_some : List ℕ → Rule
-rule_some text = (length text == 0, fault.Empty)
+abbrev fault_short : List ℕ → Option PathFault
+fault_short text = cause_if (nat_lt limit.MAX_PATH (length text)) fault.TooLong
 
-abbrev rule_short : List ℕ → Rule
-rule_short text = (nat_lt 4095 (length text), fault.TooLong)
+abbrev fault_utf8 : List ℕ → Option PathFault
+fault_utf8 text = cause_if (not (is_utf8 text)) fault.NotUtf8
 
-abbrev rule_utf8 : List ℕ → Rule
-rule_utf8 text = (not (is_utf8 text), fault.NotUtf8)
+abbrev fault_zero : List ℕ → Option PathFault
+fault_zero text = cause_if (holds 0 text) fault.ZeroByte
 
-abbrev rule_zero : List ℕ → Rule
-rule_zero text = (holds 0 text, fault.ZeroByte)
-
-pub parts_of : (text : List ℕ) → first_broken (text_rules text) ≡ None → All IsName (names_of text) → TextParts text
+pub parts_of : (text : List ℕ) → first_of (text_faults text) ≡ None → All IsName (names_of text) → TextParts text
 parts_of text e h =
-    let one = broken_none (rule_some text) (rule_short text ∷ rule_utf8 text ∷ rule_zero text ∷ []) e in
-    let two = broken_none (rule_short text) (rule_utf8 text ∷ rule_zero text ∷ []) one.1 in
-    let three = broken_none (rule_utf8 text) (rule_zero text ∷ []) two.1 in
-    let four = broken_none (rule_zero text) [] three.1 in
-    record { some = one.0; short = two.0; utf8 = from_not (is_utf8 text) three.0; no_zero = four.0; names = h }
+    let one = first_of-none (fault_some text) (fault_short text ∷ fault_utf8 text ∷ fault_zero text ∷ []) e in
+    let two = first_of-none (fault_short text) (fault_utf8 text ∷ fault_zero text ∷ []) one.1 in
+    let three = first_of-none (fault_utf8 text) (fault_zero text ∷ []) two.1 in
+    let four = first_of-none (fault_zero text) [] three.1 in
+    record {
+      some = cause_if-none (length text == 0) fault.Empty one.0;
+      short = cause_if-none (nat_lt limit.MAX_PATH (length text)) fault.TooLong two.0;
+      utf8 = from_not (is_utf8 text) (cause_if-none (not (is_utf8 text)) fault.NotUtf8 three.0);
+      no_zero = cause_if-none (holds 0 text) fault.ZeroByte four.0;
+      names = h;
+    }
+
+-- the whole text first, then name by name
+pub path_fault-parts : (text : List ℕ) → path_fault text ≡ option_or (first_of (text_faults text)) (first_of (name_faults (names_of text)))
+unfolding path_fault
+path_fault-parts text = first_of-append (text_faults text) (name_faults (names_of text))
 
 pub parts : (text : List ℕ) → path_fault text ≡ None → TextParts text
-unfolding path_fault
-parts text e = parts_of text (or_none_left _ _ e) (no_bad_name (names_of text) (or_none_right _ _ e))
+parts text e =
+    let none = sym (path_fault-parts text) ∙ e in
+    parts_of text (or_none_left _ _ none) (no_bad_name (names_of text) (or_none_right _ _ none))
 
--- a text whose first broken rule is the third, or the fourth
-pub text-not_utf8 : (text : List ℕ) → (length text == 0) ≡ false → nat_lt 4095 (length text) ≡ false → is_utf8 text ≡ false → first_broken (text_rules text) ≡ Some fault.NotUtf8
-text-not_utf8 text some short utf8 =
-    not_broken (rule_some text) (rule_short text ∷ rule_utf8 text ∷ rule_zero text ∷ []) some
-    ∙ not_broken (rule_short text) (rule_utf8 text ∷ rule_zero text ∷ []) short
-    ∙ broken (rule_utf8 text) (rule_zero text ∷ []) (not_from_false (is_utf8 text) utf8)
+-- a text whose first fault is the third, or the fourth
+pub text-not_utf8 : (text : List ℕ) → (length text == 0) ≡ false → nat_lt limit.MAX_PATH (length text) ≡ false → is_utf8 text ≡ false → first_of (text_faults text) ≡ Some fault.NotUtf8
+text-not_utf8 text some short utf8 = rw (some, short, utf8) refl
 
-pub text-zero : (text : List ℕ) → (length text == 0) ≡ false → nat_lt 4095 (length text) ≡ false → is_utf8 text ≡ true → holds 0 text ≡ true → first_broken (text_rules text) ≡ Some fault.ZeroByte
-text-zero text some short utf8 no_zero =
-    not_broken (rule_some text) (rule_short text ∷ rule_utf8 text ∷ rule_zero text ∷ []) some
-    ∙ not_broken (rule_short text) (rule_utf8 text ∷ rule_zero text ∷ []) short
-    ∙ not_broken (rule_utf8 text) (rule_zero text ∷ []) (to_not (is_utf8 text) utf8)
-    ∙ broken (rule_zero text) [] no_zero
+pub text-zero : (text : List ℕ) → (length text == 0) ≡ false → nat_lt limit.MAX_PATH (length text) ≡ false → is_utf8 text ≡ true → holds 0 text ≡ true → first_of (text_faults text) ≡ Some fault.ZeroByte
+text-zero text some short utf8 no_zero = rw (some, short, utf8, no_zero) refl
 
-pub text-none : (text : List ℕ) → (length text == 0) ≡ false → nat_lt 4095 (length text) ≡ false → is_utf8 text ≡ true → holds 0 text ≡ false → first_broken (text_rules text) ≡ None
-text-none text some short utf8 no_zero =
-    not_broken (rule_some text) (rule_short text ∷ rule_utf8 text ∷ rule_zero text ∷ []) some
-    ∙ not_broken (rule_short text) (rule_utf8 text ∷ rule_zero text ∷ []) short
-    ∙ not_broken (rule_utf8 text) (rule_zero text ∷ []) (to_not (is_utf8 text) utf8)
-    ∙ not_broken (rule_zero text) [] no_zero
+pub text-none : (text : List ℕ) → (length text == 0) ≡ false → nat_lt limit.MAX_PATH (length text) ≡ false → is_utf8 text ≡ true → holds 0 text ≡ false → first_of (text_faults text) ≡ None
+text-none text some short utf8 no_zero = rw (some, short, utf8, no_zero) refl
 
 -- what a call of `from_utf8` tells
 pub utf8_at_ok : {T E : Type 0} (r : Result T E) (bytes : List ℕ) (P : T → Type 0) (Q : E → Type 0) → MatchResult r (λ s. P s × IsUtf8 bytes) (λ e. (IsUtf8 bytes → ⊥) × Q e) → is_err r ≡ false → is_utf8 bytes ≡ true
@@ -196,8 +208,7 @@ utf8_at_err (Err f) bytes P Q h e =
     false_from_ne_true (is_utf8 bytes) (λ yes. h.0 (IsUtf8-from_is_utf8 bytes yes))
 
 pub from_parts : (text : List ℕ) → TextParts text → path_fault text ≡ None
-unfolding path_fault
-from_parts text p = or_at_none _ _ (text-none text p.some p.short p.utf8 p.no_zero) ∙ first_bad_name-none (names_of text) p.names
+from_parts text p = path_fault-parts text ∙ or_at_none _ _ (text-none text p.some p.short p.utf8 p.no_zero) ∙ first_bad_name-none (names_of text) p.names
 
 -- ---- the grammar and the first fault
 
@@ -207,7 +218,7 @@ path_sound text e =
     record {
       spelled = sym (text_of-names_of text);
       valid = p.names;
-      short = ltb-false 4095 (length text) p.short;
+      short = ltb-false limit.MAX_PATH (length text) p.short;
       utf8 = IsUtf8-from_is_utf8 text p.utf8;
     }
 
@@ -242,7 +253,7 @@ path_complete text names p =
       from_parts text
           (record {
             some = ne_eqb (length text) 0 (λ e. omega arith);
-            short = le-ltb 4095 (length text) p.short;
+            short = le-ltb limit.MAX_PATH (length text) p.short;
             utf8 = is_utf8-from_IsUtf8 text p.utf8;
             no_zero = ap (holds 0) p.spelled ∙ no_zero-text names p.valid;
             names = subst (All IsName) (sym same) p.valid;
@@ -311,12 +322,12 @@ after_slash text e within =
     let same : names_of after ≡ pieces after = names_of-other after other in
     let at : get_or text p 0 ≡ slash = eqb-true (get_or text p 0) slash (passes_at_first is_slash text 0 within) in
     let low : get_or text p 0 < 128 = omega arith in
-    let long : length text ≤ 4095 = ltb-false 4095 (length text) of_text.short in
+    let long : length text ≤ limit.MAX_PATH = ltb-false limit.MAX_PATH (length text) of_text.short in
     let text_utf8 : IsUtf8 text = IsUtf8-from_is_utf8 text of_text.utf8 in (
       from_parts after
           (record {
             some = ne_eqb (length after) 0 (λ none. omega arith);
-            short = le-ltb 4095 (length after) (omega (arith, length-drop (p + 1) text));
+            short = le-ltb limit.MAX_PATH (length after) (omega (arith, length-drop (p + 1) text));
             utf8 =
                 is_utf8-from_IsUtf8 after
                 (IsUtf8-drop text (p + 1) text_utf8 (IsCharBoundary-after_ascii text p text_utf8 within low));
@@ -381,21 +392,24 @@ rest_at_end text e =
 
 -- ---- piece by piece
 
-pub piece_bad : (text : List ℕ) (end : ℕ) (found : PathFault) → end ≡ position_or_len is_slash text → end ≤ length text → name_fault (take end text) ≡ Some found → first_bad_name (pieces text) ≡ Some found
+pub piece_bad : (text : List ℕ) (end : ℕ) (found : PathFault) → end ≡ position_or_len is_slash text → end ≤ length text → name_fault (take end text) ≡ Some found → piece_fault text ≡ Some found
 piece_bad text end found e h bad =
     let cut = pieces-cut text end e h in
-    ap first_bad_name cut.1 ∙ or_at_some (name_fault (take end text)) (first_bad_name cut.0) found bad
+    ap first_bad_name cut.1
+    ∙ first_of-head (name_fault (take end text)) (name_faults cut.0)
+    ∙ or_at_some (name_fault (take end text)) (first_bad_name cut.0) found bad
 
-pub last_piece_good : (text : List ℕ) → position_or_len is_slash text ≡ length text → name_fault text ≡ None → first_bad_name (pieces text) ≡ None
+pub last_piece_good : (text : List ℕ) → position_or_len is_slash text ≡ length text → name_fault text ≡ None → piece_fault text ≡ None
 last_piece_good text e good =
-    ap first_bad_name (no_slash_after text e) ∙ or_at_none (name_fault text) None good
+    ap first_bad_name (no_slash_after text e) ∙ first_of-head (name_fault text) [] ∙ or_at_none (name_fault text) None good
 
-pub piece_good : (text : List ℕ) (end : ℕ) → end ≡ position_or_len is_slash text → end < length text → name_fault (take end text) ≡ None → first_bad_name (pieces text) ≡ first_bad_name (pieces (drop (end + 1) text))
+pub piece_good : (text : List ℕ) (end : ℕ) → end ≡ position_or_len is_slash text → end < length text → name_fault (take end text) ≡ None → piece_fault text ≡ piece_fault (drop (end + 1) text)
 piece_good text end e within good =
     let cut : pieces text ≡ take end text ∷ pieces (drop (end + 1) text) =
     rw e (slash_after text (subst (λ k. k < length text) e within)) in
     ap first_bad_name cut
-    ∙ or_at_none (name_fault (take end text)) (first_bad_name (pieces (drop (end + 1) text))) good
+    ∙ first_of-head (name_fault (take end text)) (name_faults (pieces (drop (end + 1) text)))
+    ∙ or_at_none (name_fault (take end text)) (piece_fault (drop (end + 1) text)) good
 
 pub take_no_zero : (text : List ℕ) (n : ℕ) → holds 0 text ≡ false → holds 0 (take n text) ≡ false
 take_no_zero text n h = holds-front 0 (take n text) (drop n text) (ap (holds 0) (take-append-drop n text) ∙ h)
@@ -405,13 +419,11 @@ drop_no_zero text n h = holds-back 0 (take n text) (drop n text) (ap (holds 0) (
 
 -- ---- the first fault, from its parts
 
-pub path_fault-text : (text : List ℕ) (found : PathFault) → first_broken (text_rules text) ≡ Some found → path_fault text ≡ Some found
-unfolding path_fault
-path_fault-text text found e = or_at_some _ _ found e
+pub path_fault-text : (text : List ℕ) (found : PathFault) → first_of (text_faults text) ≡ Some found → path_fault text ≡ Some found
+path_fault-text text found e = path_fault-parts text ∙ or_at_some _ _ found e
 
-pub path_fault-pieces : (text : List ℕ) → first_broken (text_rules text) ≡ None → bytes_eq text dot ≡ false → path_fault text ≡ first_bad_name (pieces text)
-unfolding path_fault
-path_fault-pieces text e other = or_at_none _ _ e ∙ ap first_bad_name (names_of-other text other)
+pub path_fault-pieces : (text : List ℕ) → first_of (text_faults text) ≡ None → bytes_eq text dot ≡ false → path_fault text ≡ piece_fault text
+path_fault-pieces text e other = path_fault-parts text ∙ or_at_none _ _ e ∙ ap first_bad_name (names_of-other text other)
 
 pub path_fault-at_dot : (text : List ℕ) → bytes_eq text dot ≡ true → path_fault text ≡ None
 path_fault-at_dot text same = ap path_fault (same_bytes text dot same) ∙ path_fault-dot

@@ -1,10 +1,10 @@
 ghost use Rattle.std.specs.Prelude.{◌≡◌, false, [], ◌∷◌};
 ghost use Rattle.std.specs.Result.{result_err};
-ghost use Rattle.path_walk.specs.Names.{slash, holds, name_fault, length_rules, dot_rule, first_broken};
+ghost use Rattle.fidl_names.specs.First.{first_of};
+ghost use Rattle.path_walk.specs.Names.{slash, holds, name_fault, length_faults, dot_fault};
 
 use crate::faults::PathFault;
-
-const LONGEST_NAME: usize = 255;
+use fidl_names::MAX_NAME;
 
 /// Tests a single name: 1 to 255 bytes without a zero byte or a `/`, and neither `.` nor `..`. The
 /// first of EmptyName, NameTooLong, ZeroByte, Slash and DotName that holds is its fault.
@@ -32,19 +32,19 @@ pub(crate) fn check_piece(text: &[u8]) -> Result<(), PathFault>
 }
 
 fn check_length(text: &[u8]) -> Result<(), PathFault>
-    ensures { result_err result ≡ first_broken (length_rules text.now) }
+    ensures { result_err result ≡ first_of (length_faults text.now) }
 {
     if text.is_empty() {
         return Err(PathFault::EmptyName);
     }
-    if text.len() > LONGEST_NAME {
+    if text.len() > MAX_NAME {
         return Err(PathFault::NameTooLong);
     }
     Ok(())
 }
 
 fn check_dots(text: &[u8]) -> Result<(), PathFault>
-    ensures { result_err result ≡ first_broken (dot_rule text.now ∷ []) }
+    ensures { result_err result ≡ dot_fault text.now }
 {
     if text == b".".as_slice() || text == b"..".as_slice() {
         return Err(PathFault::DotName);

@@ -2,15 +2,15 @@ ghost use Rattle.std.specs.Prelude.{◌≡◌, ℕ, ◌==◌, ◌+◌, ◌<◌, 
 ghost use Rattle.std.specs.List.{slice_split, position_or_len};
 ghost use Rattle.std.specs.Option.{option_copied};
 ghost use Rattle.std.specs.Result.{result_err};
-ghost use Rattle.path_walk.specs.Names.{slash, holds, IsName, first_broken};
-ghost use Rattle.path_walk.specs.Paths.{text_of, IsPath, names_of, text_rules, first_bad_name, path_fault};
+ghost use Rattle.fidl_names.specs.First.{first_of};
+ghost use Rattle.path_walk.specs.Names.{slash, holds, IsName};
+ghost use Rattle.path_walk.specs.Paths.{text_of, IsPath, names_of, text_faults, name_faults, path_fault};
 
 use crate::faults::PathFault;
 use crate::names::check_piece;
+use fidl_names::MAX_PATH;
 use memchr::memchr;
 use std::marker::Model;
-
-const LONGEST_PATH: usize = 4095;
 
 const DOT: &[u8] = b".";
 
@@ -89,12 +89,12 @@ fn check_whole(text: &[u8]) -> Result<(), PathFault>
 
 // The rules on the whole text.
 fn check_text(text: &[u8]) -> Result<(), PathFault>
-    ensures { result_err result ≡ first_broken (text_rules text.now) }
+    ensures { result_err result ≡ first_of (text_faults text.now) }
 {
     if text.is_empty() {
         return Err(PathFault::Empty);
     }
-    if text.len() > LONGEST_PATH {
+    if text.len() > MAX_PATH {
         return Err(PathFault::TooLong);
     }
     if str::from_utf8(text).is_err() {
@@ -109,7 +109,7 @@ fn check_text(text: &[u8]) -> Result<(), PathFault>
 // The rules on each name, in turn.
 fn check_pieces(text: &[u8]) -> Result<(), PathFault>
     requires { holds 0 text.now ≡ false }
-    ensures { result_err result ≡ first_bad_name (slice_split (λ byte. byte == slash) text.now) }
+    ensures { result_err result ≡ first_of (name_faults (slice_split (λ byte. byte == slash) text.now)) }
 {
     let mut rest = text;
     loop {

@@ -1,3 +1,4 @@
+-- What a session is: a reader of the contracts above believes each of these.
 pub mod Entries
 pub mod Starts
 pub mod Outcomes
@@ -10,14 +11,3 @@ pub mod Watching
 pub mod Output
 pub mod Session
 pub mod Lawful
-pub mod RowTree
-pub mod Rows
-pub mod RowOpens
-pub mod RowFiles
-pub mod RowLink
-pub mod RowNames
-pub mod RowMounts
-pub mod Laws
-pub mod Soundness
-pub mod Knowing
-pub mod Carrying

@@ -61,6 +61,7 @@ fn put_success(out: &mut Out, txid: u32, part: &[u8], ordinal: u64)
     out.put_u64(part.len() as u64);
     out.put_u64(u64::MAX);
     out.put_bytes(part);
+    out.pad();
 }
 
 fn put_out_of_range(out: &mut Out, txid: u32, ordinal: u64)

@@ -2,13 +2,14 @@
 use Rattle.std.proofs.Common.{◌≡◌, ℕ, ◌+◌, ◌≤◌, List, [], ◌∷◌, ◌++◌, length, replicate, None, ap, length-append, arith}
 use Rattle.std.proofs.lemmas.List.{append-nil, length-replicate}
 use Rattle.byteorder.specs.Numbers.{length-bytes_low_first}
+use Rattle.fidl_names.specs.declared.limits.TheConstants as limit
 use Rattle.fidl_wire.specs.declared.headers.Header.{Header}
 use Rattle.fidl_wire.specs.Headers.{header_bytes, flags_of}
 use Rattle.fidl_names.specs.Numbers.{number_bytes}
 use Rattle.fidl_wire.specs.Numbers.{padding_after}
 use Rattle.fidl_wire.specs.Reading.{present_word, present_list}
 use Rattle.fidl_wire.specs.Spelling.{count_bytes}
-use Rattle.fidl_wire.specs.Written.{padded_bytes, most_bytes}
+use Rattle.fidl_wire.specs.Written.{padded_bytes}
 use Rattle.io_messages.specs.Asked as asks
 use Rattle.io_messages.specs.Writing.{request_body, request_bytes, plain_header}
 use Rattle.fidl_names.specs.declared.methods.Method.TheVariants as method
@@ -63,7 +64,7 @@ length-body path flags object short =
     rw (body_is path flags object)
     (omega (arith, length-append (padded_bytes (open_fields (length path) flags)) (padded_bytes path), length-padded (open_fields (length path) flags), length-padded path, length-fields (length path) flags, short))
 
-pub onward_fits : (path : List ℕ) (flags object : ℕ) → length path ≤ 4095 → length (request_bytes 0 (asks.open_path path flags None object)) ≤ most_bytes
+pub onward_fits : (path : List ℕ) (flags object : ℕ) → length path ≤ 4095 → length (request_bytes 0 (asks.open_path path flags None object)) ≤ limit.MAX_BYTES
 onward_fits path flags object short =
     omega (
       arith,

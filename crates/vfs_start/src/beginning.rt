@@ -6,7 +6,7 @@ ghost use Rattle.node_graph.specs.Graph.{StandsFor, holds_at, is_kept, number_of
 ghost use Rattle.tree_file.specs.Numbering.{tree_of};
 ghost use Rattle.conn_rules.specs.Births.{fresh};
 ghost use Rattle.conn_rules.specs.Shared.{CanBeBound};
-ghost use Rattle.vfs_journal.specs.Knowing.{IsNumbered};
+ghost use Rattle.journal_laws.specs.Knowing.{IsNumbered};
 ghost use Rattle.vfs_journal.specs.Starts.{start_of};
 ghost use Rattle.vfs_serving.specs.Bindings.{HasNoMount, bound_as};
 ghost use Rattle.vfs_start.specs.Accepted.{IsAccepted};
@@ -19,7 +19,7 @@ use node_graph::Graph;
 use std::alloc::Global;
 use std::collections::BTreeMap;
 use tree_file::Start;
-use vfs_journal::starts_of_files_are_numbered;
+use journal_laws::starts_of_files_are_numbered;
 use vfs_serving::Slot;
 
 // The path of the root.

@@ -9,10 +9,10 @@ use Rattle.tree_file.specs.Items.{Lists, MountItem}
 use Rattle.tree_file.specs.Numbering.{tree_of}
 use Rattle.conn_rules.specs.Births.{Position, fresh}
 use Rattle.vfs_journal.specs.History.{births, is_watcher, living, tree_at}
-use Rattle.vfs_journal.specs.Knowing.{IsNumbered, Knows, StartsAreKnown}
+use Rattle.journal_laws.specs.Knowing.{IsNumbered, Knows, StartsAreKnown}
 use Rattle.vfs_journal.specs.Lawful as lawful
 use Rattle.vfs_journal.specs.Past.{history_of}
-use Rattle.vfs_journal.specs.Soundness.{StartsAreSound}
+use Rattle.journal_laws.specs.Soundness.{StartsAreSound}
 use Rattle.vfs_journal.specs.Starts.{Bound, Start, end_of, first_of_client, start_of}
 use Rattle.vfs_keeping.specs.Dying.{IsHere}
 use Rattle.vfs_keeping.specs.Keeping.{Keeping, seen}

@@ -19,10 +19,10 @@ use Rattle.conn_rules.specs.Births.{Position}
 use Rattle.conn_rules.specs.Built.{first_methods}
 use Rattle.vfs_journal.specs.Entries.{Journal, Sending, Sent, hang_up, message, refuses, sends}
 use Rattle.vfs_journal.specs.History.{History, is_dead, is_live, hung_up, living, standing_of, tree_at, trees_of, waiting}
-use Rattle.vfs_journal.specs.Knowing.{Knows}
+use Rattle.journal_laws.specs.Knowing.{Knows}
 use Rattle.vfs_journal.specs.Lawful.{Lawful}
 use Rattle.vfs_journal.specs.Lawful as lawful
-use Rattle.vfs_journal.specs.Laws.{HasSameEndpoints}
+use Rattle.journal_laws.specs.Laws.{HasSameEndpoints}
 use Rattle.vfs_journal.specs.Output.{refused_frame}
 use Rattle.vfs_journal.specs.Past.{history_of}
 use Rattle.vfs_journal.specs.Session.{admitted, arrives, by_refusal, look_ups, picked, sent_behind, turned}

@@ -8,8 +8,8 @@ use Rattle.endpoint_link.specs.Numbering.{among}
 use Rattle.conn_rules.specs.Births.{Position, fresh}
 use Rattle.vfs_journal.specs.Entries.{Sent}
 use Rattle.vfs_journal.specs.History.{Event, History, binds_endpoint, is_dead, living, position_of}
-use Rattle.vfs_journal.specs.Laws.{IsServed, but_for, newly_living}
-use Rattle.vfs_journal.specs.Soundness.{OtherEndpoint}
+use Rattle.journal_laws.specs.Laws.{IsServed, but_for, newly_living}
+use Rattle.journal_laws.specs.Soundness.{OtherEndpoint}
 use Rattle.vfs_journal.specs.Starts.{Bound, Start}
 use Rattle.vfs_keeping.specs.Dying.{newly_seen}
 use Rattle.vfs_keeping.specs.Keeping.{positioned, seen}

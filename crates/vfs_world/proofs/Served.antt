@@ -14,15 +14,15 @@ use Rattle.conn_rules.specs.Built.{first_methods}
 use Rattle.vfs_journal.specs.Deaths.{deaths_of}
 use Rattle.vfs_journal.specs.Entries.{Journal, Sent, serves}
 use Rattle.vfs_journal.specs.History.{Event, History, binds_endpoint, births, changed, is_bound, is_dead, living, tree_at, trees_of, waiting}
-use Rattle.vfs_journal.specs.Knowing.{Knows, known_behind}
+use Rattle.journal_laws.specs.Knowing.{Knows, known_behind}
 use Rattle.vfs_journal.specs.Lawful.{Lawful}
 use Rattle.vfs_journal.specs.Lawful as lawful
-use Rattle.vfs_journal.specs.Laws.{IsServed, newly_living, but_for}
+use Rattle.journal_laws.specs.Laws.{IsServed, newly_living, but_for}
 use Rattle.vfs_journal.specs.Outcomes.{Given, Outcome}
 use Rattle.vfs_journal.specs.Past.{behind, event_of, history_of}
 use Rattle.vfs_journal.specs.Serving.{outcome_of}
 use Rattle.vfs_journal.specs.Session.{after_serving, head, with_forward}
-use Rattle.vfs_journal.specs.Soundness.{OtherEndpoint}
+use Rattle.journal_laws.specs.Soundness.{OtherEndpoint}
 use Rattle.vfs_journal.specs.Starts.{Bound, Start}
 use Rattle.vfs_journal.specs.Tokens.{all_given, directory_of}
 use Rattle.vfs_keeping.specs.Dying.{IsHere, Serves, ServesEntry, deaths_in, died, newly_seen, written_for}

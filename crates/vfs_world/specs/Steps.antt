@@ -4,11 +4,11 @@ use Rattle.node_graph.specs.Graph.{Kept, StandsFor as GraphStandsFor}
 use Rattle.node_graph.specs.Tree.{Tree}
 use Rattle.conn_rules.specs.Built.{first_methods}
 use Rattle.vfs_journal.specs.Entries.{Journal}
-use Rattle.vfs_journal.specs.Carrying.{ServingsBindWhatTheyCarry}
-use Rattle.vfs_journal.specs.Knowing.{HangUpsAreKnown, KnowersAdmit, MessagesAreKnown, RefusalsAreKnown, ServingsAreKnown, ServingsEndTheirDeaths}
-use Rattle.vfs_journal.specs.Laws.{RefusalsChangeNothing, SendingsWaitLast, ServingsTakeEffect, WhatIsSentWaits}
+use Rattle.journal_laws.specs.Carrying.{ServingsBindWhatTheyCarry}
+use Rattle.journal_laws.specs.Knowing.{HangUpsAreKnown, KnowersAdmit, MessagesAreKnown, RefusalsAreKnown, ServingsAreKnown, ServingsEndTheirDeaths}
+use Rattle.journal_laws.specs.Laws.{RefusalsChangeNothing, SendingsWaitLast, ServingsTakeEffect, WhatIsSentWaits}
 use Rattle.vfs_journal.specs.Output.{output_of}
-use Rattle.vfs_journal.specs.Soundness.{DrainsServeAll, EndpointsAreInTransit, EndpointsAreKnown}
+use Rattle.journal_laws.specs.Soundness.{DrainsServeAll, EndpointsAreInTransit, EndpointsAreKnown}
 use Rattle.vfs_journal.specs.Starts.{Start}
 use Rattle.vfs_keeping.specs.Keeping.{Keeping}
 use Rattle.vfs_world.specs.World.{Keeps}

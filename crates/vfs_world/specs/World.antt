@@ -5,11 +5,11 @@ use Rattle.conn_rules.specs.Births.{Position}
 use Rattle.conn_rules.specs.Built.{first_methods}
 use Rattle.vfs_journal.specs.Entries.{Journal}
 use Rattle.vfs_journal.specs.History.{History, living, position_of, tree_at, trees_of, waiting}
-use Rattle.vfs_journal.specs.Knowing.{IsNumbered, Knows}
+use Rattle.journal_laws.specs.Knowing.{IsNumbered, Knows}
 use Rattle.vfs_journal.specs.Lawful.{Lawful}
 use Rattle.vfs_journal.specs.Output.{output_of}
 use Rattle.vfs_journal.specs.Past.{history_of}
-use Rattle.vfs_journal.specs.Soundness.{IsStart}
+use Rattle.journal_laws.specs.Soundness.{IsStart}
 use Rattle.vfs_journal.specs.Starts.{Bound, Start}
 use Rattle.vfs_journal.specs.Tokens.{all_given}
 use Rattle.vfs_keeping.specs.Dying.{IsHere}

@@ -2,7 +2,7 @@
 
 ghost use Rattle.vfs_world.specs.Steps.{JournalLaws, KnowingLaws};
 
-use vfs_journal::{
+use journal_laws::{
     drains_serve_all, endpoints_are_in_transit, endpoints_are_known, hang_ups_are_known,
     knowers_admit, messages_are_known, refusals_are_known, refusals_change_nothing,
     sendings_wait_last, servings_are_known, servings_bind_what_they_carry,

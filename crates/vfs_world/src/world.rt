@@ -18,7 +18,7 @@ use fidl_names::NoMemory;
 use fidl_wire::Ordinals;
 use std::alloc::Global;
 use std::marker::Model;
-use vfs_journal::{starts_are_known, starts_are_sound};
+use journal_laws::{starts_are_known, starts_are_sound};
 use vfs_keeping::Keeper;
 use vfs_start::begin;
 

@@ -3,8 +3,7 @@ use Rattle.std.proofs.Common.{◌≡◌, ap, sym, ◌∙◌, take, ◌<◌, ◌�
 use Rattle.std.proofs.lemmas.Result.{err_from_is_err_and}
 use Rattle.std.proofs.Math.Seq.{take-length}
 use Rattle.path_walk.specs.Names.{holds, name_fault}
-use Rattle.path_walk.proofs.PathLemmas.{take_no_zero, drop_no_zero, front_no_slash, piece_bad, piece_good, last_piece_good, pieces}
-use Rattle.path_walk.specs.Paths.{first_bad_name}
+use Rattle.path_walk.proofs.PathLemmas.{take_no_zero, drop_no_zero, front_no_slash, piece_bad, piece_good, last_piece_good, piece_fault}
 use Rattle.path_walk.proofs.walk.check_pieces.Goals as goal
 
 take_all : (text : List ℕ) (end : ℕ) → end ≡ length text → take end text ≡ text
@@ -46,7 +45,7 @@ loop-rest-preserved c =
       to_come =
           c.loop-rest.invariant.to_come
           ∙ piece_good c.loop-rest.rest.now c.until_slash-end.result c.until_slash-end.ensures.place within (sym c.in_ok-check_piece.ensures)
-          ∙ sym (ap (λ text. first_bad_name (pieces text)) c.behind-rest.ensures);
+          ∙ sym (ap piece_fault c.behind-rest.ensures);
       no_zero =
           ap (holds 0) c.behind-rest.ensures
           ∙ drop_no_zero c.loop-rest.rest.now (c.until_slash-end.result + 1) c.loop-rest.invariant.no_zero;

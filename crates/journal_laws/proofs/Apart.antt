@@ -1,0 +1,153 @@
+-- No endpoint is born twice, and none travels twice.
+use Rattle.std.proofs.Common.{◌≡◌, ◌≢◌, ℕ, ◌<◌, ◌==◌, ◌⊎◌, true, false, List, [], ◌∷◌, ◌++◌, Option, Some, None, flat_map, All, AllPairs, Contains, option_to_list, refl, sym, ap, ◌∙◌, subst, inl, inr, append-nil, arith}
+use Rattle.std.proofs.lemmas.Bool.{eq-eqb, true≢false}
+use Rattle.std.proofs.lemmas.List.Elements.{All-weaker, All-contains, All-contains_itself, Contains-append_cases}
+use Rattle.std.proofs.lemmas.List.Kept.{AllPairs-filter}
+use Rattle.std.proofs.lemmas.List.Quantifiers.{all_pairs_push}
+use Rattle.endpoint_link.specs.declared.kinds.FrameKind.TheVariants as kind
+use Rattle.fidl_names.specs.HandleNumber.{is_client}
+use Rattle.endpoint_link.specs.Numbering.{among}
+use Rattle.conn_rules.specs.Built.{Built}
+use Rattle.vfs_journal.specs.Entries.{Sent, Journal, message, hang_up, handles_of, endpoints_in, sends, serves}
+use Rattle.vfs_journal.specs.History.{History, all_sent, births, living, waiting, travelling, is_dead}
+use Rattle.vfs_journal.specs.Lawful.{Lawful}
+use Rattle.vfs_journal.specs.Lawful as lawful
+use Rattle.vfs_journal.specs.Outcomes.{Outcome, Forwarded}
+use Rattle.vfs_journal.specs.Past.{behind, event_of, history_of}
+use Rattle.vfs_journal.specs.Serving.{outcome_of}
+use Rattle.vfs_journal.specs.Session.{head, look_ups, sent_behind, with_forward}
+use Rattle.journal_laws.specs.Soundness.{IsStart, OtherEndpoint}
+use Rattle.vfs_journal.specs.Starts.{Bound, Start}
+use Rattle.journal_laws.proofs.Among.{among_of, carrier_of, is_found}
+use Rattle.journal_laws.proofs.Below.{Below}
+use Rattle.journal_laws.proofs.Kept.{lawful_kept, is_serving, message_admitted, refusal_of}
+use Rattle.journal_laws.proofs.Lists.{pairs-append, pairs-head, pairs-tail}
+use Rattle.journal_laws.proofs.Members.{contains_here, contains_later, contains_cases, contains_none}
+use Rattle.journal_laws.proofs.Sound.{view, IsView, Transit, nothing_left}
+use Rattle.journal_laws.proofs.Served.{IsAnswered}
+use Rattle.journal_laws.proofs.Stepping.{stepped}
+use Rattle.journal_laws.proofs.Steps.{refusals_change_nothing, sendings_wait_last, servings_take_effect}
+use Rattle.journal_laws.proofs.Views.{is_view}
+
+-- ---- births
+
+-- what a serving binds was never born
+new_born : (start : Start) (history : History) (k : Sent) (o : Outcome) (x : Bound) → IsView (view start history) → Transit start (view start history) nothing_left → IsAnswered (view start history) k o → o.bound ≡ Some x →
+    (b : Bound) → Contains (births start history) b → b.endpoint ≢ x.endpoint
+new_born start history k o x is transit answered e b there same =
+    let carried = answered.bound_in x e in
+    let alive : is_dead history b.endpoint ≡ false = ap (is_dead history) same ∙ transit.alive k x.endpoint answered.waits carried in
+    let lives = is.born_living b there alive in
+    true≢false (sym (is_found (λ bound. bound.endpoint == x.endpoint) (living start history) b lives (eq-eqb b.endpoint x.endpoint same)) ∙ transit.unbound k x.endpoint answered.waits carried)
+
+more_born : (bounds : List Bound) (o : Option Bound) → AllPairs OtherEndpoint bounds → ((x : Bound) → o ≡ Some x → (b : Bound) → Contains bounds b → b.endpoint ≢ x.endpoint) → AllPairs OtherEndpoint (bounds ++ option_to_list o)
+more_born bounds None apart new = subst (AllPairs OtherEndpoint) (sym (append-nil bounds)) apart
+more_born bounds (Some x) apart new =
+    all_pairs_push OtherEndpoint bounds x apart (λ k d l. All-weaker (Contains bounds) (λ b. b.endpoint ≢ x.endpoint) (λ b h. new x refl b h) bounds (All-contains_itself bounds) k d l)
+
+forward_born : (built : Built) (start : Start) (journal : Journal) (origin : ℕ) (o : Option Forwarded) → AllPairs OtherEndpoint (births start (history_of built start journal)) → AllPairs OtherEndpoint (births start (history_of built start (with_forward origin journal o)))
+unfolding history_of
+forward_born built start journal origin None h = h
+forward_born built start journal origin (Some f) h =
+    subst (AllPairs OtherEndpoint) (sym (sendings_wait_last built start (history_of built start journal) (sent_behind journal f.endpoint (message f.bytes (f.object ∷ [])) (Some origin))).same.born) h
+
+served_born : Below → (built : Built) (start : Start) (earlier : Journal) (k : Sent) → IsStart start → Lawful built start earlier → head start (history_of built start earlier) k.endpoint ≡ Some k → AllPairs OtherEndpoint (births start (history_of built start earlier)) →
+    AllPairs OtherEndpoint (births start (history_of built start (serves k ∷ earlier)))
+unfolding history_of event_of
+served_born below built start earlier k s h first past =
+    let history = history_of built start earlier in
+    let steps = stepped built start earlier h in
+    let kept = lawful_kept below built start s earlier h in
+    let answered = (is_serving below built start earlier k s steps kept.sound first).answered in
+    subst (AllPairs OtherEndpoint) (sym (servings_take_effect built start history k).born)
+    (more_born (births start history) (outcome_of built start history k).bound past (λ x e. new_born start history k (outcome_of built start history k) x (is_view built start earlier steps) kept.transit answered e))
+
+pub births_apart : Below → (built : Built) (start : Start) → IsStart start → AllPairs OtherEndpoint (start.firsts ++ start.mounts) → (journal : Journal) → Lawful built start journal → AllPairs OtherEndpoint (births start (history_of built start journal))
+unfolding history_of
+births_apart below built start s apart journal lawful.begun = subst (AllPairs OtherEndpoint) (sym (append-nil (start.firsts ++ start.mounts))) apart
+births_apart below built start s apart journal (lawful.refused earlier frame why h is admits) =
+    subst (AllPairs OtherEndpoint) (sym (refusals_change_nothing built start (history_of built start earlier) frame.endpoint why).same.born) (births_apart below built start s apart earlier h)
+births_apart below built start s apart journal (lawful.sent earlier frame h is at admits) =
+    subst (AllPairs OtherEndpoint) (sym (sendings_wait_last built start (history_of built start earlier) (sent_behind earlier frame.endpoint (message frame.bytes frame.handles) None)).same.born) (births_apart below built start s apart earlier h)
+births_apart below built start s apart journal (lawful.closed earlier frame h is at admits) =
+    subst (AllPairs OtherEndpoint) (sym (sendings_wait_last built start (history_of built start earlier) (sent_behind earlier frame.endpoint hang_up None)).same.born) (births_apart below built start s apart earlier h)
+births_apart below built start s apart journal (lawful.served earlier entry h is) =
+    forward_born built start (serves entry ∷ earlier) entry.place (outcome_of built start (history_of built start earlier) entry).forward
+    (served_born below built start earlier entry s h is (births_apart below built start s apart earlier h))
+
+-- ---- what travels
+
+abbrev pub OtherNumber : ℕ → ℕ → Type 0
+OtherNumber one other = one ≢ other
+
+-- no entry carries an endpoint twice
+abbrev CarryApart : List Sent → Type 0
+CarryApart ones = (one : Sent) → Contains ones one → AllPairs OtherNumber (endpoints_in one)
+
+endpoints_apart : (one : Sent) → AllPairs OtherNumber (handles_of one.sending) → AllPairs OtherNumber (endpoints_in one)
+endpoints_apart one h = AllPairs-filter OtherNumber is_client (handles_of one.sending) h
+
+more_apart : (ones now : List Sent) (new : Sent) → CarryApart ones → AllPairs OtherNumber (handles_of new.sending) → now ≡ ones ++ new ∷ [] → CarryApart now
+more_apart ones now new past h e one p = by_side (Contains-append_cases ones (new ∷ []) one (subst (λ xs. Contains xs one) e p)) where
+  by_place : (new ≡ one) ⊎ Contains [] one → AllPairs OtherNumber (endpoints_in one)
+  by_place (inl same) = subst (λ (x : Sent). AllPairs OtherNumber (endpoints_in x)) same (endpoints_apart new h)
+  by_place (inr q) = absurd (contains_none one q)
+
+  by_side : Contains ones one ⊎ Contains (new ∷ []) one → AllPairs OtherNumber (endpoints_in one)
+  by_side (inl q) = past one q
+  by_side (inr q) = by_place (contains_cases one new [] q)
+
+same_apart : (ones now : List Sent) → CarryApart ones → now ≡ ones → CarryApart now
+same_apart ones now past e = subst CarryApart (sym e) past
+
+forward_apart : (built : Built) (start : Start) (journal : Journal) (origin : ℕ) (o : Option Forwarded) → CarryApart (all_sent (history_of built start journal)) → CarryApart (all_sent (history_of built start (with_forward origin journal o)))
+unfolding history_of
+forward_apart built start journal origin None h = h
+forward_apart built start journal origin (Some f) h =
+    let new = sent_behind journal f.endpoint (message f.bytes (f.object ∷ [])) (Some origin) in
+    more_apart (all_sent (history_of built start journal)) (all_sent (behind built start (sends new) (history_of built start journal))) new h (λ i j d a b. absurd (omega arith))
+    (sendings_wait_last built start (history_of built start journal) new).sent_last
+
+carry_apart : (built : Built) (start : Start) (journal : Journal) → Lawful built start journal → CarryApart (all_sent (history_of built start journal))
+unfolding history_of
+carry_apart built start journal lawful.begun = λ one p. absurd (contains_none one p)
+carry_apart built start journal (lawful.refused earlier frame why h is admits) =
+    same_apart (all_sent (history_of built start earlier)) _ (carry_apart built start earlier h) (refusals_change_nothing built start (history_of built start earlier) frame.endpoint why).sent
+carry_apart built start journal (lawful.sent earlier frame h is at admits) =
+    let new = sent_behind earlier frame.endpoint (message frame.bytes frame.handles) None in
+    let history = history_of built start earlier in
+    more_apart (all_sent history) (all_sent (behind built start (sends new) history)) new (carry_apart built start earlier h)
+    (message_admitted start history frame.endpoint frame.handles (refusal_of (look_ups start history) frame kind.Message at admits)).distinct (sendings_wait_last built start history new).sent_last
+carry_apart built start journal (lawful.closed earlier frame h is at admits) =
+    let new = sent_behind earlier frame.endpoint hang_up None in
+    let history = history_of built start earlier in
+    more_apart (all_sent history) (all_sent (behind built start (sends new) history)) new (carry_apart built start earlier h) (λ i j d a b. absurd (omega arith)) (sendings_wait_last built start history new).sent_last
+carry_apart built start journal (lawful.served earlier entry h is) =
+    forward_apart built start (serves entry ∷ earlier) entry.place (outcome_of built start (history_of built start earlier) entry).forward
+    (same_apart (all_sent (history_of built start earlier)) (all_sent (behind built start (serves entry) (history_of built start earlier))) (carry_apart built start earlier h) (servings_take_effect built start (history_of built start earlier) entry).sent_same)
+
+abbrev CarriedOnce : List Sent → Type 0
+CarriedOnce ones = (one other : Sent) (n : ℕ) → Contains ones one → Contains ones other → among n (endpoints_in one) ≡ true → among n (endpoints_in other) ≡ true → one ≡ other
+
+flat_apart : (ones : List Sent) → CarryApart ones → CarriedOnce ones → AllPairs (λ one other. one.place < other.place) ones → AllPairs OtherNumber (flat_map endpoints_in ones)
+flat_apart [] each once rises = λ i j d a b. absurd (omega arith)
+flat_apart (one ∷ ones) each once rises =
+    pairs-append OtherNumber (endpoints_in one) (flat_map endpoints_in ones) (each one (contains_here one ones))
+    (flat_apart ones (λ x p. each x (contains_later x one ones p)) (λ x y n p q. once x y n (contains_later x one ones p) (contains_later y one ones q)) (pairs-tail (λ (x y : Sent). x.place < y.place) one ones rises))
+    (All-weaker (Contains (endpoints_in one)) (λ n. All (OtherNumber n) (flat_map endpoints_in ones))
+    (λ n p. All-weaker (Contains (flat_map endpoints_in ones)) (OtherNumber n) (λ m q same. clash n m p q same) (flat_map endpoints_in ones) (All-contains_itself (flat_map endpoints_in ones)))
+    (endpoints_in one) (All-contains_itself (endpoints_in one))) where
+      clash : (n m : ℕ) → Contains (endpoints_in one) n → Contains (flat_map endpoints_in ones) m → n ≡ m → ⊥
+      clash n m p q same =
+          let u = carrier_of m ones (among_of m (flat_map endpoints_in ones) q) in
+          let carried : among m (endpoints_in one) ≡ true = among_of m (endpoints_in one) (subst (Contains (endpoints_in one)) same p) in
+          let one_is : one ≡ u.0 = once one u.0 m (contains_here one ones) (contains_later u.0 one ones u.1) carried u.2 in
+          let after : one.place < u.0.place = All-contains (λ (x : Sent). one.place < x.place) ones u.0 (pairs-head (λ (x y : Sent). x.place < y.place) one ones rises) u.1 in
+          let equal : one.place ≡ u.0.place = ap (λ (x : Sent). x.place) one_is in
+          omega arith
+
+pub travelling_apart : (built : Built) (start : Start) (journal : Journal) → Lawful built start journal → IsView (view start (history_of built start journal)) → Transit start (view start (history_of built start journal)) nothing_left →
+    AllPairs OtherNumber (travelling (history_of built start journal))
+travelling_apart built start journal h is transit =
+    let history = history_of built start journal in
+    flat_apart (waiting history) (λ one p. carry_apart built start journal h one (is.waits one p)) transit.once is.rises

@@ -1,0 +1,481 @@
+-- No endpoint lives twice, each known one lives or is dead, and so many fewer live as die.
+use Rattle.std.proofs.Common.{◌≡◌, ◌≢◌, ℕ, zero, suc, ◌+◌, ◌<◌, ◌≤◌, ◌==◌, ◌&&◌, ◌||◌, ◌⊎◌, Bool, true, false, not, is_some, nat_le, nat_lt, List, [], ◌∷◌, ◌++◌, length, map, find, option_to_list, Option, Some, None, Ok, Err, All, AllPairs, Contains, refl, sym, ap, ◌∙◌, subst, inl, inr, if◌then◌else◌, arith, length-append, append-nil}
+use Rattle.std.proofs.lemmas.List.{length-map, map-append}
+use Rattle.std.specs.List.{list_any, range_with_len}
+use Rattle.std.proofs.lemmas.Bool.{eqb-true, eq-eqb, ne_eqb, or_cases, or_left, or_right, or_from, and_from, and_parts, le-leb, leb-true, lt-ltb, ltb-true, cases_Bool, cases_eq, false_from_ne_true, true≢false, not-true}
+use Rattle.std.proofs.lemmas.List.Elements.{All-head, All-tail, All-contains, Contains-append_left}
+use Rattle.endpoint_link.specs.declared.kinds.FrameKind.{FrameKind}
+use Rattle.endpoint_link.specs.declared.kinds.FrameKind.TheVariants as kind
+use Rattle.endpoint_link.specs.declared.kinds.Refusal.{Refusal}
+use Rattle.endpoint_link.specs.declared.kinds.Refusal.TheVariants as refusal
+use Rattle.endpoint_link.specs.declared.kinds.Standing.TheVariants as standing
+use Rattle.endpoint_link.specs.Admission.{LookUps, admission, first_of, refused_if, refusal_by, by_standing, may_travel, all_may_travel}
+use Rattle.endpoint_link.specs.Frames.{Frame}
+use Rattle.fidl_names.specs.HandleNumber.{is_client}
+use Rattle.endpoint_link.specs.Numbering.{among}
+use Rattle.io_messages.specs.declared.protocols.Protocol.{Protocol}
+use Rattle.io_messages.specs.declared.protocols.Protocol.TheVariants as protocol
+use Rattle.tree_file.specs.Numbering.{end_of_mount}
+use Rattle.conn_rules.specs.Answers.{Answer, replies, closes, binds, watches, forwards, refuses as refuses_to, ends, hangs_up, silent}
+use Rattle.conn_rules.specs.Built.{Built}
+use Rattle.vfs_journal.specs.Deaths.{first_deaths, is_settled, deaths_of, others}
+use Rattle.vfs_journal.specs.Entries.{Sent, Sending, Journal, message, hang_up, handles_of, endpoints_in, sends, serves}
+use Rattle.vfs_journal.specs.History.{History, all_sent, births, living, waiting, travelling, is_dead, is_live, bound_at, hung_up, live_count}
+use Rattle.journal_laws.specs.Knowing.{IsNumbered}
+use Rattle.journal_laws.specs.Laws.{but_for, newly_living}
+use Rattle.vfs_journal.specs.Lawful.{Lawful, begun, refused, sent, closed, served}
+use Rattle.vfs_journal.specs.Outcomes.{Asker, Outcome, Forwarded, ends_of as ends_by}
+use Rattle.vfs_journal.specs.Past.{event_of, behind, history_of}
+use Rattle.vfs_journal.specs.Serving.{Read, Sight, sight_of, read_by, object_of, asker_of, request_act, fault_txid, fault_answer, outcome_of_read, outcome_of_message, outcome_of_sending, outcome_at, outcome_of}
+use Rattle.vfs_journal.specs.Session.{head, look_ups, sent_behind, with_forward, after_serving}
+use Rattle.journal_laws.specs.Soundness.{IsStart, mount_ends}
+use Rattle.vfs_journal.specs.Starts.{Bound, Start}
+use Rattle.journal_laws.proofs.Among.{one_passes, member_of, among_of, carried_from, carrier_of, some_found, is_found}
+use Rattle.journal_laws.proofs.Below.{Below}
+use Rattle.journal_laws.proofs.Kept.{lawful_kept, is_serving}
+use Rattle.journal_laws.proofs.KnowingLists.{Apart, no_more, apart_append, apart_one, apart_filter, ends_of, still_named, apart_kept, AreOwn, own_filter, apart_carried, apart_spread}
+use Rattle.journal_laws.proofs.KnowingServed.{after_served, unsettled, live_in, bound_lives, sent_lives, used_more}
+use Rattle.journal_laws.proofs.Members.{contains_none, kept_of}
+use Rattle.journal_laws.proofs.Lists.{pairs-head, pairs-tail}
+use Rattle.journal_laws.proofs.Served.{IsAnswered, other_of}
+use Rattle.journal_laws.proofs.Sound.{View, view, IsView, Transit, used, bound_in, nothing_left}
+use Rattle.journal_laws.proofs.Spreading.{among-append, among_sides}
+use Rattle.journal_laws.proofs.Stepping.{Stepped, stepped, none}
+use Rattle.journal_laws.proofs.Steps.{refusals_change_nothing, sendings_wait_last, servings_take_effect}
+use Rattle.journal_laws.proofs.Views.{is_view, refused_view, sent_view, served_view, new_waits, fresh_unserved}
+
+le_refl_of : (n : ℕ) → n ≤ n
+le_refl_of n = omega arith
+
+pub same_bool : (a b : Bool) → (a ≡ true → b ≡ true) → (b ≡ true → a ≡ true) → a ≡ b
+same_bool true b f g = sym (f refl)
+same_bool false b f g = sym (false_from_ne_true b (λ h. true≢false (sym (g h))))
+
+-- ---- what an admission has tested
+
+pub record IsLetIn (start : Start) (history : History) (endpoint : ℕ) : Type 0 where
+  pub alive : is_dead history endpoint ≡ false
+  pub live : is_live start history endpoint ≡ true
+  pub client : is_client endpoint ≡ true
+
+first_none : (o : Option Refusal) (rest : List (Option Refusal)) → first_of (o ∷ rest) ≡ None → (o ≡ None) × (first_of rest ≡ None)
+first_none None rest h = (refl, h)
+first_none (Some why) rest h = absurd (cc)
+
+not_refused : (b : Bool) (why : Refusal) → refused_if (not b) why ≡ None → b ≡ true
+not_refused true why h = refl
+not_refused false why h = absurd (cc)
+
+standing_live : (dead live closed' : Bool) → by_standing (if dead then standing.Dead else if live then (if closed' then standing.HungUp else standing.Live) else standing.Unused) ≡ None → (dead ≡ false) × (live ≡ true)
+standing_live true live closed' h = absurd (cc)
+standing_live false true closed' h = (refl, refl)
+standing_live false false closed' h = absurd (cc)
+
+pub message_let_in : (start : Start) (history : History) (frame : Frame) → frame.kind ≡ kind.Message → admission (look_ups start history) frame ≡ None →
+    IsLetIn start history frame.endpoint × (all_may_travel (look_ups start history) frame.handles ≡ true)
+message_let_in start history frame is h =
+    let l = look_ups start history in
+    let first : refusal_by kind.Message l frame.endpoint frame.handles ≡ None = ap (λ (x : FrameKind). refusal_by x l frame.endpoint frame.handles) (sym is) ∙ h in
+    let a = first_none (by_standing (l.standing frame.endpoint)) _ first in
+    let b = first_none (refused_if (not (is_client frame.endpoint)) refusal.BadHandle) _ a.1 in
+    let c = first_none (refused_if (not (all_may_travel l frame.handles)) refusal.BadHandle) _ b.1 in
+    let live = standing_live (is_dead history frame.endpoint) (is_live start history frame.endpoint) (hung_up history frame.endpoint) a.0 in
+    (record { alive = live.0; live = live.1; client = not_refused (is_client frame.endpoint) refusal.BadHandle b.0 }, not_refused (all_may_travel l frame.handles) refusal.BadHandle c.0)
+
+pub close_let_in : (start : Start) (history : History) (frame : Frame) → frame.kind ≡ kind.Close → admission (look_ups start history) frame ≡ None → IsLetIn start history frame.endpoint
+close_let_in start history frame is h =
+    let l = look_ups start history in
+    let first : refusal_by kind.Close l frame.endpoint frame.handles ≡ None = ap (λ (x : FrameKind). refusal_by x l frame.endpoint frame.handles) (sym is) ∙ h in
+    let a = first_none (by_standing (l.standing frame.endpoint)) _ first in
+    let b = first_none (refused_if (not (is_client frame.endpoint)) refusal.BadHandle) _ a.1 in
+    let live = standing_live (is_dead history frame.endpoint) (is_live start history frame.endpoint) (hung_up history frame.endpoint) a.0 in
+    record { alive = live.0; live = live.1; client = not_refused (is_client frame.endpoint) refusal.BadHandle b.0 }
+
+three : (a b c : Bool) → a && b && c ≡ true → (b ≡ true) × (c ≡ true)
+three true true true h = (refl, refl)
+three true true false h = absurd (cc)
+three true false c h = absurd (cc)
+three false b c h = absurd (cc)
+
+pub handles_apart : (l : LookUps) (handles : List ℕ) → all_may_travel l handles ≡ true → Apart handles
+handles_apart l [] h = tt
+handles_apart l (n ∷ ns) h =
+    let parts = three (may_travel l n) (not (among n ns)) (all_may_travel l ns) h in
+    (not-true (among n ns) parts.0, handles_apart l ns parts.1)
+
+-- ---- each known endpoint lives or is dead
+
+pub record IsAccounted (start : Start) (v : View) : Type 0 where
+  pub each : (one : Sent) → Contains v.waiting one → Apart (endpoints_in one)
+  pub known : (n : ℕ) → is_client n ≡ true → used start v.sent n ≡ true → (v.dead n ≡ true) ⊎ (live_in v n ≡ true)
+
+begun_accounted : (built : Built) (start : Start) → IsAccounted start (view start (history_of built start []))
+unfolding history_of
+begun_accounted built start =
+    let is = is_view built start [] none in
+    record {
+      each = λ one p. absurd (contains_none one p);
+      known = λ n client h. inr (first_lives is n (or_cases (list_any (λ (bound : Bound). bound.endpoint == n) start.firsts) false h));
+    } where
+      first_lives : IsView (view start []) → (n : ℕ) → (list_any (λ (bound : Bound). bound.endpoint == n) start.firsts ≡ true) ⊎ (false ≡ true) → live_in (view start []) n ≡ true
+      first_lives is n (inl h) =
+          let b = one_passes (λ (bound : Bound). bound.endpoint == n) start.firsts h in
+          bound_lives (view start []) b.0 n
+          (is.born_living b.0 (Contains-append_left (start.firsts ++ start.mounts) [] b.0 (Contains-append_left start.firsts start.mounts b.0 b.1)) refl)
+          (eqb-true b.0.endpoint n b.2)
+      first_lives is n (inr h) = absurd (true≢false (sym h))
+
+-- an admitted sending
+sent_accounted : (built : Built) (start : Start) (earlier : Journal) (endpoint : ℕ) (sending' : Sending) → Stepped built start earlier → is_dead (history_of built start earlier) endpoint ≡ false → Apart (handles_of sending') →
+    IsAccounted start (view start (history_of built start earlier)) → IsAccounted start (view start (history_of built start (sends (sent_behind earlier endpoint sending' None) ∷ earlier)))
+unfolding history_of
+sent_accounted built start earlier endpoint sending' steps alive apart past =
+    let history = history_of built start earlier in
+    let new = sent_behind earlier endpoint sending' None in
+    let now = behind built start (sends new) history in
+    let adds = sent_view built start history new in
+    let waits = new_waits built start history new (fresh_unserved built start earlier new steps (le_refl_of (length earlier))) alive in
+    let lives = λ (n : ℕ). sent_lives (view start history) (view start now) new n adds waits in
+    record {
+      each = λ one p. each_by one (apart_filter is_client (handles_of sending') apart) (adds.waited one p);
+      known = λ n client h. by_used n client (lives n) (adds.dead n) (used_more start (all_sent history) new n (subst (λ sents. used start sents n ≡ true) adds.sent h));
+    } where
+      each_by : (one : Sent) → Apart (endpoints_in (sent_behind earlier endpoint sending' None)) → Contains (waiting (history_of built start earlier)) one ⊎ (sent_behind earlier endpoint sending' None ≡ one) → Apart (endpoints_in one)
+      each_by one own (inl p) = past.each one p
+      each_by one own (inr e) = subst (λ (x : Sent). Apart (endpoints_in x)) e own
+
+      still : (d e a b c : Bool) → d ≡ e → a ≡ (b || c) → (e ≡ true) ⊎ (b ≡ true) → (d ≡ true) ⊎ (a ≡ true)
+      still d e a b c p q (inl h) = inl (p ∙ h)
+      still d e a b c p q (inr h) = inr (q ∙ or_left b c h)
+
+      by_used : {d a : Bool} (n : ℕ) → is_client n ≡ true → a ≡ (live_in (view start (history_of built start earlier)) n || among n (endpoints_in (sent_behind earlier endpoint sending' None))) →
+          d ≡ is_dead (history_of built start earlier) n → (used start (all_sent (history_of built start earlier)) n ≡ true) ⊎ (among n (handles_of sending') ≡ true) → (d ≡ true) ⊎ (a ≡ true)
+      by_used {d} {a} n client lives dead (inl h) = still d (is_dead (history_of built start earlier) n) a (live_in (view start (history_of built start earlier)) n) (among n (endpoints_in (sent_behind earlier endpoint sending' None))) dead lives (past.known n client h)
+      by_used n client lives dead (inr h) =
+          inr (lives ∙ or_right (live_in (view start (history_of built start earlier)) n) (among n (endpoints_in (sent_behind earlier endpoint sending' None))) (carried_from (sent_behind earlier endpoint sending' None) n client h))
+
+-- what waits behind a serving carries nothing twice
+served_each : Below → (built : Built) (start : Start) (earlier : Journal) (k : Sent) → IsStart start → Lawful built start earlier → head start (history_of built start earlier) k.endpoint ≡ Some k →
+    ((one : Sent) → Contains (waiting (history_of built start earlier)) one → Apart (endpoints_in one)) →
+    (x : Option Forwarded) → (one : Sent) → Contains (waiting (history_of built start (with_forward k.place (serves k ∷ earlier) x))) one → Apart (endpoints_in one)
+unfolding history_of
+served_each below built start earlier k s lawful h past None one p =
+    let serving' = is_serving below built start earlier k s (stepped built start earlier lawful) (lawful_kept below built start s earlier lawful).sound h in
+    past one ((served_view built start (history_of built start earlier) k serving'.keeps).waited one p).0
+served_each below built start earlier k s lawful h past (Some f) one p =
+    let serving' = is_serving below built start earlier k s (stepped built start earlier lawful) (lawful_kept below built start s earlier lawful).sound h in
+    let mid = behind built start (serves k) (history_of built start earlier) in
+    let new = sent_behind (serves k ∷ earlier) f.endpoint (message f.bytes (f.object ∷ [])) (Some k.place) in
+    by_side (λ q. past one ((served_view built start (history_of built start earlier) k serving'.keeps).waited one q).0) ((sent_view built start mid new).waited one p) where
+      by_side : {A : Type 0} → (A → Apart (endpoints_in one)) → A ⊎ (sent_behind (serves k ∷ earlier) f.endpoint (message f.bytes (f.object ∷ [])) (Some k.place) ≡ one) → Apart (endpoints_in one)
+      by_side old (inl q) = old q
+      by_side old (inr e) = subst (λ (x : Sent). Apart (endpoints_in x)) e (apart_filter is_client (f.object ∷ []) (apart_one f.object))
+
+served_accounted : Below → (built : Built) (start : Start) (earlier : Journal) (k : Sent) → IsStart start → Lawful built start earlier → head start (history_of built start earlier) k.endpoint ≡ Some k →
+    IsAccounted start (view start (history_of built start earlier)) → IsAccounted start (view start (history_of built start (after_serving built start earlier k)))
+served_accounted below built start earlier k s lawful h past =
+    let history = history_of built start earlier in
+    let now = history_of built start (after_serving built start earlier k) in
+    let deaths = deaths_of history k (outcome_of built start history k) in
+    let after = after_served below built start earlier k s lawful h in
+    record {
+      each = λ one p. served_each below built start earlier k s lawful h past.each (outcome_of built start history k).forward one p;
+      known = λ n client u. now_by (is_dead now n) (is_live start now n) (among n deaths) (is_dead history n) (is_live start history n) (after.dead n) (after.live n) (past.known n client (after.known n u));
+    } where
+      now_by : (d a among' e b : Bool) → d ≡ (among' || e) → a ≡ (b && not among') → (e ≡ true) ⊎ (b ≡ true) → (d ≡ true) ⊎ (a ≡ true)
+      now_by d a among' e b p q (inl h) = inl (p ∙ or_right among' e h)
+      now_by d a true e b p q (inr h) = inl p
+      now_by d a false e b p q (inr h) = inr (q ∙ ap (λ (x : Bool). x && true) h)
+
+pub lawful_accounted : Below → (built : Built) (start : Start) → IsStart start → (journal : Journal) → Lawful built start journal → IsAccounted start (view start (history_of built start journal))
+unfolding history_of
+lawful_accounted below built start s journal begun = begun_accounted built start
+lawful_accounted below built start s journal (refused earlier frame why h is admits) =
+    subst (IsAccounted start) (refused_view built start (history_of built start earlier) frame.endpoint why) (lawful_accounted below built start s earlier h)
+lawful_accounted below built start s journal (sent earlier frame h is at admits) =
+    let admitted = message_let_in start (history_of built start earlier) frame at admits in
+    sent_accounted built start earlier frame.endpoint (message frame.bytes frame.handles) (stepped built start earlier h) admitted.0.alive (handles_apart (look_ups start (history_of built start earlier)) frame.handles admitted.1)
+    (lawful_accounted below built start s earlier h)
+lawful_accounted below built start s journal (closed earlier frame h is at admits) =
+    sent_accounted built start earlier frame.endpoint hang_up (stepped built start earlier h) (close_let_in start (history_of built start earlier) frame at admits).alive tt (lawful_accounted below built start s earlier h)
+lawful_accounted below built start s journal (served earlier entry h is) = served_accounted below built start earlier entry s h is (lawful_accounted below built start s earlier h)
+
+-- ---- no endpoint lives twice
+
+pub named_is_bound : (bounds : List Bound) (n : ℕ) → among n (ends_of bounds) ≡ bound_in bounds n
+named_is_bound [] n = refl
+named_is_bound (b ∷ bounds) n = by_test (b.endpoint == n) (named_is_bound bounds n) where
+  by_test : (c : Bool) → among n (ends_of bounds) ≡ bound_in bounds n → (c || among n (ends_of bounds)) ≡ is_some (if c then Some b else find (λ bound. bound.endpoint == n) bounds)
+  by_test true rest = refl
+  by_test false rest = rest
+
+-- the ends of mounts by their numbers
+
+in_range : (a m n : ℕ) → among n (map end_of_mount (range_with_len a m)) ≡ true → (0x40000000 + a ≤ n) × (n < 0x40000000 + a + m)
+in_range a zero n h = absurd (true≢false (sym h))
+in_range a (suc m) n h = by_side (or_cases (0x40000000 + a == n) (among n (map end_of_mount (range_with_len (a + 1) m))) h) (in_range (a + 1) m n) where
+  by_side : ((0x40000000 + a == n) ≡ true) ⊎ (among n (map end_of_mount (range_with_len (a + 1) m)) ≡ true) →
+      (among n (map end_of_mount (range_with_len (a + 1) m)) ≡ true → (0x40000000 + (a + 1) ≤ n) × (n < 0x40000000 + (a + 1) + m)) → (0x40000000 + a ≤ n) × (n < 0x40000000 + a + suc m)
+  by_side (inl e) rest = let at = eqb-true (0x40000000 + a) n e in (omega arith, omega arith)
+  by_side (inr g) rest = let low = (rest g).0 in let high = (rest g).1 in (omega arith, omega arith)
+
+pub range_in : (a m n : ℕ) → 0x40000000 + a ≤ n → n < 0x40000000 + a + m → among n (map end_of_mount (range_with_len a m)) ≡ true
+range_in a zero n low high = absurd (omega arith)
+range_in a (suc m) n low high = by_test (cases_eq (0x40000000 + a) n) (λ apart. range_in (a + 1) m n (omega arith) (omega arith)) where
+  by_test : (0x40000000 + a ≡ n) ⊎ (0x40000000 + a ≡ n → ⊥) → ((0x40000000 + a ≡ n → ⊥) → among n (map end_of_mount (range_with_len (a + 1) m)) ≡ true) → among n (map end_of_mount (range_with_len a (suc m))) ≡ true
+  by_test (inl e) rest = or_left (0x40000000 + a == n) (among n (map end_of_mount (range_with_len (a + 1) m))) (eq-eqb (0x40000000 + a) n e)
+  by_test (inr apart) rest = or_right (0x40000000 + a == n) (among n (map end_of_mount (range_with_len (a + 1) m))) (rest apart)
+
+range_apart : (a m : ℕ) → Apart (map end_of_mount (range_with_len a m))
+range_apart a zero = tt
+range_apart a (suc m) = (
+  false_from_ne_true (among (0x40000000 + a) (map end_of_mount (range_with_len (a + 1) m))) (λ h. let low = (in_range (a + 1) m (0x40000000 + a) h).0 in omega arith),
+  range_apart (a + 1) m,
+)
+
+-- the numbers of the ends of a start's mounts
+pub mounts_among : (start : Start) (n : ℕ) → IsNumbered start → among n (mount_ends start) ≡ (nat_le 0x40000000 n && nat_lt n (0x40000000 + length start.mounts))
+mounts_among start n numbered =
+    ap (among n) numbered.mounts
+    ∙ same_bool (among n (map end_of_mount (range_with_len 0 (length start.mounts)))) (nat_le 0x40000000 n && nat_lt n (0x40000000 + length start.mounts))
+    (λ h. let at = in_range 0 (length start.mounts) n h in and_from (nat_le 0x40000000 n) (nat_lt n (0x40000000 + length start.mounts)) (le-leb 0x40000000 n at.0) (lt-ltb n (0x40000000 + length start.mounts) at.1))
+    (λ h.
+    let at = and_parts (nat_le 0x40000000 n) (nat_lt n (0x40000000 + length start.mounts)) h in
+    range_in 0 (length start.mounts) n (leb-true 0x40000000 n at.0) (ltb-true n (0x40000000 + length start.mounts) at.1))
+
+-- first connections are apart
+unlike : (b : Bound) (bounds : List Bound) → All (λ other. b.endpoint ≢ other.endpoint) bounds → among b.endpoint (ends_of bounds) ≡ false
+unlike b [] h = refl
+unlike b (x ∷ bounds) h =
+    or_from (x.endpoint == b.endpoint) (among b.endpoint (ends_of bounds)) (ne_eqb x.endpoint b.endpoint (λ e. All-head (λ other. b.endpoint ≢ other.endpoint) x bounds h (sym e)))
+    (unlike b bounds (All-tail (λ other. b.endpoint ≢ other.endpoint) x bounds h))
+
+firsts_apart : (bounds : List Bound) → AllPairs (λ bound other. bound.endpoint ≢ other.endpoint) bounds → Apart (ends_of bounds)
+firsts_apart [] h = tt
+firsts_apart (b ∷ bounds) h = (
+  unlike b bounds (pairs-head (λ bound other. bound.endpoint ≢ other.endpoint) b bounds h),
+  firsts_apart bounds (pairs-tail (λ bound other. bound.endpoint ≢ other.endpoint) b bounds h),
+)
+
+-- a name among these is that of one of them
+named_one : (n : ℕ) (bounds : List Bound) → among n (ends_of bounds) ≡ true → (b : Bound) × Contains bounds b × (b.endpoint ≡ n)
+named_one n bounds h =
+    let b = some_found (λ bound. bound.endpoint == n) bounds (sym (named_is_bound bounds n) ∙ h) in
+    (b.0, b.2, eqb-true b.0.endpoint n b.3)
+
+pub births_apart : (start : Start) → IsStart start → IsNumbered start → Apart (ends_of (births start []))
+births_apart start s numbered =
+    subst (λ bounds. Apart (ends_of bounds)) (sym (append-nil (start.firsts ++ start.mounts)))
+    (subst Apart (sym (map-append (λ (bound : Bound). bound.endpoint) start.firsts start.mounts))
+    (apart_append (ends_of start.firsts) (ends_of start.mounts) (firsts_apart start.firsts numbered.firsts)
+    (subst Apart (sym numbered.mounts) (range_apart 0 (length start.mounts)))
+    (λ n h. false_from_ne_true (among n (ends_of start.mounts))
+    (λ g.
+    let one = named_one n start.firsts h in
+    let other = named_one n start.mounts g in
+    true≢false
+    (sym (All-contains (λ (bound : Bound). is_client bound.endpoint ≡ true) start.firsts one.0 s.firsts one.1)
+    ∙ ap is_client (one.2 ∙ sym other.2)
+    ∙ All-contains (λ (bound : Bound). is_client bound.endpoint ≡ false) start.mounts other.0 s.ends other.1)))))
+
+one_born : (o : Option Bound) → Apart (ends_of (option_to_list o))
+one_born None = tt
+one_born (Some b) = apart_one b.endpoint
+
+born_name : (n : ℕ) (o : Option Bound) → among n (ends_of (option_to_list o)) ≡ true → (b : Bound) × (o ≡ Some b) × (b.endpoint ≡ n)
+born_name n None h = absurd (true≢false (sym h))
+born_name n (Some b) h = (b, refl, by_test (cases_Bool (b.endpoint == n))) where
+  by_test : ((b.endpoint == n) ≡ true) ⊎ ((b.endpoint == n) ≡ false) → b.endpoint ≡ n
+  by_test (inl e) = eqb-true b.endpoint n e
+  by_test (inr e) = absurd (true≢false (sym h ∙ ap (λ (c : Bool). c || false) e))
+
+-- what a serving binds wasn't bound
+served_apart : (built : Built) (start : Start) (history : History) (k : Sent) → IsAnswered (view start history) k (outcome_of built start history k) → Transit start (view start history) nothing_left →
+    Apart (ends_of (living start history)) → Apart (ends_of (living start (behind built start (serves k) history)))
+unfolding event_of
+served_apart built start history k answered transit past =
+    let o = outcome_of built start history k in
+    let event = event_of built start history (serves k) in
+    let now = behind built start (serves k) history in
+    let kept = but_for event.deaths (living start history) in
+    let new = newly_living now o.bound in
+    subst (λ bounds. Apart (ends_of bounds)) (sym (servings_take_effect built start history k).alive)
+    (subst Apart (sym (map-append (λ (bound : Bound). bound.endpoint) kept new))
+    (apart_append (ends_of kept) (ends_of new)
+    (apart_kept (λ bound. not (among bound.endpoint event.deaths)) (living start history) past)
+    (apart_kept (λ bound. not (is_dead now bound.endpoint)) (option_to_list o.bound) (one_born o.bound))
+    (λ n h. false_from_ne_true (among n (ends_of new))
+    (λ g.
+    let b = born_name n o.bound (still_named (λ bound. not (is_dead now bound.endpoint)) n (option_to_list o.bound) g) in
+    let was = still_named (λ bound. not (among bound.endpoint event.deaths)) n (living start history) h in
+    let carried = ap (λ (m : ℕ). among m (endpoints_in k)) (sym b.2) ∙ answered.bound_in b.0 b.1 in
+    true≢false (sym was ∙ named_is_bound (living start history) n ∙ transit.unbound k n answered.waits carried)))))
+
+-- and behind what it forwards
+forward_apart : (built : Built) (start : Start) (journal : Journal) (origin : ℕ) (x : Option Forwarded) → Apart (ends_of (living start (history_of built start journal))) →
+    Apart (ends_of (living start (history_of built start (with_forward origin journal x))))
+unfolding history_of
+forward_apart built start journal origin None past = past
+forward_apart built start journal origin (Some f) past =
+    subst (λ bounds. Apart (ends_of bounds))
+    (sym (sendings_wait_last built start (history_of built start journal) (sent_behind journal f.endpoint (message f.bytes (f.object ∷ [])) (Some origin))).same.alive) past
+
+pub lawful_apart : Below → (built : Built) (start : Start) → IsStart start → IsNumbered start → (journal : Journal) → Lawful built start journal → Apart (ends_of (living start (history_of built start journal)))
+unfolding history_of
+lawful_apart below built start s numbered journal begun = apart_kept (λ bound. not (is_dead [] bound.endpoint)) (births start []) (births_apart start s numbered)
+lawful_apart below built start s numbered journal (refused earlier frame why h is admits) =
+    subst (λ bounds. Apart (ends_of bounds)) (sym (refusals_change_nothing built start (history_of built start earlier) frame.endpoint why).same.alive) (lawful_apart below built start s numbered earlier h)
+lawful_apart below built start s numbered journal (sent earlier frame h is at admits) =
+    subst (λ bounds. Apart (ends_of bounds))
+    (sym (sendings_wait_last built start (history_of built start earlier) (sent_behind earlier frame.endpoint (message frame.bytes frame.handles) None)).same.alive) (lawful_apart below built start s numbered earlier h)
+lawful_apart below built start s numbered journal (closed earlier frame h is at admits) =
+    subst (λ bounds. Apart (ends_of bounds))
+    (sym (sendings_wait_last built start (history_of built start earlier) (sent_behind earlier frame.endpoint hang_up None)).same.alive) (lawful_apart below built start s numbered earlier h)
+lawful_apart below built start s numbered journal (served earlier entry h is) =
+    let past = lawful_kept below built start s earlier h in
+    let serving' = is_serving below built start earlier entry s (stepped built start earlier h) past.sound is in
+    forward_apart built start (serves entry ∷ earlier) entry.place (outcome_of built start (history_of built start earlier) entry).forward
+    (served_apart built start (history_of built start earlier) entry serving'.answered past.transit (lawful_apart below built start s numbered earlier h))
+
+-- ---- deaths, once each
+
+answer_ends : (asker : Asker) (answer : Answer) → Apart (ends_by asker answer)
+answer_ends asker (replies a) = tt
+answer_ends asker closes = apart_one asker.endpoint
+answer_ends asker (binds birth announced) = tt
+answer_ends asker (watches mask) = tt
+answer_ends asker (forwards mount flags rest) = tt
+answer_ends asker (refuses_to status) = apart_one asker.object
+answer_ends asker (ends status) = apart_one asker.endpoint
+answer_ends asker hangs_up = apart_one asker.endpoint
+answer_ends asker silent = tt
+
+read_ends : (built : Built) (sight : Sight) (read : Read) → Apart (outcome_of_read built sight read).ends
+read_ends built sight (Ok found) = answer_ends (asker_of sight.bound found.0 (object_of found.1)) (request_act built sight found.1).answer
+read_ends built sight (Err fault) = answer_ends (asker_of sight.bound (fault_txid fault) 0) (fault_answer fault)
+
+message_ends : (built : Built) (sight : Sight) (p : Protocol) (bytes handles : List ℕ) → Apart (outcome_of_message built sight p bytes handles).ends
+message_ends built sight protocol.Watcher bytes handles = tt
+message_ends built sight protocol.Directory bytes handles = read_ends built sight (read_by protocol.Directory bytes handles)
+message_ends built sight protocol.File bytes handles = read_ends built sight (read_by protocol.File bytes handles)
+message_ends built sight protocol.Node bytes handles = read_ends built sight (read_by protocol.Node bytes handles)
+message_ends built sight protocol.Echo bytes handles = read_ends built sight (read_by protocol.Echo bytes handles)
+
+sending_ends : (built : Built) (sight : Sight) (sending' : Sending) → Apart (outcome_of_sending built sight sending').ends
+unfolding outcome_of_sending
+sending_ends built sight (message bytes handles) = message_ends built sight sight.bound.birth.protocol bytes handles
+sending_ends built sight hang_up = apart_one sight.bound.endpoint
+
+outcome_ends : (built : Built) (start : Start) (history : History) (k : Sent) (o : Option Bound) → Apart (outcome_at built start history k o).ends
+outcome_ends built start history k None = tt
+outcome_ends built start history k (Some b) = sending_ends built (sight_of start history b) k.sending
+
+-- what waits carries nothing twice
+pub waiting_own : Below → (built : Built) (start : Start) (journal : Journal) → IsStart start → Lawful built start journal → AreOwn (waiting (history_of built start journal))
+waiting_own below built start journal s lawful =
+    let transit = (lawful_kept below built start s journal lawful).transit in
+    record {
+      rises = (is_view built start journal (stepped built start journal lawful)).rises;
+      each = (lawful_accounted below built start s journal lawful).each;
+      once = transit.once;
+    }
+
+unsettled_is : (k : Sent) (o : Outcome) (n : ℕ) → among n (unsettled k o) ≡ true → (among n (endpoints_in k) ≡ true) × (not (is_settled o n) ≡ true)
+unsettled_is k o n h =
+    let at = kept_of (λ endpoint. not (is_settled o endpoint)) (endpoints_in k) n (member_of n (unsettled k o) h) in
+    (among_of n (endpoints_in k) at.0, at.1)
+
+ends_settle : (o : Outcome) (n : ℕ) → among n o.ends ≡ true → is_settled o n ≡ true
+ends_settle o n h = or_right _ _ (or_left _ _ h)
+
+pub deaths_apart : Below → (built : Built) (start : Start) (journal : Journal) (k : Sent) → IsStart start → Lawful built start journal → head start (history_of built start journal) k.endpoint ≡ Some k →
+    Apart (deaths_of (history_of built start journal) k (outcome_of built start (history_of built start journal) k))
+deaths_apart below built start journal k s lawful h =
+    let history = history_of built start journal in
+    let o = outcome_of built start history k in
+    let past = lawful_kept below built start s journal lawful in
+    let own = waiting_own below built start journal s lawful in
+    let answered = (is_serving below built start journal k s (stepped built start journal lawful) past.sound h).answered in
+    apart_spread (first_deaths k o) (others history k) (own_filter (λ other. not (other.place == k.place)) (waiting history) own)
+    (apart_append o.ends (unsettled k o) (outcome_ends built start history k (bound_at start history k.endpoint)) (apart_filter (λ endpoint. not (is_settled o endpoint)) (endpoints_in k) (own.each k answered.waits))
+    (λ n e. false_from_ne_true (among n (unsettled k o)) (λ g. true≢false (sym (ends_settle o n e) ∙ not-true (is_settled o n) (unsettled_is k o n g).1))))
+    (λ n one dies there. false_from_ne_true (among n (endpoints_in one))
+    (λ c.
+    let at = other_of (waiting history) k one there in
+    carried_twice n one at.0 at.1 c past.transit answered (among_sides n o.ends (unsettled k o) dies))) where
+      both : (n : ℕ) (one : Sent) → Transit start (view start (history_of built start journal)) nothing_left → Contains (waiting (history_of built start journal)) one → one.place ≢ k.place → among n (endpoints_in one) ≡ true →
+          Contains (waiting (history_of built start journal)) k → among n (endpoints_in k) ≡ true → ⊥
+      both n one transit there apart c waits g = apart (ap (λ (x : Sent). x.place) (transit.once one k n there waits c g))
+
+      by_end : (n : ℕ) (one : Sent) → Transit start (view start (history_of built start journal)) nothing_left → Contains (waiting (history_of built start journal)) one → one.place ≢ k.place → among n (endpoints_in one) ≡ true →
+          IsAnswered (view start (history_of built start journal)) k (outcome_of built start (history_of built start journal) k) → ((n ≡ k.endpoint) × (is_client n ≡ true)) ⊎ (among n (endpoints_in k) ≡ true) → ⊥
+      by_end n one transit there apart c answered (inl at) =
+          true≢false
+          (sym (is_found (λ bound. bound.endpoint == n) (living start (history_of built start journal)) answered.bound answered.lives (eq-eqb answered.bound.endpoint n (answered.at ∙ sym at.0)))
+          ∙ transit.unbound one n there c)
+      by_end n one transit there apart c answered (inr g) = both n one transit there apart c answered.waits g
+
+      carried_twice : (n : ℕ) (one : Sent) → Contains (waiting (history_of built start journal)) one → one.place ≢ k.place → among n (endpoints_in one) ≡ true → Transit start (view start (history_of built start journal)) nothing_left →
+          IsAnswered (view start (history_of built start journal)) k (outcome_of built start (history_of built start journal) k) →
+          (among n (outcome_of built start (history_of built start journal) k).ends ≡ true) ⊎ (among n (unsettled k (outcome_of built start (history_of built start journal) k)) ≡ true) → ⊥
+      carried_twice n one there apart c transit answered (inl e) = by_end n one transit there apart c answered (answered.ends_in n e)
+      carried_twice n one there apart c transit answered (inr g) = both n one transit there apart c answered.waits (unsettled_is k (outcome_of built start (history_of built start journal) k) n g).0
+
+-- ---- the count
+
+abbrev pub all_ends : Start → History → List ℕ
+all_ends start history = ends_of (living start history) ++ travelling history
+
+ends_live : (start : Start) (history : History) (n : ℕ) → among n (all_ends start history) ≡ is_live start history n
+ends_live start history n =
+    among-append n (ends_of (living start history)) (travelling history) ∙ ap (λ (b : Bool). b || among n (travelling history)) (named_is_bound (living start history) n)
+
+ends_count : (start : Start) (history : History) → length (all_ends start history) ≡ live_count start history
+ends_count start history =
+    length-append (ends_of (living start history)) (travelling history) ∙ ap (λ (n : ℕ). n + length (travelling history)) (length-map (living start history) (λ (bound : Bound). bound.endpoint))
+
+-- no endpoint lives twice
+pub ends_apart : Below → (built : Built) (start : Start) (journal : Journal) → IsStart start → IsNumbered start → Lawful built start journal → Apart (all_ends start (history_of built start journal))
+ends_apart below built start journal s numbered lawful =
+    let history = history_of built start journal in
+    let transit = (lawful_kept below built start s journal lawful).transit in
+    apart_append (ends_of (living start history)) (travelling history) (lawful_apart below built start s numbered journal lawful) (apart_carried (waiting history) (waiting_own below built start journal s lawful))
+    (λ n h. false_from_ne_true (among n (travelling history))
+    (λ g.
+    let one = carrier_of n (waiting history) g in
+    true≢false (sym h ∙ named_is_bound (living start history) n ∙ transit.unbound one.0 n one.1 one.2)))
+
+-- so many fewer live as die
+pub fewer_live : Below → (built : Built) (start : Start) (journal : Journal) (k : Sent) → IsStart start → IsNumbered start → Lawful built start journal → head start (history_of built start journal) k.endpoint ≡ Some k →
+    live_count start (history_of built start (after_serving built start journal k)) + length (deaths_of (history_of built start journal) k (outcome_of built start (history_of built start journal) k)) ≡ live_count start (history_of built start journal)
+fewer_live below built start journal k s numbered lawful h =
+    let history = history_of built start journal in
+    let now = history_of built start (after_serving built start journal k) in
+    let deaths = deaths_of history k (outcome_of built start history k) in
+    let after = after_served below built start journal k s lawful h in
+    let was = ends_apart below built start journal s numbered lawful in
+    let still = ends_apart below built start (after_serving built start journal k) s numbered (served journal k lawful h) in
+    let none = deaths_apart below built start journal k s lawful h in
+    let whole : Apart (all_ends start now ++ deaths) = apart_append (all_ends start now) deaths still none
+    (λ n l. spared (is_live start history n) (among n deaths) (sym (after.live n) ∙ sym (ends_live start now n) ∙ l)) in
+    let same : (n : ℕ) → among n (all_ends start now ++ deaths) ≡ among n (all_ends start history) = λ n.
+    among-append n (all_ends start now) deaths
+    ∙ ap (λ (b : Bool). b || among n deaths) (ends_live start now n ∙ after.live n)
+    ∙ together (is_live start history n) (among n deaths) (after.died n)
+    ∙ sym (ends_live start history n) in
+    let up = no_more (all_ends start now ++ deaths) (all_ends start history) whole (λ n l. sym (same n) ∙ l) in
+    let down = no_more (all_ends start history) (all_ends start now ++ deaths) was (λ n l. same n ∙ l) in
+    let long = length-append (all_ends start now) deaths in
+    let a = ends_count start now in
+    let b = ends_count start history in
+    omega arith where
+      spared : (b d : Bool) → (b && not d) ≡ true → d ≡ false
+      spared true true g = absurd (true≢false (sym g))
+      spared true false g = refl
+      spared false d g = absurd (true≢false (sym g))
+
+      together : (b d : Bool) → (d ≡ true → b ≡ true) → ((b && not d) || d) ≡ b
+      together true true g = refl
+      together true false g = refl
+      together false true g = sym (g refl)
+      together false false g = refl

@@ -1,0 +1,199 @@
+-- What is known behind a serving, and at the start.
+use Rattle.std.proofs.Common.{◌≡◌, ℕ, ◌+◌, ◌-◌, ◌==◌, ◌&&◌, ◌||◌, Bool, true, false, not, nat_le, List, [], ◌∷◌, ◌++◌, length, map, filter, fold, option_to_list, Option, Some, None, refl, sym, ap, ◌∙◌, if◌then◌else◌, arith, append-nil, length-append}
+use Rattle.std.specs.Prelude.{unwrap_or}
+use Rattle.std.specs.List.{list_any}
+use Rattle.std.proofs.lemmas.List.{length-map, map-append}
+use Rattle.std.specs.Ordering.{nat_cmp}
+use Rattle.std.specs.FinMap as finite
+use Rattle.std.specs.FinMap.{get-empty}
+use Rattle.endpoint_link.specs.declared.kinds.Standing.{Standing}
+use Rattle.endpoint_link.specs.declared.kinds.Standing.TheVariants as standing
+use Rattle.fidl_names.specs.HandleNumber.{is_mount_end}
+use Rattle.endpoint_link.specs.Numbering.{among}
+use Rattle.endpoint_link.specs.Standings.{Known, Starts, is_live as is_live_standing, standing_of as known_standing, ended as ended_in}
+use Rattle.conn_rules.specs.Built.{Built}
+use Rattle.vfs_journal.specs.Entries.{Sent, Journal, message, serves}
+use Rattle.vfs_journal.specs.History.{History, births, living, waiting, was_carried, is_dead, is_live, hung_up}
+use Rattle.journal_laws.specs.Knowing.{Knows, IsNumbered, AreDeaths, known_behind, deaths_at}
+use Rattle.vfs_journal.specs.Lawful.{Lawful}
+use Rattle.vfs_journal.specs.Outcomes.{Given, Forwarded}
+use Rattle.vfs_journal.specs.Past.{event_of, behind, history_of}
+use Rattle.vfs_journal.specs.Serving.{outcome_of}
+use Rattle.vfs_journal.specs.Session.{head, sent_behind, with_forward, after_serving}
+use Rattle.journal_laws.specs.Soundness.{IsStart}
+use Rattle.vfs_journal.specs.Starts.{Bound, Start}
+use Rattle.vfs_journal.specs.Tokens.{all_given, is_held, waits_with, next_token, most_tokens, first_token}
+use Rattle.journal_laws.proofs.Below.{Below}
+use Rattle.journal_laws.proofs.Kept.{lawful_kept}
+use Rattle.journal_laws.proofs.KnowingCount.{named_is_bound, mounts_among, deaths_apart, fewer_live}
+use Rattle.journal_laws.proofs.KnowingLists.{or-none, apart_pairs, ends_of}
+use Rattle.journal_laws.proofs.KnowingSent.{stands, stands_then}
+use Rattle.journal_laws.proofs.KnowingServed.{after_served, lives_undead}
+use Rattle.journal_laws.proofs.Sound.{view, bound_in}
+use Rattle.journal_laws.proofs.Spreading.{among-append}
+use Rattle.journal_laws.proofs.Stepping.{stepped}
+use Rattle.journal_laws.proofs.Steps.{sendings_wait_last, servings_take_effect}
+use Rattle.journal_laws.proofs.Views.{is_view}
+
+-- ---- the deaths of a serving
+
+death_stands : (d l c m : Bool) → stands (m || d) (l && not m) c ≡ (if m then standing.Dead else stands d l c)
+death_stands d l c true = refl
+death_stands d true c false = refl
+death_stands d false c false = refl
+
+-- what lives and isn't dead is live
+lives_so : {dead live : Bool} (closed' : Bool) → dead ≡ false → live ≡ true → is_live_standing (stands dead live closed') ≡ true
+lives_so closed' p q = rw (p, q, either closed') where
+  either : (c : Bool) → is_live_standing (if c then standing.HungUp else standing.Live) ≡ true
+  either true = refl
+  either false = refl
+
+pub servings_end : Below → (built : Built) (start : Start) (journal : Journal) (sent : Sent) → IsStart start → IsNumbered start → Lawful built start journal → head start (history_of built start journal) sent.endpoint ≡ Some sent →
+    AreDeaths start (history_of built start journal) (history_of built start (after_serving built start journal sent)) (deaths_at built start journal sent)
+servings_end below built start journal sent s numbered lawful h =
+    let past = history_of built start journal in
+    let now = history_of built start (after_serving built start journal sent) in
+    let deaths = deaths_at built start journal sent in
+    let after = after_served below built start journal sent s lawful h in
+    let transit = (lawful_kept below built start s journal lawful).transit in
+    let is = is_view built start journal (stepped built start journal lawful) in
+    record {
+      distinct = apart_pairs deaths (deaths_apart below built start journal sent s lawful h);
+      were_live = λ n h. lives_so (hung_up past n) (lives_undead start (view start past) n is transit (after.died n h)) (after.died n h);
+      stand = λ n.
+          ap (λ (b : Bool). stands b (is_live start now n) (hung_up now n)) (after.dead n)
+          ∙ ap (λ (b : Bool). stands (among n deaths || is_dead past n) b (hung_up now n)) (after.live n)
+          ∙ ap (λ (b : Bool). stands (among n deaths || is_dead past n) (is_live start past n && not (among n deaths)) b) (after.closed n)
+          ∙ death_stands (is_dead past n) (is_live start past n) (hung_up past n) (among n deaths);
+      count = fewer_live below built start journal sent s numbered lawful h;
+    }
+
+-- ---- what is known behind deaths
+
+ended_standing : (deaths : List ℕ) (known : Known) (n : ℕ) → known_standing (fold ended_in known deaths) n ≡ (if among n deaths then standing.Dead else known_standing known n)
+ended_standing [] known n = refl
+ended_standing (e ∷ deaths) known n =
+    ended_standing deaths (ended_in known e) n
+    ∙ ap (λ (x : Standing). if among n deaths then standing.Dead else x) (stands_then known.standings e n standing.Dead)
+    ∙ either (among n deaths) (e == n) where
+      either : (b c : Bool) → (if b then standing.Dead else if c then standing.Dead else known_standing known n) ≡ (if c || b then standing.Dead else known_standing known n)
+      either true true = refl
+      either true false = refl
+      either false true = refl
+      either false false = refl
+
+ended_live : (deaths : List ℕ) (known : Known) → (fold ended_in known deaths).live ≡ known.live - length deaths
+ended_live [] known = omega arith
+ended_live (e ∷ deaths) known = let rest = ended_live deaths (ended_in known e) in omega arith
+
+-- the tokens, and the servers, are as they were
+record IsSame (old new : Known) : Type 0 where
+  tokens : new.tokens ≡ old.tokens
+  out : new.out ≡ old.out
+  next : new.next ≡ old.next
+  servers : new.servers ≡ old.servers
+
+ended_same : (deaths : List ℕ) (known : Known) → IsSame known (fold ended_in known deaths)
+ended_same [] known = record { tokens = refl; out = refl; next = refl; servers = refl }
+ended_same (e ∷ deaths) known =
+    let rest = ended_same deaths (ended_in known e) in
+    record { tokens = rest.tokens; out = rest.out; next = rest.next; servers = rest.servers }
+
+-- ---- behind a serving
+
+nothing_left_of : {X : Type 0} (xs ys : List X) → xs ++ ys ≡ [] → xs ≡ []
+nothing_left_of [] ys h = refl
+nothing_left_of (x ∷ xs) ys h = absurd (cc)
+
+-- where no token was given by now, none was before
+none_alone : (built : Built) (start : Start) (past : History) (sent : Sent) → all_given (behind built start (serves sent) past) ≡ [] → all_given past ≡ []
+none_alone built start past sent h =
+    nothing_left_of (all_given past) (option_to_list (event_of built start past (serves sent)).outcome.token) (sym (servings_take_effect built start past sent).tokens ∙ h)
+
+none_before : (built : Built) (start : Start) (journal : Journal) (sent : Sent) (x : Option Forwarded) → all_given (history_of built start (with_forward sent.place (serves sent ∷ journal) x)) ≡ [] → all_given (history_of built start journal) ≡ []
+unfolding history_of
+none_before built start journal sent None h = none_alone built start (history_of built start journal) sent h
+none_before built start journal sent (Some f) h =
+    let mid = behind built start (serves sent) (history_of built start journal) in
+    let new = sent_behind (serves sent ∷ journal) f.endpoint (message f.bytes (f.object ∷ [])) (Some sent.place) in
+    none_alone built start (history_of built start journal) sent (sym (sendings_wait_last built start mid new).same.tokens ∙ h)
+
+-- then none is held, and the next one is the first
+none_held : (history : History) (n : ℕ) → all_given history ≡ [] → is_held history n ≡ false
+none_held history n none = ap (λ (ones : List Given). list_any (λ g. g.token == n) ones && not (was_carried history n)) none
+
+first_next : (history : History) → all_given history ≡ [] → next_token history ≡ Some first_token
+first_next history none =
+    ap
+    (λ (ones : List Given).
+    if nat_le most_tokens (length (filter (λ one. is_held history one.token || waits_with history one.token) ones)) || nat_le 0x80000000 (length ones) then None
+    else Some (first_token + length ones))
+    none
+
+pub servings_known : Below → (built : Built) (start : Start) (journal : Journal) (sent : Sent) (known : Known) → IsStart start → IsNumbered start → Lawful built start journal → head start (history_of built start journal) sent.endpoint ≡ Some sent →
+    all_given (history_of built start (after_serving built start journal sent)) ≡ [] → Knows start (history_of built start journal) known →
+    Knows start (history_of built start (after_serving built start journal sent))
+    (known_behind known (deaths_at built start journal sent) (length (waiting (history_of built start (after_serving built start journal sent)))))
+servings_known below built start journal sent known s numbered lawful h none k =
+    let past = history_of built start journal in
+    let now = history_of built start (after_serving built start journal sent) in
+    let deaths = deaths_at built start journal sent in
+    let new = fold ended_in known deaths in
+    let died = servings_end below built start journal sent s numbered lawful h in
+    let none_past = none_before built start journal sent (outcome_of built start past sent).forward none in
+    let same = ended_same deaths known in
+    record {
+      standing = λ n. ended_standing deaths known n ∙ ap (λ (x : Standing). if among n deaths then standing.Dead else x) (k.standing n) ∙ sym (died.stand n);
+      live = let a = ended_live deaths known in let b = k.live in let c = died.count in omega arith;
+      waiting = refl;
+      servers = same.servers ∙ k.servers;
+      holds = λ n.
+          ap (λ (tokens : finite.FinMap nat_cmp Bool). unwrap_or (finite.get tokens n) false) same.tokens
+          ∙ k.holds n
+          ∙ none_held past n none_past
+          ∙ sym (none_held now n none);
+      next =
+          ap (λ (out : ℕ). if nat_le 4096 out || nat_le 0x100000000 new.next then None else Some new.next) same.out
+          ∙ ap (λ (next : ℕ). if nat_le 4096 known.out || nat_le 0x100000000 next then None else Some next) same.next
+          ∙ k.next
+          ∙ first_next past none_past
+          ∙ sym (first_next now none);
+    }
+
+-- ---- at the start
+
+all_kept : {X : Type 0} (xs : List X) → filter (λ x. true) xs ≡ xs
+all_kept [] = refl
+all_kept {X} (x ∷ xs) = ap (λ (ys : List X). x ∷ ys) (all_kept xs)
+
+first_living : (start : Start) → living start [] ≡ start.firsts ++ start.mounts
+first_living start = all_kept (births start []) ∙ append-nil (start.firsts ++ start.mounts)
+
+first_live : (start : Start) (n : ℕ) → IsNumbered start → (among n (ends_of start.firsts) || is_mount_end (length start.mounts) n) ≡ is_live start [] n
+first_live start n numbered =
+    ap (λ (b : Bool). among n (ends_of start.firsts) || b) (sym (mounts_among start n numbered))
+    ∙ sym (among-append n (ends_of start.firsts) (ends_of start.mounts))
+    ∙ ap (among n) (sym (map-append (λ (bound : Bound). bound.endpoint) start.firsts start.mounts))
+    ∙ named_is_bound (start.firsts ++ start.mounts) n
+    ∙ ap (λ bounds. bound_in bounds n) (sym (first_living start))
+    ∙ sym (or-none (bound_in (living start []) n))
+
+pub starts_known : (start : Start) (known : Known) → IsNumbered start → Starts (map (λ bound. bound.endpoint) start.firsts) (length start.mounts) (length start.trees) known → Knows start [] known
+starts_known start known numbered h = record {
+  standing = λ n. h.standing n ∙ ap (λ (b : Bool). if b then standing.Live else standing.Unused) (first_live start n numbered);
+  live =
+      let a = h.live in
+      let b = length-map start.firsts (λ (bound : Bound). bound.endpoint) in
+      let c = ap length (first_living start) in
+      let d = length-append start.firsts start.mounts in
+      omega arith;
+  waiting = h.waiting;
+  servers = h.servers;
+  holds = λ n.
+      ap (λ (tokens : finite.FinMap nat_cmp Bool). unwrap_or (finite.get tokens n) false) h.tokens
+      ∙ ap (λ (o : Option Bool). unwrap_or o false) (get-empty nat_cmp n);
+  next =
+      ap (λ (out : ℕ). if nat_le 4096 out || nat_le 0x100000000 known.next then None else Some known.next) h.out
+      ∙ ap (λ (next : ℕ). if nat_le 4096 0 || nat_le 0x100000000 next then None else Some next) h.next;
+}

@@ -1,0 +1,71 @@
+//! Laws of a server that keeps what it knows of endpoints and tokens. They compute nothing: what they say is in their clauses.
+
+ghost use Rattle.fidl_wire.specs.Names.{AreDistinct};
+ghost use Rattle.journal_laws.specs.Knowing.{KnowersAdmit, StartsAreKnown, RefusalsAreKnown, MessagesAreKnown, HangUpsAreKnown, ServingsEndTheirDeaths, ServingsAreKnown, StartsOfFilesAreNumbered};
+
+use fidl_wire::body_is_read_where_spelled;
+use io_messages::written_request_is_read;
+use path_walk::path_laws;
+
+/// What is known at the start is what looking back says of no past.
+pub fn starts_are_known()
+    ensures { StartsAreKnown }
+{}
+
+/// The start of a tree file whose clients have endpoints of their own is numbered.
+pub fn starts_of_files_are_numbered()
+    ensures { StartsOfFilesAreNumbered }
+{}
+
+/// Behind a refusal the same is known.
+pub fn refusals_are_known()
+    ensures { RefusalsAreKnown }
+{}
+
+/// Whoever knows the past of a lawful journal admits each frame that looking back admits, and refuses the others for the same reasons;
+/// where no two names have equal ordinals.
+pub fn knowers_admit()
+    ensures { AreDistinct → KnowersAdmit }
+{
+    body_is_read_where_spelled();
+    written_request_is_read();
+    path_laws();
+}
+
+/// Behind an admitted message, what its admission leaves is what looking back says; where no two names have equal ordinals.
+pub fn messages_are_known()
+    ensures { AreDistinct → MessagesAreKnown }
+{
+    body_is_read_where_spelled();
+    written_request_is_read();
+    path_laws();
+}
+
+/// Behind an admitted hang-up, what its admission leaves is what looking back says; where no two names have equal ordinals.
+pub fn hang_ups_are_known()
+    ensures { AreDistinct → HangUpsAreKnown }
+{
+    body_is_read_where_spelled();
+    written_request_is_read();
+    path_laws();
+}
+
+/// The endpoints that die of a serving are distinct and were live, each other endpoint stands as it stood, and so many fewer are live;
+/// where no two names have equal ordinals.
+pub fn servings_end_their_deaths()
+    ensures { AreDistinct → ServingsEndTheirDeaths }
+{
+    body_is_read_where_spelled();
+    written_request_is_read();
+    path_laws();
+}
+
+/// Behind a serving, to end its deaths and count what waits leaves what looking back says, where no token was ever given and no two names
+/// have equal ordinals.
+pub fn servings_are_known()
+    ensures { AreDistinct → ServingsAreKnown }
+{
+    body_is_read_where_spelled();
+    written_request_is_read();
+    path_laws();
+}

@@ -1,0 +1,16 @@
+//! Laws of the journal: what holds of every start, history and lawful journal, and of a server that keeps what it knows of endpoints.
+#![tactic(auto)]
+
+mod knowing;
+mod laws;
+
+pub use knowing::{
+    hang_ups_are_known, knowers_admit, messages_are_known, refusals_are_known, servings_are_known,
+    servings_end_their_deaths, starts_are_known, starts_of_files_are_numbered,
+};
+pub use laws::{
+    deaths_reach_all, drains_serve_all, endpoints_are_in_transit, endpoints_are_known, places_rise,
+    refusals_change_nothing, sendings_wait_last, served_once, servings_bind_what_they_carry,
+    servings_lower_the_weight, servings_take_effect, sessions_are_lawful, sessions_serve_all,
+    starts_are_sound, what_goes_on_waits, what_is_sent_waits,
+};

@@ -1,0 +1,4 @@
+pub mod RowFrames
+pub mod RowServings
+pub mod RowSteps
+pub mod RowTrees
