@@ -1,6 +1,8 @@
 ghost use Rattle.std.specs.Prelude.{◌≡◌, ◌<◌, ◌≤◌, ◌++◌, true, false, [], length, map, take, None, IfOk, IfErr, OnOk, OnErr};
 ghost use Rattle.std.specs.FinMap as finite;
+ghost use Rattle.std.specs.Int.{w32, cast_signed};
 ghost use Rattle.fidl_names.specs.HandleNumber.{handle_with};
+ghost use Rattle.fidl_names.specs.Numbers.{number_at};
 ghost use Rattle.endpoint_link.specs.Frames.{spelling, frame_with, IsFrame};
 ghost use Rattle.endpoint_link.specs.declared.kinds.Side.TheVariants as side;
 ghost use Rattle.endpoint_link.specs.Views.{frame_of, handle_numbers};
@@ -156,7 +158,7 @@ impl Client {
             FrameKind::Message => self.take_message(ordinals, frame),
             FrameKind::Close => Taken::Closed,
             FrameKind::Refused => {
-                Taken::Refused(LittleEndian::read_u32(frame.bytes).cast_signed())
+                Taken::Refused(status_of(frame.bytes))
             }
             FrameKind::Turn | FrameKind::Pick => unreachable!(),
         }
@@ -251,6 +253,15 @@ impl Client {
     }
 }
 
+/// The status of a refusal.
+#[tactic(auto, unfolding(fidl_names::specs::Numbers::number_at))]
+fn status_of(bytes: &[u8]) -> i32
+    requires { 4 ≤ length bytes.now }
+    ensures { result ≡ cast_signed w32 (number_at 4 0 bytes.now) }
+{
+    LittleEndian::read_u32(bytes).cast_signed()
+}
+
 /// The endpoint that a Watch carries.
 fn watcher_of(request: &Request<'_>) -> Option<u32>
     ensures { result ≡ watcher_of (asked request.now) }
@@ -298,8 +309,8 @@ fn answer_to<'a>(
 }
 
 /// Puts the handles with these numbers at the front.
-fn put_handles(numbers: HandleBytes<'_>, handles: &mut [Handle; MAX_HANDLES])
-    requires { length (handle_numbers numbers) ≤ MAX_HANDLES }
+fn put_handles(numbers: HandleBytes<'_>, handles: &mut [Handle])
+    requires { length (handle_numbers numbers) ≤ length handles.old }
     ensures { take (length (handle_numbers numbers.entry)) handles.new ≡ map handle_with (handle_numbers numbers.entry) }
 {
     for place in 0..numbers.len() {
