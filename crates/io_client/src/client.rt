@@ -157,9 +157,7 @@ impl Client {
         match frame.kind {
             FrameKind::Message => self.take_message(ordinals, frame),
             FrameKind::Close => Taken::Closed,
-            FrameKind::Refused => {
-                Taken::Refused(status_of(frame.bytes))
-            }
+            FrameKind::Refused => { Taken::Refused(status_of(frame.bytes)) }
             FrameKind::Turn | FrameKind::Pick => unreachable!(),
         }
     }
