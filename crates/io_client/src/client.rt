@@ -126,10 +126,10 @@ impl Client {
         ensures calls { OnOk result (self.new ≡ noted self.old endpoint txid method watcher) }
         ensures same { OnErr result (self.new ≡ self.old) }
     {
-        if self.waiting.at(endpoint, txid).is_some() {
-            return Err(ClientFault::Busy);
+        match self.waiting.at(endpoint, txid) {
+            Some(_) => Err(ClientFault::Busy),
+            None => self.enter(endpoint, txid, method, watcher),
         }
-        self.enter(endpoint, txid, method, watcher)
     }
 
     /// Closes an endpoint: appends its Close frame, or for want of memory nothing.

@@ -25,7 +25,7 @@ hang up | 010000000200000000000000
 ";
 
 /// What each row's frame is to a client for which the calls of these exchanges wait, in order: its name says it. The calls are
-/// GetAttributes, Read, Query and Close with 3 to 6 on 2, Watch with 3 on 3, and Sync with 7 on 2; endpoint 9 is watched.
+/// GetAttributes, Read, Query and Close with 3 to 6 on 2, Watch with 3 on 3, and Sync with 7 to 10 on 2; endpoint 9 is watched.
 const TAKEN: &str = "
 event file | 02000000010000003000000000000000020000010c510ad86705b45c030000000000000010000000000000000000000000000000ffffffffffffffff
 attributes of 3 | 02000000010000009800000003000000020000013b05ea38a696433d010000000000000078000000000000000000000000000000ffffffffffffffff0600000000000000ffffffffffffffff080000000000000008000000000000000800000000000000000000000000000008000000000000000800000000000000040000000000000016000000000000000b0000000000000001000000000000000300000000000000
@@ -42,6 +42,14 @@ epitaph -25 | 0200000001000000180000000000000002000001ffffffffffffffffe7ffffff00
 bad magic | 02000000010000001000000007000000020000000000000000000000
 other ordinal | 020000000100000020000000070000000200000158b49c8443d2f57401000000000000000000000000000100
 unmatched 7 | 020000000100000020000000070000000200000158b49c8443d2f57401000000000000000000000000000100
+closed | 090000000200000000000000
+ended watch | 0900000001000000180000000000000002000001ffffffffffffffffe7ffffff00000000
+bad txid | 02000000010000003000000003000000020000010c510ad86705b45c030000000000000010000000000000000000000000000000ffffffffffffffff
+unknown of 8 | 020000000100000020000000080000000200800149dcb50aca275c2c0300000000000000feffffff00000100
+other ordinal | 020000000100000020000000090000000200800106fcec9deeed58260300000000000000feffffff00000100
+unmatched 9 | 020000000100000020000000090000000200000149dcb50aca275c2c01000000000000000000000000000100
+bad trailing | 0200000001000000280000000a0000000200000149dcb50aca275c2c010000000000000000000000000001000000000000000000
+unmatched 10 | 0200000001000000200000000a0000000200000149dcb50aca275c2c01000000000000000000000000000100
 ";
 
 fn taken<'a>(
@@ -80,10 +88,17 @@ fn is_said(name: &str, taken: Option<Taken<'_>>) -> bool {
         Taken::Reply(3, reply) => {
             name == "settled of 3" && reply == Reply::Settled(Method::Watch)
         }
+        Taken::Reply(8, Reply::Unknown(ordinal)) => {
+            name == "unknown of 8" && ordinal == 0x2c5c_27ca_0ab5_dc49
+        }
         Taken::Reply(..) => false,
         Taken::Watch(mut events) => {
             let count = events.by_ref().count();
-            events.whole() && (name == "snapshot" && count == 2 || name == "idle" && count == 1)
+            match name {
+                "snapshot" => count == 2 && events.whole(),
+                "idle" => count == 1 && events.whole(),
+                _ => name == "ended watch" && !events.whole(),
+            }
         }
         Taken::Closed => name == "closed",
         Taken::Refused(status) => name == "refused -11" && status == Status::BadHandle.number(),
@@ -91,12 +106,18 @@ fn is_said(name: &str, taken: Option<Taken<'_>>) -> bool {
         Taken::Bad(fault) => match fault.what {
             WireWhat::Magic => name == "bad magic" && fault.at == 7,
             WireWhat::Ordinal => name == "other ordinal" && fault.at == 8,
+            WireWhat::Txid => name == "bad txid" && fault.at == 0,
+            WireWhat::Trailing => name == "bad trailing" && fault.at == 32,
             _ => false,
         },
-        Taken::Unmatched { endpoint, txid } => {
-            endpoint == 2
-                && (name == "unmatched 3" && txid == 3 || name == "unmatched 7" && txid == 7)
-        }
+        Taken::Unmatched { endpoint: 2, txid } => match txid {
+            3 => name == "unmatched 3",
+            7 => name == "unmatched 7",
+            9 => name == "unmatched 9",
+            10 => name == "unmatched 10",
+            _ => false,
+        },
+        Taken::Unmatched { .. } => false,
     }
 }
 
@@ -127,12 +148,12 @@ fn requests_are_written(rt: HostRuntime) -> Result<(), Fail> {
     assert_eq!(rt; client.waiting(), 4);
     let again = client.send(&ordinals, 2, 6, Request::Sync, &mut outbox);
     assert_eq!(rt; again, Err(ClientFault::Busy));
-    let long = [0x61; 65_505];
+    let bytes = [0x61; 65_505];
     let long = client.send(
         &ordinals,
         2,
         6,
-        Request::Write { bytes: &long },
+        Request::Write { bytes: &bytes },
         &mut outbox,
     );
     assert_eq!(rt; long, Err(ClientFault::TooLong));
@@ -141,7 +162,46 @@ fn requests_are_written(rt: HostRuntime) -> Result<(), Fail> {
         want.extend_from_slice(&row.bytes(alloc, 1)?)?;
     }
     assert_eq!(rt; outbox.as_bytes(), want.as_slice());
+    let longest = Request::Write {
+        bytes: &bytes[..65_504],
+    };
+    client.send(&ordinals, 2, 7, longest, &mut outbox)?;
+    assert_eq!(rt; outbox.len(), want.len() + 12 + 65_536);
     Ok(())
+}
+
+// The reply to a Sync, with its transaction id put in.
+fn synced(txid: u32) -> [u8; 44] {
+    let mut frame =
+        *b"\x01\x00\x00\x00\x01\x00\x00\x00\x20\x00\x00\x00\x00\x00\x00\x00\x02\x00\x00\x01\
+        \x49\xdc\xb5\x0a\xca\x27\x5c\x2c\x01\x00\x00\x00\x00\x00\x00\x00\x00\x00\x00\x00\x00\x00\x01\x00";
+    frame[12..16].copy_from_slice(&txid.to_le_bytes());
+    frame
+}
+
+#[test]
+fn many_calls_are_answered_the_other_way_round(rt: HostRuntime) -> Result<(), Fail> {
+    let ordinals = Ordinals::new()?;
+    let mut client = Client::new(rt.alloc())?;
+    for txid in 1..10_001 {
+        client.note(1, txid, Method::Sync, None)?;
+    }
+    assert_eq!(rt; client.waiting(), 10_000);
+    for place in 0..10_000 {
+        let txid = 10_000 - place;
+        let frame = synced(txid);
+        let taken = taken(&rt, &mut client, &ordinals, &frame);
+        assert!(rt; is_synced(taken, txid), "{txid}");
+    }
+    assert_eq!(rt; client.waiting(), 0);
+    Ok(())
+}
+
+fn is_synced(taken: Option<Taken<'_>>, txid: u32) -> bool {
+    match taken {
+        Some(Taken::Reply(found, reply)) => found == txid && reply == Reply::Done(Method::Sync),
+        _ => false,
+    }
 }
 
 #[test]
@@ -193,7 +253,9 @@ fn frames_are_what_they_are(rt: HostRuntime) -> Result<(), Fail> {
     client.note(2, 4, Method::Read, None)?;
     client.note(2, 5, Method::Query, None)?;
     client.note(2, 6, Method::Close, None)?;
-    client.note(2, 7, Method::Sync, None)?;
+    for txid in 7..11 {
+        client.note(2, txid, Method::Sync, None)?;
+    }
     client.note(3, 3, Method::Watch, Some(9))?;
     let busy = client.note(3, 3, Method::Sync, None);
     assert_eq!(rt; busy, Err(ClientFault::Busy));
