@@ -5,4 +5,3 @@ use Rattle.std.specs.List.{list_any}
 -- whether a number is among these
 abbrev pub among : ℕ → List ℕ → Bool
 among n ns = list_any (λ m. m == n) ns
-

@@ -20,7 +20,7 @@ pub use kinds::{
     AdmitFault, FrameKind, FrameReason, LinkFault, Mode, Refusal, Side, Standing, TokenFault,
 };
 pub use laws::{in_any_cut, joined_streams, one_reading, sound_fixed_parts};
-pub use outbox::{FrameRoom, Outbox, spelled_len, write_frame};
+pub use outbox::{FrameRoom, Outbox, spelled_len, write_frame, write_message};
 pub use reading::frame_at;
 
 #[cfg(test)]

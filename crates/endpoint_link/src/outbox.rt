@@ -1,6 +1,7 @@
 // Frames to be written.
 
-ghost use Rattle.std.specs.Prelude.{◌≡◌, ◌≤◌, ◌+◌, ◌*◌, ◌++◌, ◌↔◌, [], IsTrue, length, take, vec_len, vec_capacity, OnOk, OnErr, IfOk};
+ghost use Rattle.std.specs.Prelude.{◌≡◌, ◌≤◌, ◌+◌, ◌*◌, ◌++◌, ◌↔◌, [], IsTrue, length, take, vec_len, vec_capacity, map, OnOk, OnErr, IfOk};
+ghost use Rattle.fidl_names.specs.HandleNumber.{number_of_handle};
 ghost use Rattle.endpoint_link.specs.Frames.{HasShape, fixed_part, spelling, spelled_len, frame_with};
 ghost use Rattle.endpoint_link.specs.Numbers.{word_of};
 ghost use Rattle.std.specs.List.{flat_map};
@@ -8,7 +9,7 @@ ghost use Rattle.std.specs.List.{flat_map};
 use crate::fixed::{FIXED_LEN, number_of};
 use crate::kinds::FrameKind;
 use byteorder::{ByteOrder, LittleEndian};
-use fidl_names::NoMemory;
+use fidl_names::{Handle, MAX_BYTES, MAX_HANDLES, NoMemory};
 use std::alloc::Global;
 use std::marker::Model;
 
@@ -160,6 +161,31 @@ pub fn write_frame(
     Ok(())
 }
 
+/// Appends the whole frame of a message with these handles, or for want of memory nothing.
+pub fn write_message(
+    to: &mut Outbox,
+    endpoint: u32,
+    handles: &[Handle],
+    bytes: &[u8],
+) -> Result<(), NoMemory>
+    requires few_handles { length handles.now ≤ MAX_HANDLES }
+    requires few_bytes { length bytes.now ≤ MAX_BYTES }
+    ensures written { OnOk result (to.new ≡ to.old ++ spelling (frame_with endpoint FrameKind.Message (map number_of_handle handles.now) bytes.now)) }
+    ensures no_memory { OnErr result (to.new ≡ to.old) }
+{
+    to.bytes.reserve(spelled_len(handles.len(), bytes.len()))?;
+    put_fixed_part(
+        &mut to.bytes,
+        endpoint,
+        FrameKind::Message,
+        handles.len(),
+        bytes.len(),
+    );
+    put_handles(&mut to.bytes, handles);
+    append(&mut to.bytes, bytes);
+    Ok(())
+}
+
 /// Appends to bytes that have room for them.
 fn append(to: &mut Vec<u8>, part: &[u8])
     requires { vec_len to.old + length part.now ≤ vec_capacity to.old }
@@ -208,6 +234,18 @@ fn put_words(to: &mut Vec<u8>, words: &[u32])
 {
     for word in words {
         put_word(to, *word);
+    }
+}
+
+/// Appends the numbers of handles to bytes that have room for them.
+fn put_handles(to: &mut Vec<u8>, handles: &[Handle])
+    requires { vec_len to.old + 4 * length handles.now ≤ vec_capacity to.old }
+    ensures items { to.new.items ≡ to.old.items ++ flat_map word_of (map number_of_handle handles.now) }
+    ensures len { vec_len to.new ≡ vec_len to.old + 4 * length handles.now }
+    ensures room { vec_capacity to.old ≤ vec_capacity to.new }
+{
+    for handle in handles {
+        put_word(to, handle.number());
     }
 }
 

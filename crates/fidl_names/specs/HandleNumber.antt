@@ -1,5 +1,5 @@
 -- Handles as numbers, and which numbers are whose.
-use Rattle.std.specs.Prelude.{ℕ, ◌+◌, ◌&&◌, Bool, nat_lt, nat_le}
+use Rattle.std.specs.Prelude.{ℕ, ◌+◌, ◌&&◌, Bool, nat_lt, nat_le, if◌then◌else◌}
 use Rattle.fidl_names.specs.declared.limits.TheConstants as limit
 use Rattle.fidl_names.specs.declared.methods.Handle.{Handle}
 use Rattle.fidl_names.specs.declared.methods.Handle.TheVariants.{Endpoint, Token}
@@ -8,6 +8,10 @@ use Rattle.fidl_names.specs.declared.methods.Handle.TheVariants.{Endpoint, Token
 abbrev pub number_of_handle : Handle → ℕ
 number_of_handle (Endpoint n) = n
 number_of_handle (Token n) = n
+
+-- the handle with a number: a token from the first token's number on
+abbrev pub handle_with : ℕ → Handle
+handle_with n = if nat_le limit.FIRST_TOKEN n then Token n else Endpoint n
 
 -- the numbers from which clients make endpoints
 abbrev pub is_client : ℕ → Bool

@@ -1,10 +1,21 @@
 ghost use Rattle.std.specs.Prelude.{◌≡◌};
-ghost use Rattle.fidl_names.specs.HandleNumber.{is_client, number_of_handle};
+ghost use Rattle.fidl_names.specs.HandleNumber.{handle_with, is_client, number_of_handle};
 
-use crate::limits::FIRST_MOUNT_END;
+use crate::limits::{FIRST_MOUNT_END, FIRST_TOKEN};
 use crate::methods::Handle;
 
 impl Handle {
+    /// The handle that the link numbers so: a token from the first token's number on, and else an endpoint.
+    pub fn with_number(number: u32) -> Handle
+        ensures { result ≡ handle_with number }
+    {
+        if number >= FIRST_TOKEN {
+            Handle::Token(number)
+        } else {
+            Handle::Endpoint(number)
+        }
+    }
+
     /// The number that the link has for it.
     pub fn number(self) -> u32
         ensures { result ≡ number_of_handle self }

@@ -1,4 +1,4 @@
-ghost use Rattle.std.specs.Prelude.{◌≡◌, ℤ, [], length, IfSome, IsNone};
+ghost use Rattle.std.specs.Prelude.{◌≡◌, ℤ, [], length, Some, IfSome, IsNone};
 ghost use Rattle.fidl_names.specs.StatusNumber.{number_of};
 ghost use Rattle.fidl_wire.specs.Epitaphs.{epitaph_bytes, IsEpitaph};
 
@@ -30,6 +30,16 @@ pub fn epitaph(status: Status, out: &mut Out)
 
 /// The status of an epitaph; `None` exactly where the bytes are none.
 pub fn read_epitaph(bytes: &[u8]) -> Option<i32>
+    // The bytes are the epitaph that is read.
+    ensures found { IfSome result (λ status. IsEpitaph bytes.now status) }
+    // The epitaph that the bytes are is read.
+    ensures only { (status : ℤ) → IsEpitaph bytes.now status → result ≡ Some status }
+    ensures none { IsNone result → (status : ℤ) → IsEpitaph bytes.now status → ⊥ }
+{
+    status_in(bytes)
+}
+
+fn status_in(bytes: &[u8]) -> Option<i32>
     ensures found { IfSome result (λ status. IsEpitaph bytes.now status) }
     ensures none { IsNone result → (status : ℤ) → IsEpitaph bytes.now status → ⊥ }
 {
