@@ -125,6 +125,7 @@ while IFS='|' read -r what words input output status note; do
     [ -n "$what" ] || continue
     read -r what <<< "$what"
     read -r output <<< "$output"
+    read -r status <<< "$status"
     read -r note <<< "$note"
     read -ra words <<< "${words//@/$work/}"
     spell "$input" > "$work/in"
