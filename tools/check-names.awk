@@ -7,7 +7,8 @@ BEGIN {
     while ((getline line < (work "/contracts")) > 0) {
         split(line, part, "\t")
         call[part[2]] = 1
-        contract[part[1], part[2]] = contract[part[1], part[2]] " " part[3] " " part[4]
+        clauses_of[part[1], part[2]] = clauses_of[part[1], part[2]] part[3]
+        words_of[part[1], part[2]] = words_of[part[1], part[2]] part[4]
     }
     while ((getline line < "crates.txt") > 0) {
         sub(/#.*/, "", line)
@@ -81,16 +82,19 @@ function variant(name,    part, count, i, made) {
     return made
 }
 
-# A row: the claim, the calls, and the clauses, each of which stands in the contract of each call.
-function check_row(    cell, calls, clauses, n, m, i, j) {
+# A row: the claim, the calls, and the clauses, each of which each call has: by its name, or in brackets by
+# a word of the contract.
+function check_row(    cell, calls, clauses, n, m, i, j, has) {
     split($0, cell, /\|/)
     n = split(cell[3], calls, "`")
     m = split(cell[4], clauses, "`")
     if (n < 3 || m < 3) check($0, 0, "is a row without a call or a clause")
     for (i = 2; i <= n; i += 2) {
-        check(calls[i], (crate, calls[i]) in contract, "is no call of " crate)
-        if (!((crate, calls[i]) in contract)) continue
-        for (j = 2; j <= m; j += 2)
-            check(clauses[j], index(contract[crate, calls[i]], " " clauses[j] " ") > 0, "is not in the contract of " calls[i])
+        check(calls[i], (crate, calls[i]) in words_of, "is no call of " crate)
+        if (!((crate, calls[i]) in words_of)) continue
+        for (j = 2; j <= m; j += 2) {
+            has = clauses[j - 1] ~ /\($/ ? words_of[crate, calls[i]] : clauses_of[crate, calls[i]]
+            check(clauses[j], index(has, " " clauses[j] " ") > 0, "is no clause of " calls[i])
+        }
     }
 }
