@@ -11,7 +11,7 @@ made=crates/$crate/out/$crate
 log=build/$crate.log
 
 is_new() {
-    [ -e "$made" ] && [ -z "$(find crates crates.txt -path '*/out' -prune -o -type f -newer "$made" -print -quit)" ]
+    [ -e "$made" ] && [ -z "$(find crates.txt crates/*/src crates/*/specs crates/*/proofs -newer "$made" -print -quit)" ]
 }
 
 if ! is_new; then
