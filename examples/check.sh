@@ -1,0 +1,181 @@
+#!/usr/bin/env bash
+# check.sh PROGRAM: runs the program on the cases below, each by its words and its input, and compares
+# the exit status, the note and the output. What fails is shown; the last line counts.
+set -u
+cd "$(dirname "$0")/.." || exit 1
+program=$1
+work=$(mktemp -d) || exit 1
+trap 'rm -rf "$work"' EXIT
+passed=0 failed=0
+
+# What goes in and comes out, in hexadecimal, by the name that the cases have for it.
+declare -A bytes=(
+    [nothing]=''
+    # A Read of 5 bytes on endpoint 1, and what a file with the text `hello world` answers.
+    [read]='01000000 01 00 0000 18000000  01000000 02000001 4c01b891c67ff240  0500000000000000'
+    [hello]='01000000 01 00 0000 38000000  01000000 02000001 4c01b891c67ff240
+        0100000000000000 18000000 0000 0000  0500000000000000 ffffffffffffffff 68656c6c6f000000'
+    # The same Read on an endpoint that nobody knows: Refused, BAD_HANDLE.
+    [stray]='07000000 01 00 0000 18000000  01000000 02000001 4c01b891c67ff240  0500000000000000'
+    [refused]='07000000 05 00 0000 04000000  f5ffffff'
+    # Over a tree: an Open of `nope` with the new endpoint 4, whose answer is an epitaph and a Close frame.
+    [open]='01000000 01 01 0000 48000000 04000000  00000000 02000001 d6547cffbb4fbc2f
+        0400000000000000 ffffffffffffffff 0200000000000000 0000000000000000 ffffffffffffffff ffffffff 00000000
+        6e6f706500000000'
+    [missing]='04000000 01 00 0000 18000000  00000000 02000001 ffffffffffffffff e7ffffff 00000000
+        04000000 02 00 0000 00000000'
+    # Fixed parts, each bad for one reason, and the front of a Read.
+    [kind]='01000000 09 00 0000 00000000'
+    [zero]='01000000 01 00 0100 00000000'
+    [handles]='01000000 01 41 0000 00000000'
+    [many]='01000000 01 00 0000 01000100'
+    [shape]='01000000 02 00 0000 01000000'
+    [front]='01000000 01 00 0000 18000000  01000000 02'
+)
+usage='usage: vfs file NAME | serve TREE auto | serve TREE given | run TREE SCRIPT | check TREE | show | make N'
+
+# Files that the words name: @full and @over have as many bytes as a file may have and one more, and
+# @tree and @large so many as a tree file.
+head -c 65536 /dev/zero > "$work/full"
+head -c 65537 /dev/zero > "$work/over"
+{ cat examples/trees/small.toml; printf '#'; head -c 1048576 /dev/zero | tr '\0' x; } > "$work/long"
+head -c 1048576 "$work/long" > "$work/tree"
+head -c 1048577 "$work/long" > "$work/large"
+printf 'version = 2\n' > "$work/wrong"
+
+# What is run                   | words                             | input       | output       | exit | note
+cases="
+a Read of the file              | file examples/hello               | read        | hello        | 0 |
+no frame                        | file examples/hello               | nothing     | nothing      | 0 |
+an endpoint that nobody knows   | file examples/hello               | stray       | refused      | 0 |
+a bad kind                      | file examples/hello               | read kind   | hello        | 6 | bad frame at 36: kind
+a field that isn't zero         | file examples/hello               | zero        | nothing      | 6 | bad frame at 0: zero
+too many handles                | file examples/hello               | read handles | hello       | 6 | bad frame at 36: handles
+too many bytes                  | file examples/hello               | many        | nothing      | 6 | bad frame at 0: bytes
+a Close with bytes              | file examples/hello               | shape       | nothing      | 6 | bad frame at 0: shape
+an input that ends in a frame   | file examples/hello               | read front  | hello        | 7 | input ends inside the frame at 36
+a file of the largest size      | file @full                        | nothing     | nothing      | 0 |
+a file that is too large        | file @over                        | read        | nothing      | 5 | file too large
+a file that isn't there         | file @none                        | read        | nothing      | 5 | file failed
+an Open over a tree             | serve examples/trees/small.toml auto | open     | missing      | 0 |
+an unknown endpoint over a tree | serve examples/trees/small.toml auto | stray open | refused missing | 0 |
+a bad frame over a tree         | serve examples/trees/small.toml auto | open kind | missing     | 6 | bad frame at 88: kind
+an input over a tree cut short  | serve examples/trees/small.toml auto | open front | missing    | 7 | input ends inside the frame at 88
+a session over a refused tree   | serve @wrong auto                 | open        | nothing      | 2 | tree refused: rule 2 item 0
+a session over no tree          | serve @none auto                  | open        | nothing      | 5 | file failed
+a session over too large a tree | serve @large auto                 | open        | nothing      | 5 | file too large
+a tree that isn't served yet    | serve examples/trees/mounted_pair.toml auto | open | nothing    | 11 | not built at 0
+a mode that isn't there yet     | serve examples/trees/small.toml given | open    | nothing      | 1 | $usage
+a tree that stands              | check examples/trees/mounted_pair.toml | nothing | ok servers 2 nodes 2 mounts 2 clients 1 | 0 |
+a tree of the largest size      | check @tree                       | nothing     | ok servers 1 nodes 2 mounts 0 clients 1 | 0 |
+a tree that breaks a rule       | check @wrong                      | nothing     | nothing      | 2 | tree refused: rule 2 item 0
+a tree that isn't there         | check @none                       | nothing     | nothing      | 5 | file failed
+a tree that is too large        | check @large                      | nothing     | nothing      | 5 | file too large
+no word                         |                                   | read        | nothing      | 1 | $usage
+a word too many                 | file examples/hello more          | read        | nothing      | 1 | $usage
+a command that isn't there yet  | show                              | nothing     | nothing      | 1 | $usage
+"
+
+# Writes what a cell of the table stands for: bytes by their names, or a line of text.
+spell() { # CELL
+    local name
+    for name in $1; do
+        if [ -z "${bytes[$name]+there}" ]; then
+            printf '%s\n' "$1"
+            return
+        fi
+    done
+    for name in $1; do
+        tools/to-bytes.sh <<< "${bytes[$name]}"
+    done
+}
+
+# A program that never ends fails its case.
+run() { # WORD..
+    timeout 60 "$program" "$@"
+}
+
+# Compares the output and the note in the work folder, and the status, with what they should be.
+judge() { # WHAT STATUS WANTED-STATUS WANTED-NOTE WANTED-OUTPUT
+    spell "$5" > "$work/wanted"
+    if [ "$2" -eq "$3" ] && [ "$(cat "$work/note")" = "$4" ] && cmp -s "$work/wanted" "$work/out"; then
+        passed=$((passed + 1))
+        return
+    fi
+    failed=$((failed + 1))
+    echo "FAILED: $1"
+    echo "  wanted: status $3, note \"$4\", output $(od -An -v -tx1 "$work/wanted" | tr -d ' \n')"
+    echo "  got:    status $2, note \"$(cat "$work/note")\", output $(od -An -v -tx1 "$work/out" | tr -d ' \n')"
+}
+
+# Compares the text of a script of the examples with what it should be.
+same_text() { # WHAT FILE COMMAND..
+    local what=$1 wanted=$2
+    shift 2
+    if "$@" 2>&1 | diff "$wanted" - > "$work/diff"; then
+        passed=$((passed + 1))
+        return
+    fi
+    failed=$((failed + 1))
+    echo "FAILED: $what differs from $wanted:"
+    cat "$work/diff"
+}
+
+while IFS='|' read -r what words input output status note; do
+    [ -n "$what" ] || continue
+    read -r what <<< "$what"
+    read -r output <<< "$output"
+    read -r status <<< "$status"
+    read -r note <<< "$note"
+    read -ra words <<< "${words//@/$work/}"
+    spell "$input" > "$work/in"
+    run "${words[@]}" < "$work/in" > "$work/out" 2> "$work/note"
+    judge "$what" $? "$status" "$note" "$output"
+done <<< "$cases"
+
+# Words that aren't UTF-8 end without a note.
+run file $'\xff' < /dev/null > "$work/out" 2> "$work/note"
+judge 'a word that is no text' $? 12 '' nothing
+
+# An output that takes nothing, as a full device or a closed one.
+spell 'open read' > "$work/in"
+: > "$work/out"
+run file examples/hello < "$work/in" > /dev/full 2> "$work/note"
+judge 'a full output' $? 4 'write failed' nothing
+run serve examples/trees/small.toml auto < "$work/in" > /dev/full 2> "$work/note"
+judge 'a full output of a tree' $? 4 'write failed' nothing
+run check examples/trees/small.toml > /dev/full 2> "$work/note"
+judge 'a full output of a check' $? 4 'write failed' nothing
+run file examples/hello < "$work/in" 2> "$work/note" >&-
+judge 'a closed output' $? 4 'write failed' nothing
+
+# An input that can't be read, and a note that nobody takes, which leaves the status as it is.
+run file examples/hello < . > "$work/out" 2> "$work/note"
+judge 'an input that fails' $? 3 'read failed' nothing
+: > "$work/note"
+run file "$work/none" < /dev/null > "$work/out" 2> /dev/full
+judge 'a note that nobody takes' $? 5 '' nothing
+
+# The same frames byte by byte.
+spell 'stray open kind' | dd bs=1 status=none | run serve examples/trees/small.toml auto > "$work/out" 2> "$work/note"
+judge 'single bytes' $? 6 'bad frame at 124: kind' 'refused missing'
+
+# A client that waits for its answer before it sends more gets it.
+coproc VFS { run file examples/hello 2> "$work/note"; }
+vfs=$VFS_PID
+exec {to}>&"${VFS[1]}" {from}<&"${VFS[0]}"
+eval "exec ${VFS[1]}>&- ${VFS[0]}<&-"
+spell read >&"$to"
+timeout 20 head -c 68 <&"$from" > "$work/out"
+exec {to}>&-
+wait "$vfs"
+judge 'an answer before the next frame' $? 0 '' hello
+exec {from}<&-
+
+# What make run shows.
+same_text 'the session' examples/session.expected examples/exchange.sh "$program" examples/session.hex serve examples/trees/small.toml auto
+same_text 'the exchange' examples/exchange.expected examples/exchange.sh "$program" examples/exchange.hex file examples/hello
+same_text 'the trees' examples/trees.expected examples/trees.sh "$program"
+
+echo "$passed passed, $failed failed"
+[ "$failed" -eq 0 ]
