@@ -26,7 +26,7 @@ use Rattle.fidl_wire.proofs.Endings.{before_object, object_read, object_sound, T
 
 -- ---- structs
 
-start_ok : (m : List ℕ) (hs : List Handle) (size : ℕ) → 16 + padded size ≤ length m → start_of m hs size ≡ Ok (start m hs size)
+pub start_ok : (m : List ℕ) (hs : List Handle) (size : ℕ) → 16 + padded size ≤ length m → start_of m hs size ≡ Ok (start m hs size)
 start_ok m hs size h = grind (arith, nat_tests)
 
 start_bind : {B : Type 0} → (m : List ℕ) (hs : List Handle) (size : ℕ) (f : Cursor → Result B WireFault) (b : B) → (start_of m hs size >>= f) ≡ Ok b → (16 + padded size ≤ length m) × (f (start m hs size) ≡ Ok b)

@@ -27,7 +27,7 @@ use Rattle.fidl_wire.proofs.TableFaults.{entered_err, entered_is}
 use Rattle.fidl_wire.proofs.ObjectFaults.{Closes, object_fault}
 
 -- what lies out of line begins behind the union
-out_is : 16 + padded 16 ≡ 32
+pub out_is : 16 + padded 16 ≡ 32
 out_is = omega (arith, padding_sixteen)
 
 start_err : {B : Type 0} → (m : List ℕ) (hs : List Handle) (size : ℕ) (f : Cursor → Result B WireFault) (e : WireFault) → (start_of m hs size >>= f) ≡ Err e →

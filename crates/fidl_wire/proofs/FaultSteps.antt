@@ -79,7 +79,7 @@ blank_or_err from None e h = absurd (cc)
 blank_or_err from (Some i) e h = let same : fault (from + i) Padding ≡ e = cc in (i, refl, same)
 
 -- a byte of a part
-byte_at : (m : List ℕ) (from until k : ℕ) → k < until - from → get_or (slice_range m from until) k 0 ≡ get_or m (from + k) 0
+pub byte_at : (m : List ℕ) (from until k : ℕ) → k < until - from → get_or (slice_range m from until) k 0 ≡ get_or m (from + k) 0
 byte_at m from until k h = get_or-take (until - from) (drop from m) k 0 h ∙ get_or-drop from m k 0
 
 pub blank_err : (m : List ℕ) (from until : ℕ) (e : WireFault) → from ≤ until → until ≤ length m → all_blank m from until ≡ Err e →

@@ -1,6 +1,8 @@
 pub mod Blanks
 pub mod Bodies
+pub mod BodyAnswers
 pub mod BodyFaults
+pub mod CellAnswers
 pub mod CellFaults
 pub mod Cells
 pub mod Endings

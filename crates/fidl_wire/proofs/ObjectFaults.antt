@@ -52,7 +52,7 @@ none_spells cell c e out h x p front spells =
 
 -- ---- cells one after another
 
-reach : (c : Cursor) (p : Part) → c.out ≤ length c.message → Begins (drop c.out c.message) p.outside → c.out + length p.outside ≤ length c.message
+pub reach : (c : Cursor) (p : Part) → c.out ≤ length c.message → Begins (drop c.out c.message) p.outside → c.out + length p.outside ≤ length c.message
 reach c p within h = omega (arith, begins-length (drop c.out c.message) p.outside h, length-drop c.out c.message)
 
 pub cells_fault : (cells : List Cell) (c : Cursor) (e : WireFault) → c.end ≤ length c.message → c.out ≤ length c.message → c.place + sizes_of cells ≤ c.end → cells_at cells c ≡ Err e → CellsFault cells (spot_of c) e.at e.what

@@ -25,7 +25,7 @@ use Rattle.fidl_wire.proofs.CellFaults.{spot_of, as_fault, count_err, count_is}
 
 -- ---- an envelope out of line
 
-outside_form : (at : ℕ) (m : List ℕ) → is_outside at m ≡ true → HasForm at m
+pub outside_form : (at : ℕ) (m : List ℕ) → is_outside at m ≡ true → HasForm at m
 outside_form at m h =
     let front = both_true ((flags_at at m == 0) && not (bytes_at at m == 0)) (bytes_at at m % 8 == 0) h in
     let flags = both_true (flags_at at m == 0) (not (bytes_at at m == 0)) front.0 in
@@ -122,7 +122,7 @@ none_member known at m hs o e left within h v p stands member = let read = membe
 -- ---- members
 
 -- the same member, its places told in another way
-member_same : (k k2 : Bool) (at at2 out out2 left left2 : ℕ) (m : List ℕ) (w : WireWhat) → k ≡ k2 → at ≡ at2 → out ≡ out2 → left ≡ left2 → MemberFault k at out left m w → MemberFault k2 at2 out2 left2 m w
+pub member_same : (k k2 : Bool) (at at2 out out2 left left2 : ℕ) (m : List ℕ) (w : WireWhat) → k ≡ k2 → at ≡ at2 → out ≡ out2 → left ≡ left2 → MemberFault k at out left m w → MemberFault k2 at2 out2 left2 m w
 member_same k k2 at at2 out out2 left left2 m w a b c d h =
     subst (λ (x : Bool). MemberFault x at2 out2 left2 m w) a
     (subst (λ (x : ℕ). MemberFault k x out2 left2 m w) b (subst (λ (x : ℕ). MemberFault k at x left2 m w) c (subst (λ (x : ℕ). MemberFault k at out x m w) d h)))
@@ -132,7 +132,7 @@ none_same k k2 m at at2 out out2 hs hs2 a b c d h =
     subst (λ (x : Bool). NoneIsMember x m at2 out2 hs2) a
     (subst (λ (x : ℕ). NoneIsMember k m x out2 hs2) b (subst (λ (x : ℕ). NoneIsMember k m at x hs2) c (subst (λ (x : List Handle). NoneIsMember k m at out x) d h)))
 
-drop_later : (n : ℕ) (known : List Bool) → drop n (later known) ≡ drop (suc n) known
+pub drop_later : (n : ℕ) (known : List Bool) → drop n (later known) ≡ drop (suc n) known
 drop_later n [] = drop-nil n
 drop_later n (k ∷ ks) = refl
 

@@ -1,7 +1,7 @@
 //! Laws of the format, for every header and every layout. They compute nothing: what they say is in
 //! their clauses.
 
-ghost use Rattle.fidl_wire.specs.Laws.{EpitaphsAreReadOnce, FaultsAreMeant, HeadersAreRead, ReadsWhatIsSpelled, SpelledWhereRead, SpelledOnce, SpellingIsSpelled, SpellingIsRead, WrittenEpitaphsAreRead};
+ghost use Rattle.fidl_wire.specs.Laws.{EpitaphsAreReadOnce, FaultsAreMeant, FaultsAreMeantOnce, HeadersAreRead, MeantFaultsAreAnswered, ReadsWhatIsSpelled, SpelledWhereRead, SpelledOnce, SpellingIsSpelled, SpellingIsRead, WrittenEpitaphsAreRead};
 
 /// A body is read as a value exactly where the message's bytes and handles spell that value, each
 /// cell at its place and with nothing left over.
@@ -16,9 +16,12 @@ pub fn body_is_spelled_once()
 {}
 
 /// A fault of a body is what its reason says of the bytes and handles at its offset. What stands before
-/// it is spelled, and nothing that stands there spells what the layout has next.
+/// it is spelled, and nothing that stands there spells what the layout has next. A body has at most one
+/// such fault, and that is the one that is answered.
 pub fn body_fault_is_meant()
-    ensures { FaultsAreMeant }
+    ensures meant { FaultsAreMeant }
+    ensures answered { MeantFaultsAreAnswered }
+    ensures once { FaultsAreMeantOnce }
 {}
 
 /// What is written for a value, behind any header, is spelled by the grammar and reads as it.

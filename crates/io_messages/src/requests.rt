@@ -77,6 +77,36 @@ pub enum Request<'a> {
     },
 }
 
+impl<'a> Request<'a> {
+    /// The method that it asks for.
+    pub fn method(&self) -> Method
+        ensures { result ≡ method_of (asked self.now) }
+    {
+        match self {
+            Request::Clone { .. } => Method::Clone,
+            Request::Close => Method::Close,
+            Request::Query => Method::Query,
+            Request::GetAttributes { .. } => Method::GetAttributes,
+            Request::Sync => Method::Sync,
+            Request::OpenPath { .. } => Method::OpenPath,
+            Request::ReadDirents { .. } => Method::ReadDirents,
+            Request::Rewind => Method::Rewind,
+            Request::GetToken => Method::GetToken,
+            Request::Rename { .. } => Method::Rename,
+            Request::Link { .. } => Method::Link,
+            Request::Unlink { .. } => Method::Unlink,
+            Request::Watch { .. } => Method::Watch,
+            Request::Read { .. } => Method::Read,
+            Request::ReadAt { .. } => Method::ReadAt,
+            Request::Write { .. } => Method::Write,
+            Request::WriteAt { .. } => Method::WriteAt,
+            Request::Seek { .. } => Method::Seek,
+            Request::Resize { .. } => Method::Resize,
+            Request::EchoString { .. } => Method::EchoString,
+        }
+    }
+}
+
 /// Why a message is no request of a protocol.
 #[derive(Clone, Copy, Debug, PartialEq, Eq)]
 pub enum RequestFault {
@@ -104,31 +134,3 @@ impl From<WireFault> for RequestFault {
 /// A message would have more than `MAX_BYTES` bytes.
 #[derive(Clone, Copy, Debug, PartialEq, Eq)]
 pub struct TooLong;
-
-/// The method of a request.
-pub fn method_of(request: &Request<'_>) -> Method
-    ensures { result ≡ method_of (asked request.now) }
-{
-    match request {
-        Request::Clone { .. } => Method::Clone,
-        Request::Close => Method::Close,
-        Request::Query => Method::Query,
-        Request::GetAttributes { .. } => Method::GetAttributes,
-        Request::Sync => Method::Sync,
-        Request::OpenPath { .. } => Method::OpenPath,
-        Request::ReadDirents { .. } => Method::ReadDirents,
-        Request::Rewind => Method::Rewind,
-        Request::GetToken => Method::GetToken,
-        Request::Rename { .. } => Method::Rename,
-        Request::Link { .. } => Method::Link,
-        Request::Unlink { .. } => Method::Unlink,
-        Request::Watch { .. } => Method::Watch,
-        Request::Read { .. } => Method::Read,
-        Request::ReadAt { .. } => Method::ReadAt,
-        Request::Write { .. } => Method::Write,
-        Request::WriteAt { .. } => Method::WriteAt,
-        Request::Seek { .. } => Method::Seek,
-        Request::Resize { .. } => Method::Resize,
-        Request::EchoString { .. } => Method::EchoString,
-    }
-}
