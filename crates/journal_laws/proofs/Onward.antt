@@ -27,7 +27,7 @@ use Rattle.io_messages.specs.Writing.{IsRequest}
 use Rattle.io_rights.specs.Operations.{OperationSet, is_within}
 use Rattle.path_walk.specs.Names.{slash, dot, IsName}
 use Rattle.path_walk.specs.Paths.{IsPath, text_of}
-use Rattle.vfs_journal.specs.Entries.{handle_with}
+use Rattle.fidl_names.specs.HandleNumber.{handle_with}
 use Rattle.vfs_journal.specs.Outcomes.{onward_bytes}
 use Rattle.vfs_journal.specs.Serving.{read_by}
 use Rattle.journal_laws.proofs.Below.{Below}

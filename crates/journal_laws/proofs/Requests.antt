@@ -24,7 +24,7 @@ use Rattle.io_messages.specs.Protocols.{has_method, all_methods}
 use Rattle.io_messages.specs.Requests.{Reads, request_cells, asked_from, items_in, item, handle_in, handle_of, fields_of, has_txid, method_in, with_txid, or_malformed, known_request, behind_header, request_of}
 use Rattle.io_messages.specs.Shapes.{is_one_way}
 use Rattle.endpoint_link.specs.Numbering.{among}
-use Rattle.vfs_journal.specs.Entries.{handle_with}
+use Rattle.fidl_names.specs.HandleNumber.{handle_with}
 use Rattle.vfs_journal.specs.Serving.{read_by}
 use Rattle.journal_laws.proofs.Members.{found, none_found, contains_here, contains_cases, contains_none}
 

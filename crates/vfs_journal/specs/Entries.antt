@@ -1,7 +1,5 @@
 -- The journal of a session: what was sent, served and refused, in order of happening.
-use Rattle.std.specs.Prelude.{ℕ, Bool, true, false, nat_le, if◌then◌else◌, List, [], filter, Option}
-use Rattle.fidl_names.specs.declared.methods.Handle.{Handle}
-use Rattle.fidl_names.specs.declared.methods.Handle.TheVariants.{Endpoint, Token}
+use Rattle.std.specs.Prelude.{ℕ, Bool, true, false, List, [], filter, Option}
 use Rattle.endpoint_link.specs.declared.kinds.Refusal.{Refusal}
 use Rattle.fidl_names.specs.HandleNumber.{is_client}
 
@@ -35,10 +33,6 @@ handles_of hang_up = []
 -- the endpoints among them
 abbrev pub endpoints_in : Sent → List ℕ
 endpoints_in sent = filter is_client (handles_of sent.sending)
-
--- a number from 0x80000000 on is a token's
-abbrev pub handle_with : ℕ → Handle
-handle_with number = if nat_le 0x80000000 number then Token number else Endpoint number
 
 abbrev pub is_hang_up : Sending → Bool
 is_hang_up (message bytes handles) = false

@@ -15,7 +15,8 @@ use Rattle.conn_rules.specs.Acts.{act_of}
 use Rattle.conn_rules.specs.Answers.{Answer, replies, ends, hangs_up, silent, Act, only}
 use Rattle.conn_rules.specs.Births.{Position}
 use Rattle.conn_rules.specs.Built.{Built}
-use Rattle.vfs_journal.specs.Entries.{Sending, message, hang_up, Sent, handle_with}
+use Rattle.fidl_names.specs.HandleNumber.{handle_with}
+use Rattle.vfs_journal.specs.Entries.{Sending, message, hang_up, Sent}
 use Rattle.vfs_journal.specs.History.{History, bound_at, position_of, trees_of, tree_at, connections_at, watchers_of}
 use Rattle.vfs_journal.specs.Outcomes.{Asker, Outcome, outcome_with, no_outcome}
 use Rattle.vfs_journal.specs.Starts.{Bound, Start}

@@ -1,14 +1,12 @@
 //! The endpoints that die of a serving.
 
 ghost use Rattle.std.specs.Prelude.{◌≡◌, ◌++◌, IfOk, OnOk, None};
-ghost use Rattle.fidl_names.specs.HandleNumber.{is_client};
 ghost use Rattle.endpoint_link.specs.Numbering.{among};
-ghost use Rattle.fidl_names.specs.HandleNumber.{number_of_handle};
 ghost use Rattle.vfs_journal.specs.Deaths.{spread};
 ghost use Rattle.vfs_journal.specs.Entries.{endpoints_in};
 ghost use Rattle.vfs_keeping.specs.Told.{carried_but, end_told, first_told, is_it, settled_told};
 
-use fidl_names::{Handle, NoMemory};
+use fidl_names::{NoMemory, is_client};
 use std::alloc::Global;
 use vfs_serving::{Fate, Sent};
 
@@ -53,28 +51,12 @@ pub(crate) fn is_among(numbers: &[u32], number: u32) -> bool
     numbers.contains(&number)
 }
 
-/// The number of a handle.
-fn number_of_handle(handle: Handle) -> u32
-    ensures { result ≡ number_of_handle handle }
-{
-    match handle {
-        Handle::Endpoint(number) | Handle::Token(number) => number,
-    }
-}
-
-/// Whether clients make endpoints with this number.
-fn is_client(number: u32) -> bool
-    ensures { result ≡ is_client number }
-{
-    0 < number && number < 0x4000_0000
-}
-
 /// Adds the endpoints that an entry carries, but one.
 fn add_carried(sent: &Sent, but: Option<u32>, dying: &mut Vec<u32>) -> Result<(), NoMemory>
     ensures { OnOk result (dying.new.items ≡ dying.old.items ++ carried_but but sent.now) }
 {
     for handle in sent.parcel.handles() {
-        let number = number_of_handle(*handle);
+        let number = handle.number();
         if is_client(number) && !is_it(but, number) {
             dying.push(number)?;
         }

@@ -4,7 +4,7 @@ use Rattle.std.specs.Prelude.{if◌then◌else◌}
 use Rattle.fidl_names.specs.declared.methods.Handle.{Handle}
 use Rattle.fidl_names.specs.declared.methods.Handle.TheVariants.{Endpoint, Token}
 use Rattle.fidl_names.specs.HandleNumber.{number_of_handle}
-use Rattle.vfs_journal.specs.Entries.{handle_with}
+use Rattle.fidl_names.specs.HandleNumber.{handle_with}
 use Rattle.vfs_serving.specs.Parcels.{AreByNumber, numbers_of}
 
 either_number : (b : Bool) (n : ℕ) → number_of_handle (if b then Token n else Endpoint n) ≡ n

@@ -2,7 +2,8 @@
 use Rattle.std.specs.Prelude.{◌≡◌, ℕ, List, map}
 use Rattle.fidl_names.specs.declared.methods.Handle.{Handle}
 use Rattle.fidl_names.specs.HandleNumber.{number_of_handle}
-use Rattle.vfs_journal.specs.Entries.{Sending, message, hang_up, handle_with}
+use Rattle.fidl_names.specs.HandleNumber.{handle_with}
+use Rattle.vfs_journal.specs.Entries.{Sending, message, hang_up}
 use Rattle.vfs_serving.specs.declared.parcel.Content.{Content}
 use Rattle.vfs_serving.specs.declared.parcel.Content.TheVariants as content
 

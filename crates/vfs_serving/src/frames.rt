@@ -3,56 +3,20 @@
 ghost use Rattle.std.specs.Prelude.{◌≡◌, ◌≢◌, ◌≤◌, ◌++◌, [], ◌∷◌, length, take, OnOk, OnErr};
 ghost use Rattle.fidl_names.specs.StatusNumber.{number_of};
 ghost use Rattle.endpoint_link.specs.Frames.{spelling, spellings};
-ghost use Rattle.fidl_names.specs.HandleNumber.{number_of_handle};
 ghost use Rattle.vfs_journal.specs.Outcomes.{announcement, close_frame, ending};
 ghost use Rattle.vfs_serving.specs.Frames.{last_frames, message_frame};
-ghost use Rattle.vfs_serving.specs.Parcels.{numbers_of};
 
-use endpoint_link::{FrameKind, Outbox, write_frame};
-use fidl_names::{Handle, NoMemory, Status};
+use endpoint_link::{FrameKind, Outbox, write_frame, write_message};
+use fidl_names::{NoMemory, Status};
 use fidl_wire::{Ordinals, Out, epitaph};
 use io_messages::{Protocol, write_event};
-
-/// The most handles of a message.
-const MOST_HANDLES: usize = 64;
-
-/// The number of a handle.
-fn number_of_handle(handle: Handle) -> u32
-    ensures { result ≡ number_of_handle handle }
-{
-    match handle {
-        Handle::Endpoint(number) | Handle::Token(number) => number,
-    }
-}
-
-/// Puts the numbers of handles at the front.
-fn put_numbers(handles: &[Handle], numbers: &mut [u32; 64])
-    requires few { length handles.now ≤ 64 }
-    ensures front { take (length handles.now) numbers.new ≡ numbers_of handles.now }
-{
-    for place in 0..handles.len() {
-        numbers[place] = number_of_handle(handles[place]);
-    }
-}
 
 /// Writes the message in an output on an endpoint.
 pub(crate) fn put_message(endpoint: u32, out: &Out, outbox: &mut Outbox) -> Result<(), NoMemory>
     ensures written { OnOk result (outbox.new ≡ outbox.old ++ spelling (message_frame endpoint out.now)) }
     ensures no_memory { OnErr result (outbox.new ≡ outbox.old) }
 {
-    let handles = out.handles();
-    if handles.is_empty() {
-        return write_frame(outbox, endpoint, FrameKind::Message, &[], out.as_bytes());
-    }
-    let mut numbers = [0; MOST_HANDLES];
-    put_numbers(handles, &mut numbers);
-    write_frame(
-        outbox,
-        endpoint,
-        FrameKind::Message,
-        &numbers[..handles.len()],
-        out.as_bytes(),
-    )
+    write_message(outbox, endpoint, out.handles(), out.as_bytes())
 }
 
 /// Writes that an endpoint is closed, or cuts back to a length.

@@ -2,16 +2,14 @@
 
 ghost use Rattle.std.specs.Prelude.{◌≡◌, ◌≤◌, ◌<◌, ℕ, List, [], ◌∷◌, map, take, length, IfOk, IfSome, IsNone};
 ghost use Rattle.endpoint_link.specs.Views.{handle_numbers};
-ghost use Rattle.vfs_journal.specs.Entries.{message, hang_up, handle_with, handles_of};
+ghost use Rattle.fidl_names.specs.HandleNumber.{handle_with};
+ghost use Rattle.vfs_journal.specs.Entries.{message, hang_up, handles_of};
 ghost use Rattle.vfs_serving.specs.Parcels.{IsMessage, numbers_of};
 
 use endpoint_link::{FrameView, HandleBytes};
 use fidl_names::{Handle, NoMemory};
 use std::alloc::Global;
 use std::marker::Model;
-
-/// The first number of a token.
-const FIRST_TOKEN: u32 = 0x8000_0000;
 
 #[derive(Drop)]
 pub(crate) enum Content {
@@ -91,7 +89,7 @@ impl Parcel {
         ensures message { IfOk result (λ parcel. parcel ≡ message bytes.now (number ∷ [])) }
     {
         let bytes = Vec::from_slice(alloc, bytes)?;
-        let handles = Vec::from_array(alloc, [handle_with(number)])?;
+        let handles = Vec::from_array(alloc, [Handle::with_number(number)])?;
         Ok(Parcel {
             content: Content::Message { bytes, handles },
         })
@@ -128,24 +126,13 @@ impl Parcel {
     }
 }
 
-/// The handle with a number.
-fn handle_with(number: u32) -> Handle
-    ensures { result ≡ handle_with number }
-{
-    if number >= FIRST_TOKEN {
-        Handle::Token(number)
-    } else {
-        Handle::Endpoint(number)
-    }
-}
-
 /// The handles of a frame.
 fn handles_of(alloc: Global, numbers: HandleBytes<'_>) -> Result<Vec<Handle>, NoMemory>
     ensures { IfOk result (λ handles. handles.items ≡ map handle_with (handle_numbers numbers.entry)) }
 {
     let mut handles = Vec::with_capacity(alloc, numbers.len())?;
     for place in 0..numbers.len() {
-        handles.push(handle_with(numbers.at(place)))?;
+        handles.push(Handle::with_number(numbers.at(place)))?;
     }
     Ok(handles)
 }

@@ -1,6 +1,6 @@
 use Rattle.std.proofs.Common.{◌≡◌, take, map}
 use Rattle.endpoint_link.specs.Views.{handle_numbers}
-use Rattle.vfs_journal.specs.Entries.{handle_with}
+use Rattle.fidl_names.specs.HandleNumber.{handle_with}
 use Rattle.vfs_serving.proofs.parcel.handles_of.Given as goal
 
 abbrev pub invariant-loop-place : goal.invariant-loop-place
