@@ -22,7 +22,7 @@ use byteorder::{ByteOrder, LittleEndian};
 use endpoint_link::{FrameKind, FrameView, HandleBytes, Outbox, write_frame, write_message};
 use fidl_names::{Handle, MAX_HANDLES, Method, NoMemory};
 use fidl_wire::{Header, Ordinals, Out, WireFault, WireWhat, read_epitaph};
-use io_messages::{Request, is_one_way, method_of, read_event, read_reply, write_request};
+use io_messages::{Request, is_one_way, read_event, read_reply, write_request};
 use std::alloc::Global;
 use std::marker::Model;
 use watch_events::read_events;
@@ -177,7 +177,7 @@ impl Client {
         ensures same { OnErr result (self.new ≡ self.old) }
         ensures no_memory { IfErr result (λ fault. fault ≡ ClientFault.NoMemory) }
     {
-        let method = method_of(request);
+        let method = request.method();
         if is_one_way(method) {
             return Ok(());
         }

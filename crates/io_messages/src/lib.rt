@@ -25,7 +25,7 @@ pub use reply_reader::{read_event, read_reply};
 pub use reply_writer::{write_event, write_reply};
 pub use request_reader::read_request;
 pub use request_writer::write_request;
-pub use requests::{Request, RequestFault, TooLong, method_of};
+pub use requests::{Request, RequestFault, TooLong};
 
 #[cfg(test)]
 mod tests;

@@ -13,7 +13,6 @@ mod request_rows;
 mod said;
 
 use crate::replies::{Shape, is_one_way, shape_of};
-use crate::requests::method_of;
 use crate::tests::said::{said_event, said_reply, said_request};
 use crate::{
     Protocol, Reply, Request, TooLong, read_event, read_reply, read_request, write_event,
@@ -58,7 +57,7 @@ fn has_texts(request: &Request<'_>) -> bool
 fn has_txid(txid: u32, request: &Request<'_>) -> bool
     ensures { IsTrue result → has_txid (is_one_way (method_of (asked request.now))) txid ≡ true }
 {
-    (txid == 0) == is_one_way(method_of(request))
+    (txid == 0) == is_one_way(request.method())
 }
 
 /// Whether what is written for a request is these bytes and handles.
