@@ -1,0 +1,11 @@
+// Rows of outside values as texts, for tests: a test reads a `&str` constant of lines, and what fails names its row.
+#![tactic(auto)]
+
+mod cells;
+mod words;
+
+pub use cells::{BadCell, Row, rows};
+pub use words::{bytes, number, numbers};
+
+#[cfg(test)]
+mod tests;

@@ -1,0 +1,50 @@
+use crate::{bytes, number, numbers, rows};
+use std::test::Fail;
+
+const TEXT: &str = "
+# a note
+first | 0x1f | 0aff[61*3]00 | 1,0x10,3
+  second|18446744073709551615|-|-
+
+last | 0x | 0 | 1,,2
+";
+
+#[test]
+fn rows_have_their_cells(rt: HostRuntime) -> Result<(), Fail> {
+    let alloc = rt.alloc();
+    let all = rows(alloc, TEXT)?;
+    assert_eq!(rt; all.len(), 3);
+    let (first, second, last) = (&all[0], &all[1], &all[2]);
+    assert_eq!(rt; first.name(), "first");
+    assert_eq!(rt; second.name(), "second");
+    assert_eq!(rt; first.cell(3)?, "1,0x10,3");
+    assert_eq!(rt; first.number(1)?, 31);
+    assert_eq!(rt;
+        first.bytes(alloc, 2)?.as_slice(),
+        &[10, 255, 97, 97, 97, 0][..]
+    );
+    assert_eq!(rt; first.numbers(alloc, 3)?.as_slice(), &[1, 16, 3][..]);
+    assert_eq!(rt; second.number(1)?, u64::MAX);
+    assert_eq!(rt; second.bytes(alloc, 2)?.len(), 0);
+    assert_eq!(rt; second.numbers(alloc, 3)?.len(), 0);
+    assert!(rt; last.number(1).is_err());
+    assert!(rt; last.bytes(alloc, 2).is_err());
+    assert!(rt; last.numbers(alloc, 3).is_err());
+    assert!(rt; last.cell(4).is_err());
+    Ok(())
+}
+
+#[test]
+fn words_that_say_nothing(rt: HostRuntime) -> Result<(), Fail> {
+    let alloc = rt.alloc();
+    for word in ["", "-", "0x", "1 ", "18446744073709551616", "-1"] {
+        assert_eq!(rt; number(word), None, "{word}");
+    }
+    for word in ["", "1,", "1,-"] {
+        assert!(rt; numbers(alloc, word)?.is_none(), "{word}");
+    }
+    for word in ["0", "0g", "[61]", "[61*]", "[6161*2]", "[61*2"] {
+        assert!(rt; bytes(alloc, word)?.is_none(), "{word}");
+    }
+    Ok(())
+}

@@ -1,0 +1,72 @@
+use std::alloc::{AllocError, Global};
+
+/// The number that a word says, in decimal or behind `0x` in hexadecimal digits.
+pub fn number(word: &str) -> Option<u64> {
+    match word.strip_prefix("0x") {
+        Some(digits) => u64::from_str_radix(digits, 16).ok(),
+        None => word.parse::<u64>().ok(),
+    }
+}
+
+/// The numbers between the commas of a word; `-` says none.
+pub fn numbers(alloc: Global, word: &str) -> Result<Option<Vec<u64>>, AllocError> {
+    let mut all = Vec::new(alloc);
+    if word == "-" {
+        return Ok(Some(all));
+    }
+    for part in word.split(',') {
+        match number(part) {
+            Some(n) => all.push(n)?,
+            None => return Ok(None),
+        }
+    }
+    Ok(Some(all))
+}
+
+/// The bytes that a word's hexadecimal digits say, in which `[61*255]` stands for the byte 61, 255 times; `-` says none.
+pub fn bytes(alloc: Global, word: &str) -> Result<Option<Vec<u8>>, AllocError> {
+    let mut all = Vec::new(alloc);
+    if word == "-" {
+        return Ok(Some(all));
+    }
+    for part in word.split('[') {
+        let digits = match part.split_once(']') {
+            Some((run, behind)) => {
+                if !put_run(&mut all, run)? {
+                    return Ok(None);
+                }
+                behind
+            }
+            None => part,
+        };
+        if !put_digits(alloc, &mut all, digits)? {
+            return Ok(None);
+        }
+    }
+    Ok(Some(all))
+}
+
+fn put_digits(alloc: Global, all: &mut Vec<u8>, digits: &str) -> Result<bool, AllocError> {
+    match hex::decode(alloc, digits) {
+        Ok(bytes) => {
+            all.extend_from_slice(&bytes)?;
+            Ok(true)
+        }
+        Err(hex::FromHexError::OutOfMemory) => Err(AllocError),
+        Err(_) => Ok(false),
+    }
+}
+
+/// Puts a run, as `61*255`.
+fn put_run(all: &mut Vec<u8>, run: &str) -> Result<bool, AllocError> {
+    let Some((digits, count)) = run.split_once('*') else {
+        return Ok(false);
+    };
+    let (Ok(byte), Some(count)) = (u8::from_str_radix(digits, 16), number(count)) else {
+        return Ok(false);
+    };
+    for _ in 0..count {
+        all.push(byte)?;
+    }
+    Ok(true)
+}
