@@ -1,22 +1,29 @@
 -- A command that has all that it needs, and meets no fault, is done unless memory runs out.
-use Rattle.std.proofs.Common.{◌≡◌, ℕ, ◌<◌, ◌≤◌, ◌^◌, List, [], ◌++◌, Option, Some, None, is_some, true≢false, length, sym, ap, ◌∙◌, subst, arith, append-nil, length-append}
+use Rattle.std.proofs.Common.{◌≡◌, ℕ, ◌<◌, ◌≤◌, List, [], ◌++◌, Option, Some, None, is_some, true≢false, length, sym, ap, ◌∙◌, subst, arith, append-nil, length-append, inl, inr}
 use Rattle.std.specs.Io.KnownBytes.{Consumes, IsAtEnd}
+use Rattle.fidl_names.specs.declared.limits.TheConstants as limit
+use Rattle.fidl_wire.specs.Names.{AreDistinct}
+use Rattle.host_io.specs.Causes.{Rose}
 use Rattle.host_io.specs.Told.{Told, Holds, IsAllOf, IsLongerThan}
 use Rattle.tree_file.specs.Items.{Lists}
 use Rattle.tree_file.specs.Rules.{first_failure, start_from}
 use Rattle.endpoint_link.specs.Frames.{Frame, Frames, Bad}
 use Rattle.endpoint_link.specs.declared.kinds.FrameReason.{FrameReason}
+use Rattle.endpoint_link.specs.declared.kinds.Mode.TheVariants as mode
 use Rattle.endpoint_link.specs.declared.kinds.Side.TheVariants.{ToServers}
 use Rattle.vfs_journal.specs.Starts.{start_of}
 use Rattle.vfs_program.specs.declared.statuses.Status.{Status}
 use Rattle.vfs_program.specs.declared.statuses.Status.TheVariants as status
+use Rattle.vfs_program.specs.Answers.{Answers, HasTree, IsServable, NoFault, IsDoneOrNoMemory}
+use Rattle.vfs_program.specs.Causes.{After, AfterFile, AfterTree, AfterBuilt, Collides, HasNoFile, HasNoStart, IsUnbuilt}
+use Rattle.vfs_program.specs.Files.{IsFileFault, IsWithin}
+use Rattle.vfs_program.specs.OneFile.{file_course}
+use Rattle.vfs_program.specs.Outside.{FilesTold, Outside, Streams, SinkTold, sink_of}
+use Rattle.vfs_program.specs.Session.{Course, SessionAnswers, IsWhole, IsTooLong, IsTruncated, IsBad}
+use Rattle.vfs_program.specs.Texts.{WritesText}
+use Rattle.vfs_program.specs.Trees.{Stands, IsBroken, IsBuilt, line_of}
+use Rattle.vfs_program.specs.TreeSession.{tree_course}
 use Rattle.vfs_program.specs.Words.{Asks, FileOf, ServeOf, CheckOf}
-use Rattle.vfs_program.specs.Outside.{Outside, Streams}
-use Rattle.vfs_program.specs.OneFile.{output}
-use Rattle.vfs_program.specs.Check.{Stands, IsBroken}
-use Rattle.vfs_program.specs.Session.{IsTooLong, IsTruncated, IsBad}
-use Rattle.vfs_program.specs.TreeSession.{IsBuilt, ended_output}
-use Rattle.vfs_program.specs.Answers.{Answers, IsServable, NoFault, IsDoneOrNoMemory}
 
 -- a stream has one reading, and one that is bad stays bad
 pub record OneReading : Type 0 where
@@ -31,96 +38,174 @@ untaken input taken None h = absurd h
 untaken input taken (Some rest) h = (rest, h, λ e. e)
 
 -- an input of fewer bytes isn't too long
-not_long : (by_end : List Frame → List ℕ) (before after : Streams) (input : List ℕ) → before.left ≡ Some input → length input < 2 ^ 40
-    → IsTooLong by_end before after → ⊥
-not_long by_end before after input told few a =
-    let left = untaken input a.taken after.left (subst (λ l. Consumes l after.left a.taken) told a.took) in
-    omega (arith, few, a.many, ap length left.1, length-append a.taken left.0)
+not_long : (course : Course) (before after : Streams) → IsWhole ToServers before → IsTooLong ToServers course before after → ⊥
+not_long course before after is a =
+    let left = untaken is.input a.taken after.left (subst (λ l. Consumes l after.left a.taken) is.told a.took) in
+    omega (arith, is.few, a.many, ap length left.1, length-append a.taken left.0)
 
 -- an input of whole frames ends inside none
-not_truncated : OneReading → (by_end : List Frame → List ℕ) (before after : Streams) (at : ℕ) (input : List ℕ) (frames : List Frame)
-    → before.left ≡ Some input → Frames ToServers input frames [] → IsTruncated by_end before after at → ⊥
-not_truncated laws by_end before after at input frames told read a =
-    let left = untaken input a.taken after.left (subst (λ l. Consumes l after.left a.taken) told a.took) in
-    let all : input ≡ a.taken = left.1 ∙ ap (λ l. a.taken ++ l) (left.2 a.at_end) ∙ append-nil a.taken in
-    a.inside (laws.one_list a.taken a.frames frames a.rest [] a.read (subst (λ b. Frames ToServers b frames []) all read)).1
+not_truncated : OneReading → (course : Course) (before after : Streams) (at : ℕ) → IsWhole ToServers before → IsTruncated ToServers course before after at → ⊥
+not_truncated laws course before after at is a =
+    let left = untaken is.input a.taken after.left (subst (λ l. Consumes l after.left a.taken) is.told a.took) in
+    let all : is.input ≡ a.taken = left.1 ∙ ap (λ l. a.taken ++ l) (left.2 a.at_end) ∙ append-nil a.taken in
+    a.inside (laws.one_list a.taken a.frames is.frames a.rest [] a.read (subst (λ b. Frames ToServers b is.frames []) all is.read)).1
 
 -- and has no bad one
-not_bad : OneReading → (by_end : List Frame → List ℕ) (before after : Streams) (at : ℕ) (why : FrameReason) (input : List ℕ) (frames : List Frame)
-    → before.left ≡ Some input → Frames ToServers input frames [] → IsBad by_end before after at why → ⊥
-not_bad laws by_end before after at why input frames told read a =
-    let left = untaken input a.taken after.left (subst (λ l. Consumes l after.left a.taken) told a.took) in
-    laws.not_both input frames [] at why read (subst (λ b. Bad ToServers b at why) (sym left.1) (laws.bad_stays a.taken left.0 at why a.bad))
+not_bad : OneReading → (course : Course) (before after : Streams) (at : ℕ) (why : FrameReason) → IsWhole ToServers before → IsBad ToServers course before after at why → ⊥
+not_bad laws course before after at why is a =
+    let left = untaken is.input a.taken after.left (subst (λ l. Consumes l after.left a.taken) is.told a.took) in
+    laws.not_both is.input is.frames [] at why is.read (subst (λ b. Bad ToServers b at why) (sym left.1) (laws.bad_stays a.taken left.0 at why a.bad))
 
--- a text that breaks a rule isn't one that breaks none
-no_first : (text : List ℕ) (first : ℕ × ℕ) → first_failure text ≡ Some first → first_failure text ≡ None → ⊥
-no_first text first some none = true≢false (ap is_some (sym some ∙ none))
+-- a session over such an input without faults is done
+session_done : OneReading → (course : Course) (before after : Streams) (same : Type 0) → IsWhole ToServers before
+    → (Rose before.read_faults after.read_faults → ⊥) → (Rose before.write_faults after.write_faults → ⊥)
+    → (answer : Status) → SessionAnswers ToServers course before after same answer → IsDoneOrNoMemory answer
+session_done laws course before after same is source sink status.Done a = tt
+session_done laws course before after same is source sink status.NoMemory a = tt
+session_done laws course before after same is source sink status.Usage a = a
+session_done laws course before after same is source sink (status.TreeRefused rule item) a = a
+session_done laws course before after same is source sink (status.Collision first second) a = a
+session_done laws course before after same is source sink (status.Unbuilt at) a = a
+session_done laws course before after same is source sink status.FileFault a = a
+session_done laws course before after same is source sink status.FileTooLarge a = a
+session_done laws course before after same is source sink status.ReadFault a = source a.rose
+session_done laws course before after same is source sink status.WriteFault a = sink a.1
+session_done laws course before after same is source sink status.InputTooLong a = not_long course before after is a
+session_done laws course before after same is source sink (status.Truncated at) a = not_truncated laws course before after at is a
+session_done laws course before after same is source sink (status.BadFrame at why) a = not_bad laws course before after at why is a
 
--- the file is within its limit
+-- a text that is written without faults is done
+text_done : (text : List ℕ) (before after : SinkTold) → (Rose before.faults after.faults → ⊥)
+    → (answer : Status) → WritesText text ⊥ before after answer → IsDoneOrNoMemory answer
+text_done text before after sink status.Done a = tt
+text_done text before after sink status.NoMemory a = tt
+text_done text before after sink status.WriteFault a = sink a.1
+text_done text before after sink status.Usage a = a
+text_done text before after sink (status.TreeRefused rule item) a = a
+text_done text before after sink (status.Collision first second) a = a
+text_done text before after sink (status.Unbuilt at) a = a
+text_done text before after sink status.FileFault a = a
+text_done text before after sink status.FileTooLarge a = a
+text_done text before after sink status.ReadFault a = a
+text_done text before after sink status.InputTooLong a = a
+text_done text before after sink (status.Truncated at) a = a
+text_done text before after sink (status.BadFrame at why) a = a
+
+-- names that differ don't collide
+no_collision : AreDistinct → (answer : Status) → Collides answer → IsDoneOrNoMemory answer
+no_collision distinct (status.Collision first second) a = distinct first second a.order a.row a.equal
+no_collision distinct status.Done a = absurd a
+no_collision distinct status.NoMemory a = absurd a
+no_collision distinct status.WriteFault a = absurd a
+no_collision distinct status.Usage a = absurd a
+no_collision distinct (status.TreeRefused rule item) a = absurd a
+no_collision distinct (status.Unbuilt at) a = absurd a
+no_collision distinct status.FileFault a = absurd a
+no_collision distinct status.FileTooLarge a = absurd a
+no_collision distinct status.ReadFault a = absurd a
+no_collision distinct status.InputTooLong a = absurd a
+no_collision distinct (status.Truncated at) a = absurd a
+no_collision distinct (status.BadFrame at why) a = absurd a
+
+-- a file within the limit isn't too large
 not_large : (most : ℕ) (told : Told) (text : List ℕ) → told ≡ Holds text → length text ≤ most → IsLongerThan most told → ⊥
 not_large most told text e few long =
     let longer = subst (IsLongerThan most) e long in
     omega (arith, longer, few)
 
+has_file : (most : ℕ) (name : List ℕ) (before after : FilesTold) (file : List ℕ) → before.told name ≡ Holds file → length file ≤ most
+    → (IsFileFault name before after → ⊥) → (answer : Status) → HasNoFile most name before after answer → IsDoneOrNoMemory answer
+has_file most name before after file e few good status.NoMemory a = tt
+has_file most name before after file e few good status.FileFault a = good a
+has_file most name before after file e few good status.FileTooLarge a = not_large most (before.told name) file e few a.1
+has_file most name before after file e few good status.Done a = absurd a
+has_file most name before after file e few good status.WriteFault a = absurd a
+has_file most name before after file e few good status.Usage a = absurd a
+has_file most name before after file e few good (status.TreeRefused rule item) a = absurd a
+has_file most name before after file e few good (status.Collision first second) a = absurd a
+has_file most name before after file e few good (status.Unbuilt at) a = absurd a
+has_file most name before after file e few good status.ReadFault a = absurd a
+has_file most name before after file e few good status.InputTooLong a = absurd a
+has_file most name before after file e few good (status.Truncated at) a = absurd a
+has_file most name before after file e few good (status.BadFrame at why) a = absurd a
+
+-- a text that breaks a rule isn't one that breaks none
+no_first : (text : List ℕ) (first : ℕ × ℕ) → first_failure text ≡ Some first → first_failure text ≡ None → ⊥
+no_first text first some none = true≢false (ap is_some (sym some ∙ none))
+
 -- the tree breaks no rule
-not_broken : (told : Told) (text : List ℕ) (rule item : ℕ) → told ≡ Holds text → first_failure text ≡ None → IsBroken told rule item → ⊥
-not_broken told text rule item e none broken =
-    let same : broken.0 ≡ text = subst (λ t. IsAllOf t broken.0) e broken.1.0 in
-    no_first broken.0 (rule, item) broken.2 (ap first_failure same ∙ none)
+not_broken : (told : Told) (lists : Lists) (text : List ℕ) (rule item : ℕ) → told ≡ Holds text → Stands (Holds text) lists → IsBroken told rule item → ⊥
+not_broken told lists text rule item e stands broken =
+    let same : broken.text ≡ text = subst (λ t. IsAllOf t broken.text) e broken.within.0 in
+    let whole : stands.text ≡ text = stands.within.0 in
+    no_first broken.text (rule, item) broken.first (ap first_failure (same ∙ sym whole) ∙ stands.unbroken)
+
+has_tree : (tree : List ℕ) (before after : FilesTold) (text : List ℕ) (lists : Lists) → before.told tree ≡ Holds text → Stands (Holds text) lists
+    → (IsFileFault tree before after → ⊥) → (answer : Status) → HasNoStart tree before after answer → IsDoneOrNoMemory answer
+has_tree tree before after text lists e stands good (status.TreeRefused rule item) a = not_broken (before.told tree) lists text rule item e stands a
+has_tree tree before after text lists e stands good status.NoMemory a = tt
+has_tree tree before after text lists e stands good status.FileFault a = good a
+has_tree tree before after text lists e stands good status.FileTooLarge a =
+    not_large limit.MAX_TEXT (before.told tree) text e (subst (λ t. length t ≤ limit.MAX_TEXT) stands.within.0 stands.within.1) a.1
+has_tree tree before after text lists e stands good status.Done a = absurd a
+has_tree tree before after text lists e stands good status.WriteFault a = absurd a
+has_tree tree before after text lists e stands good status.Usage a = absurd a
+has_tree tree before after text lists e stands good (status.Collision first second) a = absurd a
+has_tree tree before after text lists e stands good (status.Unbuilt at) a = absurd a
+has_tree tree before after text lists e stands good status.ReadFault a = absurd a
+has_tree tree before after text lists e stands good status.InputTooLong a = absurd a
+has_tree tree before after text lists e stands good (status.Truncated at) a = absurd a
+has_tree tree before after text lists e stands good (status.BadFrame at why) a = absurd a
 
 -- the tree that stands is the one that is told
-not_unbuilt : (told : Told) (text : List ℕ) (lists found : Lists) → told ≡ Holds text → start_from text ≡ Some lists → Stands told found
-    → IsBuilt lists → (IsBuilt found → ⊥) → ⊥
-not_unbuilt told text lists found e is stands built unbuilt =
-    let same : stands.0 ≡ text = subst (λ t. IsAllOf t stands.0) e stands.1.0 in
-    let one : Some lists ≡ Some found = sym is ∙ ap start_from (sym same) ∙ stands.3 in
-    let equal : lists ≡ found = cc in
-    unbuilt (subst IsBuilt equal built)
+one_tree : (told : Told) (text : List ℕ) (lists found : Lists) → told ≡ Holds text → Stands (Holds text) lists → Stands told found → lists ≡ found
+one_tree told text lists found e stands is =
+    let same : is.text ≡ text = subst (λ t. IsAllOf t is.text) e is.within.0 in
+    let whole : stands.text ≡ text = stands.within.0 in
+    let one : Some lists ≡ Some found = sym stands.is ∙ ap start_from (whole ∙ sym same) ∙ is.is in
+    cc
 
-pub complete : OneReading → (asks : Asks) (before after : Outside) (source_same sink_same : Type 0) (status : Status)
-    → Answers asks before after source_same sink_same status → IsServable asks before → NoFault asks before after → IsDoneOrNoMemory status
-complete laws (FileOf name) before after S K status.Done a s n = tt
-complete laws (FileOf name) before after S K status.NoMemory a s n = tt
-complete laws (FileOf name) before after S K status.Usage a s n = a
-complete laws (FileOf name) before after S K (status.TreeRefused rule item) a s n = a.2
-complete laws (FileOf name) before after S K (status.Collision first second) a s n = a.2
-complete laws (FileOf name) before after S K (status.Unbuilt at) a s n = a.2
-complete laws (FileOf name) before after S K status.FileFault a s n = n.file a.0
-complete laws (FileOf name) before after S K status.FileTooLarge a s n = not_large 65536 (before.files.told name) s.0 s.3 s.4 a.0.1
-complete laws (FileOf name) before after S K status.ReadFault a s n = n.source a.2.rose
-complete laws (FileOf name) before after S K status.WriteFault a s n = n.sink a.2.rose
-complete laws (FileOf name) before after S K status.InputTooLong a s n = not_long (output a.0) before.streams after.streams s.1 s.5 s.6 a.2
-complete laws (FileOf name) before after S K (status.Truncated at) a s n =
-    not_truncated laws (output a.0) before.streams after.streams at s.1 s.2 s.5 s.7 a.2
-complete laws (FileOf name) before after S K (status.BadFrame at why) a s n =
-    not_bad laws (output a.0) before.streams after.streams at why s.1 s.2 s.5 s.7 a.2
-complete laws (ServeOf tree) before after S K status.Done a s n = tt
-complete laws (ServeOf tree) before after S K status.NoMemory a s n = tt
-complete laws (ServeOf tree) before after S K status.Usage a s n = a.1
-complete laws (ServeOf tree) before after S K (status.TreeRefused rule item) a s n = not_broken (before.files.told tree) s.1.0 rule item s.1.4 s.1.6 a.1.0
-complete laws (ServeOf tree) before after S K (status.Collision first second) a s n = s.0 first second a.0.order a.0.row a.0.equal
-complete laws (ServeOf tree) before after S K (status.Unbuilt at) a s n =
-    not_unbuilt (before.files.told tree) s.1.0 s.1.1 a.1.1.0 s.1.4 s.1.7 a.1.1.1 s.1.8 a.1.1.2
-complete laws (ServeOf tree) before after S K status.FileFault a s n = n.file a.1.0
-complete laws (ServeOf tree) before after S K status.FileTooLarge a s n = not_large 1048576 (before.files.told tree) s.1.0 s.1.4 s.1.5 a.1.0.1
-complete laws (ServeOf tree) before after S K status.ReadFault a s n = n.source a.1.3.rose
-complete laws (ServeOf tree) before after S K status.WriteFault a s n = n.sink a.1.3.rose
-complete laws (ServeOf tree) before after S K status.InputTooLong a s n =
-    not_long (ended_output (start_of a.1.0)) before.streams after.streams s.1.2 s.1.9 s.1.10 a.1.3
-complete laws (ServeOf tree) before after S K (status.Truncated at) a s n =
-    not_truncated laws (ended_output (start_of a.1.0)) before.streams after.streams at s.1.2 s.1.3 s.1.9 s.1.11 a.1.3
-complete laws (ServeOf tree) before after S K (status.BadFrame at why) a s n =
-    not_bad laws (ended_output (start_of a.1.0)) before.streams after.streams at why s.1.2 s.1.3 s.1.9 s.1.11 a.1.3
-complete laws (CheckOf tree) before after S K status.Done a s n = tt
-complete laws (CheckOf tree) before after S K status.NoMemory a s n = tt
-complete laws (CheckOf tree) before after S K status.Usage a s n = a.1
-complete laws (CheckOf tree) before after S K (status.Collision first second) a s n = a.1
-complete laws (CheckOf tree) before after S K (status.Unbuilt at) a s n = a.1
-complete laws (CheckOf tree) before after S K status.FileFault a s n = n.file a.1.0
-complete laws (CheckOf tree) before after S K status.FileTooLarge a s n = not_large 1048576 (before.files.told tree) s.0 s.1 s.2 a.1.0.1
-complete laws (CheckOf tree) before after S K (status.TreeRefused rule item) a s n = not_broken (before.files.told tree) s.0 rule item s.1 s.3 a.1.0
-complete laws (CheckOf tree) before after S K status.WriteFault a s n = n.sink a.1.3
-complete laws (CheckOf tree) before after S K status.ReadFault a s n = a.1
-complete laws (CheckOf tree) before after S K status.InputTooLong a s n = a.1
-complete laws (CheckOf tree) before after S K (status.Truncated at) a s n = a.1
-complete laws (CheckOf tree) before after S K (status.BadFrame at why) a s n = a.1
+is_built : (lists : Lists) → IsBuilt lists → (answer : Status) → IsUnbuilt lists answer → IsDoneOrNoMemory answer
+is_built lists built (status.Unbuilt at) a = a.1 built
+is_built lists built status.NoMemory a = absurd a
+is_built lists built status.FileFault a = absurd a
+is_built lists built status.FileTooLarge a = absurd a
+is_built lists built status.Done a = absurd a
+is_built lists built status.WriteFault a = absurd a
+is_built lists built status.Usage a = absurd a
+is_built lists built (status.TreeRefused rule item) a = absurd a
+is_built lists built (status.Collision first second) a = absurd a
+is_built lists built status.ReadFault a = absurd a
+is_built lists built status.InputTooLong a = absurd a
+is_built lists built (status.Truncated at) a = absurd a
+is_built lists built (status.BadFrame at why) a = absurd a
+
+-- causes that don't hold, and a rest that is done
+after_done : {X : Type 0} (stops : Status → Type 0) (same : Type 0) (Found : X → Type 0) (rest : X → Status → Type 0) (answer : Status)
+    → (stops answer → IsDoneOrNoMemory answer) → ((x : X) → Found x → rest x answer → IsDoneOrNoMemory answer)
+    → After stops same Found rest answer → IsDoneOrNoMemory answer
+after_done stops same Found rest answer stopped goes (inl a) = stopped a.0
+after_done stops same Found rest answer stopped goes (inr a) = goes a.0 a.1 a.2
+
+pub complete : OneReading → (asks : Asks) (before after : Outside) (source_same sink_same : Type 0) (answer : Status)
+    → Answers asks before after source_same sink_same answer → IsServable asks before → NoFault asks before after → IsDoneOrNoMemory answer
+complete laws (FileOf name) before after S K answer a s n =
+    let session : List ℕ → Status → Type 0 = λ file. SessionAnswers ToServers (file_course file) before.streams after.streams K in
+    after_done Collides (S × K) (λ (none : Unit {0}). AreDistinct) (λ none. AfterFile name before.files after.files (S × K) session) answer (no_collision s.0 answer)
+    (λ none distinct. after_done (HasNoFile limit.MAX_FILE name before.files after.files) (S × K) (IsWithin limit.MAX_FILE (before.files.told name)) session answer
+    (has_file limit.MAX_FILE name before.files after.files s.1.0 s.1.1 s.1.2 n.file answer)
+    (λ file within. session_done laws (file_course file) before.streams after.streams K s.2 n.source n.sink answer)) a
+complete laws (ServeOf tree) before after S K answer a s n =
+    let session : Lists → Status → Type 0 = λ lists. SessionAnswers ToServers (tree_course (start_of lists) mode.Auto) before.streams after.streams K in
+    let built : Lists → Status → Type 0 = λ lists. AfterBuilt lists (S × K) (session lists) in
+    after_done Collides (S × K) (λ (none : Unit {0}). AreDistinct) (λ none. AfterTree tree before.files after.files (S × K) built) answer (no_collision s.0 answer)
+    (λ none distinct. after_done (HasNoStart tree before.files after.files) (S × K) (Stands (before.files.told tree)) built answer
+    (has_tree tree before.files after.files s.1.0 s.1.1 s.1.2 s.1.3 n.file answer)
+    (λ lists stands. after_done (IsUnbuilt lists) (S × K) (λ (none : Unit {0}). IsBuilt lists) (λ none. session lists) answer
+    (is_built lists (subst IsBuilt (one_tree (before.files.told tree) s.1.0 s.1.1 lists s.1.2 s.1.3 stands) s.1.4) answer)
+    (λ none is. session_done laws (tree_course (start_of lists) mode.Auto) before.streams after.streams K s.2 n.source n.sink answer))) a
+complete laws (CheckOf tree) before after S K answer a s n =
+    after_done (HasNoStart tree before.files after.files) K (Stands (before.files.told tree))
+    (λ lists. WritesText (line_of lists) ⊥ (sink_of before.streams) (sink_of after.streams)) answer
+    (has_tree tree before.files after.files s.0 s.1 s.2 s.3 n.file answer)
+    (λ lists stands. text_done (line_of lists) (sink_of before.streams) (sink_of after.streams) n.sink answer) a.1

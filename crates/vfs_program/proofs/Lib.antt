@@ -5,9 +5,8 @@ pub mod SessionLemmas
 pub mod ServingLemmas
 pub mod Progress
 pub mod SessionEnds
-pub mod FileEnds
 pub mod Outputs
 pub mod TreeLemmas
-pub mod TreeEnds
 pub mod Complete
+pub mod NoteLemmas
 pub mod SeenLemmas

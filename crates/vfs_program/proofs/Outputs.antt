@@ -7,6 +7,7 @@ use Rattle.endpoint_link.specs.Frames.{Frame, spelling, spellings}
 use Rattle.endpoint_link.specs.Numbers.{word_in}
 use Rattle.endpoint_link.specs.declared.kinds.FrameKind.{FrameKind}
 use Rattle.endpoint_link.specs.declared.kinds.FrameKind.TheVariants as kind
+use Rattle.endpoint_link.specs.declared.kinds.Mode.{Mode}
 use Rattle.endpoint_link.specs.declared.kinds.Mode.TheVariants as mode
 use Rattle.endpoint_link.specs.declared.kinds.Refusal.{Refusal}
 use Rattle.conn_rules.specs.Built.{Built, first_methods}
@@ -19,8 +20,8 @@ use Rattle.vfs_journal.specs.Serving.{outcome_of}
 use Rattle.vfs_journal.specs.Session.{head, oldest, next, with_forward, after_serving, serving, serving_one, weight, drained, look_ups, admitted, by_refusal, arrives, steps, session}
 use Rattle.vfs_journal.specs.Starts.{Start}
 use Rattle.vfs_program.specs.Session.{IsFront}
-use Rattle.vfs_program.specs.TreeSession.{session_output, ended_output}
-use Rattle.vfs_program.proofs.Progress.{IsGrowing}
+use Rattle.vfs_program.specs.Serving.{IsGrowing}
+use Rattle.vfs_program.specs.TreeSession.{tree_course}
 
 -- the output of the first journal stands in front of that of the second
 abbrev pub Begins : Built → Start → Journal → Journal → Type 0
@@ -82,32 +83,34 @@ begins_arrived : (built : Built) (start : Start) (journal : Journal) (frame : Fr
 begins_arrived built start journal frame =
     begins_by built start journal frame (admission (look_ups start (history_of built start journal)) frame)
 
-begins_stepped : (built : Built) (start : Start) (journal : Journal) (frame : Frame) → Begins built start journal (steps built start mode.Auto journal frame)
-begins_stepped built start journal frame =
+begins_stepped : (built : Built) (start : Start) (by : Mode) (journal : Journal) (frame : Frame) → Begins built start journal (steps built start by journal frame)
+begins_stepped built start mode.Auto journal frame =
     begins_far built start journal (arrives built start journal frame) _ (begins_arrived built start journal frame)
     (begins_drained built start (arrives built start journal frame))
+begins_stepped built start mode.Given journal frame = begins_arrived built start journal frame
 
-begins_all : (built : Built) (start : Start) (journal : Journal) (frames : List Frame) → Begins built start journal (fold (steps built start mode.Auto) journal frames)
-begins_all built start journal [] = begins_same built start journal
-begins_all built start journal (frame ∷ frames) =
-    begins_far built start journal (steps built start mode.Auto journal frame) _ (begins_stepped built start journal frame)
-    (begins_all built start (steps built start mode.Auto journal frame) frames)
+begins_all : (built : Built) (start : Start) (by : Mode) (journal : Journal) (frames : List Frame) → Begins built start journal (fold (steps built start by) journal frames)
+begins_all built start by journal [] = begins_same built start journal
+begins_all built start by journal (frame ∷ frames) =
+    begins_far built start journal (steps built start by journal frame) _ (begins_stepped built start by journal frame)
+    (begins_all built start by (steps built start by journal frame) frames)
 
 -- a session's journal with more frames
-pub session-append : (start : Start) (frames later : List Frame)
-    → session first_methods start mode.Auto (frames ++ later) ≡ fold (steps first_methods start mode.Auto) (session first_methods start mode.Auto frames) later
-session-append start frames later = fold-append (steps first_methods start mode.Auto) [] frames later
-
-pub tree_grows : (start : Start) → IsGrowing (session_output start) (ended_output start)
-unfolding session_output ended_output
-tree_grows start = record {
-  more = λ frames later.
-      let all = begins_all first_methods start (session first_methods start mode.Auto frames) later in
-      (all.0, ap (output_of first_methods start) (session-append start frames later) ∙ all.1);
-  last = λ frames. begins_drained first_methods start (session first_methods start mode.Auto frames);
-}
+pub session-append : (start : Start) (by : Mode) (frames later : List Frame)
+    → session first_methods start by (frames ++ later) ≡ fold (steps first_methods start by) (session first_methods start by frames) later
+session-append start by frames later = fold-append (steps first_methods start by) [] frames later
 
 -- nothing is written for no frames
-pub session_output-nil : (start : Start) → session_output start [] ≡ []
-unfolding session_output history_of
-session_output-nil start = refl
+nothing : (start : Start) → output_of first_methods start [] ≡ []
+unfolding history_of
+nothing start = refl
+
+pub tree_grows : (start : Start) (by : Mode) → IsGrowing (tree_course start by)
+unfolding tree_course
+tree_grows start by = record {
+  none = nothing start;
+  more = λ frames later.
+      let all = begins_all first_methods start by (session first_methods start by frames) later in
+      (all.0, ap (output_of first_methods start) (session-append start by frames later) ∙ all.1);
+  last = λ frames. begins_drained first_methods start (session first_methods start by frames);
+}

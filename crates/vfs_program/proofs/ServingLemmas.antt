@@ -7,7 +7,8 @@ use Rattle.std.proofs.KnownBytes.{Appends-trans, Appends-nil}
 use Rattle.endpoint_link.specs.Frames.{Frame, IsFrame, spelling, spellings}
 use Rattle.endpoint_link.specs.Views.{IsWholeFront}
 use Rattle.endpoint_link.specs.declared.kinds.Side.TheVariants.{ToServers}
-use Rattle.vfs_program.specs.Serving.{Passes, Heard, HeardOne}
+use Rattle.vfs_program.specs.Serving.{Passes, Heard, HeardOne, HeardEnd}
+use Rattle.vfs_program.specs.Session.{Course}
 
 pub Passes-none : (w : Option (List ℕ)) (held : List ℕ) → Passes w w held held
 Passes-none w held = ([], Appends-nil w, refl)
@@ -17,23 +18,23 @@ Passes-trans w w' w'' all held held' p q =
     (p.0 ++ q.0, Appends-trans w w' w'' p.0 q.0 p.1 q.1, append_assoc p.0 q.0 held' ∙ ap (λ l. p.0 ++ l) q.2 ∙ p.2)
 
 -- no frame was heard yet
-pub Heard-none : (so_far : List Frame → List ℕ) (Stands : List Frame → Type 0) (before : List Frame) (bytes : List ℕ) (w : Option (List ℕ)) (held : List ℕ)
-    → held ≡ [] → Stands before → Heard so_far Stands before bytes w w held 0
-Heard-none so_far Stands before bytes w held e s = record {
+pub Heard-none : (course : Course) (Stands : List Frame → Type 0) (before : List Frame) (bytes : List ℕ) (w : Option (List ℕ)) (held : List ℕ)
+    → held ≡ [] → Stands before → Heard course Stands before bytes w w held 0
+Heard-none course Stands before bytes w held e s = record {
   frames = [];
   each = All-nil (IsFrame ToServers);
   split = refl;
   size = refl;
   stands = subst Stands (sym (append-nil before)) s;
   owed = [];
-  more = ap so_far (append-nil before) ∙ sym (append-nil (so_far before));
+  more = ap course.so_far (append-nil before) ∙ sym (append-nil (course.so_far before));
   passed = ([], Appends-nil w, e);
 }
 
 -- what was held back is written
-pub Heard-pass : (so_far : List Frame → List ℕ) (Stands : List Frame → Type 0) (before : List Frame) (bytes : List ℕ) (w w' w'' : Option (List ℕ)) (held held' : List ℕ) (n : ℕ)
-    → Heard so_far Stands before bytes w w' held n → Passes w' w'' held held' → Heard so_far Stands before bytes w w'' held' n
-Heard-pass so_far Stands before bytes w w' w'' held held' n h p = record {
+pub Heard-pass : (course : Course) (Stands : List Frame → Type 0) (before : List Frame) (bytes : List ℕ) (w w' w'' : Option (List ℕ)) (held held' : List ℕ) (n : ℕ)
+    → Heard course Stands before bytes w w' held n → Passes w' w'' held held' → Heard course Stands before bytes w w'' held' n
+Heard-pass course Stands before bytes w w' w'' held held' n h p = record {
   frames = h.frames;
   each = h.each;
   split = h.split;
@@ -44,15 +45,29 @@ Heard-pass so_far Stands before bytes w w' w'' held held' n h p = record {
   passed = Passes-trans w w' w'' _ held held' h.passed p;
 }
 
+-- the session still stands there
+pub Heard-stands : (course : Course) (Stands Stands' : List Frame → Type 0) (before : List Frame) (bytes : List ℕ) (w w' : Option (List ℕ)) (held : List ℕ) (n : ℕ)
+    → (h : Heard course Stands before bytes w w' held n) → Stands' (before ++ h.frames) → Heard course Stands' before bytes w w' held n
+Heard-stands course Stands Stands' before bytes w w' held n h s = record {
+  frames = h.frames;
+  each = h.each;
+  split = h.split;
+  size = h.size;
+  stands = s;
+  owed = h.owed;
+  more = h.more;
+  passed = h.passed;
+}
+
 -- one frame more stands behind those that were heard
 spellings-more : (frames : List Frame) (frame : Frame) → spellings (frames ++ frame ∷ []) ≡ spellings frames ++ spelling frame
 spellings-more frames frame = flat_map-append spelling frames (frame ∷ []) ∙ ap (λ l. spellings frames ++ l) (append-nil (spelling frame))
 
-pub Heard-more : (so_far : List Frame → List ℕ) (Stands Stands' : List Frame → Type 0) (before : List Frame) (bytes : List ℕ) (w w' : Option (List ℕ)) (held held' : List ℕ)
+pub Heard-more : (course : Course) (Stands Stands' : List Frame → Type 0) (before : List Frame) (bytes : List ℕ) (w w' : Option (List ℕ)) (held held' : List ℕ)
     (n size : ℕ) (frame : Frame)
-    → (h : Heard so_far Stands before bytes w w' held n) → IsWholeFront ToServers (drop n bytes) frame size
-    → HeardOne so_far Stands' (before ++ h.frames) frame held held' → Heard so_far Stands' before bytes w w' held' (n + size)
-Heard-more so_far Stands Stands' before bytes w w' held held' n size frame h front next =
+    → (h : Heard course Stands before bytes w w' held n) → IsWholeFront ToServers (drop n bytes) frame size
+    → HeardOne course Stands' (before ++ h.frames) frame held held' → Heard course Stands' before bytes w w' held' (n + size)
+Heard-more course Stands Stands' before bytes w w' held held' n size frame h front next =
     let assoc = append_assoc before h.frames (frame ∷ []) in
     record {
       frames = h.frames ++ frame ∷ [];
@@ -63,7 +78,7 @@ Heard-more so_far Stands Stands' before bytes w w' held held' n size frame h fro
       size = ap length (spellings-more h.frames frame) ∙ omega (arith, length-append (spellings h.frames) (spelling frame), h.size, front.size);
       stands = subst Stands' assoc next.stands;
       owed = h.owed ++ next.part;
-      more = ap so_far (sym assoc) ∙ next.more ∙ ap (λ l. l ++ next.part) h.more ∙ append_assoc (so_far before) h.owed next.part;
+      more = ap course.so_far (sym assoc) ∙ next.more ∙ ap (λ l. l ++ next.part) h.more ∙ append_assoc (course.so_far before) h.owed next.part;
       passed = (
         h.passed.0,
         h.passed.1,
@@ -74,3 +89,16 @@ Heard-more so_far Stands Stands' before bytes w w' held held' n size frame h fro
 -- a frame has some bytes
 pub spelling_long : (frame : Frame) → 1 ≤ length (spelling frame)
 spelling_long frame = simp length-append (omega arith)
+
+-- the same by an equal course, for a session that says more where it stands
+pub retold : (course other : Course) → course ≡ other → (Stands Stands' : List Frame → Type 0) (before : List Frame) (frame : Frame) (held held' : List ℕ)
+    → ((frames : List Frame) → Stands frames → Stands' frames) → HeardOne other Stands before frame held held' → HeardOne course Stands' before frame held held'
+retold course other e Stands Stands' before frame held held' says one = record {
+  stands = says (before ++ frame ∷ []) one.stands;
+  part = one.part;
+  more = subst (λ (k : Course). k.so_far (before ++ frame ∷ []) ≡ k.so_far before ++ one.part) (sym e) one.more;
+  appends = one.appends;
+}
+
+pub retold_end : (course other : Course) → course ≡ other → (frames : List Frame) (held held' : List ℕ) → HeardEnd other frames held held' → HeardEnd course frames held held'
+retold_end course other e frames held held' last = subst (λ (k : Course). HeardEnd k frames held held') (sym e) last

@@ -1,5 +1,5 @@
 -- The session of one file, over frames one after another.
-use Rattle.std.proofs.Common.{◌≡◌, ℕ, List, [], ◌∷◌, ◌++◌, Some, None, refl, sym, ap, ◌∙◌, append_assoc, append-nil, ◌⊎◌, inl, inr}
+use Rattle.std.proofs.Common.{◌≡◌, ℕ, Bool, true, List, [], ◌∷◌, ◌++◌, Some, None, refl, sym, ap, ◌∙◌, append_assoc, append-nil, ◌⊎◌, inl, inr}
 use Rattle.std.proofs.lemmas.List.Concat.{flat_map-append}
 use Rattle.endpoint_link.specs.Frames.{Frame, spelling, spellings}
 use Rattle.endpoint_link.specs.declared.kinds.FrameKind.{FrameKind}
@@ -7,7 +7,8 @@ use Rattle.endpoint_link.specs.declared.kinds.FrameKind.TheVariants as kind
 use Rattle.endpoint_link.specs.Admission.{admission}
 use Rattle.endpoint_link.specs.declared.kinds.Refusal.{Refusal}
 use Rattle.vfs_journal.specs.Output.{refused_frame}
-use Rattle.vfs_program.specs.OneFile.{Standing, look_ups, outcome, by_refusal, admitted, answers, after}
+use Rattle.vfs_program.specs.OneFile.{Standing, at_start, look_ups, outcome, by_refusal, admitted, answers, after, file_course, IsBehind}
+use Rattle.vfs_program.specs.Serving.{IsGrowing, HeardOne, HeardEnd}
 
 -- a frame that is refused
 pub outcome_refused : (file : List ℕ) (now : Standing) (frame : Frame) (why : Refusal) → Some why ≡ admission (look_ups now.live) frame
@@ -54,3 +55,29 @@ pub written-more : (file : List ℕ) (now next : Standing) (frames : List Frame)
 written-more file now next frames frame e =
     written-append file now next frames (frame ∷ []) e
     ∙ ap (λ l. spellings (answers file now frames) ++ spellings l) (append-nil (outcome file next frame).frames)
+
+-- one frame more
+pub file_next : (file : List ℕ) (now next : Standing) (frames : List Frame) (frame : Frame) (held held' : List ℕ) → IsBehind file now frames
+    → held' ≡ held ++ spellings (outcome file now frame).frames → next ≡ (outcome file now frame).next
+    → HeardOne (file_course file) (IsBehind file next) frames frame held held'
+file_next file now next frames frame held held' s e moved = record {
+  stands = moved ∙ ap (λ n. (outcome file n frame).next) s ∙ sym (after-append file at_start frames (frame ∷ []));
+  part = spellings (outcome file now frame).frames;
+  more = written-more file at_start now frames frame s;
+  appends = e;
+}
+
+-- the end adds nothing
+pub file_end : (file : List ℕ) (frames : List Frame) (held : List ℕ) → HeardEnd (file_course file) frames held held
+file_end file frames held = record { part = []; more = sym (append-nil (spellings (answers file at_start frames))); appends = sym (append-nil held) }
+
+pub file_grows : (file : List ℕ) → IsGrowing (file_course file)
+file_grows file = record {
+  none = refl;
+  more = λ frames later. (spellings (answers file (after file at_start frames) later), written-append file at_start (after file at_start frames) frames later refl);
+  last = λ frames. ([], sym (append-nil (spellings (answers file at_start frames))));
+}
+
+-- where a session begins
+pub first_stand : (file : List ℕ) (live : Bool) (position : ℕ) → live ≡ true → position ≡ 0 → IsBehind file (record { live = live; position = position }) []
+first_stand file live position l p = ap (λ b. record { live = b; position = position }) l ∙ ap (λ n. record { live = true; position = n }) p

@@ -11,6 +11,7 @@ use Rattle.endpoint_link.specs.declared.kinds.Standing.TheVariants as standing
 use Rattle.vfs_journal.specs.Output.{refused_frame}
 use Rattle.vfs_program.specs.Reads.{Meaning, Reads, Ends, meaning_of}
 use Rattle.vfs_program.specs.Replies.{reply_to, position_after}
+use Rattle.vfs_program.specs.Session.{Course}
 
 -- where the session stands: whether endpoint 1 is still live, and from where it reads
 pub record Standing : Type 0 where
@@ -77,6 +78,10 @@ after file now (frame ∷ frames) = after file (outcome file now frame).next fra
 abbrev pub IsBehind : List ℕ → Standing → List Frame → Type 0
 IsBehind file now frames = now ≡ after file at_start frames
 
--- the bytes that the session of these frames writes
-abbrev pub output : List ℕ → List Frame → List ℕ
-output file frames = spellings (answers file at_start frames)
+-- what the session writes: the end adds nothing, and no memory is wanting on the way
+abbrev pub file_course : List ℕ → Course
+file_course file = record {
+  so_far = λ frames. spellings (answers file at_start frames);
+  by_end = λ frames. spellings (answers file at_start frames);
+  starves = false;
+}

@@ -1,22 +1,40 @@
--- What one piece of the input led to, in a session that served some frames before.
-use Rattle.std.specs.Prelude.{◌≡◌, ℕ, ◌+◌, ◌≤◌, ◌-◌, ◌⊎◌, List, [], ◌∷◌, ◌++◌, length, drop, All, Option}
+-- Words of steps: what one piece of the input led to, in a session that heard some frames before.
+use Rattle.std.specs.Prelude.{◌≡◌, ℕ, ◌+◌, ◌≤◌, ◌-◌, ◌⊎◌, IsTrue, List, [], ◌∷◌, ◌++◌, length, drop, All, Option}
 use Rattle.std.specs.Io.KnownBytes.{Appends}
 use Rattle.host_io.specs.Streams.{AppendsPart, IsFlushed}
 use Rattle.endpoint_link.specs.Frames.{Frame, IsFrame, spellings, IsPartial, IsBadFront}
 use Rattle.endpoint_link.specs.declared.kinds.Side.TheVariants.{ToServers}
-use Rattle.endpoint_link.specs.declared.kinds.FrameReason.{FrameReason}
 use Rattle.vfs_program.specs.declared.statuses.Status.{Status}
 use Rattle.vfs_program.specs.declared.statuses.Status.TheVariants as status
-use Rattle.vfs_program.specs.declared.served.Served.{Served}
-use Rattle.vfs_program.specs.declared.served.Served.TheVariants as served
-use Rattle.vfs_program.specs.Session.{IsFront, Written}
+use Rattle.vfs_program.specs.declared.sessions.Served.{Served}
+use Rattle.vfs_program.specs.declared.sessions.Served.TheVariants as served
+use Rattle.vfs_program.specs.Session.{IsFront, Course}
+
+-- what is written never shrinks: more frames add to it, and so does the end
+pub record IsGrowing (course : Course) : Type 0 where
+  pub none : course.so_far [] ≡ []
+  pub more : (frames later : List Frame) → IsFront (course.so_far frames) (course.so_far (frames ++ later))
+  pub last : (frames : List Frame) → IsFront (course.so_far frames) (course.by_end frames)
 
 -- what was held back is written in front, and the rest is still held
 abbrev pub Passes : Option (List ℕ) → Option (List ℕ) → List ℕ → List ℕ → Type 0
 Passes written written' held held' = (part : List ℕ) × Appends written written' part × (part ++ held' ≡ held)
 
+-- one frame more: the session stands behind it, and what is written for it is held back
+pub record HeardOne (course : Course) (Stands : List Frame → Type 0) (before : List Frame) (frame : Frame) (held held' : List ℕ) : Type 0 where
+  pub stands : Stands (before ++ frame ∷ [])
+  pub part : List ℕ
+  pub more : course.so_far (before ++ frame ∷ []) ≡ course.so_far before ++ part
+  pub appends : held' ≡ held ++ part
+
+-- the end: what it adds is held back
+pub record HeardEnd (course : Course) (frames : List Frame) (held held' : List ℕ) : Type 0 where
+  pub part : List ℕ
+  pub more : course.by_end frames ≡ course.so_far frames ++ part
+  pub appends : held' ≡ held ++ part
+
 -- the first n bytes are whole frames; what is written for them went to the sink, but for what is held back
-pub record Heard (so_far : Written) (Stands : List Frame → Type 0) (before : List Frame) (bytes : List ℕ)
+pub record Heard (course : Course) (Stands : List Frame → Type 0) (before : List Frame) (bytes : List ℕ)
     (written written' : Option (List ℕ)) (held : List ℕ) (n : ℕ) : Type 0 where
   pub frames : List Frame
   pub each : All (IsFrame ToServers) frames
@@ -24,34 +42,26 @@ pub record Heard (so_far : Written) (Stands : List Frame → Type 0) (before : L
   pub size : length (spellings frames) ≡ n
   pub stands : Stands (before ++ frames)
   pub owed : List ℕ
-  pub more : so_far (before ++ frames) ≡ so_far before ++ owed
+  pub more : course.so_far (before ++ frames) ≡ course.so_far before ++ owed
   pub passed : Passes written written' owed held
 
--- one frame more: the session stands behind it, and what is written for it is held back
-pub record HeardOne (so_far : Written) (Stands : List Frame → Type 0) (before : List Frame) (frame : Frame) (held held' : List ℕ) : Type 0 where
-  pub stands : Stands (before ++ frame ∷ [])
-  pub part : List ℕ
-  pub more : so_far (before ++ frame ∷ []) ≡ so_far before ++ part
-  pub appends : held' ≡ held ++ part
-
 -- some frames stand in front, and a part of what is written for them was written
-pub record HeardPart (so_far by_end : Written) (before : List Frame) (bytes : List ℕ) (written written' : Option (List ℕ)) : Type 0 where
+pub record HeardPart (course : Course) (before : List Frame) (bytes : List ℕ) (written written' : Option (List ℕ)) : Type 0 where
   pub frames : List Frame
   pub each : All (IsFrame ToServers) frames
   pub begins : IsFront (spellings frames) bytes
   pub part : List ℕ
-  pub lawful : IsFront (so_far before ++ part) (by_end (before ++ frames))
+  pub lawful : IsFront (course.so_far before ++ part) (course.so_far (before ++ frames))
   pub got : Appends written written' part
 
-abbrev pub IsServing : Written → (List Frame → Type 0) → List Frame → List ℕ → Option (List ℕ) → Option (List ℕ) → List ℕ → Served → Type 0
-IsServing so_far Stands before bytes written written' held (served.Rest n) =
-    Heard so_far Stands before bytes written written' held n × IsPartial ToServers (drop n bytes)
-IsServing so_far Stands before bytes written written' held (served.Bad n why) =
-    Heard so_far Stands before bytes written written' held n × IsBadFront ToServers (drop n bytes) why
-IsServing so_far Stands before bytes written written' held served.Failed =
-    HeardPart so_far so_far before bytes written written'
+abbrev pub IsServing : Course → (List Frame → Type 0) → List Frame → List ℕ → Option (List ℕ) → Option (List ℕ) → List ℕ → Served → Type 0
+IsServing course Stands before bytes written written' held (served.Rest n) =
+    Heard course Stands before bytes written written' held n × IsPartial ToServers (drop n bytes)
+IsServing course Stands before bytes written written' held (served.Bad n why) =
+    Heard course Stands before bytes written written' held n × IsBadFront ToServers (drop n bytes) why
+IsServing course Stands before bytes written written' held served.Failed = HeardPart course before bytes written written'
 
--- what is left behind the frames that were served, with the number of frames before and after
+-- what is left behind the frames that were heard, with the number of frames before and after
 abbrev pub Leaves : List ℕ → ℕ → ℕ → Served → Type 0
 Leaves bytes count count' (served.Rest n) = (n ≤ length bytes) × (count' ≤ count + n) × IsPartial ToServers (drop n bytes)
 Leaves bytes count count' (served.Bad n why) = n ≤ length bytes
@@ -66,24 +76,16 @@ FailsOnly _ P = Unit {0}
 abbrev pub PassedOn : Option (List ℕ) → Option (List ℕ) → List ℕ → ℕ → Type 0
 PassedOn written written' held flushed = Appends written written' held × IsFlushed written' flushed
 
--- the status where the flush succeeded, and else WriteFault
-abbrev pub Closes : Status → Type 0 → Type 0 → Status → Type 0
-Closes wanted is_flushed rose answer = ((answer ≡ wanted) × is_flushed) ⊎ ((answer ≡ status.WriteFault) × rose)
-
 -- the input ended: between frames, or inside the one that begins there
 abbrev pub end_of : List ℕ → ℕ → Status
 end_of [] taken = status.Done
 end_of (byte ∷ rest) taken = status.Truncated (taken - length (byte ∷ rest))
 
--- a bad frame, where what was held back is passed on, and else WriteFault
-abbrev pub EndsBad : ℕ → FrameReason → Type 0 → Type 0 → Type 0 → Status → Type 0
-EndsBad at why whole part rose answer = ((answer ≡ status.BadFrame at why) × whole) ⊎ ((answer ≡ status.WriteFault) × part × rose)
-
 -- the end behind some frames: what it adds is written behind what was held back, and all is flushed; else a part of that is written;
 -- or it can't be had for want of memory, and nothing is written
-abbrev pub Finishes : Written → Written → List Frame → Status → List ℕ → Option (List ℕ) → Option (List ℕ) → ℕ → Type 0 → Status → Type 0
-Finishes so_far by_end frames wanted held written written' flushed rose answer =
-    ((answer ≡ wanted) × ((last : List ℕ) × (by_end frames ≡ so_far frames ++ last) × PassedOn written written' (held ++ last) flushed))
+abbrev pub Finishes : Course → List Frame → Status → List ℕ → Option (List ℕ) → Option (List ℕ) → ℕ → Type 0 → Status → Type 0
+Finishes course frames wanted held written written' flushed rose answer =
+    ((answer ≡ wanted) × ((last : List ℕ) × (course.by_end frames ≡ course.so_far frames ++ last) × PassedOn written written' (held ++ last) flushed))
     ⊎ (((answer ≡ status.WriteFault) × rose
-    × ((last : List ℕ) × (by_end frames ≡ so_far frames ++ last) × AppendsPart written written' (held ++ last)))
-    ⊎ ((answer ≡ status.NoMemory) × (written' ≡ written)))
+    × ((last : List ℕ) × (course.by_end frames ≡ course.so_far frames ++ last) × AppendsPart written written' (held ++ last)))
+    ⊎ ((answer ≡ status.NoMemory) × IsTrue course.starves × (written' ≡ written)))

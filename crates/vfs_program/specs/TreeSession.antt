@@ -1,26 +1,28 @@
--- The session over a tree in mode auto: what is written for its frames, and which world stands behind them.
-use Rattle.std.specs.Prelude.{◌≡◌, ℕ, List, [], length}
-use Rattle.endpoint_link.specs.Frames.{Frame}
-use Rattle.endpoint_link.specs.declared.kinds.Mode.TheVariants as mode
-use Rattle.tree_file.specs.Items.{Lists}
+-- The session over a tree: what is written for its frames, and which world stands behind them.
+use Rattle.std.specs.Prelude.{◌≡◌, ℕ, List, true}
+use Rattle.endpoint_link.specs.Frames.{Frame, spellings}
+use Rattle.endpoint_link.specs.declared.kinds.Mode.{Mode}
 use Rattle.conn_rules.specs.Built.{first_methods}
-use Rattle.vfs_journal.specs.Output.{output_of}
+use Rattle.vfs_journal.specs.Entries.{Journal}
+use Rattle.vfs_journal.specs.Output.{frames_of}
+use Rattle.vfs_journal.specs.Past.{history_of}
 use Rattle.vfs_journal.specs.Session.{session, ended}
 use Rattle.vfs_journal.specs.Starts.{Start}
 use Rattle.vfs_world.specs.World.{World, StandsFor}
+use Rattle.vfs_program.specs.Session.{Course}
 
--- what is written for the frames of a session so far, and with the last drain
-unfoldable pub session_output : Start → List Frame → List ℕ
-session_output start frames = output_of first_methods start (session first_methods start mode.Auto frames)
+-- the frames that a journal stands for
+abbrev pub frames_by : Start → Journal → List Frame
+frames_by start journal = frames_of start (history_of first_methods start journal)
 
-unfoldable pub ended_output : Start → List Frame → List ℕ
-ended_output start frames = output_of first_methods start (ended first_methods start mode.Auto frames)
+-- what is written for the frames of a session so far, and with the last drain; memory may be wanting for it
+unfoldable pub tree_course : Start → Mode → Course
+tree_course start by = record {
+  so_far = λ frames. spellings (frames_by start (session first_methods start by frames));
+  by_end = λ frames. spellings (frames_by start (ended first_methods start by frames));
+  starves = true;
+}
 
 -- the world stands for the session of these frames
-unfoldable pub StandsBehind : Start → World → List Frame → Type 0
-StandsBehind start world frames = StandsFor start world (session first_methods start mode.Auto frames)
-
--- what is built today: one server, and no mounts
-pub record IsBuilt (lists : Lists) : Type 0 where
-  pub one : length lists.servers ≡ 1
-  pub no_mounts : lists.mounts ≡ []
+unfoldable pub StandsBehind : Start → Mode → World → List Frame → Type 0
+StandsBehind start by world frames = StandsFor start world (session first_methods start by frames)

@@ -2,7 +2,10 @@ ghost use Rattle.std.specs.Prelude.{◌≡◌, ◌++◌, IfOk, OnOk, OnErr, deci
 ghost use Rattle.host_io.specs.Causes.{HasCause, Rose};
 ghost use Rattle.host_io.specs.Streams.{AppendsPart, IsFlushed};
 ghost use Rattle.std.specs.Io.KnownBytes.{Appends};
-ghost use Rattle.vfs_program.specs.Check.{CheckAnswers, line_of};
+ghost use Rattle.vfs_program.specs.Causes.{AfterTree};
+ghost use Rattle.vfs_program.specs.Outside.{files_told, sink_told};
+ghost use Rattle.vfs_program.specs.Texts.{WritesText};
+ghost use Rattle.vfs_program.specs.Trees.{line_of};
 
 use crate::statuses::Status;
 use crate::trees::read_start;
@@ -18,12 +21,10 @@ pub fn check_tree<F: Files, K: Sink>(
     files: &mut F,
     sink: &mut K,
 ) -> Status
-    ensures { CheckAnswers name.now
-        (record { told = F.told files.old; faults = F.faults files.old; overlong = F.overlong files.old })
-        (record { told = F.told files.new; faults = F.faults files.new; overlong = F.overlong files.new })
-        (record { written = K.written sink.old; flushed = K.flushed sink.old; faults = K.faults sink.old })
-        (record { written = K.written sink.new; flushed = K.flushed sink.new; faults = K.faults sink.new })
-        (sink.new ≡ sink.old) result }
+    ensures { AfterTree name.now (files_told F.told F.faults F.overlong files.old) (files_told F.told F.faults F.overlong files.new)
+        (sink.new ≡ sink.old)
+        (λ lists. WritesText (line_of lists) ⊥ (sink_told K.written K.flushed K.faults sink.old) (sink_told K.written K.flushed K.faults sink.new))
+        result }
 {
     let start = match read_start(alloc, name, files) {
         Ok(start) => start,

@@ -3,15 +3,11 @@ ghost use Rattle.std.specs.Io.KnownBytes.{Consumes, IsAtEnd, Keeps};
 ghost use Rattle.host_io.specs.Causes.{HasCause};
 ghost use Rattle.vfs_program.specs.Pieces.{TakesPiece};
 
+use endpoint_link::MAX_FRAME_LEN;
+use fidl_names::MAX_PIECE;
 use host_io::{Failed, Source};
 use std::alloc::{AllocError, Global};
 use std::marker::Model;
-
-/// The most bytes of one read.
-pub const MOST_PIECE: usize = 65_536;
-
-/// The most bytes of a frame: its fixed part, 64 handles and 65,536 bytes.
-const MOST_FRAME: usize = 65_804;
 
 /// The bytes that were read and aren't served yet, at the front of a buffer.
 #[derive(Drop)]
@@ -36,7 +32,7 @@ impl Input {
         ensures { IfOk result (λ input. input ≡ []) }
     {
         Ok(Input {
-            buffer: vec![in alloc; 0; MOST_FRAME + MOST_PIECE]?,
+            buffer: vec![in alloc; 0; MAX_FRAME_LEN + MAX_PIECE]?,
             kept: 0,
         })
     }

@@ -2,16 +2,16 @@
 #![tactic(auto)]
 
 mod checks;
+mod file_session;
 mod input;
 mod laws;
 mod notes;
 mod one_file;
 mod reads;
 mod replies;
-mod run;
 #[cfg(test)]
-mod serve_tests;
-mod served;
+mod rows;
+mod run;
 mod sessions;
 mod statuses;
 #[cfg(test)]

@@ -1,24 +1,19 @@
-ghost use Rattle.std.specs.Prelude.{◌≡◌, ◌≤◌, ◌<◌, ◌+◌, ◌++◌, List, [], ◌∷◌, length, nat_le, true, IfOk, OnOk, OnErr};
-ghost use Rattle.host_io.specs.Causes.{HasCause, Rose};
-ghost use Rattle.host_io.specs.Streams.{AppendsPart};
+ghost use Rattle.std.specs.Prelude.{◌≡◌, ◌≤◌, ◌+◌, ◌++◌, [], ◌∷◌, length, nat_le, true, IfOk};
 ghost use Rattle.endpoint_link.specs.Admission.{admission, by_standing, refused_if};
 ghost use Rattle.endpoint_link.specs.declared.kinds.FrameKind.TheVariants as kind;
 ghost use Rattle.endpoint_link.specs.declared.kinds.Refusal.TheVariants as refusal;
 ghost use Rattle.fidl_wire.specs.Epitaphs.{epitaph_bytes};
 ghost use Rattle.fidl_names.specs.StatusNumber.{number_of};
-ghost use Rattle.endpoint_link.specs.Frames.{Frame, frame_with, spellings};
+ghost use Rattle.endpoint_link.specs.Frames.{frame_with, spellings};
 ghost use Rattle.endpoint_link.specs.Views.{frame_of};
 ghost use Rattle.vfs_program.specs.Reads.{read_ordinal, meaning_of as told};
 ghost use Rattle.vfs_journal.specs.Output.{refused_frame};
-ghost use Rattle.vfs_program.specs.OneFile.{look_ups, outcome, output, answered, IsBehind};
-ghost use Rattle.vfs_program.specs.Serving.{IsServing, FailsOnly, Passes};
+ghost use Rattle.vfs_program.specs.OneFile.{look_ups, outcome, answered};
 
 use crate::reads::{Meaning, READ_NAME, meaning_of};
 use crate::replies::put_reply;
-use crate::served::Served;
-use endpoint_link::{FrameKind, FrameRoom, FrameView, Reading, Refusal, Side, frame_at};
+use endpoint_link::{FrameKind, FrameRoom, FrameView, Refusal};
 use fidl_wire::{NoMemory, Out, Status as Answer, epitaph, ordinal};
-use host_io::{Failed, Sink, write_whole};
 use std::alloc::Global;
 
 /// The endpoint that is bound to the file.
@@ -50,44 +45,8 @@ impl Connection {
         })
     }
 
-    /// Serves each whole frame at the front of the bytes, in order. What is written for them goes
-    /// to the sink, or is held back in the room.
-    pub fn serve<K: Sink>(
-        &mut self,
-        file: &[u8],
-        bytes: &[u8],
-        room: &mut FrameRoom,
-        sink: &mut K,
-    ) -> Served
-        requires within { self.old.position ≤ length file.now }
-        requires empty { room.old.bytes ≡ [] }
-        requires room { 8252 ≤ room.old.size }
-        ensures served { (before : List Frame) → IsBehind file.now (record { live = self.old.live; position = self.old.position }) before →
-            IsServing (output file.now) (IsBehind file.now (record { live = self.new.live; position = self.new.position })) before bytes.now
-            (K.written sink.old) (K.written sink.new) room.new.bytes result }
-        ensures size { room.new.size ≡ room.old.size }
-        ensures within { self.new.position ≤ length file.now }
-        ensures faults { K.faults sink.old ≤ K.faults sink.new }
-        ensures cause { FailsOnly result (Rose (K.faults sink.old) (K.faults sink.new)) }
-    {
-        let mut at = 0;
-        'frames: loop {
-            match frame_at(Side::ToServers, &bytes[at..]) {
-                Reading::Whole { frame, size } => {
-                    if let Err(Failed) = make_room(room, sink) {
-                        return Served::Failed;
-                    }
-                    self.hear(file, frame, room);
-                    at += size;
-                }
-                Reading::NotWhole => return Served::Rest(at),
-                Reading::Bad(reason) => return Served::Bad(at, reason),
-            }
-        }
-    }
-
     /// Serves one frame.
-    fn hear(&mut self, file: &[u8], frame: FrameView<'_>, room: &mut FrameRoom)
+    pub fn hear(&mut self, file: &[u8], frame: FrameView<'_>, room: &mut FrameRoom)
         requires within { self.old.position ≤ length file.now }
         requires room { length room.old.bytes + 8252 ≤ room.old.size }
         ensures frames { room.new.bytes ≡ room.old.bytes ++
@@ -197,22 +156,4 @@ fn refusal_of_number(live: bool, number: u32) -> Option<Refusal>
     } else {
         Some(Refusal::PeerClosed)
     }
-}
-
-/// Makes room for what is written for one frame: where too little is left, all that is held back is
-/// written.
-fn make_room<K: Sink>(room: &mut FrameRoom, sink: &mut K) -> Result<(), Failed>
-    requires { 8252 ≤ room.old.size }
-    ensures passed { OnOk result (Passes (K.written sink.old) (K.written sink.new) room.old.bytes room.new.bytes) }
-    ensures room { OnOk result (length room.new.bytes + 8252 ≤ room.new.size) }
-    ensures size { room.new.size ≡ room.old.size }
-    ensures part { OnErr result (AppendsPart (K.written sink.old) (K.written sink.new) room.old.bytes) }
-    ensures cause { HasCause (K.faults sink.old) (K.faults sink.new) result }
-{
-    if room.room() >= MOST_ANSWER {
-        return Ok(());
-    }
-    write_whole(sink, room.as_bytes())?;
-    room.clear();
-    Ok(())
 }

@@ -1,0 +1,53 @@
+-- Causes in their order, for all commands.
+use Rattle.std.specs.Prelude.{◌≡◌, ◌⊎◌, ℕ, List, Some}
+use Rattle.fidl_wire.specs.Names.{AreDistinct, IsFirstCollision}
+use Rattle.tree_file.specs.Items.{Lists}
+use Rattle.tree_file.specs.Rules.{first_failure}
+use Rattle.fidl_names.specs.declared.limits.TheConstants as limit
+use Rattle.host_io.specs.Told.{Told}
+use Rattle.vfs_program.specs.declared.statuses.Status.{Status}
+use Rattle.vfs_program.specs.declared.statuses.Status.TheVariants as status
+use Rattle.vfs_program.specs.Outside.{FilesTold}
+use Rattle.vfs_program.specs.Files.{IsFileFault, IsFileTooLarge, IsWithin}
+use Rattle.vfs_program.specs.Trees.{IsBroken, Stands, IsBuilt}
+
+-- a cause stops the command, which changed nothing by then; or something is found, and with that the rest of the command answers
+abbrev pub After : {X : Type 0} → (Status → Type 0) → Type 0 → (X → Type 0) → (X → Status → Type 0) → Status → Type 0
+After {X = X} stops same Found rest status = (stops status × same) ⊎ ((x : X) × Found x × rest x status)
+
+-- two names have equal ordinals, and these are the first two
+abbrev pub Collides : Status → Type 0
+Collides (status.Collision first second) = IsFirstCollision first second
+Collides _ = ⊥
+
+-- the names come before all else of a command that needs them
+abbrev pub AfterNames : Type 0 → (Status → Type 0) → Status → Type 0
+AfterNames same rest = After Collides same (λ (none : Unit {0}). AreDistinct) (λ none. rest)
+
+-- why a command has no file; for want of memory nothing else is said
+abbrev pub HasNoFile : ℕ → List ℕ → FilesTold → FilesTold → Status → Type 0
+HasNoFile most name before after status.FileFault = IsFileFault name before after
+HasNoFile most name before after status.FileTooLarge = IsFileTooLarge most name before after
+HasNoFile most name before after status.NoMemory = Unit {0}
+HasNoFile most name before after _ = ⊥
+
+-- then the file, which is one that is served
+abbrev pub AfterFile : List ℕ → FilesTold → FilesTold → Type 0 → (List ℕ → Status → Type 0) → Status → Type 0
+AfterFile name before after same = After (HasNoFile limit.MAX_FILE name before after) same (IsWithin limit.MAX_FILE (before.told name))
+
+-- why a command has no start: it has no file, or the first rule that the file breaks
+abbrev pub HasNoStart : List ℕ → FilesTold → FilesTold → Status → Type 0
+HasNoStart tree before after (status.TreeRefused rule item) = IsBroken (before.told tree) rule item
+HasNoStart tree before after status = HasNoFile limit.MAX_TEXT tree before after status
+
+-- or the tree file, which breaks no rule
+abbrev pub AfterTree : List ℕ → FilesTold → FilesTold → Type 0 → (Lists → Status → Type 0) → Status → Type 0
+AfterTree tree before after same = After (HasNoStart tree before after) same (Stands (before.told tree))
+
+-- what it has isn't built yet
+abbrev pub IsUnbuilt : Lists → Status → Type 0
+IsUnbuilt lists (status.Unbuilt at) = (at ≡ 0) × (IsBuilt lists → ⊥)
+IsUnbuilt lists _ = ⊥
+
+abbrev pub AfterBuilt : Lists → Type 0 → (Status → Type 0) → Status → Type 0
+AfterBuilt lists same rest = After (IsUnbuilt lists) same (λ (none : Unit {0}). IsBuilt lists) (λ none. rest)

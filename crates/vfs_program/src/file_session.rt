@@ -1,0 +1,109 @@
+ghost use Rattle.std.specs.Prelude.{◌≡◌, ◌≤◌, length, true, [], IfOk};
+ghost use Rattle.vfs_program.specs.Causes.{AfterNames, AfterFile};
+ghost use Rattle.vfs_program.specs.OneFile.{file_course, IsBehind};
+ghost use Rattle.vfs_program.specs.Outside.{files_told, streams_told};
+ghost use Rattle.vfs_program.specs.Session.{SessionAnswers};
+ghost use Rattle.endpoint_link.specs.declared.kinds.Side.TheVariants as side;
+
+use crate::input::Input;
+use crate::one_file::{Connection, MOST_ANSWER};
+use crate::sessions::{Session, run};
+use crate::statuses::Status;
+use endpoint_link::{FrameRoom, FrameView};
+use fidl_names::{MAX_FILE, MAX_PIECE, NoMemory};
+use fidl_wire::{OrdinalFault, Ordinals};
+use host_io::{FileFault, Files, Sink, Source};
+use std::alloc::Global;
+
+/// The room in which output is gathered: a large piece, and one more answer.
+const ROOM: usize = MAX_PIECE + MOST_ANSWER;
+
+/// Serves the file of this name over source and sink.
+pub fn serve_file<F: Files, S: Source, K: Sink>(
+    alloc: Global,
+    name: &str,
+    files: &mut F,
+    source: &mut S,
+    sink: &mut K,
+) -> Status
+    ensures { AfterNames ((source.new ≡ source.old) × (sink.new ≡ sink.old))
+        (AfterFile name.now (files_told F.told F.faults F.overlong files.old) (files_told F.told F.faults F.overlong files.new)
+        ((source.new ≡ source.old) × (sink.new ≡ sink.old))
+        (λ file. SessionAnswers side.ToServers (file_course file)
+        (streams_told S.left S.faults K.written K.flushed K.faults source.old sink.old)
+        (streams_told S.left S.faults K.written K.flushed K.faults source.new sink.new)
+        (sink.new ≡ sink.old))) result }
+{
+    if let Err(OrdinalFault::Collision(first, second)) = Ordinals::new() {
+        return Status::Collision { first, second };
+    }
+    let file = match files.read_all(alloc, name, MAX_FILE) {
+        Ok(file) => file,
+        Err(FileFault::Failed) => return Status::FileFault,
+        Err(FileFault::TooLarge) => return Status::FileTooLarge,
+        Err(FileFault::NoMemory) => return Status::NoMemory,
+    };
+    let Ok(mut input) = Input::new(alloc) else {
+        return Status::NoMemory;
+    };
+    let Ok(mut session) = FileSession::new(alloc, file) else {
+        return Status::NoMemory;
+    };
+    run(&mut session, &mut input, source, sink)
+}
+
+/// The session of one file. All its memory is taken before it begins.
+#[derive(Drop)]
+struct FileSession {
+    file: Vec<u8>,
+    connection: Connection,
+    room: FrameRoom,
+}
+
+impl FileSession {
+    /// At the start of the file.
+    fn new(alloc: Global, file: Vec<u8>) -> Result<FileSession, NoMemory>
+        ensures file { IfOk result (λ s. s.file ≡ file) }
+        ensures connection { IfOk result (λ s. (s.connection.live ≡ true) × (s.connection.position ≡ 0)) }
+        ensures room { IfOk result (λ s. (s.room.bytes ≡ []) × (s.room.size ≡ 73788)) }
+    {
+        let connection = Connection::new(alloc)?;
+        let room = FrameRoom::new(alloc, ROOM)?;
+        Ok(FileSession {
+            file,
+            connection,
+            room,
+        })
+    }
+}
+
+impl Session for FileSession {
+    ghost use Rattle.std.specs.Prelude.{◌≡◌, ◌≤◌, length};
+    ghost use Rattle.vfs_program.specs.OneFile.{file_course, IsBehind};
+
+    ghost stands = { λ s course frames. (course ≡ file_course s.file.items)
+        × IsBehind s.file.items (record { live = s.connection.live; position = s.connection.position }) frames };
+
+    ghost holds = { λ s. s.room.bytes };
+
+    ghost heard = { λ s. 0 };
+
+    ghost ready = { λ s. (s.connection.position ≤ length s.file.items) × (s.room.size ≡ 73788) };
+
+    fn hear(&mut self, frame: FrameView<'_>) -> Result<(), NoMemory> {
+        self.connection.hear(&self.file, frame, &mut self.room);
+        Ok(())
+    }
+
+    fn finish(&mut self) -> Result<(), NoMemory> {
+        Ok(())
+    }
+
+    fn held(&self) -> &[u8] {
+        self.room.as_bytes()
+    }
+
+    fn clear(&mut self) {
+        self.room.clear();
+    }
+}
