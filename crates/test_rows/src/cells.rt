@@ -1,5 +1,7 @@
 use crate::words;
+use fidl_names::Handle;
 use std::alloc::{AllocError, Global};
+use std::fmt::Debug;
 
 /// A line of a text: its cells, with `|` between them. The first cell is the row's name.
 #[derive(Clone, Copy, Debug)]
@@ -58,12 +60,34 @@ impl<'a> Row<'a> {
         }
     }
 
+    pub fn handles(&self, alloc: Global, at: usize) -> Result<Vec<Handle>, BadCell<'a>> {
+        match words::handles(alloc, self.cell(at)?) {
+            Ok(Some(handles)) => Ok(handles),
+            Ok(None) => Err(self.bad(at)),
+            Err(AllocError) => Err(BadCell::NoMemory { row: self.name() }),
+        }
+    }
+
     pub fn bytes(&self, alloc: Global, at: usize) -> Result<Vec<u8>, BadCell<'a>> {
         match words::bytes(alloc, self.cell(at)?) {
             Ok(Some(bytes)) => Ok(bytes),
             Ok(None) => Err(self.bad(at)),
             Err(AllocError) => Err(BadCell::NoMemory { row: self.name() }),
         }
+    }
+
+    /// Whether the cell says a value as `{:?}` writes it, with texts in place of lists of bytes. Want of memory says no.
+    pub fn says<T: Debug>(&self, alloc: Global, at: usize, value: &T) -> bool {
+        let Ok(cell) = self.cell(at) else {
+            return false;
+        };
+        let (Ok(Some(wanted)), Ok(said)) = (
+            words::with_lists(alloc, cell),
+            format!(in alloc; "{value:?}"),
+        ) else {
+            return false;
+        };
+        wanted.as_str() == said.as_str()
     }
 
     /// The fault of the cell at a place, for a test that reads it in its own way.
