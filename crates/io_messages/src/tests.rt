@@ -10,10 +10,8 @@ ghost use Rattle.io_messages.specs.Writing.{HasTexts};
 mod event_rows;
 mod reply_rows;
 mod request_rows;
-mod said;
 
 use crate::replies::{Shape, is_one_way, shape_of};
-use crate::tests::said::{said_event, said_reply, said_request};
 use crate::{
     Protocol, Reply, Request, TooLong, read_event, read_reply, read_request, write_event,
     write_reply, write_request,
@@ -86,12 +84,7 @@ fn requests_are_read_and_written(rt: HostRuntime) -> Result<(), Fail> {
         let bytes = row.bytes(alloc, 2)?;
         let handles = row.handles(alloc, 3)?;
         let read = read_request(&ordinals, protocol(row, 1)?, &bytes, &handles);
-        assert_eq!(rt;
-            said_request(alloc, read)?.as_str(),
-            row.cell(4)?,
-            "{}",
-            row.name()
-        );
+        assert!(rt; row.says(alloc, 4, &read), "{}", row.name());
         if let Ok((txid, request)) = read {
             let same = is_written(&ordinals, &mut out, txid, request, &bytes, &handles);
             assert_eq!(rt; same, row.cell(5)? == "same", "{} is written", row.name());
@@ -167,12 +160,7 @@ fn replies_are_read_and_written(rt: HostRuntime) -> Result<(), Fail> {
         let bytes = row.bytes(alloc, 1)?;
         let handles = row.handles(alloc, 2)?;
         let read = read_reply(&ordinals, &bytes, &handles);
-        assert_eq!(rt;
-            said_reply(alloc, read)?.as_str(),
-            row.cell(3)?,
-            "{}",
-            row.name()
-        );
+        assert!(rt; row.says(alloc, 3, &read), "{}", row.name());
         if let Ok((txid, reply)) = read {
             let same = is_reply_written(&ordinals, &mut out, txid, reply, &bytes, &handles);
             assert_eq!(rt; same, row.cell(4)? == "same", "{} is written", row.name());
@@ -189,12 +177,7 @@ fn events_are_read_and_written(rt: HostRuntime) -> Result<(), Fail> {
     for row in &rows(alloc, event_rows::EVENTS)? {
         let bytes = row.bytes(alloc, 1)?;
         let read = read_event(&ordinals, &bytes);
-        assert_eq!(rt;
-            said_event(alloc, read)?.as_str(),
-            row.cell(2)?,
-            "{}",
-            row.name()
-        );
+        assert!(rt; row.says(alloc, 2, &read), "{}", row.name());
         if let Ok(kind) = read
             && kind != Protocol::Watcher
         {

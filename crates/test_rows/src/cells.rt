@@ -1,6 +1,7 @@
 use crate::words;
 use fidl_names::Handle;
 use std::alloc::{AllocError, Global};
+use std::fmt::Debug;
 
 /// A line of a text: its cells, with `|` between them. The first cell is the row's name.
 #[derive(Clone, Copy, Debug)]
@@ -73,6 +74,20 @@ impl<'a> Row<'a> {
             Ok(None) => Err(self.bad(at)),
             Err(AllocError) => Err(BadCell::NoMemory { row: self.name() }),
         }
+    }
+
+    /// Whether the cell says a value as `{:?}` writes it, with texts in place of lists of bytes. Want of memory says no.
+    pub fn says<T: Debug>(&self, alloc: Global, at: usize, value: &T) -> bool {
+        let Ok(cell) = self.cell(at) else {
+            return false;
+        };
+        let (Ok(Some(wanted)), Ok(said)) = (
+            words::with_lists(alloc, cell),
+            format!(in alloc; "{value:?}"),
+        ) else {
+            return false;
+        };
+        wanted.as_str() == said.as_str()
     }
 
     /// The fault of the cell at a place, for a test that reads it in its own way.

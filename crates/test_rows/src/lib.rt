@@ -5,7 +5,7 @@ mod cells;
 mod words;
 
 pub use cells::{BadCell, Row, rows};
-pub use words::{bytes, handles, number, numbers};
+pub use words::{bytes, handles, number, numbers, with_lists};
 
 #[cfg(test)]
 mod tests;

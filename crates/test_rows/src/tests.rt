@@ -1,4 +1,4 @@
-use crate::{bytes, handles, number, numbers, rows};
+use crate::{bytes, handles, number, numbers, rows, with_lists};
 use fidl_names::Handle;
 use std::test::Fail;
 
@@ -7,7 +7,7 @@ const TEXT: &str = "
 first | 0x1f | 0aff[61*3]00 | 1,0x10,3
   second|18446744073709551615|-|-
 
-last | 0x | 0 | 1,,2
+last | 0x | 0 | 1,,2 | Some('hi')
 ";
 
 #[test]
@@ -31,13 +31,25 @@ fn rows_have_their_cells(rt: HostRuntime) -> Result<(), Fail> {
     assert!(rt; last.number(1).is_err());
     assert!(rt; last.bytes(alloc, 2).is_err());
     assert!(rt; last.numbers(alloc, 3).is_err());
-    assert!(rt; last.cell(4).is_err());
+    assert!(rt; last.cell(5).is_err());
+    assert!(rt; last.says(alloc, 4, &Some(b"hi")));
+    assert!(rt; !last.says(alloc, 4, &Some(b"ha")));
     assert_eq!(rt;
         handles(alloc, "e5,t2147483648")?
             .ok_or("handles")?
             .as_slice(),
         &[Handle::Endpoint(5), Handle::Token(2_147_483_648)][..]
     );
+    for (text, want) in [
+        ("Close", "Close"),
+        (
+            "Ok((1, Write { bytes: 'hi' }))",
+            "Ok((1, Write { bytes: [104, 105] }))",
+        ),
+        ("Put('', x'[61*2]ff')", "Put([], [97, 97, 255])"),
+    ] {
+        assert_eq!(rt; with_lists(alloc, text)?.ok_or("lists")?.as_str(), want);
+    }
     Ok(())
 }
 

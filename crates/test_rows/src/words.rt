@@ -69,6 +69,36 @@ pub fn bytes(alloc: Global, word: &str) -> Result<Option<Vec<u8>>, AllocError> {
     Ok(Some(all))
 }
 
+/// A text in which each `'hi'` and each `x'6869'` becomes the list of its bytes as `{:?}` writes it, here `[104, 105]`.
+pub fn with_lists(alloc: Global, text: &str) -> Result<Option<String>, AllocError> {
+    let mut all = String::new(alloc);
+    let mut quoted = false;
+    let mut in_digits = false;
+    for part in text.split('\'') {
+        if quoted {
+            let Some(list) = list_of(alloc, part, in_digits)? else {
+                return Ok(None);
+            };
+            all.push_str(&list)?;
+        } else {
+            in_digits = part.ends_with('x');
+            all.push_str(part.strip_suffix('x').unwrap_or(part))?;
+        }
+        quoted = !quoted;
+    }
+    Ok(Some(all))
+}
+
+fn list_of(alloc: Global, part: &str, in_digits: bool) -> Result<Option<String>, AllocError> {
+    if !in_digits {
+        return Ok(Some(format!(in alloc; "{:?}", part.as_bytes())?));
+    }
+    match bytes(alloc, part)? {
+        Some(bytes) => Ok(Some(format!(in alloc; "{bytes:?}")?)),
+        None => Ok(None),
+    }
+}
+
 fn put_digits(alloc: Global, all: &mut Vec<u8>, digits: &str) -> Result<bool, AllocError> {
     match hex::decode(alloc, digits) {
         Ok(bytes) => {
