@@ -1,26 +1,24 @@
 -- What is meant as a fault of a body is answered.
-use Rattle.std.proofs.Common.{◌≡◌, ℕ, zero, suc, ◌+◌, ◌-◌, ◌%◌, ◌<◌, ◌≤◌, inl, inr, true, false, not, cond, ◌&&◌, List, [], ◌∷◌, ◌++◌, length, drop, get_or, slice_range, nat_lt, nat_le, nat_eq, ◌==◌, Option, Some, None, Result, Ok, Err, refl, sym, ap, ◌∙◌, subst, length-append, length-drop, arith}
-use Rattle.std.specs.List.{position}
-use Rattle.std.proofs.lemmas.Bool.Decides.{nat_tests}
+use Rattle.std.proofs.Common.{◌≡◌, ℕ, zero, suc, ◌+◌, ◌-◌, ◌%◌, ◌<◌, ◌≤◌, inl, inr, true, false, cond, ◌&&◌, List, [], ◌∷◌, ◌++◌, length, drop, get_or, slice_range, nat_lt, nat_le, ◌==◌, Option, Some, None, Result, Ok, Err, refl, sym, ap, ◌∙◌, subst, length-drop, arith}
 use Rattle.fidl_names.specs.declared.methods.Handle.{Handle}
 use Rattle.fidl_names.specs.Numbers.{number_at}
 use Rattle.fidl_wire.specs.declared.cursor.Branch.{Branch}
 use Rattle.fidl_wire.specs.declared.cursor.Opened.{Opened}
 use Rattle.fidl_wire.specs.declared.faults.WireFault.{WireFault}
 use Rattle.fidl_wire.specs.declared.faults.WireWhat.{WireWhat}
-use Rattle.fidl_wire.specs.declared.faults.WireWhat.TheVariants.{Short, Padding, Envelope, Ordinal, Handles, Trailing}
+use Rattle.fidl_wire.specs.declared.faults.WireWhat.TheVariants.{Padding, Envelope, Handles, Trailing}
 use Rattle.fidl_wire.specs.Headers.{fault}
-use Rattle.fidl_wire.specs.Numbers.{padding_after, padded}
+use Rattle.fidl_wire.specs.Numbers.{padded}
 use Rattle.fidl_wire.specs.Layout.{Cell, Item, Variant, Layout, empty, word, object, struct, union, fields, branch, size_of, sizes_of, variant_of}
 use Rattle.fidl_wire.specs.Cursor.{Cursor, start, start_of, outside_of}
-use Rattle.fidl_wire.specs.Reading.{◌>>=◌, passed, check, blank_or, all_blank, bytes_at, handles_at, flags_at, is_inlined, enough_handles, entered, inlined_word, within_branch, object_at, branch_of, ordinal_at, closed, finish_of, cell_at, cells_at, object_items, word_items, variant_items, known_variant, body_of}
-use Rattle.fidl_wire.specs.Grammar.{Part, nothing, join, Lays}
+use Rattle.fidl_wire.specs.Reading.{◌>>=◌, check, blank_or, all_blank, bytes_at, handles_at, flags_at, inlined_word, branch_of, ordinal_at, closed, finish_of, cells_at, object_items, word_items, variant_items, known_variant, body_of}
+use Rattle.fidl_wire.specs.Grammar.{Part, join, Lays}
 use Rattle.fidl_wire.specs.Meanings.{Stands, Spot, behind, AreBlank, CellFault, CellsFault, IsCounted, IsEnded, EndFault, EndsFault, ObjectFault, EntryFault, IsEntered, IsInlined, InlinedFault, OutsideFault, VariantFault, BranchFault, IsShort, BodyFault, IsFaultOf}
 use Rattle.fidl_wire.specs.Meanings as meant
 use Rattle.fidl_wire.proofs.Sizes.{padding_after-add}
 use Rattle.fidl_wire.proofs.Slices.{begins-length}
 use Rattle.fidl_wire.proofs.Steps.{check-true, eq_true, true_eq, false_eq, true_le, true_lt, not_lt}
-use Rattle.fidl_wire.proofs.Blanks.{zeros_len, zeros_len-used, length-slice_range}
+use Rattle.fidl_wire.proofs.Blanks.{zeros_len, length-slice_range}
 use Rattle.fidl_wire.proofs.Endings.{before_object}
 use Rattle.fidl_wire.proofs.Parts.{moved, moved-nothing, moved-join, stands-join_first, stands-join_rest}
 use Rattle.fidl_wire.proofs.Cells.{Took}

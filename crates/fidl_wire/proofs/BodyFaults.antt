@@ -1,5 +1,5 @@
 -- The faults of whole bodies: each is what it says, and no value is spelled there.
-use Rattle.std.proofs.Common.{◌≡◌, ℕ, ◌+◌, ◌-◌, ◌<◌, ◌≤◌, ◌⊎◌, inl, inr, true, false, cond, ◌&&◌, List, [], ◌∷◌, length, drop, nat_lt, nat_le, ◌==◌, Option, Some, None, Result, Ok, Err, refl, sym, ap, ◌∙◌, subst, length-drop, arith}
+use Rattle.std.proofs.Common.{◌≡◌, ℕ, ◌+◌, ◌-◌, ◌<◌, ◌≤◌, ◌⊎◌, inl, inr, true, false, cond, ◌&&◌, List, [], length, nat_lt, nat_le, ◌==◌, Option, Some, None, Result, Ok, Err, refl, sym, ap, ◌∙◌, subst, length-drop, arith}
 use Rattle.fidl_names.specs.declared.methods.Handle.{Handle}
 use Rattle.fidl_names.specs.Numbers.{number_at}
 use Rattle.fidl_wire.specs.declared.cursor.Branch.{Branch}
@@ -7,15 +7,14 @@ use Rattle.fidl_wire.specs.declared.faults.WireFault.{WireFault}
 use Rattle.fidl_wire.specs.declared.faults.WireWhat.{WireWhat}
 use Rattle.fidl_wire.specs.declared.faults.WireWhat.TheVariants.{Short, Padding, Envelope, Ordinal, Handles, Trailing}
 use Rattle.fidl_wire.specs.Headers.{fault}
-use Rattle.fidl_wire.specs.Numbers.{padding_after, padded}
-use Rattle.fidl_wire.specs.Layout.{Cell, Item, Variant, Layout, Content, empty, word, object, struct, union, fields, branch, sizes_of, variant_of}
+use Rattle.fidl_wire.specs.Numbers.{padded}
+use Rattle.fidl_wire.specs.Layout.{Cell, Item, Variant, Layout, empty, word, object, struct, union, fields, branch, sizes_of, variant_of}
 use Rattle.fidl_wire.specs.Cursor.{Cursor, start, start_of, outside_of}
-use Rattle.fidl_wire.specs.Reading.{◌>>=◌, passed, check, all_blank, bytes_at, handles_at, flags_at, is_inlined, enough_handles, entered, inlined_word, within_branch, object_at, branch_of, ordinal_at, closed, finish_of, object_items, word_items, variant_items, known_variant, body_of}
-use Rattle.fidl_wire.specs.Grammar.{Part, Lays, IsSpelled}
-use Rattle.fidl_wire.specs.Meanings.{Stands, IsCounted, EntryFault, IsEntered, IsInlined, InlinedFault, OutsideFault, VariantFault, BranchFault, IsShort, BodyFault, ObjectFault, IsFaultOf}
-use Rattle.fidl_wire.specs.Meanings as meant
+use Rattle.fidl_wire.specs.Reading.{◌>>=◌, passed, check, all_blank, bytes_at, handles_at, flags_at, is_inlined, enough_handles, entered, inlined_word, within_branch, object_at, branch_of, ordinal_at, finish_of, object_items, word_items, variant_items, known_variant, body_of}
+use Rattle.fidl_wire.specs.Grammar.{Part, Lays}
+use Rattle.fidl_wire.specs.Meanings.{Stands, EntryFault, IsEntered, IsInlined, InlinedFault, OutsideFault, VariantFault, BranchFault, IsShort, BodyFault, IsFaultOf}
 use Rattle.fidl_wire.proofs.Slices.{begins-length}
-use Rattle.fidl_wire.proofs.Steps.{bind_ok, unit_bind, check_bind, check_ok, both_true, eq_true, true_eq, lt_true, true_lt, lt_false, not_lt, le_true}
+use Rattle.fidl_wire.proofs.Steps.{bind_ok, unit_bind, check_bind, check_ok, both_true, eq_true, true_eq, lt_true, lt_false, not_lt, le_true}
 use Rattle.fidl_wire.proofs.Endings.{before_object}
 use Rattle.fidl_wire.proofs.Parts.{moved}
 use Rattle.fidl_wire.proofs.Objects.{length-lays}

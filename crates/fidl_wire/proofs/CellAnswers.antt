@@ -1,8 +1,7 @@
 -- What is meant as a fault of a cell is answered.
-use Rattle.std.proofs.Common.{◌≡◌, ℕ, zero, suc, ◌+◌, ◌-◌, ◌*◌, ◌%◌, ◌<◌, ◌≤◌, inl, inr, max, Bool, true, false, not, ◌||◌, ◌&&◌, cond, List, [], ◌∷◌, length, drop, get_or, slice_range, nat_lt, nat_le, nat_eq, ◌==◌, Option, Some, None, Ok, Err, refl, sym, ap, ◌∙◌, subst, length-append, length-drop, add-zero, arith}
+use Rattle.std.proofs.Common.{◌≡◌, ℕ, zero, suc, ◌+◌, ◌-◌, ◌*◌, ◌<◌, ◌≤◌, inl, inr, max, Bool, true, false, not, ◌||◌, ◌&&◌, cond, List, [], ◌∷◌, length, drop, get_or, slice_range, nat_lt, nat_le, nat_eq, ◌==◌, Option, Some, None, Ok, Err, refl, sym, ap, ◌∙◌, subst, length-append, length-drop, add-zero, arith}
 use Rattle.std.proofs.Math.Nat.{sub-zero}
-use Rattle.std.specs.List.{position}
-use Rattle.std.specs.Str.{IsUtf8, is_utf8}
+use Rattle.std.specs.Str.{is_utf8}
 use Rattle.std.proofs.lemmas.Str.{IsUtf8-from_is_utf8, is_utf8-from_IsUtf8}
 use Rattle.std.proofs.lemmas.Bool.Decides.{nat_tests}
 use Rattle.fidl_names.specs.declared.methods.Handle.{Handle}
@@ -14,11 +13,11 @@ use Rattle.fidl_wire.specs.declared.faults.WireWhat.TheVariants.{Padding, Presen
 use Rattle.fidl_wire.specs.declared.kinds.HandleKind.{HandleKind}
 use Rattle.fidl_wire.specs.Headers.{fault}
 use Rattle.fidl_wire.specs.Numbers.{padded}
-use Rattle.fidl_wire.specs.Layout.{Cell, number, pad, handle, text, vector, table, is_kind, is_known, later, size_of}
+use Rattle.fidl_wire.specs.Layout.{Cell, number, pad, handle, text, vector, table, is_known, later, size_of}
 use Rattle.fidl_wire.specs.Cursor.{Cursor}
-use Rattle.fidl_wire.specs.Reading.{◌>>=◌, passed, check, blank_or, all_blank, next_handle, handle_word, present_word, present_list, count_at, list_part, list_at, list_cell, bytes_at, handles_at, flags_at, is_absent, is_inlined, is_outside, enough_handles, entered, skipped, number_member, member_at, members_at, table_at, table_cell, cell_at}
-use Rattle.fidl_wire.specs.Grammar.{Part, join, IsMember, AreMembers}
-use Rattle.fidl_wire.specs.Meanings.{Stands, IsFirstUsed, PadFault, HandleFault, HasNone, IsNoMark, IsText, IsThere, ListFault, HasForm, IsEntered, EntryFault, IsNoNumber, KnownFault, UnknownFault, IsFewLeft, MemberFault, MembersFault, TableFault, CellFault}
+use Rattle.fidl_wire.specs.Reading.{◌>>=◌, passed, check, blank_or, all_blank, next_handle, present_word, present_list, count_at, list_part, list_cell, bytes_at, handles_at, flags_at, is_outside, enough_handles, entered, skipped, number_member, member_at, members_at, cell_at}
+use Rattle.fidl_wire.specs.Grammar.{Part, join, AreMembers}
+use Rattle.fidl_wire.specs.Meanings.{Stands, IsFirstUsed, PadFault, HandleFault, HasNone, IsText, IsThere, ListFault, HasForm, IsEntered, EntryFault, KnownFault, UnknownFault, MemberFault, MembersFault, TableFault, CellFault}
 use Rattle.fidl_wire.proofs.Slices.{begins-length}
 use Rattle.fidl_wire.proofs.Steps.{inline_at-ok, check-true, eq_true, true_eq, false_eq, true_le}
 use Rattle.fidl_wire.proofs.Blanks.{zeros_len, zeros_len-used, length-slice_range}

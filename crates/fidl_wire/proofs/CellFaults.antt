@@ -1,6 +1,6 @@
 -- The faults of cells without tables: each is what it says.
-use Rattle.std.proofs.Common.{◌≡◌, ℕ, ◌+◌, ◌<◌, ◌≤◌, ◌⊎◌, inl, inr, Bool, true, false, not, ◌||◌, ◌&&◌, cond, List, [], ◌∷◌, length, drop, nat_le, nat_eq, Option, Some, None, Result, Ok, Err, refl, sym, ap, ◌∙◌, subst, arith}
-use Rattle.std.specs.Str.{IsUtf8, is_utf8}
+use Rattle.std.proofs.Common.{◌≡◌, ℕ, ◌+◌, ◌≤◌, inl, inr, Bool, true, false, not, ◌||◌, ◌&&◌, cond, List, [], ◌∷◌, length, nat_le, nat_eq, Some, None, Ok, Err, refl, sym, subst, arith}
+use Rattle.std.specs.Str.{is_utf8}
 use Rattle.std.proofs.lemmas.Str.{IsUtf8-from_is_utf8, is_utf8-from_IsUtf8}
 use Rattle.fidl_names.specs.declared.methods.Handle.{Handle}
 use Rattle.fidl_names.specs.Numbers.{number_at}
@@ -10,12 +10,12 @@ use Rattle.fidl_wire.specs.declared.faults.WireWhat.TheVariants.{Padding, Presen
 use Rattle.fidl_wire.specs.declared.kinds.HandleKind.{HandleKind}
 use Rattle.fidl_wire.specs.Headers.{fault}
 use Rattle.fidl_wire.specs.Numbers.{padded}
-use Rattle.fidl_wire.specs.Layout.{Item, pad, handle, text, vector, blank, held, seq, is_kind}
+use Rattle.fidl_wire.specs.Layout.{pad, handle, text, vector, blank, held, seq, is_kind}
 use Rattle.fidl_wire.specs.Cursor.{Cursor}
 use Rattle.fidl_wire.specs.Reading.{◌>>=◌, passed, check, all_blank, pad_cell, next_handle, handle_word, handle_cell, present_word, present_list, count_at, list_part, list_at, list_cell, cell_at}
-use Rattle.fidl_wire.specs.Meanings.{Spot, PadFault, HandleFault, HasNone, IsNoMark, IsText, IsThere, ListFault}
+use Rattle.fidl_wire.specs.Meanings.{Spot, PadFault, HandleFault, HasNone, IsText, IsThere, ListFault}
 use Rattle.fidl_wire.proofs.Steps.{check_bind, eq_true, true_eq, le_true}
-use Rattle.fidl_wire.proofs.FaultSteps.{bind_err, last_err, check_bind_err, unit_bind_err, inline_bind_err, le_false, eq_no, blank_err}
+use Rattle.fidl_wire.proofs.FaultSteps.{bind_err, last_err, check_bind_err, inline_bind_err, le_false, eq_no, blank_err}
 
 abbrev pub spot_of : Cursor → Spot
 spot_of c = record { message = c.message; handles = c.handles; place = c.place; end = c.end; out = c.out }

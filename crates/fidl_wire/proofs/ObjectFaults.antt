@@ -1,26 +1,25 @@
 -- The faults of an object that a message ends with: each is what it says.
-use Rattle.std.proofs.Common.{◌≡◌, ℕ, ◌+◌, ◌%◌, ◌<◌, ◌≤◌, ◌⊎◌, inl, inr, List, [], ◌∷◌, ◌++◌, length, drop, nat_le, nat_eq, ◌==◌, Option, Some, None, Ok, Err, refl, sym, ap, ◌∙◌, subst, length-append, length-drop, add-zero, add_assoc, arith}
-use Rattle.std.proofs.lemmas.List.{drop-drop}
+use Rattle.std.proofs.Common.{◌≡◌, ℕ, ◌+◌, ◌%◌, ◌<◌, ◌≤◌, inl, inr, List, [], ◌∷◌, length, drop, nat_le, ◌==◌, Option, Some, Ok, Err, refl, sym, ap, ◌∙◌, subst, length-drop, arith}
 use Rattle.fidl_names.specs.declared.methods.Handle.{Handle}
 use Rattle.fidl_wire.specs.declared.cursor.Opened.{Opened}
 use Rattle.fidl_wire.specs.declared.faults.WireFault.{WireFault}
 use Rattle.fidl_wire.specs.declared.faults.WireWhat.{WireWhat}
 use Rattle.fidl_wire.specs.declared.faults.WireWhat.TheVariants.{Padding, Envelope, Trailing, Handles}
 use Rattle.fidl_wire.specs.Headers.{fault}
-use Rattle.fidl_wire.specs.Numbers.{padding_after, padded}
+use Rattle.fidl_wire.specs.Numbers.{padded}
 use Rattle.fidl_wire.specs.Layout.{Cell, Item, number, pad, handle, text, vector, table, num, size_of, sizes_of}
 use Rattle.fidl_wire.specs.Cursor.{Cursor}
-use Rattle.fidl_wire.specs.Reading.{◌>>=◌, check, all_blank, number_cell, inline_at, number_cell, passed, cell_at, cells_at, closed, finish_of, object_items}
+use Rattle.fidl_wire.specs.Reading.{◌>>=◌, check, all_blank, number_cell, number_cell, passed, cell_at, cells_at, closed, finish_of, object_items}
 use Rattle.fidl_names.specs.Numbers.{number_at}
-use Rattle.fidl_wire.specs.Grammar.{Part, nothing, join, Lays, Spells}
+use Rattle.fidl_wire.specs.Grammar.{Part, nothing, join, Lays}
 use Rattle.fidl_wire.specs.Meanings.{Spot, behind, IsInFront, NoneSpells, CellFault, CellsFault, IsCounted, IsEnded, EndFault, EndsFault, ObjectFault, AreBlank, Stands}
 use Rattle.fidl_wire.specs.Meanings as meant
 use Rattle.fidl_wire.proofs.Sizes.{padding_after-add}
 use Rattle.fidl_wire.proofs.Slices.{Begins, begins-length}
-use Rattle.fidl_wire.proofs.Steps.{bind_ok, le_true}
+use Rattle.fidl_wire.proofs.Steps.{le_true}
 use Rattle.fidl_wire.proofs.Parts.{moved, moved-nothing, moved-join, stands-nothing, stands-join}
 use Rattle.fidl_wire.proofs.Cells.{Took}
-use Rattle.fidl_wire.proofs.Objects.{cell_read, cell_sound, cells_sound, length-cell, length-lays, aligned-lays}
+use Rattle.fidl_wire.proofs.Objects.{cell_read, cell_sound, cells_sound, length-cell, length-lays}
 use Rattle.fidl_wire.proofs.Endings.{before_object}
 use Rattle.fidl_wire.proofs.FaultSteps.{bind_err, last_err, check_err, check_bind_err, unit_bind_err, inline_bind_err, le_false, eq_no, blank_err, blank_ok}
 use Rattle.fidl_wire.proofs.CellFaults.{spot_of, as_fault, pad_fault, handle_fault, text_fault, vector_fault}

@@ -1,5 +1,5 @@
 -- The faults of tables: each is what it says.
-use Rattle.std.proofs.Common.{◌≡◌, ℕ, zero, suc, ◌+◌, ◌-◌, ◌*◌, ◌%◌, ◌<◌, ◌≤◌, ◌⊎◌, inl, inr, max, Bool, true, false, not, ◌&&◌, cond, List, [], ◌∷◌, length, drop, replicate, nat_le, nat_eq, ◌==◌, Option, Some, None, Result, Ok, Err, refl, sym, ap, ◌∙◌, subst, length-append, length-drop, add-zero, arith}
+use Rattle.std.proofs.Common.{◌≡◌, ℕ, zero, suc, ◌+◌, ◌-◌, ◌*◌, ◌%◌, ◌<◌, ◌≤◌, inl, inr, max, Bool, true, false, not, ◌&&◌, cond, List, [], ◌∷◌, length, drop, replicate, nat_le, ◌==◌, Option, Some, None, Ok, Err, refl, sym, ap, ◌∙◌, subst, length-append, length-drop, add-zero, arith}
 use Rattle.std.proofs.Math.Nat.{sub-zero}
 use Rattle.std.proofs.Math.Seq.{drop-nil}
 use Rattle.std.proofs.lemmas.List.{drop-drop}
@@ -14,10 +14,10 @@ use Rattle.fidl_wire.specs.Numbers.{padded}
 use Rattle.fidl_wire.specs.Layout.{table, members, is_known, later, with_member}
 use Rattle.fidl_wire.specs.Cursor.{Cursor}
 use Rattle.fidl_wire.specs.Reading.{◌>>=◌, passed, check, bytes_at, handles_at, flags_at, is_absent, is_inlined, is_outside, enough_handles, entered, skipped, number_member, member_at, members_at, count_at, table_at, table_cell, present_list, cell_at}
-use Rattle.fidl_wire.specs.Grammar.{Part, nothing, join, IsMember, AreMembers}
-use Rattle.fidl_wire.specs.Meanings.{Stands, HasForm, IsEntered, EntryFault, IsNoNumber, KnownFault, UnknownFault, IsFewLeft, MemberFault, NoneIsMember, MembersFault, IsThere, TableFault}
+use Rattle.fidl_wire.specs.Grammar.{nothing, join}
+use Rattle.fidl_wire.specs.Meanings.{Stands, HasForm, IsEntered, EntryFault, KnownFault, UnknownFault, MemberFault, NoneIsMember, MembersFault, TableFault}
 use Rattle.fidl_wire.proofs.Slices.{begins-length}
-use Rattle.fidl_wire.proofs.Steps.{check_bind, both_true, eq_true, true_eq, eq_false, not_true, le_true, unit_bind}
+use Rattle.fidl_wire.proofs.Steps.{check_bind, both_true, eq_true, true_eq, eq_false, not_true, le_true}
 use Rattle.fidl_wire.proofs.Parts.{stands-nothing, stands-join}
 use Rattle.fidl_wire.proofs.TableCells.{behind_part, member_read, member_sound, outside_true, enough_says}
 use Rattle.fidl_wire.proofs.FaultSteps.{bind_err, last_err, check_err, check_bind_err, unit_bind_err, inline_bind_err, le_false, eq_no}
