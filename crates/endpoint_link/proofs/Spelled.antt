@@ -10,7 +10,7 @@ use Rattle.endpoint_link.specs.declared.kinds.FrameKind.TheVariants as kind
 use Rattle.endpoint_link.specs.declared.kinds.FrameReason.TheVariants as reason
 use Rattle.endpoint_link.specs.declared.kinds.Side.{Side}
 use Rattle.endpoint_link.specs.declared.kinds.Side.TheVariants as side
-use Rattle.fidl_names.specs.Numbers.{AreBytes}
+use Rattle.fidl_names.specs.Numbers.{AreBytes, number_at, number_bytes}
 use Rattle.endpoint_link.specs.Numbers.{word_of, half_in, word_in, words_in}
 use Rattle.endpoint_link.specs.Frames.{Frame, number_of, goes_to, keeps_shape, HasShape, IsFrame, fixed_part, spelling, kind_of, reason_of, first_reason, size_of}
 use Rattle.endpoint_link.proofs.Words.{word_in-word_of, word_in-lt, word_in-append, half_in-append, word_of-word_in, words_in-flat_map, length-flat_map_word_of, length-words_in, words_in-lt, take-add, flat_map-words_in}
@@ -36,31 +36,31 @@ spelling-append f more =
     append_assoc (p ++ hs) f.bytes more ∙ append_assoc p hs (f.bytes ++ more)
 
 fixed-kind : (e : ℕ) (k : FrameKind) (h n : ℕ) (t : List ℕ) → get_or (fixed_part e k h n ++ t) 4 0 ≡ number_of k
-unfolding word_of
+unfolding number_bytes
 fixed-kind e k h n t = refl
 
 fixed-handles : (e : ℕ) (k : FrameKind) (h n : ℕ) (t : List ℕ) → get_or (fixed_part e k h n ++ t) 5 0 ≡ h
-unfolding word_of
+unfolding number_bytes
 fixed-handles e k h n t = refl
 
 fixed-zeros : (e : ℕ) (k : FrameKind) (h n : ℕ) (t : List ℕ) → half_in (drop 6 (fixed_part e k h n ++ t)) ≡ 0
-unfolding word_of half_in
+unfolding number_bytes number_at
 fixed-zeros e k h n t = refl
 
 fixed-bytes : (e : ℕ) (k : FrameKind) (h n : ℕ) (t : List ℕ) → n < 2 ^ 32 → word_in (drop 8 (fixed_part e k h n ++ t)) ≡ n
-unfolding word_of
+unfolding number_bytes
 fixed-bytes e k h n t l = word_in-word_of n t l
 
 fixed-endpoint : (e : ℕ) (k : FrameKind) (h n : ℕ) (t : List ℕ) → e < 2 ^ 32 → word_in (fixed_part e k h n ++ t) ≡ e
-unfolding word_of
+unfolding number_bytes
 fixed-endpoint e k h n t l = word_in-word_of e (number_of k ∷ h ∷ 0 ∷ 0 ∷ word_of n ++ t) l
 
 fixed-rest : (e : ℕ) (k : FrameKind) (h n : ℕ) (t : List ℕ) → drop 12 (fixed_part e k h n ++ t) ≡ t
-unfolding word_of
+unfolding number_bytes
 fixed-rest e k h n t = refl
 
 pub length-fixed_part : (e : ℕ) (k : FrameKind) (h n : ℕ) → length (fixed_part e k h n) ≡ 12
-unfolding word_of
+unfolding number_bytes
 length-fixed_part e k h n = refl
 
 pub length-spelling : (f : Frame) → length (spelling f) ≡ 12 + 4 * length f.handles + length f.bytes
@@ -210,7 +210,7 @@ four_cells (a ∷ b ∷ c ∷ d ∷ rest) h = refl
 
 -- a half of zero is two zero bytes
 half_zero : (b : List ℕ) → half_in b ≡ 0 → (get_or b 0 0 ≡ 0) × (get_or b 1 0 ≡ 0)
-unfolding half_in
+unfolding number_at
 half_zero b h = (omega arith, omega arith)
 
 -- a sound fixed part is spelled by its fields

@@ -8,12 +8,12 @@ use Rattle.std.proofs.lemmas.List.Elements.{All-nil, All-cons, All-take, All-dro
 use Rattle.std.proofs.lemmas.Nat.{le_bytes_4}
 use Rattle.byteorder.specs.Endian.{little_number}
 use Rattle.byteorder.specs.Numbers.{little_number-reads_back, little_from-append, little_from-lt, length-bytes_low_first}
-use Rattle.fidl_names.specs.Numbers.{AreBytes}
+use Rattle.fidl_names.specs.Numbers.{AreBytes, number_at, number_bytes}
 use Rattle.endpoint_link.specs.Numbers.{word_of, half_in, word_in, words_in}
 
 -- a number has four bytes
 pub length-word_of : (x : ℕ) → length (word_of x) ≡ 4
-unfolding word_of
+unfolding number_bytes
 length-word_of x = length-bytes_low_first 0 4 x
 
 AreBytes-four : (a b c d : ℕ) → a < 256 → b < 256 → c < 256 → d < 256 → AreBytes (a ∷ b ∷ c ∷ d ∷ [])
@@ -23,18 +23,18 @@ AreBytes-four a b c d p q r s =
 
 -- the bytes of a number are bytes
 pub AreBytes-word_of : (x : ℕ) → AreBytes (word_of x)
-unfolding word_of
+unfolding number_bytes
 AreBytes-word_of x =
     AreBytes-four (byte_at 0 x) (byte_at 1 x) (byte_at 2 x) (byte_at 3 x) (omega arith) (omega arith) (omega arith) (omega arith)
 
 -- what was written is read
 pub word_in-word_of : (x : ℕ) (rest : List ℕ) → x < 2 ^ 32 → word_in (word_of x ++ rest) ≡ x
-unfolding word_of word_in
+unfolding number_bytes number_at
 word_in-word_of x rest h = little_number-reads_back 4 x rest h
 
 -- the four bytes in front are passed
 pub drop-word_of : (x : ℕ) (rest : List ℕ) → drop 4 (word_of x ++ rest) ≡ rest
-unfolding word_of
+unfolding number_bytes
 drop-word_of x rest = refl
 
 -- a byte of bytes, or 0 past their end
@@ -45,21 +45,21 @@ byte_below (x ∷ xs) h (suc k) = byte_below xs (All-tail (λ y. y < 256) x xs h
 
 -- a number of four bytes is below 2 ^ 32
 pub word_in-lt : (b : List ℕ) → AreBytes b → word_in b < 2 ^ 32
-unfolding word_in
+unfolding number_at
 word_in-lt b h = little_from-lt 0 4 b (byte_below b h)
 
 -- only the four bytes in front are read
 pub word_in-append : (b more : List ℕ) → 4 ≤ length b → word_in (b ++ more) ≡ word_in b
-unfolding word_in
+unfolding number_at
 word_in-append b more h = little_from-append 4 b more h
 
 pub half_in-append : (b more : List ℕ) → 2 ≤ length b → half_in (b ++ more) ≡ half_in b
-unfolding half_in
+unfolding number_at
 half_in-append b more h = little_from-append 2 b more h
 
 -- what was read is written
 pub word_of-word_in : (b : List ℕ) → AreBytes b → 4 ≤ length b → word_of (word_in b) ≡ take 4 b
-unfolding word_of word_in
+unfolding number_bytes number_at
 word_of-word_in b h long =
     let front = All-take (λ y. y < 256) 4 b h in
     let same : little_number 4 b ≡ little_number 4 (take 4 b) =

@@ -1,5 +1,7 @@
 -- Which frames are admitted: the first refusal of a list, over what can be looked up.
-use Rattle.std.specs.Prelude.{◌≡◌, ◌+◌, ◌&&◌, ◌||◌, ℕ, Bool, true, false, not, nat_lt, nat_le, List, [], ◌∷◌, count_by, Option, Some, None}
+use Rattle.std.specs.Prelude.{◌≡◌, ◌+◌, ◌&&◌, ◌||◌, ℕ, Bool, true, not, nat_lt, nat_le, List, [], ◌∷◌, count_by, Option, Some, None}
+use Rattle.fidl_names.specs.declared.limits.TheConstants as limit
+use Rattle.fidl_names.specs.First.{cause_if, first_of}
 use Rattle.endpoint_link.specs.declared.kinds.FrameKind.{FrameKind}
 use Rattle.endpoint_link.specs.declared.kinds.FrameKind.TheVariants as kind
 use Rattle.endpoint_link.specs.declared.kinds.Refusal.{Refusal}
@@ -30,17 +32,6 @@ look_ups k = record {
   servers = k.servers;
 }
 
--- the first refusal of a list
-abbrev pub first_of : List (Option Refusal) → Option Refusal
-first_of [] = None
-first_of (Some r ∷ rest) = Some r
-first_of (None ∷ rest) = first_of rest
-
--- a refusal where a test holds
-abbrev pub refused_if : Bool → Refusal → Option Refusal
-refused_if true r = Some r
-refused_if false r = None
-
 -- an endpoint that is dead or hung up, or that isn't known
 abbrev pub by_standing : Standing → Option Refusal
 by_standing standing.Unused = Some refusal.BadHandle
@@ -59,26 +50,26 @@ all_may_travel l (h ∷ hs) = may_travel l h && not (among h hs) && all_may_trav
 
 -- so many entries wait as can
 abbrev pub is_full : LookUps → Bool
-is_full l = nat_le 4096 l.waiting
+is_full l = nat_le limit.MAX_WAITING l.waiting
 
 -- the live endpoints with the new ones would be too many
 abbrev pub too_many : LookUps → List ℕ → Bool
-too_many l handles = nat_lt 65536 (l.live + count_by is_client handles)
+too_many l handles = nat_lt limit.MAX_LIVE (l.live + count_by is_client handles)
 
 -- the first refusal of a frame of this kind. Mount ends and tokens are no clients' endpoints
 abbrev pub refusal_by : FrameKind → LookUps → ℕ → List ℕ → Option Refusal
 refusal_by kind.Message l e handles =
     first_of
     (by_standing (l.standing e)
-    ∷ refused_if (not (is_client e)) refusal.BadHandle
-    ∷ refused_if (not (all_may_travel l handles)) refusal.BadHandle
-    ∷ refused_if (is_full l) refusal.ShouldWait
-    ∷ refused_if (too_many l handles) refusal.NoResources
+    ∷ cause_if (not (is_client e)) refusal.BadHandle
+    ∷ cause_if (not (all_may_travel l handles)) refusal.BadHandle
+    ∷ cause_if (is_full l) refusal.ShouldWait
+    ∷ cause_if (too_many l handles) refusal.NoResources
     ∷ [])
 refusal_by kind.Close l e handles =
-    first_of (by_standing (l.standing e) ∷ refused_if (not (is_client e)) refusal.BadHandle ∷ refused_if (is_full l) refusal.ShouldWait ∷ [])
+    first_of (by_standing (l.standing e) ∷ cause_if (not (is_client e)) refusal.BadHandle ∷ cause_if (is_full l) refusal.ShouldWait ∷ [])
 refusal_by kind.Pick l e handles = by_standing (l.standing e)
-refusal_by kind.Turn l e handles = refused_if (nat_le l.servers e) refusal.BadHandle
+refusal_by kind.Turn l e handles = cause_if (nat_le l.servers e) refusal.BadHandle
 refusal_by kind.Refused l e handles = None
 
 -- the first refusal of a frame

@@ -1,6 +1,7 @@
 -- A stream that is cut into frames: what is kept of it, and what its calls do.
 use Rattle.std.specs.Prelude.{◌≡◌, ◌≢◌, ◌≤◌, ◌+◌, ◌^◌, ◌⊎◌, ℕ, List, [], ◌∷◌, ◌++◌, length, take, nat_lt, is_some, if◌then◌else◌, Option, Some, None, Result, Ok, Err, MatchOption}
 use Rattle.std.specs.List.{flat_map}
+use Rattle.endpoint_link.specs.declared.fixed.TheConstants.{FIXED_LEN, MAX_FRAME_LEN}
 use Rattle.endpoint_link.specs.declared.kinds.FrameReason.{FrameReason}
 use Rattle.endpoint_link.specs.declared.kinds.LinkFault.{LinkFault}
 use Rattle.endpoint_link.specs.declared.kinds.Side.{Side}
@@ -23,11 +24,11 @@ taken_by d = d.start + length d.kept
 
 -- the first reason against a fixed part that is wholly there
 abbrev pub flaw : Side → List ℕ → Option FrameReason
-flaw s b = if nat_lt (length b) 12 then None else first_reason s b
+flaw s b = if nat_lt (length b) FIXED_LEN then None else first_reason s b
 
 -- where what is taken for the frame in front ends, as far as its bytes tell: behind its fixed part, unless that is sound
 abbrev pub end_of : Side → List ℕ → ℕ
-end_of s b = if nat_lt (length b) 12 then 12 else if is_some (first_reason s b) then 12 else size_of b
+end_of s b = if nat_lt (length b) FIXED_LEN then FIXED_LEN else if is_some (first_reason s b) then FIXED_LEN else size_of b
 
 -- what is taken of these bytes for the frame in front
 abbrev pub front : Side → List ℕ → List ℕ
@@ -68,7 +69,7 @@ IsInside d = (d.kept ≢ []) × KeepsNone d
 pub record KeepsFrame (d : Deframing) (capacity : ℕ) : Type 0 where
   pub bytes : AreBytes d.kept
   pub no_further : length d.kept ≤ end_of d.side d.kept
-  pub room : 65804 ≤ capacity
+  pub room : MAX_FRAME_LEN ≤ capacity
   pub countable : taken_by d ≤ 2 ^ 63
 
 -- what one call did: a piece came, of which the first bytes were taken; it was asked for the frame in hand; that was dropped

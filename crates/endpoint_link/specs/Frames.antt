@@ -1,6 +1,8 @@
 -- What a frame is, how it is spelled, and what a stream of bytes is for one side of the link.
 use Rattle.std.specs.Prelude.{◌≡◌, ◌≤◌, ◌<◌, ◌^◌, ◌+◌, ◌*◌, ◌==◌, ◌&&◌, ◌⊎◌, ℕ, Bool, true, false, IsTrue, if◌then◌else◌, nat_le, List, [], ◌∷◌, ◌++◌, length, drop, slice_index, All, Option, Some, None}
 use Rattle.std.specs.List.{flat_map}
+use Rattle.fidl_names.specs.declared.limits.TheConstants as limit
+use Rattle.endpoint_link.specs.declared.fixed.TheConstants.{FIXED_LEN}
 use Rattle.endpoint_link.specs.declared.kinds.FrameKind.{FrameKind}
 use Rattle.endpoint_link.specs.declared.kinds.FrameKind.TheVariants as kind
 use Rattle.endpoint_link.specs.declared.kinds.FrameReason.{FrameReason}
@@ -44,8 +46,8 @@ keeps_shape kind.Refused handles bytes = (handles == 0) && (bytes == 4)
 
 -- the kind, the handles and the bytes go together, and within the limits
 pub record HasShape (k : FrameKind) (handles bytes : ℕ) : Type 0 where
-  pub few_handles : handles ≤ 64
-  pub few_bytes : bytes ≤ 65536
+  pub few_handles : handles ≤ limit.MAX_HANDLES
+  pub few_bytes : bytes ≤ limit.MAX_BYTES
   pub shape : IsTrue (keeps_shape k handles bytes)
 
 -- a frame that may go that way
@@ -68,7 +70,7 @@ spelling f =
 
 -- how many bytes that is, with so many handles and bytes
 abbrev pub spelled_len : ℕ → ℕ → ℕ
-spelled_len handles bytes = 12 + 4 * handles + bytes
+spelled_len handles bytes = FIXED_LEN + 4 * handles + bytes
 
 -- these frames, one after another
 abbrev pub spellings : List Frame → List ℕ
@@ -89,8 +91,8 @@ abbrev pub reason_of : Option FrameKind → ℕ → ℕ → ℕ → Option Frame
 reason_of None field handles bytes = Some reason.Kind
 reason_of (Some k) field handles bytes =
     if field == 0
-    then (if nat_le handles 64
-    then (if nat_le bytes 65536
+    then (if nat_le handles limit.MAX_HANDLES
+    then (if nat_le bytes limit.MAX_BYTES
     then (if keeps_shape k handles bytes then None else Some reason.Shape)
     else Some reason.Bytes)
     else Some reason.Handles)
@@ -103,12 +105,12 @@ first_reason s b =
 
 -- how long the frame is whose fixed part stands in front of these bytes
 unfoldable pub size_of : List ℕ → ℕ
-size_of b = 12 + 4 * slice_index b 5 + word_in (drop 8 b)
+size_of b = FIXED_LEN + 4 * slice_index b 5 + word_in (drop 8 b)
 
 -- fewer bytes than a fixed part, or the beginning of a frame that may go this way
 abbrev pub IsPartial : Side → List ℕ → Type 0
 IsPartial s rest =
-    (length rest < 12)
+    (length rest < FIXED_LEN)
     ⊎ ((f : Frame) × (more : List ℕ) × IsFrame s f × (0 < length more) × (spelling f ≡ rest ++ more))
 
 -- the bytes are these frames, and then the beginning of one
@@ -119,7 +121,7 @@ pub record Frames (s : Side) (b : List ℕ) (frames : List Frame) (rest : List �
 
 -- a whole fixed part stands in front, and it is bad for this first reason
 pub record IsBadFront (s : Side) (b : List ℕ) (why : FrameReason) : Type 0 where
-  pub whole : 12 ≤ length b
+  pub whole : FIXED_LEN ≤ length b
   pub reason : first_reason s b ≡ Some why
 
 -- the first `at` bytes are whole frames, and the fixed part behind them is bad for this first reason

@@ -1,6 +1,7 @@
 -- What is known of the numbers of endpoints and tokens.
-use Rattle.std.specs.Prelude.{◌≡◌, ◌+◌, ◌-◌, ◌&&◌, ◌||◌, ℕ, Bool, true, false, not, if◌then◌else◌, nat_le, List, length, count_by, Option, Some, None, unwrap_or, refl}
+use Rattle.std.specs.Prelude.{◌≡◌, ◌+◌, ◌-◌, ◌^◌, ◌&&◌, ◌||◌, ℕ, Bool, true, false, not, if◌then◌else◌, nat_le, List, length, count_by, Option, Some, None, unwrap_or, refl}
 use Rattle.std.specs.Coded.{Coded, code_by, coded×, coded_ℕ, coded_bool}
+use Rattle.fidl_names.specs.declared.limits.TheConstants as limit
 use Rattle.fidl_names.specs.HandleNumber.{is_client, is_mount_end}
 use Rattle.endpoint_link.specs.Numbering.{among}
 use Rattle.std.specs.Ordering.{nat_cmp}
@@ -73,9 +74,9 @@ is_live standing.Dead = false
 abbrev pub holds : Known → ℕ → Bool
 holds k n = unwrap_or (map.get k.tokens n) false
 
--- the number that the next token gets: none where 4,096 tokens are out or the last number was given
+-- the number that the next token gets: none where so many tokens are out as can or the last number was given
 abbrev pub next_token_of : Known → Option ℕ
-next_token_of k = if nat_le 4096 k.out || nat_le 0x100000000 k.next then None else Some k.next
+next_token_of k = if nat_le limit.MAX_TOKENS k.out || nat_le (2 ^ 32) k.next then None else Some k.next
 
 -- at the start the first connections and the mount ends are live, and nothing else is known
 pub record Starts (firsts : List ℕ) (mounts count : ℕ) (new : Known) : Type 0 where
@@ -83,7 +84,7 @@ pub record Starts (firsts : List ℕ) (mounts count : ℕ) (new : Known) : Type 
   pub live : new.live ≡ length firsts + mounts
   pub tokens : new.tokens ≡ map.empty
   pub out : new.out ≡ 0
-  pub next : new.next ≡ 0x80000000
+  pub next : new.next ≡ limit.FIRST_TOKEN
   pub waiting : new.waiting ≡ 0
   pub servers : new.servers ≡ count
 

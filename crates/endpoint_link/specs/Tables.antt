@@ -5,8 +5,10 @@ use Rattle.std.specs.List.{sum_by}
 use Rattle.std.specs.List.Sorted.{IsStrictlySortedBy}
 use Rattle.std.specs.Map.{keys_of, values_of, lookup}
 use Rattle.std.specs.Ordering.{nat_cmp}
+use Rattle.fidl_names.specs.declared.limits.TheConstants as limit
 use Rattle.fidl_names.specs.HandleNumber.{is_client}
 use Rattle.endpoint_link.specs.Numbering.{among}
+use Rattle.endpoint_link.specs.Standings.{is_live}
 use Rattle.endpoint_link.specs.declared.kinds.Standing.{Standing}
 use Rattle.endpoint_link.specs.declared.kinds.Standing.TheVariants as standing
 
@@ -45,10 +47,7 @@ Travels ns old new = (q : ℕ) → value_at new q ≡ (if not (is_client q) && a
 
 -- one for a live endpoint
 abbrev pub weight : Standing → ℕ
-weight standing.Unused = 0
-weight standing.Live = 1
-weight standing.HungUp = 1
-weight standing.Dead = 0
+weight s = if is_live s then 1 else 0
 
 -- how many endpoints are live
 abbrev pub live_in : List (ℕ × Standing) → ℕ
@@ -74,4 +73,4 @@ pub record KeepsNumbers (entries : List (ℕ × Bool)) (number : ℕ) : Type 0 w
 pub record KeepsApart (standings : List (ℕ × Standing)) (tokens : List (ℕ × Bool)) (number : ℕ) : Type 0 where
   pub known : (q : ℕ) → value_at standings q ≡ Some standing.Unused → ⊥
   pub apart : (q : ℕ) → is_client q ≡ true → value_at tokens q ≡ None
-  pub after : 2 ^ 31 ≤ number
+  pub after : limit.FIRST_TOKEN ≤ number

@@ -13,17 +13,11 @@ ghost use Rattle.endpoint_link.specs.Views.{frame_of, handle_numbers};
 
 use crate::frame::{FrameView, HandleBytes};
 use crate::kinds::{AdmitFault, FrameKind, Refusal, Standing, TokenFault};
-use crate::standings::{Standings, is_client};
+use crate::standings::Standings;
 use crate::tokens::Tokens;
-use fidl_names::NoMemory;
+use fidl_names::{MAX_LIVE, MAX_WAITING, NoMemory, is_client};
 use std::alloc::Global;
 use std::marker::Model;
-
-/// Entries that wait at most.
-pub const MAX_WAITING: u32 = 4096;
-
-/// Live endpoints at most, mount ends included.
-pub const MAX_LIVE: usize = 65536;
 
 /// All endpoints and tokens of the link, and how many entries wait.
 #[derive(Drop)]
@@ -209,8 +203,8 @@ impl Endpoints {
     /// Lets a message with these handles wait.
     fn take_message(&mut self, handles: HandleBytes<'_>) -> Result<(), AdmitFault>
         requires travel { all_may_travel (look_ups self.old) (handle_numbers handles) ≡ true }
-        requires few { self.old.live + count_by is_client (handle_numbers handles) ≤ 65536 }
-        requires room { self.old.waiting < 4096 }
+        requires few { self.old.live + count_by is_client (handle_numbers handles) ≤ MAX_LIVE }
+        requires room { self.old.waiting < MAX_WAITING }
         ensures answer { (result ≡ Ok tt) ⊎ (result ≡ Err AdmitFault.NoMemory) }
         ensures sent { OnOk result (Sends self.old (handle_numbers handles.entry) self.new) }
         ensures unchanged { OnErr result (self.new ≡ self.old) }
@@ -225,7 +219,7 @@ impl Endpoints {
     /// Lets a hang-up wait.
     fn take_close(&mut self, endpoint: u32)
         requires live { standing_of self.old endpoint ≡ Standing.Live }
-        requires room { self.old.waiting < 4096 }
+        requires room { self.old.waiting < MAX_WAITING }
         ensures { self.new ≡ hung_up self.old endpoint }
     {
         self.standings.change(endpoint, Standing::HungUp);
@@ -243,7 +237,7 @@ impl Endpoints {
     ) -> Result<Endpoints, NoMemory>
         requires clients { All (λ n. is_client n ≡ true) firsts.now }
         requires distinct { AreDistinct firsts.now }
-        requires few { length firsts.now + mounts ≤ 65536 }
+        requires few { length firsts.now + mounts ≤ MAX_LIVE }
         ensures { IfOk result (Starts firsts.now mounts servers) }
     {
         let mut standings = Standings::new(alloc);
@@ -306,7 +300,7 @@ impl Endpoints {
 
     /// An entry was forwarded, and waits.
     pub fn forwarded_one(&mut self)
-        requires { self.old.waiting < 4096 }
+        requires { self.old.waiting < MAX_WAITING }
         ensures { self.new ≡ record self.old { waiting = self.old.waiting + 1 } }
     {
         self.waiting += 1;
@@ -320,8 +314,8 @@ impl Endpoints {
         self.standings.change(endpoint, Standing::Dead);
     }
 
-    /// The number that the next token gets: none where 4,096 tokens are held or travel, or where the last number was
-    /// given.
+    /// The number that the next token gets: none where so many tokens are held or travel as can, or where the last
+    /// number was given.
     pub fn next_token(&self) -> Option<u32>
         ensures { result ≡ next_token_of self.now }
     {

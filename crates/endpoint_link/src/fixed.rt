@@ -6,18 +6,13 @@ ghost use Rattle.endpoint_link.specs.Numbers.{word_in};
 
 use crate::kinds::{FrameKind, FrameReason, Side};
 use byteorder::{ByteOrder, LittleEndian};
+use fidl_names::{MAX_BYTES, MAX_HANDLES};
 
 /// The bytes that every frame begins with.
 pub const FIXED_LEN: usize = 12;
 
-/// The handles of a frame at most.
-pub const MAX_HANDLES: usize = 64;
-
-/// The bytes of a frame's message at most.
-pub const MAX_BYTES: usize = 65536;
-
 /// The bytes of a whole frame at most.
-pub const MAX_FRAME_LEN: usize = 12 + 4 * 64 + 65536;
+pub const MAX_FRAME_LEN: usize = FIXED_LEN + 4 * MAX_HANDLES + MAX_BYTES;
 
 /// The number that stands for a kind.
 pub(crate) fn number_of(kind: FrameKind) -> u8
@@ -99,7 +94,7 @@ fn reason_of(
 }
 
 /// The number of 32 bits in front, the low byte first.
-#[tactic(auto, unfolding(crate::specs::Numbers::word_in))]
+#[tactic(auto, unfolding(fidl_names::specs::Numbers::number_at))]
 pub(crate) fn word_in(bytes: &[u8]) -> u32
     requires { 4 ≤ length bytes.now }
     ensures { result ≡ word_in bytes.now }
@@ -108,9 +103,9 @@ pub(crate) fn word_in(bytes: &[u8]) -> u32
 }
 
 /// The first reason for which the fixed part in front is bad, if there is one.
-#[tactic(auto, unfolding(crate::specs::Frames::first_reason, crate::specs::Numbers::half_in))]
+#[tactic(auto, unfolding(crate::specs::Frames::first_reason, fidl_names::specs::Numbers::number_at))]
 pub(crate) fn first_reason(side: Side, bytes: &[u8]) -> Option<FrameReason>
-    requires { 12 ≤ length bytes.now }
+    requires { FIXED_LEN ≤ length bytes.now }
     ensures { result ≡ first_reason side bytes.now }
 {
     let kind = kind_of(side, bytes[4]);
@@ -123,7 +118,7 @@ pub(crate) fn first_reason(side: Side, bytes: &[u8]) -> Option<FrameReason>
 /// How long the frame is whose fixed part stands in front.
 #[tactic(auto, unfolding(crate::specs::Frames::size_of))]
 pub(crate) fn size_of(bytes: &[u8]) -> usize
-    requires { 12 ≤ length bytes.now }
+    requires { FIXED_LEN ≤ length bytes.now }
     ensures { result ≡ size_of bytes.now }
 {
     let handles = usize::from(bytes[5]);

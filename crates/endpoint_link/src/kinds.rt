@@ -2,6 +2,7 @@
 
 ghost use Rattle.std.specs.Prelude.{◌≡◌};
 ghost use Rattle.endpoint_link.specs.Refusals.{status_of};
+ghost use Rattle.endpoint_link.specs.Standings.{is_live};
 
 use fidl_names::{NoMemory, Status};
 
@@ -22,9 +23,9 @@ pub enum FrameReason {
     Kind,
     /// The zero field isn't zero.
     Zero,
-    /// More than 64 handles.
+    /// More handles than a message may have.
     Handles,
-    /// More than 65,536 bytes.
+    /// More bytes than a message may have.
     Bytes,
     /// The kind doesn't have so many handles or bytes.
     Shape,
@@ -64,6 +65,18 @@ pub enum Standing {
     HungUp,
     /// It was live once.
     Dead,
+}
+
+impl Standing {
+    /// Whether an endpoint that stands so is live.
+    pub fn is_live(self) -> bool
+        ensures { result ≡ is_live self }
+    {
+        match self {
+            Standing::Live | Standing::HungUp => true,
+            Standing::Unused | Standing::Dead => false,
+        }
+    }
 }
 
 /// Why a frame isn't admitted.

@@ -4,6 +4,7 @@ ghost use Rattle.std.specs.Prelude.{◌≡◌, ◌≤◌, ◌<◌, ◌⊎◌, �
 ghost use Rattle.endpoint_link.specs.Frames.{Frame, Frames, Bad, IsFrame, IsPartial, spelling, first_reason, size_of};
 ghost use Rattle.endpoint_link.specs.Deframing.{Deframing, Call, Run, fresh, stream_of, dropped_by, Follows};
 ghost use Rattle.endpoint_link.specs.Laws.{HasFrames, IsBad};
+ghost use Rattle.endpoint_link.specs.declared.fixed.TheConstants.{FIXED_LEN, MAX_FRAME_LEN};
 ghost use Rattle.fidl_names.specs.Numbers.{AreBytes};
 ghost use Rattle.endpoint_link.specs.declared.kinds.FrameReason.{FrameReason};
 ghost use Rattle.endpoint_link.specs.declared.kinds.Side.{Side as TheSide};
@@ -25,9 +26,9 @@ pub fn one_reading()
 pub fn sound_fixed_parts()
     ensures no_reason { (s : TheSide) (f : Frame) (more : List ℕ) → IsFrame s f → first_reason s (spelling f ++ more) ≡ None }
     ensures size { (s : TheSide) (f : Frame) (more : List ℕ) → IsFrame s f → size_of (spelling f ++ more) ≡ length (spelling f) }
-    ensures frame { (s : TheSide) (b : List ℕ) → AreBytes b → 12 ≤ length b → first_reason s b ≡ None
+    ensures frame { (s : TheSide) (b : List ℕ) → AreBytes b → FIXED_LEN ≤ length b → first_reason s b ≡ None
         → size_of b ≤ length b → (f : Frame) × IsFrame s f × (b ≡ spelling f ++ drop (size_of b) b) }
-    ensures beginning { (s : TheSide) (b : List ℕ) → AreBytes b → 12 ≤ length b → first_reason s b ≡ None
+    ensures beginning { (s : TheSide) (b : List ℕ) → AreBytes b → FIXED_LEN ≤ length b → first_reason s b ≡ None
         → length b < size_of b → IsPartial s b }
 {}
 
@@ -42,7 +43,7 @@ pub fn joined_streams()
         → Bad s b at why → Bad s (b ++ more) at why }
     ensures frames_stay { (s : TheSide) (b more : List ℕ) (frames all : List Frame) (rest left : List ℕ)
         → Frames s b frames rest → Frames s (b ++ more) all left → (later : List Frame) × (all ≡ frames ++ later) }
-    ensures short { (s : TheSide) (rest : List ℕ) → IsPartial s rest → length rest < 65804 }
+    ensures short { (s : TheSide) (rest : List ℕ) → IsPartial s rest → length rest < MAX_FRAME_LEN }
 {}
 
 /// In any cut: whatever calls a deframer gets, the frames that were dropped and the one that is kept are those of the

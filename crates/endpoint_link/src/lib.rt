@@ -13,8 +13,8 @@ mod standings;
 mod tokens;
 
 pub use deframer::Deframer;
-pub use endpoints::{Endpoints, MAX_LIVE, MAX_WAITING};
-pub use fixed::{FIXED_LEN, MAX_BYTES, MAX_FRAME_LEN, MAX_HANDLES};
+pub use endpoints::Endpoints;
+pub use fixed::{FIXED_LEN, MAX_FRAME_LEN};
 pub use frame::{FrameView, HandleBytes, Reading};
 pub use kinds::{
     AdmitFault, FrameKind, FrameReason, LinkFault, Mode, Refusal, Side, Standing, TokenFault,
@@ -24,6 +24,4 @@ pub use outbox::{FrameRoom, Outbox, spelled_len, write_frame, write_message};
 pub use reading::frame_at;
 
 #[cfg(test)]
-mod admission_tests;
-#[cfg(test)]
-mod frame_tests;
+mod tests;

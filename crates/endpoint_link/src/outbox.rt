@@ -137,8 +137,8 @@ impl FrameRoom {
 
 /// The bytes of a frame with so many handles and bytes.
 pub fn spelled_len(handles: usize, bytes: usize) -> usize
-    requires few_handles { handles ≤ 64 }
-    requires few_bytes { bytes ≤ 65536 }
+    requires few_handles { handles ≤ MAX_HANDLES }
+    requires few_bytes { bytes ≤ MAX_BYTES }
     ensures { result ≡ spelled_len handles bytes }
 {
     FIXED_LEN + 4 * handles + bytes
@@ -199,7 +199,7 @@ fn append(to: &mut Vec<u8>, part: &[u8])
 }
 
 /// Appends a number of 32 bits to bytes that have room for it.
-#[tactic(auto, unfolding(crate::specs::Numbers::word_of))]
+#[tactic(auto, unfolding(fidl_names::specs::Numbers::number_bytes))]
 fn put_word(to: &mut Vec<u8>, word: u32)
     requires { vec_len to.old + 4 ≤ vec_capacity to.old }
     ensures items { to.new.items ≡ to.old.items ++ word_of word }
@@ -213,11 +213,11 @@ fn put_word(to: &mut Vec<u8>, word: u32)
 
 /// Appends a fixed part to bytes that have room for it.
 fn put_fixed_part(to: &mut Vec<u8>, endpoint: u32, kind: FrameKind, handles: usize, bytes: usize)
-    requires few_handles { handles ≤ 64 }
-    requires few_bytes { bytes ≤ 65536 }
-    requires room { vec_len to.old + 12 ≤ vec_capacity to.old }
+    requires few_handles { handles ≤ MAX_HANDLES }
+    requires few_bytes { bytes ≤ MAX_BYTES }
+    requires room { vec_len to.old + FIXED_LEN ≤ vec_capacity to.old }
     ensures items { to.new.items ≡ to.old.items ++ fixed_part endpoint kind handles bytes }
-    ensures len { vec_len to.new ≡ vec_len to.old + 12 }
+    ensures len { vec_len to.new ≡ vec_len to.old + FIXED_LEN }
     ensures room { vec_capacity to.old ≤ vec_capacity to.new }
 {
     put_word(to, endpoint);

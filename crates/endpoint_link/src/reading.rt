@@ -11,7 +11,7 @@ use crate::kinds::{FrameKind, Side};
 
 /// The frame whose sound fixed part stands in front of its other bytes.
 fn view_of(side: Side, bytes: &[u8]) -> FrameView<'_>
-    requires long { 12 ≤ length bytes.now }
+    requires long { FIXED_LEN ≤ length bytes.now }
     requires sound { first_reason side bytes.now ≡ None }
     requires whole { size_of bytes.now ≤ length bytes.now }
     ensures sound { IsFrame side (frame_of result) }

@@ -7,7 +7,7 @@ ghost use Rattle.endpoint_link.specs.Numbering.{among};
 
 use crate::frame::HandleBytes;
 use crate::kinds::Standing;
-use fidl_names::NoMemory;
+use fidl_names::{FIRST_MOUNT_END, MAX_LIVE, NoMemory, is_client};
 use std::alloc::Global;
 use std::collections::BTreeMap;
 use std::marker::Model;
@@ -21,30 +21,21 @@ pub(crate) struct Standings {
 
 impl Model for Standings {
     ghost use Rattle.std.specs.Prelude.{◌≡◌, ◌≤◌};
+    ghost use Rattle.fidl_names.specs.declared.limits.TheConstants as limit;
     ghost use Rattle.endpoint_link.specs.Tables.{Counted, IsTable, live_in};
 
     ghost Value = { Counted };
 
     ghost view = { λ s. record { entries = s.table.entries; live = s.live } };
 
-    ghost invariant = { λ s. IsTable s.table.entries × (s.live ≡ live_in s.table.entries) × (s.live ≤ 65536) };
-}
-
-/// Whether clients make endpoints with this number.
-pub(crate) fn is_client(number: u32) -> bool
-    ensures { result ≡ is_client number }
-{
-    0 < number && number < 0x4000_0000
+    ghost invariant = { λ s. IsTable s.table.entries × (s.live ≡ live_in s.table.entries) × (s.live ≤ limit.MAX_LIVE) };
 }
 
 /// One for a live endpoint.
 fn weight(standing: Standing) -> usize
     ensures { result ≡ weight standing }
 {
-    match standing {
-        Standing::Live | Standing::HungUp => 1,
-        Standing::Unused | Standing::Dead => 0,
-    }
+    usize::from(standing.is_live())
 }
 
 impl Standings {
@@ -71,7 +62,7 @@ impl Standings {
     /// How many endpoints are live.
     pub(crate) fn live(&self) -> usize
         ensures live { result ≡ self.now.live }
-        ensures few { result ≤ 65536 }
+        ensures few { result ≤ MAX_LIVE }
     {
         self.live
     }
@@ -79,7 +70,7 @@ impl Standings {
     /// Makes a live endpoint of a number that was never used.
     pub(crate) fn make(&mut self, number: u32) -> Result<(), NoMemory>
         requires unused { value_at self.old.entries number ≡ None }
-        requires few { self.old.live < 65536 }
+        requires few { self.old.live < MAX_LIVE }
         ensures made { OnOk result (ChangesAt number (Some Standing.Live) self.old.entries self.new.entries) }
         ensures live { OnOk result (self.new.live ≡ self.old.live + 1) }
         ensures err { OnErr result (self.new ≡ self.old) }
@@ -114,7 +105,7 @@ impl Standings {
     /// Makes a live endpoint where the number is a client's.
     fn make_client(&mut self, number: u32) -> Result<(), NoMemory>
         requires unused { is_client number ≡ true → value_at self.old.entries number ≡ None }
-        requires few { self.old.live + count_by is_client (number ∷ []) ≤ 65536 }
+        requires few { self.old.live + count_by is_client (number ∷ []) ≤ MAX_LIVE }
         ensures made { OnOk result (Makes (number ∷ []) self.old.entries self.new.entries) }
         ensures live { OnOk result (self.new.live ≡ self.old.live + count_by is_client (number ∷ [])) }
         ensures err { OnErr result (self.new ≡ self.old) }
@@ -141,7 +132,7 @@ impl Standings {
     /// Makes live endpoints of the client numbers among the handles, or for want of memory nothing.
     pub(crate) fn make_all(&mut self, handles: HandleBytes<'_>) -> Result<(), NoMemory>
         requires new { AreNew self.old.entries (handle_numbers handles) }
-        requires few { self.old.live + count_by is_client (handle_numbers handles) ≤ 65536 }
+        requires few { self.old.live + count_by is_client (handle_numbers handles) ≤ MAX_LIVE }
         ensures made { OnOk result (Makes (handle_numbers handles.entry) self.old.entries self.new.entries) }
         ensures live { OnOk result (self.new.live ≡ self.old.live + count_by is_client (handle_numbers handles.entry)) }
         ensures err { OnErr result (self.new ≡ self.old) }
@@ -163,7 +154,7 @@ impl Standings {
         requires unused { self.old.entries ≡ [] }
         requires none { self.old.live ≡ 0 }
         requires distinct { AreDistinct firsts.now }
-        requires few { length firsts.now ≤ 65536 }
+        requires few { length firsts.now ≤ MAX_LIVE }
         ensures made { OnOk result ((q : ℕ) → value_at self.new.entries q
             ≡ (if among q firsts.now then Some Standing.Live else None)) }
         ensures live { OnOk result (self.new.live ≡ length firsts.now) }
@@ -176,14 +167,14 @@ impl Standings {
 
     /// Makes live endpoints of the first so many numbers of mount ends.
     pub(crate) fn make_mounts(&mut self, mounts: u32) -> Result<(), NoMemory>
-        requires unused { (q : ℕ) → 0x40000000 ≤ q → value_at self.old.entries q ≡ None }
-        requires few { self.old.live + mounts ≤ 65536 }
+        requires unused { (q : ℕ) → FIRST_MOUNT_END ≤ q → value_at self.old.entries q ≡ None }
+        requires few { self.old.live + mounts ≤ MAX_LIVE }
         ensures made { OnOk result ((q : ℕ) → value_at self.new.entries q
             ≡ (if is_mount_end mounts q then Some Standing.Live else value_at self.old.entries q)) }
         ensures live { OnOk result (self.new.live ≡ self.old.live + mounts) }
     {
         for i in 0..mounts {
-            self.make(0x4000_0000 + i)?;
+            self.make(FIRST_MOUNT_END + i)?;
         }
         Ok(())
     }

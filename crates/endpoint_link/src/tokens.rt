@@ -6,8 +6,7 @@ ghost use Rattle.fidl_names.specs.HandleNumber.{is_client};
 ghost use Rattle.endpoint_link.specs.Numbering.{among};
 
 use crate::frame::HandleBytes;
-use crate::standings::is_client;
-use fidl_names::NoMemory;
+use fidl_names::{FIRST_TOKEN, MAX_TOKENS, NoMemory, is_client};
 use std::alloc::Global;
 use std::collections::BTreeMap;
 use std::marker::Model;
@@ -35,11 +34,11 @@ impl Tokens {
 
     pub(crate) fn new(alloc: Global) -> Tokens
         ensures entries { result.entries ≡ [] }
-        ensures next { result.next ≡ 0x80000000 }
+        ensures next { result.next ≡ FIRST_TOKEN }
     {
         Tokens {
             table: BTreeMap::new(alloc),
-            next: 0x8000_0000,
+            next: u64::from(FIRST_TOKEN),
         }
     }
 
@@ -50,12 +49,12 @@ impl Tokens {
         self.table.get(&number).copied().unwrap_or(false)
     }
 
-    /// The number that the next token gets: none where 4,096 tokens are out, or the last number was given.
+    /// The number that the next token gets: none where so many tokens are out as can, or the last number was given.
     pub(crate) fn next(&self) -> Option<u32>
-        ensures { result ≡ (if nat_le 4096 (length self.now.entries) || nat_le 0x100000000 self.now.next
+        ensures { result ≡ (if nat_le MAX_TOKENS (length self.now.entries) || nat_le (2 ^ 32) self.now.next
             then None else Some self.now.next) }
     {
-        if self.table.len() >= 4096 || self.next > 0xFFFF_FFFF {
+        if self.table.len() >= MAX_TOKENS as usize || self.next > u64::from(u32::MAX) {
             return None;
         }
         Some(self.next as u32)

@@ -8,7 +8,8 @@ use Rattle.endpoint_link.specs.declared.kinds.FrameKind.TheVariants as kind
 use Rattle.endpoint_link.specs.declared.kinds.Refusal.{Refusal}
 use Rattle.endpoint_link.specs.declared.kinds.Refusal.TheVariants as refusal
 use Rattle.endpoint_link.specs.declared.kinds.Standing.TheVariants as standing
-use Rattle.endpoint_link.specs.Admission.{LookUps, admission, first_of, refused_if, refusal_by, by_standing, may_travel, all_may_travel}
+use Rattle.endpoint_link.specs.Admission.{LookUps, admission, refusal_by, by_standing, may_travel, all_may_travel}
+use Rattle.fidl_names.specs.First.{cause_if, first_of}
 use Rattle.endpoint_link.specs.Frames.{Frame}
 use Rattle.fidl_names.specs.HandleNumber.{is_client}
 use Rattle.endpoint_link.specs.Numbering.{among}
@@ -277,7 +278,7 @@ first_none : (o : Option Refusal) (rest : List (Option Refusal)) → first_of (o
 first_none None rest h = (refl, h)
 first_none (Some why) rest h = absurd (cc)
 
-not_refused : (b : Bool) (why : Refusal) → refused_if b why ≡ None → b ≡ false
+not_refused : (b : Bool) (why : Refusal) → cause_if b why ≡ None → b ≡ false
 not_refused true why h = absurd (cc)
 not_refused false why h = refl
 
@@ -320,8 +321,8 @@ handles_apart l (m ∷ ms) all =
 pub message_admitted : (start : Start) (history : History) (endpoint : ℕ) (handles : List ℕ) → refusal_by kind.Message (look_ups start history) endpoint handles ≡ None → IsAdmitted start history endpoint handles
 message_admitted start history endpoint handles h =
     let a = first_none (by_standing (standing_of start history endpoint)) _ h in
-    let b = first_none (refused_if (not (is_client endpoint)) refusal.BadHandle) _ a.1 in
-    let c = first_none (refused_if (not (all_may_travel (look_ups start history) handles)) refusal.BadHandle) _ b.1 in
+    let b = first_none (cause_if (not (is_client endpoint)) refusal.BadHandle) _ a.1 in
+    let c = first_none (cause_if (not (all_may_travel (look_ups start history) handles)) refusal.BadHandle) _ b.1 in
     let live = standing_live (is_dead history endpoint) (is_live start history endpoint) (hung_up history endpoint) a.0 in
     record {
       alive = live.0;
@@ -334,7 +335,7 @@ message_admitted start history endpoint handles h =
 pub close_admitted : (start : Start) (history : History) (endpoint : ℕ) (handles : List ℕ) → refusal_by kind.Close (look_ups start history) endpoint handles ≡ None → IsAdmitted start history endpoint []
 close_admitted start history endpoint handles h =
     let a = first_none (by_standing (standing_of start history endpoint)) _ h in
-    let b = first_none (refused_if (not (is_client endpoint)) refusal.BadHandle) _ a.1 in
+    let b = first_none (cause_if (not (is_client endpoint)) refusal.BadHandle) _ a.1 in
     let live = standing_live (is_dead history endpoint) (is_live start history endpoint) (hung_up history endpoint) a.0 in
     record {
       alive = live.0;

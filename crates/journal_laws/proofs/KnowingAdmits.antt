@@ -8,7 +8,8 @@ use Rattle.endpoint_link.specs.declared.kinds.Refusal.{Refusal}
 use Rattle.endpoint_link.specs.declared.kinds.Refusal.TheVariants as refusal
 use Rattle.endpoint_link.specs.declared.kinds.Standing.{Standing}
 use Rattle.endpoint_link.specs.declared.kinds.Standing.TheVariants as standing
-use Rattle.endpoint_link.specs.Admission.{LookUps, admission, first_of, refused_if, refusal_by, by_standing, may_travel, all_may_travel, look_ups as known_look_ups}
+use Rattle.endpoint_link.specs.Admission.{LookUps, admission, refusal_by, by_standing, may_travel, all_may_travel, look_ups as known_look_ups}
+use Rattle.fidl_names.specs.First.{cause_if, first_of}
 use Rattle.endpoint_link.specs.Frames.{Frame}
 use Rattle.fidl_names.specs.HandleNumber.{is_client}
 use Rattle.endpoint_link.specs.Numbering.{among}
@@ -65,15 +66,15 @@ abbrev message_refusal : ℕ → List ℕ → Standing → Bool → ℕ → ℕ 
 message_refusal e handles stands travel waiting live =
     first_of
     (by_standing stands
-    ∷ refused_if (not (is_client e)) refusal.BadHandle
-    ∷ refused_if (not travel) refusal.BadHandle
-    ∷ refused_if (nat_le 4096 waiting) refusal.ShouldWait
-    ∷ refused_if (nat_lt 65536 (live + count_by is_client handles)) refusal.NoResources
+    ∷ cause_if (not (is_client e)) refusal.BadHandle
+    ∷ cause_if (not travel) refusal.BadHandle
+    ∷ cause_if (nat_le 4096 waiting) refusal.ShouldWait
+    ∷ cause_if (nat_lt 65536 (live + count_by is_client handles)) refusal.NoResources
     ∷ [])
 
 abbrev close_refusal : ℕ → Standing → ℕ → Option Refusal
 close_refusal e stands waiting =
-    first_of (by_standing stands ∷ refused_if (not (is_client e)) refusal.BadHandle ∷ refused_if (nat_le 4096 waiting) refusal.ShouldWait ∷ [])
+    first_of (by_standing stands ∷ cause_if (not (is_client e)) refusal.BadHandle ∷ cause_if (nat_le 4096 waiting) refusal.ShouldWait ∷ [])
 
 -- what admission looks up, in two ways
 record AreAlike (l m : LookUps) : Type 0 where
@@ -92,7 +93,7 @@ alike_admit l m same kind.Message e handles =
 alike_admit l m same kind.Close e handles =
     ap (λ a. close_refusal e a l.waiting) (same.standing e) ∙ ap (λ c. close_refusal e (m.standing e) c) same.waiting
 alike_admit l m same kind.Pick e handles = ap by_standing (same.standing e)
-alike_admit l m same kind.Turn e handles = ap (λ servers. refused_if (nat_le servers e) refusal.BadHandle) same.servers
+alike_admit l m same kind.Turn e handles = ap (λ servers. cause_if (nat_le servers e) refusal.BadHandle) same.servers
 alike_admit l m same kind.Refused e handles = refl
 
 -- a client's endpoint that lives was known

@@ -9,7 +9,8 @@ use Rattle.endpoint_link.specs.declared.kinds.FrameKind.TheVariants as kind
 use Rattle.endpoint_link.specs.declared.kinds.Refusal.{Refusal}
 use Rattle.endpoint_link.specs.declared.kinds.Refusal.TheVariants as refusal
 use Rattle.endpoint_link.specs.declared.kinds.Standing.TheVariants as standing
-use Rattle.endpoint_link.specs.Admission.{LookUps, admission, first_of, refused_if, refusal_by, by_standing, may_travel, all_may_travel}
+use Rattle.endpoint_link.specs.Admission.{LookUps, admission, refusal_by, by_standing, may_travel, all_may_travel}
+use Rattle.fidl_names.specs.First.{cause_if, first_of}
 use Rattle.endpoint_link.specs.Frames.{Frame}
 use Rattle.fidl_names.specs.HandleNumber.{is_client}
 use Rattle.endpoint_link.specs.Numbering.{among}
@@ -62,7 +63,7 @@ first_none : (o : Option Refusal) (rest : List (Option Refusal)) → first_of (o
 first_none None rest h = (refl, h)
 first_none (Some why) rest h = absurd (cc)
 
-not_refused : (b : Bool) (why : Refusal) → refused_if (not b) why ≡ None → b ≡ true
+not_refused : (b : Bool) (why : Refusal) → cause_if (not b) why ≡ None → b ≡ true
 not_refused true why h = refl
 not_refused false why h = absurd (cc)
 
@@ -77,8 +78,8 @@ message_let_in start history frame is h =
     let l = look_ups start history in
     let first : refusal_by kind.Message l frame.endpoint frame.handles ≡ None = ap (λ (x : FrameKind). refusal_by x l frame.endpoint frame.handles) (sym is) ∙ h in
     let a = first_none (by_standing (l.standing frame.endpoint)) _ first in
-    let b = first_none (refused_if (not (is_client frame.endpoint)) refusal.BadHandle) _ a.1 in
-    let c = first_none (refused_if (not (all_may_travel l frame.handles)) refusal.BadHandle) _ b.1 in
+    let b = first_none (cause_if (not (is_client frame.endpoint)) refusal.BadHandle) _ a.1 in
+    let c = first_none (cause_if (not (all_may_travel l frame.handles)) refusal.BadHandle) _ b.1 in
     let live = standing_live (is_dead history frame.endpoint) (is_live start history frame.endpoint) (hung_up history frame.endpoint) a.0 in
     (record { alive = live.0; live = live.1; client = not_refused (is_client frame.endpoint) refusal.BadHandle b.0 }, not_refused (all_may_travel l frame.handles) refusal.BadHandle c.0)
 
@@ -87,7 +88,7 @@ close_let_in start history frame is h =
     let l = look_ups start history in
     let first : refusal_by kind.Close l frame.endpoint frame.handles ≡ None = ap (λ (x : FrameKind). refusal_by x l frame.endpoint frame.handles) (sym is) ∙ h in
     let a = first_none (by_standing (l.standing frame.endpoint)) _ first in
-    let b = first_none (refused_if (not (is_client frame.endpoint)) refusal.BadHandle) _ a.1 in
+    let b = first_none (cause_if (not (is_client frame.endpoint)) refusal.BadHandle) _ a.1 in
     let live = standing_live (is_dead history frame.endpoint) (is_live start history frame.endpoint) (hung_up history frame.endpoint) a.0 in
     record { alive = live.0; live = live.1; client = not_refused (is_client frame.endpoint) refusal.BadHandle b.0 }
 

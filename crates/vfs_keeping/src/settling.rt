@@ -3,7 +3,6 @@
 ghost use Rattle.std.specs.Prelude.{◌≡◌, ◌≤◌, ◌++◌, not, filter, fold, length, take, IfOk, OnErr};
 ghost use Rattle.endpoint_link.specs.Frames.{spellings};
 ghost use Rattle.endpoint_link.specs.Numbering.{among};
-ghost use Rattle.endpoint_link.specs.Standings.{is_live};
 ghost use Rattle.node_graph.specs.Graph.{StandsFor};
 ghost use Rattle.node_graph.specs.Tree.{Tree};
 ghost use Rattle.vfs_keeping.specs.Dying.{died};
@@ -13,7 +12,7 @@ ghost use Rattle.vfs_keeping.specs.Told.{closed_for, deaths_told, end_told};
 use crate::closing::close_others;
 use crate::deaths::{end_told, first_deaths, is_among, spread};
 use crate::holding::unbind_dead;
-use endpoint_link::{Endpoints, Outbox, Standing};
+use endpoint_link::{Endpoints, Outbox};
 use fidl_names::NoMemory;
 use node_graph::Graph;
 use std::alloc::Global;
@@ -64,22 +63,12 @@ fn drop_dead(waiting: &mut Vec<Sent>, deaths: &[u32])
     waiting.retain(|sent| !is_among(deaths, sent.endpoint));
 }
 
-/// Whether an endpoint that stands so is live.
-fn is_live(standing: Standing) -> bool
-    ensures { result ≡ is_live standing }
-{
-    match standing {
-        Standing::Live | Standing::HungUp => true,
-        Standing::Unused | Standing::Dead => false,
-    }
-}
-
 /// Ends endpoints that died, each once.
 fn end_dead(endpoints: &mut Endpoints, deaths: &[u32])
     ensures { endpoints.new ≡ fold died endpoints.old deaths.now }
 {
     for death in deaths {
-        if is_live(endpoints.standing(*death)) {
+        if endpoints.standing(*death).is_live() {
             endpoints.ended(*death);
         }
     }

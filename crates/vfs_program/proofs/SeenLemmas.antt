@@ -3,7 +3,7 @@ use Rattle.std.proofs.Common.{◌≡◌, ℕ, Bool, true, false, ◌&&◌, ◌==
 use Rattle.std.specs.Prelude.{nat_le}
 use Rattle.std.proofs.lemmas.Bool.{eqb-true}
 use Rattle.endpoint_link.specs.Frames.{Frame, frame_with}
-use Rattle.endpoint_link.specs.Admission.{refused_if}
+use Rattle.fidl_names.specs.First.{cause_if}
 use Rattle.fidl_names.specs.HandleNumber.{is_client}
 use Rattle.endpoint_link.specs.declared.kinds.FrameKind.{FrameKind}
 use Rattle.endpoint_link.specs.declared.kinds.FrameKind.TheVariants as kind
@@ -44,7 +44,7 @@ and-false false = refl
 
 -- a refusal, or nothing for a Turn
 turn_passes : (file : List ℕ) (now : Standing) (e : ℕ) (hs b : List ℕ) (late : Bool)
-    → Passes now (by_refusal file now (frame_with e kind.Turn hs b) (refused_if late refusal.BadHandle))
+    → Passes now (by_refusal file now (frame_with e kind.Turn hs b) (cause_if late refusal.BadHandle))
 turn_passes file now e hs b true = (refl, refl)
 turn_passes file now e hs b false = (refl, refl)
 

@@ -1,5 +1,6 @@
 ghost use Rattle.std.specs.Prelude.{◌≡◌, ◌≤◌, ◌+◌, ◌++◌, [], ◌∷◌, length, nat_le, true, IfOk};
-ghost use Rattle.endpoint_link.specs.Admission.{admission, by_standing, refused_if};
+ghost use Rattle.endpoint_link.specs.Admission.{admission, by_standing};
+ghost use Rattle.fidl_names.specs.First.{cause_if};
 ghost use Rattle.endpoint_link.specs.declared.kinds.FrameKind.TheVariants as kind;
 ghost use Rattle.endpoint_link.specs.declared.kinds.Refusal.TheVariants as refusal;
 ghost use Rattle.fidl_wire.specs.Epitaphs.{epitaph_bytes};
@@ -135,7 +136,7 @@ fn refusal(live: bool, frame: FrameView<'_>) -> Option<Refusal>
 
 /// Server 0 is the only one.
 fn refusal_of_turn(server: u32) -> Option<Refusal>
-    ensures { result ≡ refused_if (nat_le 1 server) refusal.BadHandle }
+    ensures { result ≡ cause_if (nat_le 1 server) refusal.BadHandle }
 {
     if server == 0 {
         None

@@ -3,7 +3,8 @@ use Rattle.std.proofs.Common.{◌≡◌, ℕ, ◌+◌, ◌<◌, Bool, true, fals
 use Rattle.std.proofs.lemmas.Bool.{cases_Bool}
 use Rattle.std.proofs.lemmas.Bool.{leb-false}
 use Rattle.std.proofs.lemmas.List.Elements.{All-same}
-use Rattle.endpoint_link.specs.Admission.{AdmitsKind, LookUps, admission, by_standing, first_of, look_ups as known_look_ups, refusal_by, refused_if}
+use Rattle.endpoint_link.specs.Admission.{AdmitsKind, LookUps, admission, by_standing, look_ups as known_look_ups, refusal_by}
+use Rattle.fidl_names.specs.First.{cause_if, first_of}
 use Rattle.endpoint_link.specs.Frames.{Frame, IsFrame, spelling}
 use Rattle.endpoint_link.specs.Numbers.{word_in}
 use Rattle.endpoint_link.specs.Standings.{Known}
@@ -220,15 +221,15 @@ pick_keeps start journal k frame new keeps hears e =
     })
 
 -- the one server has number 0
-below_by : (l : LookUps) (server : ℕ) → refused_if (nat_le l.servers server) refusal.BadHandle ≡ None → (nat_le l.servers server ≡ true) ⊎ (nat_le l.servers server ≡ false) → nat_le l.servers server ≡ false
+below_by : (l : LookUps) (server : ℕ) → cause_if (nat_le l.servers server) refusal.BadHandle ≡ None → (nat_le l.servers server ≡ true) ⊎ (nat_le l.servers server ≡ false) → nat_le l.servers server ≡ false
 below_by l server h (inr e) = e
-below_by l server h (inl e) = let wrong : Some refusal.BadHandle ≡ None = sym (ap (λ (b : Bool). refused_if b refusal.BadHandle) e) ∙ h in absurd (cc)
+below_by l server h (inl e) = let wrong : Some refusal.BadHandle ≡ None = sym (ap (λ (b : Bool). cause_if b refusal.BadHandle) e) ∙ h in absurd (cc)
 
 pub turns_here : KnowingLaws → (start : Start) (journal : Journal) (k : Keeping) (frame : Frame) → Keeps start k journal → frame.kind ≡ kind.Turn → admission (known_look_ups k.known) frame ≡ None → frame.endpoint ≡ 0
 turns_here knowing start journal k frame keeps e admits =
     let past = history_of first_methods start journal in
     let let_in = sym (admits_same knowing start journal k frame keeps) ∙ admits in
-    let by_kind : refused_if (nat_le (length start.trees) frame.endpoint) refusal.BadHandle ≡ None =
+    let by_kind : cause_if (nat_le (length start.trees) frame.endpoint) refusal.BadHandle ≡ None =
     sym (ap (λ (one : FrameKind). refusal_by one (look_ups start past) frame.endpoint frame.handles) e) ∙ let_in in
     let low : frame.endpoint < length start.trees =
     leb-false (length start.trees) frame.endpoint (below_by (look_ups start past) frame.endpoint by_kind (cases_Bool (nat_le (length start.trees) frame.endpoint))) in

@@ -68,7 +68,7 @@ fn perform(keeper: &mut Keeper, frame: FrameView<'_>, outbox: &mut Outbox) -> Re
 }
 
 /// The number of 32 bits that some bytes begin with.
-#[tactic(auto, unfolding(endpoint_link::specs::Numbers::word_in))]
+#[tactic(auto, unfolding(fidl_names::specs::Numbers::number_at))]
 fn number_in(bytes: &[u8]) -> u32
     requires { 4 ≤ length bytes.now }
     ensures { result ≡ word_in bytes.now }

@@ -3,6 +3,7 @@ use Rattle.std.specs.Prelude.{codes}
 use Rattle.fidl_names.specs.declared.methods.Method.TheVariants as method
 use Rattle.endpoint_link.specs.declared.kinds.Mode.TheVariants as mode
 use Rattle.endpoint_link.specs.Numbers.{word_of, word_in}
+use Rattle.fidl_names.specs.Numbers.{number_at, number_bytes}
 use Rattle.io_messages.specs.Asked.{Asked}
 use Rattle.io_messages.specs.Asked as asks
 use Rattle.io_messages.specs.declared.protocols.Protocol.TheVariants as protocol
@@ -70,7 +71,7 @@ module _
   past_1 = past_1_0
 
   count_1 : word_in (word_of 1) ≡ 1
-  unfolding word_in word_of
+  unfolding number_at number_bytes
   count_1 = refl
 
   step_1 : Stands two_servers mode.Given (message_on 1 opening (2 ∷ []) ∷ turn_of 0 1 ∷ []) past_1 []
@@ -132,7 +133,7 @@ module _
   past_5 = past_5_0
 
   count_5 : word_in (word_of 5) ≡ 5
-  unfolding word_in word_of
+  unfolding number_at number_bytes
   count_5 = refl
 
   step_5 : Stands two_servers mode.Given (message_on 1 opening (2 ∷ []) ∷ turn_of 0 1 ∷ message_on 2 closing [] ∷ message_on 2 first (4 ∷ []) ∷ message_on 2 second (3 ∷ []) ∷ turn_of 0 5 ∷ []) past_5 (answer_on 2 4 (done method.Close) ∷ close_frame 2 ∷ close_frame 3 ∷ close_frame 4 ∷ [])

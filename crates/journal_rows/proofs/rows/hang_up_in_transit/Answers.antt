@@ -4,6 +4,7 @@ use Rattle.fidl_names.specs.declared.statuses.Status.TheVariants as status
 use Rattle.endpoint_link.specs.declared.kinds.Mode.TheVariants as mode
 use Rattle.endpoint_link.specs.declared.kinds.Refusal.TheVariants as refusal
 use Rattle.endpoint_link.specs.Numbers.{word_of, word_in}
+use Rattle.fidl_names.specs.Numbers.{number_at, number_bytes}
 use Rattle.io_messages.specs.Asked.{Asked}
 use Rattle.io_messages.specs.Asked as asks
 use Rattle.io_messages.specs.declared.protocols.Protocol.TheVariants as protocol
@@ -80,7 +81,7 @@ module _
   past_3 = past_3_0
 
   count_3 : word_in (word_of 5) ≡ 5
-  unfolding word_in word_of
+  unfolding number_at number_bytes
   count_3 = refl
 
   step_3 : Stands two_servers mode.Given (message_on 1 opening (2 ∷ []) ∷ hang_up_on 2 ∷ hang_up_on 2 ∷ turn_of 0 5 ∷ []) past_3 (refused_frame 2 refusal.PeerClosed ∷ epitaph_on 2 status.NotFound ∷ close_frame 2 ∷ [])

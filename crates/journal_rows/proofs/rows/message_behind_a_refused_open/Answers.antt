@@ -3,6 +3,7 @@ use Rattle.std.specs.Prelude.{codes}
 use Rattle.fidl_names.specs.declared.statuses.Status.TheVariants as status
 use Rattle.endpoint_link.specs.declared.kinds.Mode.TheVariants as mode
 use Rattle.endpoint_link.specs.Numbers.{word_of, word_in}
+use Rattle.fidl_names.specs.Numbers.{number_at, number_bytes}
 use Rattle.io_messages.specs.Asked.{Asked}
 use Rattle.io_messages.specs.Asked as asks
 use Rattle.io_messages.specs.declared.protocols.Protocol.TheVariants as protocol
@@ -72,7 +73,7 @@ module _
   past_2 = past_2_0
 
   count_2 : word_in (word_of 5) ≡ 5
-  unfolding word_in word_of
+  unfolding number_at number_bytes
   count_2 = refl
 
   step_2 : Stands two_servers mode.Given (message_on 1 opening (2 ∷ []) ∷ message_on 2 cloning (3 ∷ []) ∷ turn_of 0 5 ∷ []) past_2 (epitaph_on 2 status.NotFound ∷ close_frame 2 ∷ close_frame 3 ∷ [])

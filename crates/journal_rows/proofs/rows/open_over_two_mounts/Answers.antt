@@ -3,6 +3,7 @@ use Rattle.std.specs.Prelude.{codes}
 use Rattle.fidl_names.specs.declared.methods.Method.TheVariants as method
 use Rattle.endpoint_link.specs.declared.kinds.Mode.TheVariants as mode
 use Rattle.endpoint_link.specs.Numbers.{word_of, word_in}
+use Rattle.fidl_names.specs.Numbers.{number_at, number_bytes}
 use Rattle.io_messages.specs.Asked.{Asked}
 use Rattle.io_messages.specs.Asked as asks
 use Rattle.io_messages.specs.declared.protocols.Protocol.TheVariants as protocol
@@ -60,7 +61,7 @@ module _
   past_2 = past_1
 
   count_2 : word_in (word_of 5) ≡ 5
-  unfolding word_in word_of
+  unfolding number_at number_bytes
   count_2 = refl
 
   step_2 : Stands two_servers mode.Given (message_on 1 opening (2 ∷ []) ∷ message_on 2 reading [] ∷ turn_of 1 5 ∷ []) past_2 []
@@ -101,7 +102,7 @@ module _
   past_3 = past_3_0
 
   count_3 : word_in (word_of 1) ≡ 1
-  unfolding word_in word_of
+  unfolding number_at number_bytes
   count_3 = refl
 
   step_3 : Stands two_servers mode.Given (message_on 1 opening (2 ∷ []) ∷ message_on 2 reading [] ∷ turn_of 1 5 ∷ turn_of 0 1 ∷ []) past_3 []
@@ -151,7 +152,7 @@ module _
   past_5 = past_5_0
 
   count_5 : word_in (word_of 1) ≡ 1
-  unfolding word_in word_of
+  unfolding number_at number_bytes
   count_5 = refl
 
   step_5 : Stands two_servers mode.Given (message_on 1 opening (2 ∷ []) ∷ message_on 2 reading [] ∷ turn_of 1 5 ∷ turn_of 0 1 ∷ pick_of 2 ∷ turn_of 1 1 ∷ []) past_5 []

@@ -3,6 +3,7 @@ use Rattle.std.specs.Prelude.{codes}
 use Rattle.fidl_names.specs.declared.methods.Method.TheVariants as method
 use Rattle.endpoint_link.specs.declared.kinds.Mode.TheVariants as mode
 use Rattle.endpoint_link.specs.Numbers.{word_of, word_in}
+use Rattle.fidl_names.specs.Numbers.{number_at, number_bytes}
 use Rattle.io_messages.specs.Asked.{Asked}
 use Rattle.io_messages.specs.Asked as asks
 use Rattle.io_messages.specs.declared.protocols.Protocol.TheVariants as protocol
@@ -133,7 +134,7 @@ module _
   past_3 = past_3_2
 
   count_3 : word_in (word_of 3) ≡ 3
-  unfolding word_in word_of
+  unfolding number_at number_bytes
   count_3 = refl
 
   step_3 : Stands two_servers mode.Given (message_on 1 opening (2 ∷ []) ∷ message_on 2 first [] ∷ message_on 2 second [] ∷ turn_of 0 3 ∷ []) past_3 (answer_on 2 3 (payload method.Read (codes "hello")) ∷ answer_on 2 4 (payload method.Read (codes " world")) ∷ [])

@@ -4,6 +4,7 @@ use Rattle.fidl_names.specs.declared.methods.Method.TheVariants as method
 use Rattle.fidl_names.specs.declared.statuses.Status.TheVariants as status
 use Rattle.endpoint_link.specs.declared.kinds.Mode.TheVariants as mode
 use Rattle.endpoint_link.specs.Numbers.{word_of, word_in}
+use Rattle.fidl_names.specs.Numbers.{number_at, number_bytes}
 use Rattle.io_messages.specs.Asked.{Asked}
 use Rattle.io_messages.specs.Asked as asks
 use Rattle.io_messages.specs.declared.protocols.Protocol.TheVariants as protocol
@@ -93,7 +94,7 @@ module _
   past_2 = past_2_0
 
   count_2 : word_in (word_of 1) ≡ 1
-  unfolding word_in word_of
+  unfolding number_at number_bytes
   count_2 = refl
 
   step_2 : Stands two_servers mode.Given (message_on 1 entering (4 ∷ []) ∷ message_on 4 giving [] ∷ turn_of 0 1 ∷ []) past_2 []
@@ -150,7 +151,7 @@ module _
   past_3 = past_3_1
 
   count_3 : word_in (word_of 2) ≡ 2
-  unfolding word_in word_of
+  unfolding number_at number_bytes
   count_3 = refl
 
   step_3 : Stands two_servers mode.Given (message_on 1 entering (4 ∷ []) ∷ message_on 4 giving [] ∷ turn_of 0 1 ∷ turn_of 1 2 ∷ []) past_3 (answer_on 4 3 (token 0x80000000) ∷ [])
@@ -209,7 +210,7 @@ module _
   past_6 = past_6_0
 
   count_6 : word_in (word_of 1) ≡ 1
-  unfolding word_in word_of
+  unfolding number_at number_bytes
   count_6 = refl
 
   step_6 : Stands two_servers mode.Given (message_on 1 entering (4 ∷ []) ∷ message_on 4 giving [] ∷ turn_of 0 1 ∷ turn_of 1 2 ∷ message_on 1 opening (2 ∷ []) ∷ message_on 2 cloning (3 ∷ []) ∷ turn_of 0 1 ∷ []) past_6 (answer_on 4 3 (token 0x80000000) ∷ [])
@@ -284,7 +285,7 @@ module _
   past_9 = past_9_0
 
   count_9 : word_in (word_of 1) ≡ 1
-  unfolding word_in word_of
+  unfolding number_at number_bytes
   count_9 = refl
 
   step_9 : Stands two_servers mode.Given (message_on 1 entering (4 ∷ []) ∷ message_on 4 giving [] ∷ turn_of 0 1 ∷ turn_of 1 2 ∷ message_on 1 opening (2 ∷ []) ∷ message_on 2 cloning (3 ∷ []) ∷ turn_of 0 1 ∷ message_on 4 renaming (0x80000000 ∷ []) ∷ pick_of 4 ∷ turn_of 1 1 ∷ []) past_9 (answer_on 4 3 (token 0x80000000) ∷ answer_on 4 9 (done method.Rename) ∷ epitaph_on 2 status.NotFound ∷ close_frame 2 ∷ close_frame 3 ∷ [])
