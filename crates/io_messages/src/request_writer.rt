@@ -8,7 +8,7 @@ ghost use Rattle.io_messages.specs.Shapes.{is_one_way};
 ghost use Rattle.io_messages.specs.Writing.{request_bytes, request_body, request_handles, HasTexts, Wrote};
 
 use crate::fields::{Field, put_object, size_of};
-use crate::requests::{Request, TooLong, method_of};
+use crate::requests::{Request, TooLong};
 use fidl_names::{Handle, MAX_BYTES, MAX_HANDLES};
 use fidl_wire::{Header, Ordinals, Out};
 
@@ -36,7 +36,7 @@ pub fn write_request(
     let header = Header {
         txid,
         flexible: false,
-        ordinal: ordinals.of(method_of(&request)),
+        ordinal: ordinals.of(request.method()),
     };
     write_body(header, request, out)
 }

@@ -105,30 +105,32 @@ impl From<WireFault> for RequestFault {
 #[derive(Clone, Copy, Debug, PartialEq, Eq)]
 pub struct TooLong;
 
-/// The method of a request.
-pub fn method_of(request: &Request<'_>) -> Method
-    ensures { result ≡ method_of (asked request.now) }
-{
-    match request {
-        Request::Clone { .. } => Method::Clone,
-        Request::Close => Method::Close,
-        Request::Query => Method::Query,
-        Request::GetAttributes { .. } => Method::GetAttributes,
-        Request::Sync => Method::Sync,
-        Request::OpenPath { .. } => Method::OpenPath,
-        Request::ReadDirents { .. } => Method::ReadDirents,
-        Request::Rewind => Method::Rewind,
-        Request::GetToken => Method::GetToken,
-        Request::Rename { .. } => Method::Rename,
-        Request::Link { .. } => Method::Link,
-        Request::Unlink { .. } => Method::Unlink,
-        Request::Watch { .. } => Method::Watch,
-        Request::Read { .. } => Method::Read,
-        Request::ReadAt { .. } => Method::ReadAt,
-        Request::Write { .. } => Method::Write,
-        Request::WriteAt { .. } => Method::WriteAt,
-        Request::Seek { .. } => Method::Seek,
-        Request::Resize { .. } => Method::Resize,
-        Request::EchoString { .. } => Method::EchoString,
+impl Request<'_> {
+    /// The method of a request.
+    pub fn method(&self) -> Method
+        ensures { result ≡ method_of (asked self.now) }
+    {
+        match self {
+            Request::Clone { .. } => Method::Clone,
+            Request::Close => Method::Close,
+            Request::Query => Method::Query,
+            Request::GetAttributes { .. } => Method::GetAttributes,
+            Request::Sync => Method::Sync,
+            Request::OpenPath { .. } => Method::OpenPath,
+            Request::ReadDirents { .. } => Method::ReadDirents,
+            Request::Rewind => Method::Rewind,
+            Request::GetToken => Method::GetToken,
+            Request::Rename { .. } => Method::Rename,
+            Request::Link { .. } => Method::Link,
+            Request::Unlink { .. } => Method::Unlink,
+            Request::Watch { .. } => Method::Watch,
+            Request::Read { .. } => Method::Read,
+            Request::ReadAt { .. } => Method::ReadAt,
+            Request::Write { .. } => Method::Write,
+            Request::WriteAt { .. } => Method::WriteAt,
+            Request::Seek { .. } => Method::Seek,
+            Request::Resize { .. } => Method::Resize,
+            Request::EchoString { .. } => Method::EchoString,
+        }
     }
 }
