@@ -25,14 +25,15 @@ use Rattle.conn_rules.specs.Listings.{listing_act, rewind_act}
 use Rattle.conn_rules.specs.NameRows.{unlink_act, link_act, rename_act, token_act, watch_act}
 use Rattle.conn_rules.specs.Nodes.{attributes_of, protocol_name}
 use Rattle.conn_rules.specs.Opens.{open_act, is_full}
-use Rattle.conn_rules.specs.Refusals.{refused_if, first_of, unless, lacks}
+use Rattle.fidl_names.specs.First.{cause_if, first_of}
+use Rattle.conn_rules.specs.Refusals.{unless, lacks}
 
 -- ---- the rows of every node's methods
 
 -- the endpoint is bound like this connection, with a fresh position
 abbrev pub clone_act : Birth → Position → Room → Asked → Act
 clone_act birth position room request =
-    unless (first_of (refused_if (is_full room) status.NoResources ∷ [])) position request (only position (binds birth false))
+    unless (first_of (cause_if (is_full room) status.NoResources ∷ [])) position request (only position (binds birth false))
 
 -- ---- all rows
 
@@ -82,9 +83,9 @@ lacks_right birth method = option_map_or (lacks birth.rights) (needed_by method)
 
 abbrev pub method_refusals : Built → Birth → Method → List (Option Status)
 method_refusals built birth method =
-    refused_if (is_beyond birth.protocol method) status.BadHandle
-    ∷ refused_if (lacks_right birth method) status.BadHandle
-    ∷ refused_if (not (built.methods method)) status.NotSupported
+    cause_if (is_beyond birth.protocol method) status.BadHandle
+    ∷ cause_if (lacks_right birth method) status.BadHandle
+    ∷ cause_if (not (built.methods method)) status.NotSupported
     ∷ []
 
 -- what one request does: its method is refused, or its row says it

@@ -1,21 +1,18 @@
 -- The rows of a file's own methods.
 use Rattle.std.specs.Prelude.{ℕ, ◌+◌, ◌^◌, ◌==◌, ◌&&◌, Bool, true, not, nat_lt, nat_le, if◌then◌else◌, List, [], ◌∷◌, length, take, drop, Option, ℤ, pos, negsuc, ◌+ℤ◌}
 use Rattle.fidl_names.specs.declared.methods.Method.TheVariants as method
+use Rattle.fidl_names.specs.declared.limits.TheConstants as limit
 use Rattle.fidl_names.specs.declared.statuses.Status.{Status}
 use Rattle.fidl_names.specs.declared.statuses.Status.TheVariants as status
 use Rattle.io_messages.specs.Asked.{Asked}
 use Rattle.io_messages.specs.Replies.{Answered, done, counted, payload}
-use Rattle.node_graph.specs.declared.TheConstants as limit
 use Rattle.node_graph.specs.Graph.{resized, write_change}
 use Rattle.node_graph.specs.Tree.{Tree, fill}
 use Rattle.conn_rules.specs.Births.{Birth, Position}
 use Rattle.conn_rules.specs.Answers.{Act, only, replies, nothing_told}
 use Rattle.conn_rules.specs.Nodes.{bytes_of}
-use Rattle.conn_rules.specs.Refusals.{refused_if, first_of, unless}
-
--- the most bytes of one read, write or listing
-abbrev pub most_at_once : ℕ
-most_at_once = 8192
+use Rattle.fidl_names.specs.First.{cause_if, first_of}
+use Rattle.conn_rules.specs.Refusals.{unless}
 
 -- at most so many bytes from an offset on; none behind the end
 abbrev pub part_from : ℕ → ℕ → List ℕ → List ℕ
@@ -25,13 +22,14 @@ part_from offset count bytes = take count (drop offset bytes)
 abbrev pub at_byte : Position → ℕ → Position
 at_byte position offset = record position { offset = offset }
 
+-- more than one read, write or listing may have
 abbrev pub is_too_much : ℕ → Bool
-is_too_much count = nat_lt most_at_once count
+is_too_much count = nat_lt limit.MAX_CHUNK count
 
 -- ---- reading
 
 abbrev pub reading_refusal : ℕ → Option Status
-reading_refusal count = first_of (refused_if (is_too_much count) status.OutOfRange ∷ [])
+reading_refusal count = first_of (cause_if (is_too_much count) status.OutOfRange ∷ [])
 
 -- the bytes from the position, which goes on by their number
 abbrev pub read_act : Birth → Position → Tree → Asked → ℕ → Act
@@ -55,7 +53,7 @@ is_too_far offset bytes = not (length bytes == 0) && nat_lt limit.MAX_FILE (offs
 
 abbrev pub writing_refusal : ℕ → List ℕ → Option Status
 writing_refusal offset bytes =
-    first_of (refused_if (is_too_much (length bytes)) status.OutOfRange ∷ refused_if (is_too_far offset bytes) status.FileBig ∷ [])
+    first_of (cause_if (is_too_much (length bytes)) status.OutOfRange ∷ cause_if (is_too_far offset bytes) status.FileBig ∷ [])
 
 -- where a Write begins: at the position, or at the file's end where the connection appends
 abbrev pub write_start : Birth → Position → Tree → ℕ
@@ -111,8 +109,8 @@ abbrev pub seek_act : Birth → Position → Tree → Asked → ℕ → ℤ → 
 seek_act birth position tree request origin offset =
     unless
     (first_of
-    (refused_if (nat_lt 2 origin) status.InvalidArgs
-    ∷ refused_if (is_no_position (seek_sum birth position tree origin offset)) status.OutOfRange
+    (cause_if (nat_lt 2 origin) status.InvalidArgs
+    ∷ cause_if (is_no_position (seek_sum birth position tree origin offset)) status.OutOfRange
     ∷ []))
     position request
     (only
@@ -122,7 +120,7 @@ seek_act birth position tree request origin offset =
 -- the file is cut at a size, or filled up to it with zeros
 abbrev pub resize_act : Birth → Position → Tree → Asked → ℕ → Act
 resize_act birth position tree request size =
-    unless (first_of (refused_if (nat_lt limit.MAX_FILE size) status.FileBig ∷ [])) position request
+    unless (first_of (cause_if (nat_lt limit.MAX_FILE size) status.FileBig ∷ [])) position request
     (record {
       answer = replies (done method.Resize);
       position = position;

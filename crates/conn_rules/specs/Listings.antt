@@ -16,7 +16,8 @@ use Rattle.conn_rules.specs.Births.{Birth, Place, start, after_dot, after_name, 
 use Rattle.conn_rules.specs.Answers.{Act, only, replies}
 use Rattle.conn_rules.specs.FileRows.{is_too_much}
 use Rattle.conn_rules.specs.Nodes.{kind_here}
-use Rattle.conn_rules.specs.Refusals.{refused_if, first_of, unless}
+use Rattle.fidl_names.specs.First.{cause_if, first_of}
+use Rattle.conn_rules.specs.Refusals.{unless}
 
 -- an entry: a node's number, the type of its kind, and a name
 pub record Dirent : Type 0 where
@@ -78,8 +79,8 @@ abbrev pub listing_act : Birth → Position → Tree → Asked → ℕ → Act
 listing_act birth position tree request most =
     unless
     (first_of
-    (refused_if (is_too_much most) status.InvalidArgs
-    ∷ refused_if (fits_none (listing tree birth.node position.place) most) status.BufferTooSmall
+    (cause_if (is_too_much most) status.InvalidArgs
+    ∷ cause_if (fits_none (listing tree birth.node position.place) most) status.BufferTooSmall
     ∷ []))
     position request
     (only

@@ -5,18 +5,20 @@ use Rattle.std.specs.List.{list_any}
 use Rattle.std.specs.Option.{option_map, option_map_or}
 use Rattle.std.specs.Str.{bytes_eq}
 use Rattle.fidl_names.specs.declared.methods.Method.TheVariants as method
+use Rattle.fidl_names.specs.declared.limits.TheConstants as limit
 use Rattle.fidl_names.specs.declared.statuses.Status.{Status}
 use Rattle.fidl_names.specs.declared.statuses.Status.TheVariants as status
 use Rattle.io_messages.specs.Asked.{Asked}
 use Rattle.io_messages.specs.Replies.{done, settled, token}
-use Rattle.node_graph.specs.declared.TheConstants as limit
 use Rattle.node_graph.specs.Tree.{Tree, Edges, EdgeKey, EdgeTo, add, cut, move, is_removed}
 use Rattle.path_walk.specs.Names.{name_fault}
 use Rattle.conn_rules.specs.declared.births.Room.{Room}
 use Rattle.conn_rules.specs.Births.{Birth, Position}
 use Rattle.conn_rules.specs.Answers.{Act, only, failure_of, replies, watches}
 use Rattle.conn_rules.specs.Nodes.{edge_at, leads_to, is_directory, is_mount, is_empty_directory}
-use Rattle.conn_rules.specs.Refusals.{refused_if, first_of, unless, most_connections}
+use Rattle.conn_rules.specs.Opens.{is_full}
+use Rattle.fidl_names.specs.First.{cause_if, first_of}
+use Rattle.conn_rules.specs.Refusals.{unless}
 
 -- a name in a directory
 abbrev pub name_in : ℕ → List ℕ → EdgeKey
@@ -43,11 +45,11 @@ directory_behind tree key = if leads_to is_directory tree key then option_map (�
 -- bit 0 asks for a directory; no other bit has a meaning
 abbrev pub unlink_refusals : Tree → EdgeKey → ℕ → List (Option Status)
 unlink_refusals tree key flags =
-    refused_if (is_bad_name key.name || nat_lt 1 flags) status.InvalidArgs
-    ∷ refused_if (is_none (edge_at tree key)) status.NotFound
-    ∷ refused_if (leads_to is_mount tree key) status.NotSupported
-    ∷ refused_if ((flags == 1) && leads_elsewhere tree key) status.NotDir
-    ∷ refused_if (leads_to_names tree key) status.NotEmpty
+    cause_if (is_bad_name key.name || nat_lt 1 flags) status.InvalidArgs
+    ∷ cause_if (is_none (edge_at tree key)) status.NotFound
+    ∷ cause_if (leads_to is_mount tree key) status.NotSupported
+    ∷ cause_if ((flags == 1) && leads_elsewhere tree key) status.NotDir
+    ∷ cause_if (leads_to_names tree key) status.NotEmpty
     ∷ []
 
 -- the name is gone
@@ -65,12 +67,12 @@ unlink_act birth position tree request name flags =
 
 abbrev pub link_refusals : Tree → EdgeKey → EdgeKey → List (Option Status)
 link_refusals tree from to =
-    refused_if (is_none (edge_at tree from)) status.NotFound
-    ∷ refused_if (leads_to is_mount tree from) status.NotSupported
-    ∷ refused_if (leads_to is_directory tree from) status.NotFile
-    ∷ refused_if (is_removed tree.edges to.directory) status.BadState
-    ∷ refused_if (is_some (edge_at tree to)) status.AlreadyExists
-    ∷ refused_if (nat_le limit.MAX_NAMES (finite.len tree.edges)) status.NoSpace
+    cause_if (is_none (edge_at tree from)) status.NotFound
+    ∷ cause_if (leads_to is_mount tree from) status.NotSupported
+    ∷ cause_if (leads_to is_directory tree from) status.NotFile
+    ∷ cause_if (is_removed tree.edges to.directory) status.BadState
+    ∷ cause_if (is_some (edge_at tree to)) status.AlreadyExists
+    ∷ cause_if (nat_le limit.MAX_NAMES (finite.len tree.edges)) status.NoSpace
     ∷ []
 
 -- the node of the first name has the second name too, with the same mask
@@ -86,7 +88,7 @@ linked position request to (Some edge) =
 
 abbrev pub two_names_refusal : List ℕ → List ℕ → Option ℕ → Option Status
 two_names_refusal src dst target =
-    first_of (refused_if (is_bad_name src || is_bad_name dst) status.InvalidArgs ∷ refused_if (is_none target) status.NotFound ∷ [])
+    first_of (cause_if (is_bad_name src || is_bad_name dst) status.InvalidArgs ∷ cause_if (is_none target) status.NotFound ∷ [])
 
 abbrev pub link_into : Birth → Position → Tree → Asked → List ℕ → List ℕ → Option ℕ → Act
 link_into birth position tree request src dst None = only position (failure_of request status.NotFound)
@@ -118,19 +120,19 @@ is_loop tree from target =
 
 abbrev pub move_refusals : Tree → EdgeKey → EdgeKey → List (Option Status)
 move_refusals tree from to =
-    refused_if (is_none (edge_at tree from)) status.NotFound
-    ∷ refused_if (leads_to is_mount tree from) status.NotSupported
-    ∷ refused_if (is_removed tree.edges to.directory) status.BadState
-    ∷ refused_if (is_loop tree from to.directory) status.InvalidArgs
+    cause_if (is_none (edge_at tree from)) status.NotFound
+    ∷ cause_if (leads_to is_mount tree from) status.NotSupported
+    ∷ cause_if (is_removed tree.edges to.directory) status.BadState
+    ∷ cause_if (is_loop tree from to.directory) status.InvalidArgs
     ∷ []
 
 -- of the name that is replaced
 abbrev pub replacing_refusals : Tree → EdgeKey → EdgeKey → List (Option Status)
 replacing_refusals tree from to =
-    refused_if (leads_to is_mount tree to) status.NotSupported
-    ∷ refused_if (leads_to is_directory tree from && leads_elsewhere tree to) status.NotDir
-    ∷ refused_if (leads_elsewhere tree from && leads_to is_directory tree to) status.NotFile
-    ∷ refused_if (leads_to_names tree to) status.NotEmpty
+    cause_if (leads_to is_mount tree to) status.NotSupported
+    ∷ cause_if (leads_to is_directory tree from && leads_elsewhere tree to) status.NotDir
+    ∷ cause_if (leads_elsewhere tree from && leads_to is_directory tree to) status.NotFile
+    ∷ cause_if (leads_to_names tree to) status.NotEmpty
     ∷ []
 
 abbrev pub is_same_name : EdgeKey → EdgeKey → Bool
@@ -173,13 +175,10 @@ token_act position request (Some number) = only position (replies (token number)
 abbrev pub every_event : ℕ
 every_event = 31
 
-abbrev pub most_watchers : ℕ
-most_watchers = 64
-
 abbrev pub watch_refusals : Room → ℕ → ℕ → List (Option Status)
 watch_refusals room mask options =
-    refused_if ((mask == 0) || (nat_lt every_event mask || not (options == 0))) status.InvalidArgs
-    ∷ refused_if (nat_le most_watchers room.watchers || nat_le most_connections room.connections) status.NoResources
+    cause_if ((mask == 0) || (nat_lt every_event mask || not (options == 0))) status.InvalidArgs
+    ∷ cause_if (nat_le limit.MAX_WATCHERS room.watchers || is_full room) status.NoResources
     ∷ []
 
 abbrev pub watch_act : Position → Room → Asked → ℕ → ℕ → Act

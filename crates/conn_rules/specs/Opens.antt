@@ -3,6 +3,7 @@ use Rattle.std.specs.Prelude.{ℕ, ◌+◌, ◌&&◌, ◌||◌, Bool, not, nat_l
 use Rattle.std.specs.FinMap as finite
 use Rattle.std.specs.Option.{option_map}
 use Rattle.std.specs.Str.{bytes_eq}
+use Rattle.fidl_names.specs.declared.limits.TheConstants as limit
 use Rattle.fidl_names.specs.declared.statuses.Status.{Status}
 use Rattle.fidl_names.specs.declared.statuses.Status.TheVariants as status
 use Rattle.io_flags.specs.declared.names.Flag.{Flag}
@@ -17,7 +18,6 @@ use Rattle.io_rights.specs.declared.operations.Operation.TheVariants as op
 use Rattle.io_rights.specs.Operations.{OperationSet, single, all}
 use Rattle.node_graph.specs.declared.nodes.NodeKind.{NodeKind}
 use Rattle.node_graph.specs.declared.nodes.NodeKind.TheVariants.{Directory, File, Service, Mount}
-use Rattle.node_graph.specs.declared.TheConstants as limit
 use Rattle.node_graph.specs.Tree.{Tree, EdgeKey, Change, make, fill, stay, is_removed}
 use Rattle.path_walk.specs.Names.{dot}
 use Rattle.path_walk.specs.Paths.{path_fault, names_of}
@@ -26,7 +26,8 @@ use Rattle.conn_rules.specs.Births.{Birth, Position}
 use Rattle.conn_rules.specs.Answers.{Answer, binds, forwards, Act, only, failure_of, nothing_told}
 use Rattle.conn_rules.specs.Built.{Built}
 use Rattle.conn_rules.specs.Nodes.{kind_here, is_file, is_service}
-use Rattle.conn_rules.specs.Refusals.{refused_if, first_of, unless, lacks, most_connections}
+use Rattle.fidl_names.specs.First.{cause_if, first_of}
+use Rattle.conn_rules.specs.Refusals.{unless, lacks}
 use Rattle.conn_rules.specs.Walks.{Walk, arrives, missing, crosses, stops, walk, limit_of}
 
 -- ---- refusals
@@ -35,10 +36,10 @@ use Rattle.conn_rules.specs.Walks.{Walk, arrives, missing, crosses, stops, walk,
 abbrev pub entry_refusals : Built → Birth → ℕ → List ℕ → List (Option Status)
 entry_refusals built birth word path =
     option_map status_of (flag_fault word)
-    ∷ refused_if (not (built.words word)) status.NotSupported
-    ∷ refused_if (is_some (path_fault path)) status.InvalidArgs
-    ∷ refused_if (not (bytes_eq path dot) && lacks birth.rights (single op.Traverse)) status.AccessDenied
-    ∷ refused_if (lacks birth.rights (asked_rights word)) status.AccessDenied
+    ∷ cause_if (not (built.words word)) status.NotSupported
+    ∷ cause_if (is_some (path_fault path)) status.InvalidArgs
+    ∷ cause_if (not (bytes_eq path dot) && lacks birth.rights (single op.Traverse)) status.AccessDenied
+    ∷ cause_if (lacks birth.rights (asked_rights word)) status.AccessDenied
     ∷ []
 
 -- the protocol flag of a kind of node
@@ -66,27 +67,28 @@ abbrev pub connects_without_right : ℕ → NodeKind → Bool
 connects_without_right word kind =
     is_service kind && (not (has word flag.ProtocolNode) && lacks (explicit_rights word) (single op.Connect))
 
+-- a server has as many connections as it may, watchers and the ends of mounts included
 abbrev pub is_full : Room → Bool
-is_full room = nat_le most_connections room.connections
+is_full room = nat_le limit.MAX_CONNECTIONS room.connections
 
 -- of a node that is there
 abbrev pub arrival_refusals : Built → Room → ℕ → NodeKind → List (Option Status)
 arrival_refusals built room word kind =
-    refused_if (has word flag.MustCreate) status.AlreadyExists
-    ∷ refused_if (is_other_kind word kind) (other_kind_status word)
-    ∷ refused_if (marks_file word && not (is_file kind)) status.NotFile
-    ∷ refused_if (not (built.kinds kind)) status.NotSupported
-    ∷ refused_if (connects_without_right word kind) status.AccessDenied
-    ∷ refused_if (is_full room) status.NoResources
+    cause_if (has word flag.MustCreate) status.AlreadyExists
+    ∷ cause_if (is_other_kind word kind) (other_kind_status word)
+    ∷ cause_if (marks_file word && not (is_file kind)) status.NotFile
+    ∷ cause_if (not (built.kinds kind)) status.NotSupported
+    ∷ cause_if (connects_without_right word kind) status.AccessDenied
+    ∷ cause_if (is_full room) status.NoResources
     ∷ []
 
 -- of a node that is missing
 abbrev pub making_refusals : Tree → Room → ℕ → ℕ → List (Option Status)
 making_refusals tree room word directory =
-    refused_if (not (creates word)) status.NotFound
-    ∷ refused_if (is_removed tree.edges directory) status.BadState
-    ∷ refused_if (nat_le limit.MAX_NAMES (finite.len tree.edges)) status.NoSpace
-    ∷ refused_if (is_full room) status.NoResources
+    cause_if (not (creates word)) status.NotFound
+    ∷ cause_if (is_removed tree.edges directory) status.BadState
+    ∷ cause_if (nat_le limit.MAX_NAMES (finite.len tree.edges)) status.NoSpace
+    ∷ cause_if (is_full room) status.NoResources
     ∷ []
 
 -- ---- what is bound

@@ -1,3 +1,7 @@
+ghost use Rattle.std.specs.Prelude.{◌≡◌};
+ghost use Rattle.conn_rules.specs.Opens.{is_full};
+
+use fidl_names::MAX_CONNECTIONS;
 use io_messages::Protocol;
 use io_rights::Rights;
 use node_graph::NodeRef;
@@ -21,4 +25,13 @@ pub struct Room {
     pub connections: u32,
     pub watchers: u32,
     pub token: Option<u32>,
+}
+
+impl Room {
+    /// Whether the server has as many connections as it may.
+    pub fn is_full(self) -> bool
+        ensures { result ≡ is_full self }
+    {
+        self.connections >= MAX_CONNECTIONS
+    }
 }

@@ -12,6 +12,6 @@ mod served;
 
 pub use births::{Birth, Room};
 pub use laws::kept_nodes_are_rows;
-pub use refusals::{method_of, method_refusal};
+pub use refusals::method_refusal;
 pub use rows::{fail, reply, serve_node};
 pub use served::Served;

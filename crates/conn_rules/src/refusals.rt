@@ -1,46 +1,17 @@
 //! Why a method isn't served on a connection, whatever its arguments are.
 
 ghost use Rattle.std.specs.Prelude.{◌≡◌, ◌≢◌, true, IfSome};
-ghost use Rattle.io_messages.specs.Asked.{asked, method_of};
 ghost use Rattle.io_messages.specs.Protocols.{has_method, home_of};
 ghost use Rattle.conn_rules.specs.Acts.{is_of_every_node, is_beyond, lacks_right, method_refusals};
 ghost use Rattle.conn_rules.specs.Births.{born};
 ghost use Rattle.conn_rules.specs.Built.{first_methods, is_first_method};
-ghost use Rattle.conn_rules.specs.Refusals.{first_of};
+ghost use Rattle.fidl_names.specs.First.{first_of};
 ghost use Rattle.conn_rules.specs.Shared.{can_fail};
 
 use crate::births::Birth;
 use fidl_names::{Method, Status};
-use io_messages::{Protocol, Request, has_method};
+use io_messages::{Protocol, has_method};
 use io_rights::needed;
-
-/// The method of a request.
-pub fn method_of(request: &Request<'_>) -> Method
-    ensures { result ≡ method_of (asked request.now) }
-{
-    match request {
-        Request::Clone { .. } => Method::Clone,
-        Request::Close => Method::Close,
-        Request::Query => Method::Query,
-        Request::GetAttributes { .. } => Method::GetAttributes,
-        Request::Sync => Method::Sync,
-        Request::OpenPath { .. } => Method::OpenPath,
-        Request::ReadDirents { .. } => Method::ReadDirents,
-        Request::Rewind => Method::Rewind,
-        Request::GetToken => Method::GetToken,
-        Request::Rename { .. } => Method::Rename,
-        Request::Link { .. } => Method::Link,
-        Request::Unlink { .. } => Method::Unlink,
-        Request::Watch { .. } => Method::Watch,
-        Request::Read { .. } => Method::Read,
-        Request::ReadAt { .. } => Method::ReadAt,
-        Request::Write { .. } => Method::Write,
-        Request::WriteAt { .. } => Method::WriteAt,
-        Request::Seek { .. } => Method::Seek,
-        Request::Resize { .. } => Method::Resize,
-        Request::EchoString { .. } => Method::EchoString,
-    }
-}
 
 /// Why a method isn't served on a connection, whatever its arguments are: it is none of a node
 /// reference's, its right is wanting, or it isn't built yet; the first that holds.

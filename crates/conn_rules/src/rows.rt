@@ -31,9 +31,6 @@ use fidl_wire::{Ordinals, Out};
 use io_messages::{Protocol, Reply, Request, write_reply};
 use node_graph::Graph;
 
-/// The most connections that a server has.
-const MOST_CONNECTIONS: u32 = 4096;
-
 /// Replies, into an empty output.
 pub fn reply(ordinals: &Ordinals, txid: u32, reply: Reply<'_>, out: &mut Out) -> Served
     requires empty { HasNothing out.old }
@@ -79,7 +76,7 @@ fn serve_clone(birth: &Birth, room: Room) -> Served
     ensures bound { (found : code.Birth) → result ≡ Served.Bind found → IsCloneOf birth.now found }
     ensures kind { result ≢ Served.Reply × (result ≢ Served.ReplyEnd × result ≢ Served.NoMemory) }
 {
-    if room.connections >= MOST_CONNECTIONS {
+    if room.is_full() {
         return Served::Refused(Status::NoResources);
     }
     Served::Bind(Birth {

@@ -20,7 +20,8 @@ use Rattle.conn_rules.specs.Births.{Birth, Position}
 use Rattle.conn_rules.specs.Built.{first_methods, is_first_word}
 use Rattle.conn_rules.specs.Nodes.{kind_here}
 use Rattle.conn_rules.specs.Opens.{arrival_refusals, arrival, by_walk, entry_refusals, making, making_refusals, open_act}
-use Rattle.conn_rules.specs.Refusals.{first_of, unless}
+use Rattle.fidl_names.specs.First.{first_of}
+use Rattle.conn_rules.specs.Refusals.{unless}
 use Rattle.conn_rules.specs.Walks.{Walk, arrives, missing, crosses, stops, walk, limit_of}
 use Rattle.dir_conn.specs.declared.served.DirServed.{DirServed}
 use Rattle.dir_conn.specs.Opened.{answer_at, refused_or}

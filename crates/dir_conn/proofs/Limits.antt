@@ -23,5 +23,5 @@ has_meet_self s op.ModifyDirectory = and_self s.modify_directory
 
 pub grant_within : (word : ℕ) (limit : OperationSet) → is_within (explicit_rights word) limit ≡ true →
     grant_of word limit ≡ Some (granted_kind word (granted word limit))
-unfolding grant_of
+unfolding grant_of explicit_rights granted granted_kind
 grant_within word limit e = rw e refl

@@ -26,7 +26,8 @@ use Rattle.conn_rules.specs.Births.{Birth, Position}
 use Rattle.conn_rules.specs.Built.{Built}
 use Rattle.conn_rules.specs.Nodes.{edge_at, kind_here, kind_behind}
 use Rattle.conn_rules.specs.Opens.{arrival_refusals, arrival, by_walk, entry_refusals, making, making_refusals}
-use Rattle.conn_rules.specs.Refusals.{first_of, lacks, refused_if, unless}
+use Rattle.fidl_names.specs.First.{cause_if, first_of}
+use Rattle.conn_rules.specs.Refusals.{lacks, unless}
 use Rattle.conn_rules.specs.Walks.{Walk, arrives, missing, crosses, stops, walk, behind, passing, inner_by_kind, inner_rights, inner_step, last_by_kind, last_step, limit_of}
 use Rattle.dir_conn.specs.Laws.{masks_of, IsWithinAll, OpensOnlyNarrow}
 use Rattle.dir_conn.proofs.Binding.{ByOperation, within_trans}
@@ -80,7 +81,7 @@ named_by_case law e m true = (law e (join e m)).1 (λ o h. join_left e m o h)
 named_by_case law e m false = (law e e).1 (λ o h. h)
 
 named_in_asked : ByOperation → (word : ℕ) → IsTrue (is_within (explicit_rights word) (asked_rights word))
-unfolding asked_rights
+unfolding asked_rights explicit_rights
 named_in_asked law word = named_by_case law (explicit_rights word) (single op.ModifyDirectory) (creates word)
 
 named_in_inner : ByOperation → (word : ℕ) → IsTrue (is_within (explicit_rights word) (inner_rights word))
@@ -178,7 +179,7 @@ unless_binds position request (Some status) act found announced e =
     absurd (fails_by_case (is_one_way (method_of request)) status (fails (method_of request) status) found announced e)
 unless_binds position request None act found announced e = (refl, e)
 
-fifth_passes : (a b c d : Option Status) (x : Bool) (status : Status) → first_of (a ∷ b ∷ c ∷ d ∷ refused_if (not x) status ∷ []) ≡ None → x ≡ true
+fifth_passes : (a b c d : Option Status) (x : Bool) (status : Status) → first_of (a ∷ b ∷ c ∷ d ∷ cause_if (not x) status ∷ []) ≡ None → x ≡ true
 fifth_passes (Some s) b c d x status e = search rules
 fifth_passes None (Some s) c d x status e = search rules
 fifth_passes None None (Some s) d x status e = search rules
@@ -212,9 +213,9 @@ opens_narrow operation law grants built birth position room tree request path wo
     let h = unless_binds position request (first_of (entry_refusals built birth word path))
     (by_walk built birth position room tree request word (walk tree word (names_of path) birth.node)) found announced e in
     let asked =
-    fifth_passes (option_map status_of (flag_fault word)) (refused_if (not (built.words word)) status.NotSupported)
-    (refused_if (is_some (path_fault path)) status.InvalidArgs)
-    (refused_if (not (bytes_eq path dot) && lacks birth.rights (single op.Traverse)) status.AccessDenied)
+    fifth_passes (option_map status_of (flag_fault word)) (cause_if (not (built.words word)) status.NotSupported)
+    (cause_if (is_some (path_fault path)) status.InvalidArgs)
+    (cause_if (not (bytes_eq path dot) && lacks birth.rights (single op.Traverse)) status.AccessDenied)
     (is_within (asked_rights word) birth.rights) status.AccessDenied h.0 in
     walk_binds law grants built birth position room tree request word (walk tree word (names_of path) birth.node) found announced (
       within_trans operation (explicit_rights word) (asked_rights word) birth.rights (named_in_asked operation word) asked,

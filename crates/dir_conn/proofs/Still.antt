@@ -16,7 +16,8 @@ use Rattle.conn_rules.specs.Births.{Birth, Position}
 use Rattle.conn_rules.specs.Built.{first_methods, is_first_method, is_first_word}
 use Rattle.conn_rules.specs.Nodes.{kind_here}
 use Rattle.conn_rules.specs.Opens.{arrival_refusals, arrival, by_walk, entry_refusals, is_full, making, making_refusals, open_act}
-use Rattle.conn_rules.specs.Refusals.{first_of, refused_if, unless}
+use Rattle.fidl_names.specs.First.{cause_if, first_of}
+use Rattle.conn_rules.specs.Refusals.{unless}
 use Rattle.conn_rules.specs.Walks.{Walk, arrives, missing, crosses, stops, walk, limit_of}
 use Rattle.dir_conn.proofs.Acting.{making_none, truncates_none}
 
@@ -32,13 +33,13 @@ still_unless position request (Some status) act h = record { place = refl; chang
 still_unless position request None act h = h refl
 
 -- where none of the refusals holds, the third of them doesn't
-third_passes : (a b : Option Status) (c : Bool) (status : Status) → first_of (a ∷ b ∷ refused_if (not c) status ∷ []) ≡ None → c ≡ true
+third_passes : (a b : Option Status) (c : Bool) (status : Status) → first_of (a ∷ b ∷ cause_if (not c) status ∷ []) ≡ None → c ≡ true
 third_passes (Some s) b c status e = search rules
 third_passes None (Some s) c status e = search rules
 third_passes None None true status e = refl
 third_passes None None false status e = search rules
 
-second_passes : (a : Option Status) (c : Bool) (status : Status) (rest : List (Option Status)) → first_of (a ∷ refused_if (not c) status ∷ rest) ≡ None → c ≡ true
+second_passes : (a : Option Status) (c : Bool) (status : Status) (rest : List (Option Status)) → first_of (a ∷ cause_if (not c) status ∷ rest) ≡ None → c ≡ true
 second_passes (Some s) c status rest e = search rules
 second_passes None true status rest e = refl
 second_passes None false status rest e = search rules
@@ -66,7 +67,7 @@ open_still birth position room tree request path word =
 row_still : (birth : Birth) (position : Position) (room : Room) (tree : Tree) (target : Option ℕ) (request : Asked) →
     is_first_method (method_of request) ≡ true → has_method protocol.Directory (method_of request) ≡ true →
     IsStill position (row_act first_methods birth position room tree target request)
-row_still birth position room tree target (asks.clone endpoint) built has = still_unless position (asks.clone endpoint) (first_of (refused_if (is_full room) status.NoResources ∷ [])) (only position (binds birth false)) (λ _. record { place = refl; change = refl; told = refl })
+row_still birth position room tree target (asks.clone endpoint) built has = still_unless position (asks.clone endpoint) (first_of (cause_if (is_full room) status.NoResources ∷ [])) (only position (binds birth false)) (λ _. record { place = refl; change = refl; told = refl })
 row_still birth position room tree target asks.close built has = record { place = refl; change = refl; told = refl }
 row_still birth position room tree target asks.query built has = record { place = refl; change = refl; told = refl }
 row_still birth position room tree target (asks.get_attributes bits) built has = record { place = refl; change = refl; told = refl }

@@ -1,14 +1,10 @@
 -- What an Open answers, by where its walk leads.
-use Rattle.std.specs.Prelude.{ℕ, ◌≡◌, Option, Some, None, IfSome, IsTrue}
+use Rattle.std.specs.Prelude.{ℕ, Option, Some, None, IsTrue}
 use Rattle.fidl_names.specs.declared.statuses.Status.{Status}
 use Rattle.fidl_names.specs.declared.statuses.Status.TheVariants as status
 use Rattle.io_flags.specs.Grants.{onward}
-use Rattle.io_messages.specs.declared.protocols.Protocol.{Protocol}
-use Rattle.io_messages.specs.declared.protocols.Protocol.TheVariants as protocol
 use Rattle.io_rights.specs.Operations.{OperationSet, is_within}
-use Rattle.node_graph.specs.declared.nodes.NodeKind.{NodeKind}
-use Rattle.node_graph.specs.declared.nodes.NodeKind.TheVariants.{Directory, File, Service}
-use Rattle.node_graph.specs.Graph.{Kept, Names, kind_at, number_of}
+use Rattle.node_graph.specs.Graph.{Kept}
 use Rattle.node_graph.specs.Tree.{Tree}
 use Rattle.conn_rules.specs.declared.births.Birth as code
 use Rattle.conn_rules.specs.declared.births.Room.{Room}
@@ -16,7 +12,8 @@ use Rattle.conn_rules.specs.Answers.{Answer, forwards, refuses}
 use Rattle.conn_rules.specs.Built.{first_methods}
 use Rattle.conn_rules.specs.Nodes.{kind_here}
 use Rattle.conn_rules.specs.Opens.{arrival_refusals, binding}
-use Rattle.conn_rules.specs.Refusals.{first_of}
+use Rattle.fidl_names.specs.First.{first_of}
+use Rattle.conn_rules.specs.Shared.{CanBeBound}
 use Rattle.dir_conn.specs.Reaches.{Reach, at_node, at_nothing, at_mount, nowhere}
 
 -- the endpoint that the Open carries ends with the refusal, or this is answered where there is none
@@ -32,16 +29,7 @@ answer_at room tree word at_nothing = refuses status.NotFound
 answer_at room tree word (at_mount mount rest limit) = forwards mount (onward word limit) rest
 answer_at room tree word (nowhere status) = refuses status
 
--- the protocol is one of nodes of this kind
-abbrev pub FitsKind : Protocol → NodeKind → Type 0
-FitsKind protocol.Directory kind = kind ≡ Directory
-FitsKind protocol.File kind = kind ≡ File
-FitsKind protocol.Echo kind = kind ≡ Service
-FitsKind protocol.Node kind = Unit {0}
-FitsKind protocol.Watcher kind = ⊥
-
--- a birth of a node that the graph keeps, under a protocol of its kind, with rights within these
+-- a birth that can be bound over the graph, with rights within these
 pub record IsBound (graph : Kept) (rights : OperationSet) (found : code.Birth) : Type 0 where
-  pub named : Names graph found.node
-  pub kind : IfSome (kind_at graph (number_of found.node)) (FitsKind found.protocol)
+  pub bound : CanBeBound graph found
   pub within : IsTrue (is_within found.rights rights)

@@ -1,6 +1,6 @@
 //! What an Open does that leads to a node.
 
-ghost use Rattle.std.specs.Prelude.{◌≡◌, ◌&&◌, not, IsTrue};
+ghost use Rattle.std.specs.Prelude.{◌≡◌, ◌&&◌, not, true, IsTrue};
 ghost use Rattle.io_flags.specs.Grants.{explicit_rights, granted, granted_kind};
 ghost use Rattle.io_flags.specs.Words.{has};
 ghost use Rattle.io_rights.specs.Operations.{is_within};
@@ -9,9 +9,10 @@ ghost use Rattle.conn_rules.specs.Births.{born};
 ghost use Rattle.conn_rules.specs.Built.{first_methods, is_first_kind};
 ghost use Rattle.conn_rules.specs.Nodes.{is_file};
 ghost use Rattle.conn_rules.specs.Opens.{arrival_refusals, birth_for, binding, connects_without_right, flag_of, is_full, is_other_kind, marks_file, other_kind_status, protocol_of};
-ghost use Rattle.conn_rules.specs.Refusals.{first_of};
+ghost use Rattle.fidl_names.specs.First.{first_of};
 ghost use Rattle.dir_conn.specs.Served.{IsUnwritten, Sends};
-ghost use Rattle.dir_conn.specs.Opened.{refused_or, FitsKind};
+ghost use Rattle.conn_rules.specs.Shared.{is_spoken_at};
+ghost use Rattle.dir_conn.specs.Opened.{refused_or};
 
 use crate::served::DirServed;
 use conn_rules::{Birth, Room};
@@ -20,9 +21,6 @@ use io_flags::{Flag, OpenFlags, explicit, grant};
 use io_messages::Protocol;
 use io_rights::{Operation, Rights, laws_of_rights};
 use node_graph::{NodeKind, NodeRef};
-
-/// The most connections that a server has.
-const MOST_CONNECTIONS: u32 = 4096;
 
 /// Binds the node that an Open leads to, unless it is refused.
 pub(crate) fn bind<'a>(
@@ -34,7 +32,7 @@ pub(crate) fn bind<'a>(
 ) -> DirServed<'a>
     requires explicit { IsTrue (is_within (explicit_rights flags) limit) }
     ensures sends { Sends (refused_or (first_of (arrival_refusals first_methods room flags kind)) (binding flags limit (number_of node) kind)) result }
-    ensures bound { (found : Birth) → result ≡ DirServed.Bind found → (found.node ≡ node) × IsTrue (is_within found.rights limit) × FitsKind found.protocol kind }
+    ensures bound { (found : Birth) → result ≡ DirServed.Bind found → (found.node ≡ node) × IsTrue (is_within found.rights limit) × (is_spoken_at found.protocol kind ≡ true) }
     ensures unwritten { IsUnwritten result }
 {
     match refusal(flags, room, kind) {
@@ -62,7 +60,7 @@ fn refusal(flags: OpenFlags, room: Room, kind: NodeKind) -> Option<Status>
     if connects_without_right(flags, kind) {
         return Some(Status::AccessDenied);
     }
-    if room.connections >= MOST_CONNECTIONS {
+    if room.is_full() {
         return Some(Status::NoResources);
     }
     None
@@ -131,7 +129,7 @@ fn birth_for(flags: OpenFlags, node: NodeRef, kind: NodeKind, limit: Rights) -> 
     ensures node { result.node ≡ node }
     ensures announce { result.announce ≡ has flags Flag.SendRepresentation }
     ensures within { IsTrue (is_within result.rights limit) }
-    ensures kind { FitsKind result.protocol kind }
+    ensures kind { is_spoken_at result.protocol kind ≡ true }
 {
     Birth {
         node,
@@ -155,7 +153,7 @@ fn granted(flags: OpenFlags, limit: Rights) -> Rights
 /// The protocol of a connection to a node of this kind.
 fn protocol_of(flags: OpenFlags, kind: NodeKind) -> Protocol
     ensures protocol { result ≡ protocol_of flags kind }
-    ensures kind { FitsKind result kind }
+    ensures kind { is_spoken_at result kind ≡ true }
 {
     if flags.has(Flag::ProtocolNode) {
         return Protocol::Node;

@@ -20,7 +20,7 @@ ghost use Rattle.dir_conn.specs.Served.{DirGives, as_dir};
 
 use crate::open::open;
 use crate::served::DirServed;
-use conn_rules::{Birth, Room, Served, fail, method_of, method_refusal, serve_node};
+use conn_rules::{Birth, Room, Served, fail, method_refusal, serve_node};
 use fidl_wire::{Ordinals, Out};
 use io_messages::{Protocol, Request};
 use io_rights::laws_of_rights;
@@ -100,7 +100,7 @@ impl DirConn {
         ensures ends { result ≡ DirServed.ReplyEnd → asked request.entry ≡ asks.close }
         ensures memory { result ≢ DirServed.NoMemory }
     {
-        let method = method_of(&request);
+        let method = request.method();
         match method_refusal(&self.birth, method) {
             Some(status) => of_node(fail(ordinals, txid, method, status, out)),
             None => serve_row(&self.birth, ordinals, graph, room, txid, request, out),

@@ -10,7 +10,8 @@ ghost use Rattle.path_walk.specs.Paths.{names_of};
 ghost use Rattle.conn_rules.specs.Births.{born};
 ghost use Rattle.conn_rules.specs.Built.{first_methods, is_first_word};
 ghost use Rattle.conn_rules.specs.Opens.{entry_refusals};
-ghost use Rattle.conn_rules.specs.Refusals.{first_of, refused_if, lacks};
+ghost use Rattle.fidl_names.specs.First.{first_of};
+ghost use Rattle.conn_rules.specs.Refusals.{lacks};
 
 use conn_rules::Birth;
 use fidl_names::Status;

@@ -21,7 +21,8 @@ use Rattle.conn_rules.specs.Births.{Birth, Position, born}
 use Rattle.conn_rules.specs.Built.{first_methods, is_first_method}
 use Rattle.conn_rules.specs.FileRows.{reading_refusal}
 use Rattle.conn_rules.specs.Opens.{is_full}
-use Rattle.conn_rules.specs.Refusals.{refused_if, first_of, unless}
+use Rattle.fidl_names.specs.First.{cause_if, first_of}
+use Rattle.conn_rules.specs.Refusals.{unless}
 use Rattle.conn_rules.specs.Served.{Gives}
 
 -- a refused request fails, and does nothing else
@@ -49,7 +50,7 @@ stays_unless (Some status) position request act stays = record { change = refl; 
 stays_unless None position request act stays = stays refl
 
 -- what isn't refused is built
-last_holds : (a b c : Bool) (s t u : Status) → first_of (refused_if a s ∷ refused_if b t ∷ refused_if (not c) u ∷ []) ≡ None → c ≡ true
+last_holds : (a b c : Bool) (s t u : Status) → first_of (cause_if a s ∷ cause_if b t ∷ cause_if (not c) u ∷ []) ≡ None → c ≡ true
 last_holds a b true s t u is = refl
 last_holds true b false s t u is = cc
 last_holds false true false s t u is = cc
@@ -62,7 +63,7 @@ is_built birth method is =
 row_stays : (birth : Birth) (position : Position) (room : Room) (tree : Tree) (target : Option ℕ) (request : Asked) →
     is_first_method (method_of request) ≡ true → has_method protocol.File (method_of request) ≡ true → Stays (row_act first_methods birth position room tree target request)
 row_stays birth position room tree target (asks.clone endpoint) built has =
-    stays_unless (first_of (refused_if (is_full room) status.NoResources ∷ [])) position (asks.clone endpoint) _ (λ _. record { change = refl; told = refl })
+    stays_unless (first_of (cause_if (is_full room) status.NoResources ∷ [])) position (asks.clone endpoint) _ (λ _. record { change = refl; told = refl })
 row_stays birth position room tree target asks.close built has = record { change = refl; told = refl }
 row_stays birth position room tree target asks.query built has = record { change = refl; told = refl }
 row_stays birth position room tree target (asks.get_attributes bits) built has = record { change = refl; told = refl }
@@ -121,10 +122,10 @@ taken_as_row inside birth position room tree target request found same is first 
 -- ---- Read
 
 -- more than may be read at once is refused
-pub too_much : (count : ℕ) → 8192 < count → reading_refusal count ≡ Some status.OutOfRange
-too_much count more = rw (lt-ltb 8192 count more) refl
+pub too_much : (count : ℕ) → limit.MAX_CHUNK < count → reading_refusal count ≡ Some status.OutOfRange
+too_much count more = rw (lt-ltb limit.MAX_CHUNK count more) refl
 
 -- what may be read at once fits into a reply
-pub few_fit : (size : ℕ) → size ≤ 8192 → 48 + padded size ≤ limit.MAX_BYTES
+pub few_fit : (size : ℕ) → size ≤ limit.MAX_CHUNK → 48 + padded size ≤ limit.MAX_BYTES
 unfolding padding_after
 few_fit size few = omega arith

@@ -13,22 +13,19 @@ ghost use Rattle.conn_rules.specs.Answers.{nothing_told};
 ghost use Rattle.conn_rules.specs.Births.{born, fresh};
 ghost use Rattle.conn_rules.specs.Built.{first_methods};
 ghost use Rattle.conn_rules.specs.FileRows.{read_act};
-ghost use Rattle.conn_rules.specs.Refusals.{first_of};
+ghost use Rattle.fidl_names.specs.First.{first_of};
 ghost use Rattle.conn_rules.specs.Served.{Gives, HasNothing};
 ghost use Rattle.conn_rules.specs.Shared.{CanBeBound, IsCloneOf};
 
 use crate::reading::part_from;
 use conn_rules::{
-    Birth, Room, Served, fail, kept_nodes_are_rows, method_of, method_refusal, reply, serve_node,
+    Birth, Room, Served, fail, kept_nodes_are_rows, method_refusal, reply, serve_node,
 };
-use fidl_names::{Method, Status};
+use fidl_names::{MAX_CHUNK, Method, Status};
 use fidl_wire::{Ordinals, Out};
 use io_messages::{Protocol, Reply, Request};
 use node_graph::{Graph, NodeKind, NodeRef};
 use std::marker::Model;
-
-/// The most bytes of one Read.
-const MOST_AT_ONCE: u64 = 8192;
 
 /// A connection to a file. Its position is a number of bytes below 2^63.
 #[derive(Drop)]
@@ -103,7 +100,7 @@ impl FileConn {
         ensures ends { result ≡ Served.ReplyEnd → asked request.entry ≡ asks.close }
         ensures memory { result ≢ Served.NoMemory }
     {
-        let method = method_of(&request);
+        let method = request.method();
         match method_refusal(&self.birth, method) {
             Some(status) => fail(ordinals, txid, method, status, out),
             None => self.serve_row(ordinals, graph, room, txid, &request, out),
@@ -164,7 +161,7 @@ impl FileConn {
         ensures kind { result ≡ Served.Reply }
     {
         kept_nodes_are_rows();
-        if count > MOST_AT_ONCE {
+        if count > MAX_CHUNK {
             return fail(ordinals, txid, Method::Read, Status::OutOfRange, out);
         }
         let bytes = part_from(graph.bytes(self.birth.node), self.position, count);

@@ -1,2 +1,3 @@
 pub mod FlagWords
+pub mod SetWords
 pub mod GrantLemmas

@@ -2,7 +2,7 @@ ghost use Rattle.std.specs.Prelude.{◌≡◌, ◌⊎◌, IsTrue, IfOk, None};
 ghost use Rattle.std.specs.Result.{result_err};
 ghost use Rattle.io_flags.specs.declared.names.Flag.{Flag};
 ghost use Rattle.io_flags.specs.Words.{has, has_protocol, is_alone, creates};
-ghost use Rattle.io_flags.specs.Faults.{first_broken, flag_fault};
+ghost use Rattle.io_flags.specs.Faults.{flag_fault};
 
 use crate::faults::FlagFault;
 use crate::names::Flag;
@@ -34,20 +34,10 @@ impl OpenFlags {
         ensures fault { result_err result ≡ flag_fault word }
         ensures word { IfOk result (λ flags. flags ≡ word) }
     {
-        let rules = [
-            (words::has_unnamed_bit(word), FlagFault::UnknownBit),
-            (words::creates_twice(word), FlagFault::BothCreate),
-            (words::is_unsupported(word), FlagFault::Unsupported),
-            (words::creates_no_kind(word), FlagFault::CreateKind),
-            (words::marks_no_file(word), FlagFault::FileFlags),
-            (
-                words::truncates_without_right(word),
-                FlagFault::TruncateRight,
-            ),
-            (words::mixes_node(word), FlagFault::NodeAlone),
-        ];
-        first_broken(&rules)?;
-        Ok(OpenFlags { word })
+        match first_fault(word) {
+            Some(fault) => Err(fault),
+            None => Ok(OpenFlags { word }),
+        }
     }
 
     // A word that is known to have no fault.
@@ -96,14 +86,31 @@ impl OpenFlags {
     }
 }
 
-// The fault of the first rule that is broken.
-fn first_broken(rules: &[(bool, FlagFault)]) -> Result<(), FlagFault>
-    ensures { result_err result ≡ first_broken rules.now }
+// What is wrong with a word: the first that holds.
+#[tactic(auto, unfolding(crate::specs::Faults::flag_fault))]
+fn first_fault(word: u64) -> Option<FlagFault>
+    ensures { result ≡ flag_fault word }
 {
-    for (broken, fault) in rules {
-        if *broken {
-            return Err(*fault);
-        }
+    if words::has_unnamed_bit(word) {
+        return Some(FlagFault::UnknownBit);
     }
-    Ok(())
+    if words::makes_twice(word) {
+        return Some(FlagFault::BothCreate);
+    }
+    if words::is_unsupported(word) {
+        return Some(FlagFault::Unsupported);
+    }
+    if words::makes_no_kind(word) {
+        return Some(FlagFault::CreateKind);
+    }
+    if words::marks_no_file(word) {
+        return Some(FlagFault::FileFlags);
+    }
+    if words::truncates_without_right(word) {
+        return Some(FlagFault::TruncateRight);
+    }
+    if words::mixes_node(word) {
+        return Some(FlagFault::NodeAlone);
+    }
+    None
 }

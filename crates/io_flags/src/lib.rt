@@ -9,7 +9,7 @@ mod words;
 
 pub use check::OpenFlags;
 pub use faults::FlagFault;
-pub use grants::{asked, explicit, forwarded, grant, laws_of_flags};
+pub use grants::{asked, explicit, forwarded, grant, laws_of_flags, words_are_sets};
 pub use names::Flag;
 
 #[cfg(test)]

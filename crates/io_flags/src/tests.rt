@@ -1,4 +1,6 @@
-use crate::{Flag, FlagFault, OpenFlags, asked, explicit, forwarded, grant, laws_of_flags};
+use crate::{
+    Flag, FlagFault, OpenFlags, asked, explicit, forwarded, grant, laws_of_flags, words_are_sets,
+};
 use fidl_names::Status;
 use io_rights::Rights;
 use std::process::Abort;
@@ -245,6 +247,7 @@ fn words_get_their_rights(rt: HostRuntime) -> Result<(), Fail> {
     grants(&rt, GRANTED)?;
     grants_nothing(&rt, NOT_GRANTED)?;
     laws_of_flags();
+    words_are_sets();
     Ok(())
 }
 

@@ -1,7 +1,6 @@
-ghost use Rattle.std.specs.Prelude.{◌≡◌, ◌&&◌, ◌||◌, not, count_by};
-ghost use Rattle.io_rights.specs.declared.operations.Operation.{Operation};
-ghost use Rattle.io_flags.specs.Words.{has, protocols, has_unnamed_bit, has_protocol, is_alone, creates};
-ghost use Rattle.io_flags.specs.Faults.{creates_twice, is_unsupported, creates_no_kind, marks_no_file, truncates_without_right, mixes_node};
+ghost use Rattle.std.specs.Prelude.{◌≡◌, count_by};
+ghost use Rattle.io_flags.specs.Words.{holds, flags_of, protocols, has, has_unnamed_bit, has_protocol, is_alone, creates};
+ghost use Rattle.io_flags.specs.Faults.{makes_twice, is_unsupported, makes_no_kind, marks_no_file, truncates_without_right, mixes_node};
 
 use crate::names::Flag;
 use io_rights::Operation;
@@ -29,7 +28,6 @@ pub(crate) fn has_unnamed_bit(word: u64) -> bool
     word & !NAMED != 0
 }
 
-#[tactic(auto, unfolding(crate::specs::Words::has_protocol))]
 pub(crate) fn has_protocol(word: u64) -> bool
     ensures { result ≡ has_protocol word }
 {
@@ -37,47 +35,45 @@ pub(crate) fn has_protocol(word: u64) -> bool
 }
 
 fn protocol_count(word: u64) -> usize
-    ensures { result ≡ count_by (has word) protocols }
+    ensures { result ≡ count_by (holds (flags_of word)) protocols }
 {
     PROTOCOLS.iter().filter(|flag| has(word, **flag)).count()
 }
 
 // Whether this protocol flag is set, and no other.
-#[tactic(auto, unfolding(crate::specs::Words::is_alone))]
 pub(crate) fn is_alone(word: u64, flag: Flag) -> bool
     ensures { result ≡ is_alone word flag }
 {
     has(word, flag) && protocol_count(word) == 1
 }
 
-#[tactic(auto, unfolding(crate::specs::Words::creates))]
 pub(crate) fn creates(word: u64) -> bool
     ensures { result ≡ creates word }
 {
     has(word, Flag::MaybeCreate) || has(word, Flag::MustCreate)
 }
 
-pub(crate) fn creates_twice(word: u64) -> bool
-    ensures { result ≡ creates_twice word }
+pub(crate) fn makes_twice(word: u64) -> bool
+    ensures { result ≡ makes_twice (flags_of word) }
 {
     has(word, Flag::MaybeCreate) && has(word, Flag::MustCreate)
 }
 
 pub(crate) fn is_unsupported(word: u64) -> bool
-    ensures { result ≡ is_unsupported word }
+    ensures { result ≡ is_unsupported (flags_of word) }
 {
     has(word, Flag::ProtocolSymlink) || has(word, Flag::UnnamedTemporary)
 }
 
-pub(crate) fn creates_no_kind(word: u64) -> bool
-    ensures { result ≡ creates_no_kind word }
+pub(crate) fn makes_no_kind(word: u64) -> bool
+    ensures { result ≡ makes_no_kind (flags_of word) }
 {
     creates(word)
         && !(is_alone(word, Flag::ProtocolDirectory) || is_alone(word, Flag::ProtocolFile))
 }
 
 pub(crate) fn marks_no_file(word: u64) -> bool
-    ensures { result ≡ marks_no_file word }
+    ensures { result ≡ marks_no_file (flags_of word) }
 {
     (has(word, Flag::FileAppend) || has(word, Flag::FileTruncate))
         && has_protocol(word)
@@ -85,13 +81,13 @@ pub(crate) fn marks_no_file(word: u64) -> bool
 }
 
 pub(crate) fn truncates_without_right(word: u64) -> bool
-    ensures { result ≡ truncates_without_right word }
+    ensures { result ≡ truncates_without_right (flags_of word) }
 {
     has(word, Flag::FileTruncate) && !has(word, Flag::Perm(Operation::WriteBytes))
 }
 
 pub(crate) fn mixes_node(word: u64) -> bool
-    ensures { result ≡ mixes_node word }
+    ensures { result ≡ mixes_node (flags_of word) }
 {
     has(word, Flag::ProtocolNode) && !is_alone(word, Flag::ProtocolNode)
 }

@@ -29,7 +29,8 @@ use Rattle.conn_rules.specs.Listings.{fits_none, listing}
 use Rattle.conn_rules.specs.NameRows.{unlink_refusals, watch_refusals, token_act, link_into, linked, name_in, rename_into, is_same_name, replacing_refusals, moving}
 use Rattle.conn_rules.specs.Nodes.{bytes_of, edge_at, kind_here, kind_behind}
 use Rattle.conn_rules.specs.Opens.{is_full, open_act, by_walk, entry_refusals, arrival_refusals, making_refusals}
-use Rattle.conn_rules.specs.Refusals.{refused_if, first_of, unless}
+use Rattle.fidl_names.specs.First.{cause_if, first_of}
+use Rattle.conn_rules.specs.Refusals.{unless}
 use Rattle.conn_rules.specs.Walks.{Walk, arrives, missing, crosses, stops, behind, passing, last_by_kind, last_step, inner_rights, inner_by_kind, inner_step, walk, limit_of}
 
 -- ---- a walk that crosses a mount
@@ -114,7 +115,7 @@ first_none : (o : Option Status) (rest : List (Option Status)) → first_of (o �
 first_none None rest e = e
 first_none (Some s) rest e = absurd (cc)
 
-not_refused : (b : Bool) (s : Status) (rest : List (Option Status)) → first_of (refused_if b s ∷ rest) ≡ None → b ≡ false
+not_refused : (b : Bool) (s : Status) (rest : List (Option Status)) → first_of (cause_if b s ∷ rest) ≡ None → b ≡ false
 not_refused true s rest e = absurd (cc)
 not_refused false s rest e = refl
 
@@ -125,7 +126,7 @@ none_there (Some x) e = absurd (cc)
 path_passes : (built : Built) (birth : Birth) (word : ℕ) (path : List ℕ) → first_of (entry_refusals built birth word path) ≡ None → path_fault path ≡ None
 path_passes built birth word path e =
     none_there (path_fault path)
-    (not_refused (is_some (path_fault path)) _ _ (first_none (refused_if (not (built.words word)) _) _ (first_none (option_map status_of (flag_fault word)) _ e)))
+    (not_refused (is_some (path_fault path)) _ _ (first_none (cause_if (not (built.words word)) _) _ (first_none (option_map status_of (flag_fault word)) _ e)))
 
 -- ---- what an Open is answered
 
@@ -254,13 +255,13 @@ rename_answers birth position tree src token dst (Some target) =
           (moving position tree (name_in birth.node src) (name_in target dst)) (λ s. (tt, tt)) (λ e. (tt, tt))
 
 row_answers : (built : Built) (birth : Birth) (position : Position) (room : Room) (tree : Tree) (target : Option ℕ) (request : Asked) → IsAct room tree request (row_act built birth position room tree target request)
-row_answers built birth position room tree target (asks.clone endpoint) = unless_holds (IsAct room tree (asks.clone endpoint)) (first_of (refused_if (is_full room) status.NoResources ∷ [])) position (asks.clone endpoint) _ (λ s. (tt, tt)) (λ e. (tt, tt))
+row_answers built birth position room tree target (asks.clone endpoint) = unless_holds (IsAct room tree (asks.clone endpoint)) (first_of (cause_if (is_full room) status.NoResources ∷ [])) position (asks.clone endpoint) _ (λ s. (tt, tt)) (λ e. (tt, tt))
 row_answers built birth position room tree target asks.close = (tt, tt)
 row_answers built birth position room tree target asks.query = (tt, tt)
 row_answers built birth position room tree target (asks.get_attributes bits) = (tt, tt)
 row_answers built birth position room tree target asks.sync = (tt, tt)
 row_answers built birth position room tree target (asks.open_path path flags given object) = open_answers built birth position room tree path flags given object
-row_answers built birth position room tree target (asks.read_dirents most) = unless_holds IsPlain (first_of (refused_if (is_too_much most) status.InvalidArgs ∷ refused_if (fits_none (listing tree birth.node position.place) most) status.BufferTooSmall ∷ [])) position (asks.read_dirents most) _ (λ s. (tt, tt)) (λ e. (tt, tt))
+row_answers built birth position room tree target (asks.read_dirents most) = unless_holds IsPlain (first_of (cause_if (is_too_much most) status.InvalidArgs ∷ cause_if (fits_none (listing tree birth.node position.place) most) status.BufferTooSmall ∷ [])) position (asks.read_dirents most) _ (λ s. (tt, tt)) (λ e. (tt, tt))
 row_answers built birth position room tree target asks.rewind = (tt, tt)
 row_answers built birth position room tree target asks.get_token = token_answers position room.token
 row_answers built birth position room tree target (asks.rename src token dst) =
@@ -276,8 +277,8 @@ row_answers built birth position room tree target (asks.write bytes) =
     unless_holds IsPlain _ position (asks.write bytes) _ (λ s. (tt, tt)) (λ e. (tt, written birth.node (bytes_of tree birth.node) (write_start birth position tree) bytes))
 row_answers built birth position room tree target (asks.write_at bytes offset) =
     unless_holds IsPlain _ position (asks.write_at bytes offset) _ (λ s. (tt, tt)) (λ e. (tt, written birth.node (bytes_of tree birth.node) offset bytes))
-row_answers built birth position room tree target (asks.seek origin offset) = unless_holds IsPlain (first_of (refused_if (nat_lt 2 origin) status.InvalidArgs ∷ refused_if (is_no_position (seek_sum birth position tree origin offset)) status.OutOfRange ∷ [])) position (asks.seek origin offset) _ (λ s. (tt, tt)) (λ e. (tt, tt))
-row_answers built birth position room tree target (asks.resize size) = unless_holds IsPlain (first_of (refused_if (nat_lt limit.MAX_FILE size) status.FileBig ∷ [])) position (asks.resize size) _ (λ s. (tt, tt)) (λ e. (tt, tt))
+row_answers built birth position room tree target (asks.seek origin offset) = unless_holds IsPlain (first_of (cause_if (nat_lt 2 origin) status.InvalidArgs ∷ cause_if (is_no_position (seek_sum birth position tree origin offset)) status.OutOfRange ∷ [])) position (asks.seek origin offset) _ (λ s. (tt, tt)) (λ e. (tt, tt))
+row_answers built birth position room tree target (asks.resize size) = unless_holds IsPlain (first_of (cause_if (nat_lt limit.MAX_FILE size) status.FileBig ∷ [])) position (asks.resize size) _ (λ s. (tt, tt)) (λ e. (tt, tt))
 row_answers built birth position room tree target (asks.echo_string value) = (tt, tt)
 
 refused_answers : (room : Room) (tree : Tree) (position : Position) (request : Asked) (s : Status) → IsAct room tree request (only position (failure_of request s))

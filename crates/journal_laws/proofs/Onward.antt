@@ -1,11 +1,10 @@
 -- What goes on behind a mount: it reads as an Open of the names that are left, with the same object.
-use Rattle.std.proofs.Common.{◌≡◌, ℕ, zero, suc, ◌+◌, ◌-◌, ◌^◌, ◌<◌, ◌≤◌, Bool, true, false, cond, nat_le, get_or, slice_index, List, [], ◌∷◌, ◌++◌, length, drop, map, slice_get, Option, Some, None, Ok, All, bit_and, refl, sym, ap, ◌∙◌, subst, length-append, drop_at, drop-drop, lit<, lit≤, lt_of_le_of_lt, rules, arith}
+use Rattle.std.proofs.Common.{◌≡◌, ℕ, zero, suc, ◌+◌, ◌-◌, ◌^◌, ◌<◌, ◌≤◌, Bool, true, false, cond, nat_le, get_or, slice_index, List, [], ◌∷◌, ◌++◌, length, drop, map, slice_get, Option, Some, None, Ok, All, refl, sym, ap, ◌∙◌, subst, length-append, drop_at, drop-drop, lit<, lit≤, rules, arith}
 use Rattle.std.specs.List.{join_with_byte}
 use Rattle.std.specs.Str.{IsUtf8}
 use Rattle.std.proofs.lemmas.Bool.{lt-leb, leb-true, leb-false}
 use Rattle.std.proofs.lemmas.List.{get_or_at, get_or_past}
 use Rattle.std.proofs.lemmas.List.Elements.{All-nil, All-cons, All-head, All-tail, All-drop}
-use Rattle.std.proofs.lemmas.Nat.{and_le_l}
 use Rattle.std.proofs.lemmas.Str.{IsUtf8-drop, IsCharBoundary-after_ascii, IsUtf8-from_ascii}
 use Rattle.byteorder.specs.Numbers.{little_from-lt}
 use Rattle.fidl_names.specs.declared.methods.Handle.{Handle}
@@ -15,16 +14,15 @@ use Rattle.fidl_names.specs.declared.methods.Method.TheVariants as method
 use Rattle.fidl_wire.specs.Grammar.{IsNumber, IsSpelled, Lays, Part, Spells}
 use Rattle.fidl_wire.specs.Layout.{Cell, Item, struct, fields, held, num, blank, seq, members, number}
 use Rattle.fidl_names.specs.Numbers.{number_at}
-use Rattle.io_flags.specs.Grants.{onward, kept_within, without, write_set, execute_set}
-use Rattle.io_flags.specs.Words.{place}
-use Rattle.io_flags.specs.declared.names.Flag.{Flag}
-use Rattle.io_flags.specs.declared.names.Flag.TheVariants as flag
+use Rattle.io_flags.specs.Grants.{going_on, onward}
+use Rattle.io_flags.specs.Words.{flags_of}
+use Rattle.io_flags.proofs.SetWords.{word_of-small}
 use Rattle.io_messages.specs.declared.protocols.Protocol.{Protocol}
 use Rattle.io_messages.specs.declared.protocols.Protocol.TheVariants as protocol
 use Rattle.io_messages.specs.Asked as asks
 use Rattle.io_messages.specs.Requests.{asked_from, request_cells, item, num_in, num_of, request_of}
 use Rattle.io_messages.specs.Writing.{IsRequest}
-use Rattle.io_rights.specs.Operations.{OperationSet, is_within}
+use Rattle.io_rights.specs.Operations.{OperationSet}
 use Rattle.path_walk.specs.Names.{slash, dot, IsName}
 use Rattle.path_walk.specs.Paths.{IsPath, text_of}
 use Rattle.fidl_names.specs.HandleNumber.{handle_with}
@@ -113,18 +111,9 @@ flags_small below p bytes handles t path flags attributes object read h =
           subst (λ (n : ℕ). n < 256 ^ 8) same
           (number_read 8 1 (request_cells method.OpenPath) items bytes (map handle_with handles) (subst (λ (k : Method). IsSpelled (struct (request_cells k)) (fields items) bytes (map handle_with handles)) e spelled) refl h)
 
-kept_small : (limit set : OperationSet) (one : Flag) (word : ℕ) → word < 256 ^ 8 → kept_within limit set one word < 256 ^ 8
-unfolding kept_within without
-kept_small limit set one word h = by_test (is_within set limit) where
-  by_test : (b : Bool) → cond b word (bit_and word (2 ^ 64 - 1 - 2 ^ place one)) < 256 ^ 8
-  by_test true = h
-  by_test false = le-lt (and_le_l word (2 ^ 64 - 1 - 2 ^ place one)) h where
-    le-lt : {a b c : ℕ} → a ≤ b → b < c → a < c
-    le-lt l m = lt_of_le_of_lt l m
-
 pub onward_small : (word : ℕ) (limit : OperationSet) → word < 256 ^ 8 → onward word limit < 256 ^ 8
 unfolding onward
-onward_small word limit h = kept_small limit execute_set flag.InheritExecute (kept_within limit write_set flag.InheritWrite word) (kept_small limit write_set flag.InheritWrite word h)
+onward_small word limit h = word_of-small (going_on (flags_of word) limit)
 
 -- ---- the names that are left are those of a path
 

@@ -10,8 +10,8 @@ use Rattle.std.proofs.lemmas.Map.Lookups.{CmpEqualImpliesEq, exact_pairs, exact_
 use Rattle.std.specs.Str.{is_utf8, chars}
 use lib.Utf8.{encode}
 use Rattle.io_flags.specs.Faults.{flag_fault}
-use Rattle.io_flags.specs.Grants.{explicit_rights, asked_rights, granted, granted_kind, added, onward, kept_within, write_set, execute_set, without}
-use Rattle.io_flags.specs.Words.{has, has_unnamed_bit, has_protocol, is_alone, creates}
+use Rattle.io_flags.specs.Grants.{explicit_rights, asked_rights, granted, granted_kind, onward, write_set, execute_set}
+use Rattle.io_flags.specs.Words.{flags_of, word_of, has_unnamed_bit}
 use Rattle.io_rights.specs.Operations.{all, join, meet, is_within}
 use Rattle.node_graph.specs.Tree.{EdgeKey, EdgeTo, edge_cmp, Edges}
 use Rattle.path_walk.specs.Names.{name_fault}
@@ -31,7 +31,7 @@ use Rattle.journal_rows.proofs.RowFrames.{none_is}
 
 -- what has to be looked through, so that a request computes
 unfoldable pub looked_through : Unit {0}
-unfolding number_bytes is_utf8 chars encode flag_fault explicit_rights asked_rights granted granted_kind added onward kept_within write_set execute_set without has has_unnamed_bit has_protocol is_alone creates join meet is_within name_fault names_of path_fault act_of attributes_of walk
+unfolding number_bytes is_utf8 chars encode flag_fault explicit_rights asked_rights granted granted_kind onward write_set execute_set flags_of word_of has_unnamed_bit join meet is_within name_fault names_of path_fault act_of attributes_of walk
 looked_through = tt
 
 -- ---- names

@@ -34,7 +34,8 @@ use Rattle.conn_rules.specs.Built.{first_methods, is_first_kind, is_first_method
 use Rattle.conn_rules.specs.FileRows.{reading_refusal}
 use Rattle.conn_rules.specs.Nodes.{is_file, is_mount, kind_here}
 use Rattle.conn_rules.specs.Opens.{arrival, arrival_refusals, by_walk, connects_without_right, entry_refusals, is_full, is_other_kind, kind_made, making, making_refusals, marks_file, open_act, other_kind_status, protocol_of}
-use Rattle.conn_rules.specs.Refusals.{first_of, lacks, refused_if, unless}
+use Rattle.fidl_names.specs.First.{cause_if, first_of}
+use Rattle.conn_rules.specs.Refusals.{lacks, unless}
 use Rattle.conn_rules.specs.Shared.{CanBeBound, is_spoken_at}
 use Rattle.conn_rules.specs.Walks.{Walk, arrives, missing, crosses, stops, walk, limit_of}
 use Rattle.dir_conn.specs.declared.served.DirServed.{DirServed}
@@ -118,17 +119,17 @@ unless_today : (tree : Tree) (o : Option Status) (position : Position) (request 
 unless_today tree (Some status) position request act h = failure_today tree request status
 unless_today tree None position request act h = h refl
 
-second_passes : (a : Option Status) (c : Bool) (status : Status) (rest : List (Option Status)) → first_of (a ∷ refused_if (not c) status ∷ rest) ≡ None → c ≡ true
+second_passes : (a : Option Status) (c : Bool) (status : Status) (rest : List (Option Status)) → first_of (a ∷ cause_if (not c) status ∷ rest) ≡ None → c ≡ true
 second_passes (Some s) c status rest e = search rules
 second_passes None true status rest e = refl
 second_passes None false status rest e = search rules
 
-third_passes : (a b : Option Status) (c : Bool) (status : Status) (rest : List (Option Status)) → first_of (a ∷ b ∷ refused_if (not c) status ∷ rest) ≡ None → c ≡ true
+third_passes : (a b : Option Status) (c : Bool) (status : Status) (rest : List (Option Status)) → first_of (a ∷ b ∷ cause_if (not c) status ∷ rest) ≡ None → c ≡ true
 third_passes (Some s) b c status rest e = search rules
 third_passes None b c status rest e = second_passes b c status rest e
 
 fourth_passes : (a b d : Option Status) (c : Bool) (status : Status) (rest : List (Option Status)) →
-    first_of (a ∷ b ∷ d ∷ refused_if (not c) status ∷ rest) ≡ None → c ≡ true
+    first_of (a ∷ b ∷ d ∷ cause_if (not c) status ∷ rest) ≡ None → c ≡ true
 fourth_passes (Some s) b d c status rest e = search rules
 fourth_passes None b d c status rest e = third_passes b d c status rest e
 
@@ -136,21 +137,21 @@ fourth_passes None b d c status rest e = third_passes b d c status rest e
 
 arrives_built : (room : Room) (word : ℕ) (kind : NodeKind) → first_of (arrival_refusals first_methods room word kind) ≡ None → is_first_kind kind ≡ true
 arrives_built room word kind none =
-    fourth_passes (refused_if (has word flag.MustCreate) status.AlreadyExists) (refused_if (is_other_kind word kind) (other_kind_status word))
-    (refused_if (marks_file word && not (is_file kind)) status.NotFile) (is_first_kind kind) status.NotSupported
-    (refused_if (connects_without_right word kind) status.AccessDenied ∷ refused_if (is_full room) status.NoResources ∷ []) none
+    fourth_passes (cause_if (has word flag.MustCreate) status.AlreadyExists) (cause_if (is_other_kind word kind) (other_kind_status word))
+    (cause_if (marks_file word && not (is_file kind)) status.NotFile) (is_first_kind kind) status.NotSupported
+    (cause_if (connects_without_right word kind) status.AccessDenied ∷ cause_if (is_full room) status.NoResources ∷ []) none
 
 opens_built : (birth : Birth) (word : ℕ) (path : List ℕ) → first_of (entry_refusals first_methods birth word path) ≡ None → is_first_word word ≡ true
 opens_built birth word path none =
     second_passes (option_map status_of (flag_fault word)) (is_first_word word) status.NotSupported
-    (refused_if (is_some (path_fault path)) status.InvalidArgs
-    ∷ refused_if (not (bytes_eq path dot) && lacks birth.rights (single op.Traverse)) status.AccessDenied
-    ∷ refused_if (lacks birth.rights (asked_rights word)) status.AccessDenied
+    (cause_if (is_some (path_fault path)) status.InvalidArgs
+    ∷ cause_if (not (bytes_eq path dot) && lacks birth.rights (single op.Traverse)) status.AccessDenied
+    ∷ cause_if (lacks birth.rights (asked_rights word)) status.AccessDenied
     ∷ []) none
 
 method_built : (birth : Birth) (method : Method) → first_of (method_refusals first_methods birth method) ≡ None → is_first_method method ≡ true
 method_built birth method none =
-    third_passes (refused_if (is_beyond birth.protocol method) status.BadHandle) (refused_if (lacks_right birth method) status.BadHandle)
+    third_passes (cause_if (is_beyond birth.protocol method) status.BadHandle) (cause_if (lacks_right birth method) status.BadHandle)
     (is_first_method method) status.NotSupported [] none
 
 -- ---- Open
@@ -207,7 +208,7 @@ open_today birth position room tree request path word here =
 row_today : (birth : Birth) (position : Position) (room : Room) (tree : Tree) (target : Option ℕ) (request : Asked) → IsSpokenNow birth.protocol →
     IsNoMount tree birth.node → is_first_method (method_of request) ≡ true → IsOfToday tree (row_act first_methods birth position room tree target request).answer
 row_today birth position room tree target (asks.clone endpoint) spoken here built =
-    unless_today tree (first_of (refused_if (is_full room) status.NoResources ∷ [])) position (asks.clone endpoint) (only position (binds birth false)) (λ _. spoken)
+    unless_today tree (first_of (cause_if (is_full room) status.NoResources ∷ [])) position (asks.clone endpoint) (only position (binds birth false)) (λ _. spoken)
 row_today birth position room tree target asks.close spoken here built = tt
 row_today birth position room tree target asks.query spoken here built = tt
 row_today birth position room tree target (asks.get_attributes bits) spoken here built = tt

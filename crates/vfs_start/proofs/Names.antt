@@ -1,5 +1,5 @@
 -- A path is its parent's path and its last name.
-use Rattle.std.proofs.Common.{◌≡◌, ◌≢◌, ℕ, ◌≤◌, ◌==◌, Bool, true, false, if◌then◌else◌, List, [], ◌∷◌, ◌++◌, length, reverse, Some, None, All, refl, sym, ap, ◌∙◌, subst, arith, nat_lt}
+use Rattle.std.proofs.Common.{◌≡◌, ◌≢◌, ℕ, ◌≤◌, ◌==◌, Bool, true, false, if◌then◌else◌, List, [], ◌∷◌, ◌++◌, length, reverse, Option, Some, None, All, refl, sym, ap, ◌∙◌, subst, arith, nat_lt}
 use Rattle.std.specs.Prelude.{slice_get, unwrap_or}
 use Rattle.std.specs.List.{slice_split, onto_first}
 use Rattle.std.specs.Str.{bytes_eq}
@@ -8,8 +8,12 @@ use Rattle.std.proofs.lemmas.List.{reverse-append}
 use Rattle.std.proofs.lemmas.List.Elements.{All-nil, All-cons, All-head, All-contains, Contains-push}
 use Rattle.std.proofs.lemmas.List.Splits.{slice_split_none, length-slice_split, slice_split-cons_yes, slice_split-cons_no}
 use Rattle.std.proofs.lemmas.Slice.Eq.{bytes_eq-Decides}
+use Rattle.fidl_names.specs.First.{cause_if, first_of}
+use Rattle.fidl_names.specs.declared.limits.TheConstants as limit
+use Rattle.fidl_names.proofs.FirstLaws.{first_of-none, cause_if-none}
+use Rattle.path_walk.specs.declared.faults.PathFault.{PathFault}
 use Rattle.path_walk.specs.declared.faults.PathFault.TheVariants as fault
-use Rattle.path_walk.specs.Names.{Rule, slash, dot, holds, dot_rule, first_broken, name_fault, IsName}
+use Rattle.path_walk.specs.Names.{slash, dot, holds, dot_fault, name_fault, IsName}
 use Rattle.path_walk.specs.Paths.{names_of}
 use Rattle.tree_file.specs.Numbering.{last_name}
 use Rattle.tree_file.specs.Texts.{before_last_slash, parent_of, is_dot}
@@ -72,18 +76,14 @@ last_parted text front back below same h =
 
 -- ---- what a path is
 
-broken_none : (rule : Rule) (rules : List Rule) → first_broken (rule ∷ rules) ≡ None → (rule.0 ≡ false) × (first_broken rules ≡ None)
-broken_none (true, found) rules e = absurd (cc)
-broken_none (false, found) rules e = (refl, e)
-
 pub name_short : (name : List ℕ) → IsName name → (1 ≤ length name) × (length name ≤ 255)
 unfolding name_fault
 name_short name h =
-    let later : List Rule = (holds 0 name, fault.ZeroByte) ∷ (holds slash name, fault.Slash) ∷ dot_rule name ∷ [] in
-    let a = broken_none (length name == 0, fault.EmptyName) ((nat_lt 255 (length name), fault.NameTooLong) ∷ later) h in
-    let b = broken_none (nat_lt 255 (length name), fault.NameTooLong) later a.1 in
-    let some : length name ≢ 0 = eqb-false (length name) 0 a.0 in
-    (omega arith, ltb-false 255 (length name) b.0)
+    let later : List (Option PathFault) = cause_if (holds 0 name) fault.ZeroByte ∷ cause_if (holds slash name) fault.Slash ∷ dot_fault name ∷ [] in
+    let a = first_of-none (cause_if (length name == 0) fault.EmptyName) (cause_if (nat_lt limit.MAX_NAME (length name)) fault.NameTooLong ∷ later) h in
+    let b = first_of-none (cause_if (nat_lt limit.MAX_NAME (length name)) fault.NameTooLong) later a.1 in
+    let some : length name ≢ 0 = eqb-false (length name) 0 (cause_if-none (length name == 0) fault.EmptyName a.0) in
+    (omega arith, ltb-false limit.MAX_NAME (length name) (cause_if-none (nat_lt limit.MAX_NAME (length name)) fault.NameTooLong b.0))
 
 dot_no_name : IsName dot → ⊥
 unfolding name_fault

@@ -15,11 +15,11 @@ use crate::firsts::{bind_firsts, known_endpoints};
 use crate::making::{Places, add_nodes};
 use endpoint_link::Endpoints;
 use fidl_names::NoMemory;
+use journal_laws::starts_of_files_are_numbered;
 use node_graph::Graph;
 use std::alloc::Global;
 use std::collections::BTreeMap;
 use tree_file::Start;
-use journal_laws::starts_of_files_are_numbered;
 use vfs_serving::Slot;
 
 // The path of the root.

@@ -4,7 +4,7 @@ use Rattle.io_messages.specs.Asked.{asked}
 use Rattle.conn_rules.specs.Acts.{method_refusals}
 use Rattle.conn_rules.specs.Births.{born}
 use Rattle.conn_rules.specs.Built.{first_methods}
-use Rattle.conn_rules.specs.Refusals.{first_of}
+use Rattle.fidl_names.specs.First.{first_of}
 use Rattle.dir_conn.proofs.Acting.{act_refused, act_row}
 use Rattle.dir_conn.proofs.Still.{act_still}
 use Rattle.dir_conn.proofs.conn.DirConn.serve.Goals as goal
@@ -13,9 +13,9 @@ use Rattle.dir_conn.proofs.conn.DirConn.serve.Goals.{in-Some, in-None}
 pub returns-clause-answer : goal.returns-clause-answer
 returns-clause-answer c = λ tree stands target.
     let same : c.self.inside.birth ≡ c.args.self.now.birth = ap (λ conn. conn.birth) c.self.view_is in
-    let method = sym c.method_of-method.ensures in
+    let method = sym c.method-method.ensures in
     let first =
-    ap (λ birth. first_of (method_refusals first_methods (born birth) c.method_of-method.result)) same
+    ap (λ birth. first_of (method_refusals first_methods (born birth) c.method-method.result)) same
     ∙ ap (λ m. first_of (method_refusals first_methods (born c.args.self.now.birth) m)) (sym method) in
     elim c.match-method_refusal.branch [
       | in-Some w ↦

@@ -4,11 +4,11 @@ use Rattle.file_conn.proofs.connection.FileConn.serve.Goals as goal
 
 pub returns-in-Some-clause-answer : goal.returns-in-Some-clause-answer
 returns-in-Some-clause-answer c tree target stands =
-    refused_gives c.self.inside.birth c.args.self.now.birth _ _ _ _ _ _ _ _ _ _ (ap (λ conn. conn.birth) c.self.view_is) c.method_of-method.ensures c.in-Some.ensures.first c.fail.ensures.gives
+    refused_gives c.self.inside.birth c.args.self.now.birth _ _ _ _ _ _ _ _ _ _ (ap (λ conn. conn.birth) c.self.view_is) c.method-method.ensures c.in-Some.ensures.first c.fail.ensures.gives
 
 pub returns-in-Some-clause-position : goal.returns-in-Some-clause-position
 returns-in-Some-clause-position c tree target stands =
-    refused_position c.self.inside.birth c.args.self.now.birth _ c.args.room tree target _ _ _ (ap (λ conn. conn.birth) c.self.view_is) c.method_of-method.ensures c.in-Some.ensures.first
+    refused_position c.self.inside.birth c.args.self.now.birth _ c.args.room tree target _ _ _ (ap (λ conn. conn.birth) c.self.view_is) c.method-method.ensures c.in-Some.ensures.first
 
 pub returns-in-Some-clause-change : goal.returns-in-Some-clause-change
 returns-in-Some-clause-change c tree target = (file_stays _ _ _ tree target _ c.requires.method).change
@@ -18,13 +18,13 @@ returns-in-Some-clause-told c tree target = (file_stays _ _ _ tree target _ c.re
 
 pub returns-in-None-clause-answer : goal.returns-in-None-clause-answer
 returns-in-None-clause-answer c tree target stands =
-    rw (taken_as_row c.self.inside.birth c.args.self.now.birth c.args.self.now.position c.args.room tree target _ _ (ap (λ conn. conn.birth) c.self.view_is) c.method_of-method.ensures c.in-None.ensures.first)
+    rw (taken_as_row c.self.inside.birth c.args.self.now.birth c.args.self.now.position c.args.room tree target _ _ (ap (λ conn. conn.birth) c.self.view_is) c.method-method.ensures c.in-None.ensures.first)
     (c.serve_row.ensures.answer tree target stands)
 
 pub returns-in-None-clause-position : goal.returns-in-None-clause-position
 returns-in-None-clause-position c tree target stands =
     c.serve_row.ensures.position tree target stands
-    ∙ sym (ap (λ act. act.position) (taken_as_row c.self.inside.birth c.args.self.now.birth c.args.self.now.position c.args.room tree target _ _ (ap (λ conn. conn.birth) c.self.view_is) c.method_of-method.ensures c.in-None.ensures.first))
+    ∙ sym (ap (λ act. act.position) (taken_as_row c.self.inside.birth c.args.self.now.birth c.args.self.now.position c.args.room tree target _ _ (ap (λ conn. conn.birth) c.self.view_is) c.method-method.ensures c.in-None.ensures.first))
 
 pub returns-in-None-clause-change : goal.returns-in-None-clause-change
 returns-in-None-clause-change c tree target = (file_stays _ _ _ tree target _ c.requires.method).change
