@@ -9,10 +9,10 @@ use Rattle.std.proofs.lemmas.List.Sums.{length-filter}
 use Rattle.std.proofs.lemmas.List.Elements.{All-head, All-tail, All-weaker}
 use Rattle.fidl_names.specs.declared.limits.TheConstants as limit
 use Rattle.toml.specs.Data.{Data}
-use Rattle.tree_file.specs.Accepted.{AreItems, AreAccepted, IsNode, IsMount, IsClient, IsAt, OtherEndpoint}
+use Rattle.tree_file.specs.Accepted.{AreItems, AreAccepted, IsNode, IsMount, IsClient, OtherEndpoint}
 use Rattle.tree_file.specs.Items.{NodeItem, MountItem, ClientItem, Lists}
 use Rattle.tree_file.specs.Reading.{node_of, mount_of, client_of}
-use Rattle.tree_file.specs.Rules.{items_at, servers_of, lists_of, first_broken, first_failing, rules_on_lists, names_held, names_fit, connections_held, connections_fit, node_fits, mount_fits, client_fits, bytes_fit, node_place, mount_place, rule_8, rule_9, rule_10, rule_11, rule_12, rule_13}
+use Rattle.tree_file.specs.Rules.{items_at, servers_of, lists_of, first_broken, first_failing, rules_on_lists, names_held, names_fit, connections_held, connections_fit, rule_8, rule_9, rule_10, rule_11, rule_12, rule_13}
 use Rattle.tree_file.proofs.Read.{all_read, apart_read, servers_read, node_read, mount_read, client_read, new_client}
 
 -- ---- the lists of any document

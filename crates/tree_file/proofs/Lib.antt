@@ -12,4 +12,6 @@ pub mod Trees
 pub mod Standing
 pub mod Placing
 pub mod Rising
+pub mod Edges
+pub mod Soundness
 pub mod Starts

@@ -1,5 +1,5 @@
 -- That each node and mount of an accepted tree stands behind those before it, on each server.
-use Rattle.std.proofs.Common.{◌≡◌, ℕ, zero, suc, ◌+◌, ◌<◌, ◌≤◌, ◌==◌, ◌&&◌, ◌||◌, Bool, true, false, cond, List, [], ◌∷◌, ◌++◌, length, map, filter, take, get_or, Option, Some, None, All, refl, sym, ap, ◌∙◌, subst, arith, append_assoc, append-nil}
+use Rattle.std.proofs.Common.{◌≡◌, ℕ, zero, suc, ◌+◌, ◌==◌, ◌&&◌, ◌||◌, Bool, true, false, cond, List, [], ◌∷◌, ◌++◌, length, map, filter, take, Option, Some, None, All, refl, sym, ap, ◌∙◌, subst, append_assoc, append-nil}
 use Rattle.std.specs.Prelude.{is_none, unwrap_or}
 use Rattle.std.specs.List.{find, position, enumerate_from}
 use Rattle.std.specs.Option.{option_map, option_or}
@@ -17,12 +17,12 @@ use Rattle.path_walk.proofs.PathLemmas.{path_sound}
 use Rattle.tree_file.specs.Accepted.{AreAccepted, IsAt, IsNode, IsMount}
 use Rattle.tree_file.specs.Items.{NodeItem, MountItem, Lists}
 use Rattle.tree_file.specs.Numbering.{Named, node_named, mount_named, named_of, number_at, tree_from}
-use Rattle.tree_file.specs.Rules.{Place, node_place, mount_place, is_at_place, found_among, is_directory, is_directory_kind, fits_in, node_fits, mount_fits, first_failing}
+use Rattle.tree_file.specs.Rules.{Place, node_place, mount_place, found_among, is_directory, is_directory_kind, fits_in, node_fits, mount_fits, first_failing}
 use Rattle.tree_file.proofs.Accepted.{passing, rules_kept}
 use Rattle.tree_file.proofs.Found.{find_push, enumerate_push, position_none}
 use Rattle.tree_file.proofs.Numbers.{at_path}
 use Rattle.tree_file.proofs.Places.{found_push, or_none}
-use Rattle.tree_file.proofs.Standing.{kind_found, kind_below, kind_root}
+use Rattle.tree_file.proofs.Standing.{kind_below, kind_root}
 use Rattle.tree_file.proofs.Trees.{Fits, Grows, bare, more}
 
 -- ---- the places of all servers, and the list of one

@@ -15,7 +15,7 @@ use Rattle.path_walk.specs.Names.{name_fault, IsName}
 use Rattle.path_walk.specs.Parts.{is_dot}
 use Rattle.path_walk.specs.Paths.{path_fault}
 use Rattle.toml.specs.Data.{Data, get, as_str, as_integer}
-use Rattle.tree_file.specs.Accepted.{IsPlain, IsAt, IsNode, IsMount, IsClient, AreServers}
+use Rattle.tree_file.specs.Accepted.{IsPlain, IsNode, IsMount, IsClient, AreServers}
 use Rattle.tree_file.specs.Fields.{◌>>=◌, has_only, text_at}
 use Rattle.tree_file.specs.Items.{NodeItem, MountItem, ClientItem}
 use Rattle.tree_file.specs.Reading.{index_of, server_at, path_at, place_at, kind_at, rights_at, is_file, bytes_from, bytes_at, node_keys, node_of, mount_keys, mount_of, client_keys, client_of, endpoint_from, endpoint_at, is_new_endpoint, is_new_name, server_of, read_all}

@@ -1,5 +1,5 @@
 -- That the tree of a list that grows is sound.
-use Rattle.std.proofs.Common.{◌≡◌, ℕ, ◌+◌, ◌-◌, ◌<◌, ◌≤◌, ◌⊎◌, List, [], ◌∷◌, ◌++◌, length, Option, Some, None, All, Contains, refl, sym, ap, ◌∙◌, subst, inl, inr, arith, add-one}
+use Rattle.std.proofs.Common.{◌≡◌, ℕ, ◌+◌, ◌-◌, ◌≤◌, ◌⊎◌, List, [], ◌∷◌, ◌++◌, length, Some, None, All, Contains, refl, sym, ap, ◌∙◌, subst, inl, inr, arith, add-one}
 use Rattle.std.specs.Prelude.{slice_get, slice_set}
 use Rattle.std.specs.Option.{option_map_or}
 use Rattle.std.proofs.lemmas.List.{length_push}
@@ -15,7 +15,7 @@ use Rattle.path_walk.specs.Parts.{last_name, parent_of}
 use Rattle.path_walk.proofs.PartLemmas.{last_valid, name_short}
 use Rattle.tree_file.specs.Numbering.{Named, number_at, tree_from, with_node}
 use Rattle.tree_file.proofs.Standing.{free_in}
-use Rattle.tree_file.proofs.Trees.{Fits, Grows, bare, more, placed, tree_push}
+use Rattle.tree_file.proofs.Trees.{Grows, bare, more, placed, tree_push}
 
 -- ---- one more node
 

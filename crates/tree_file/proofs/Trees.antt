@@ -26,10 +26,10 @@ use Rattle.tree_file.proofs.Numbers.{IsNew, number_same, number_free, number_new
 pub edges_total : IsTotalOrder edge_cmp
 edges_total = then_total (on_total (λ k. k.directory) nat_cmp_total) (on_total (λ k. k.name) nat_list_cmp_total)
 
-exact_edges : CmpEqualImpliesEq edge_cmp
+pub exact_edges : CmpEqualImpliesEq edge_cmp
 exact_edges a b h = ap (λ (p : ℕ × List ℕ). record { directory = p.0; name = p.1 }) (exact_pairs nat_cmp (slice_cmp nat_cmp) exact_unsigned exact_bytes (a.directory, a.name) (b.directory, b.name) h)
 
-equal_of : (o : Ordering) → is_eq o ≡ true → o ≡ Equal
+pub equal_of : (o : Ordering) → is_eq o ≡ true → o ≡ Equal
 equal_of Less h = absurd (cc)
 equal_of Equal h = refl
 equal_of Greater h = absurd (cc)

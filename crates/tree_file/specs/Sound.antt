@@ -1,5 +1,5 @@
 -- What holds of the lists of a tree that is accepted.
-use Rattle.std.specs.Prelude.{◌≡◌, ◌≢◌, ◌≤◌, ◌<◌, ℕ, true, List, length, map, take, slice_get, All, AllPairs, Some}
+use Rattle.std.specs.Prelude.{◌≡◌, ◌≢◌, ◌≤◌, ◌<◌, ℕ, true, List, length, take, slice_get, All, AllPairs, Some}
 use Rattle.std.specs.FinMap as finite
 use Rattle.fidl_names.specs.HandleNumber.{is_client}
 use Rattle.fidl_names.specs.declared.limits.TheConstants as limit
@@ -8,7 +8,7 @@ use Rattle.path_walk.specs.Parts.{parent_of}
 use Rattle.node_graph.specs.declared.nodes.NodeKind.TheVariants.{Directory, Mount}
 use Rattle.node_graph.specs.Tree.{EdgeKey, EdgeTo, Tree, kind_of, IsSound}
 use Rattle.tree_file.specs.Accepted.{AreAccepted, OtherEndpoint}
-use Rattle.tree_file.specs.Items.{NodeItem, MountItem, ClientItem, Lists}
+use Rattle.tree_file.specs.Items.{MountItem, Lists}
 use Rattle.tree_file.specs.Numbering.{Named, named_of, number_at, number_in, tree_from, tree_of}
 use Rattle.tree_file.specs.Rules.{names_held, connections_held}
 
