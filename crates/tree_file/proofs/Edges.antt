@@ -109,8 +109,7 @@ known lists accepted server =
     each item at on index kind =
         let same : item.0 ≡ index = same_index kind in
         let is = at.1 in
-        let place : at.0 ≡ index = omega (arith, is, same) in
-        (
+        let place : at.0 ≡ index = omega (arith, is, same) in (
           item.1,
           subst (λ (n : ℕ). slice_get lists.mounts n ≡ Some item.1) place at.2,
           eqb-true item.1.server server on,

@@ -12,7 +12,6 @@ mod rules;
 mod start;
 
 pub use faults::TreeFault;
-
 pub use laws::starts_are_sound;
 pub use lent::{StartClient, StartMount, StartNode};
 pub use start::{Start, start_of};

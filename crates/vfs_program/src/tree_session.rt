@@ -6,7 +6,6 @@ ghost use Rattle.endpoint_link.specs.Frames.{Frame, IsFrame};
 ghost use Rattle.endpoint_link.specs.Views.{frame_of};
 ghost use Rattle.endpoint_link.specs.declared.kinds.Side.TheVariants as side;
 ghost use Rattle.vfs_journal.specs.Starts.{Start as TheStart};
-ghost use Rattle.vfs_start.specs.Accepted.{IsAccepted};
 ghost use Rattle.vfs_program.specs.Serve.{ServeAnswers, TreeAnswers};
 ghost use Rattle.vfs_program.specs.Serving.{PassedOn, Passes, HeardOne, HeardPart, IsServing, FailsOnly, Leaves, Finishes};
 ghost use Rattle.vfs_program.specs.Session.{AnswersOrStarves};
@@ -72,7 +71,7 @@ pub fn serve_tree<F: Files, S: Source, K: Sink>(
     serve_start(alloc, ordinals, &start, source, sink)
 }
 
-/// Serves an accepted start with one server and no mounts.
+/// Serves a start with one server and no mounts.
 fn serve_start<S: Source, K: Sink>(
     alloc: Global,
     ordinals: Ordinals,
@@ -80,7 +79,6 @@ fn serve_start<S: Source, K: Sink>(
     source: &mut S,
     sink: &mut K,
 ) -> Status
-    requires accepted { IsAccepted start.now }
     requires built { IsBuilt start.now }
     ensures { TreeAnswers start.now
         (record {
