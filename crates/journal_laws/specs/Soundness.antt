@@ -3,9 +3,9 @@ use Rattle.std.specs.Prelude.{◌≡◌, ◌≢◌, ◌++◌, AllPairs, ◌<◌,
 use Rattle.io_messages.specs.declared.protocols.Protocol.TheVariants as protocol
 use Rattle.node_graph.specs.declared.nodes.NodeKind.TheVariants.{Mount}
 use Rattle.node_graph.specs.Tree.{NodeRow, Tree}
+use Rattle.tree_file.specs.Accepted.{AreAccepted}
 use Rattle.tree_file.specs.Items.{Lists}
 use Rattle.tree_file.specs.Numbering.{end_of_mount}
-use Rattle.tree_file.specs.Rules.{start_from}
 use Rattle.endpoint_link.specs.declared.kinds.Mode.{Mode}
 use Rattle.endpoint_link.specs.declared.kinds.Side.TheVariants.{ToServers}
 use Rattle.endpoint_link.specs.Frames.{Frame, IsFrame}
@@ -121,9 +121,9 @@ abbrev pub SessionsServeAll : Type 0
 SessionsServeAll =
     (built : Built) (start : Start) (by : Mode) (frames : List Frame) → IsStart start → All (IsFrame ToServers) frames → IsDrained (history_of built start (ended built start by frames))
 
--- the start of each tree file that is read
+-- the start of each accepted tree
 abbrev pub StartsAreSound : Type 0
-StartsAreSound = (text : List ℕ) (lists : Lists) → start_from text ≡ Some lists → IsStart (start_of lists)
+StartsAreSound = (lists : Lists) → AreAccepted lists → IsStart (start_of lists)
 
 -- what goes on behind a mount waits behind all others
 abbrev pub WhatGoesOnWaits : Type 0

@@ -6,5 +6,5 @@ mod Ordered
 mod Needed
 mod RowLists
 mod Seats
-mod Soundness
+pub mod Soundness
 mod States

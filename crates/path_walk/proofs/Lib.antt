@@ -1,2 +1,3 @@
 pub mod NameLemmas
 pub mod PathLemmas
+pub mod PartLemmas

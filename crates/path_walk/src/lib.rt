@@ -3,10 +3,12 @@
 
 mod faults;
 mod names;
+mod parts;
 mod walk;
 
 pub use faults::PathFault;
 pub use names::check_name;
+pub use parts::{last_name, parent_of};
 pub use walk::{Path, path_laws};
 
 #[cfg(test)]

@@ -6,6 +6,7 @@ use Rattle.std.specs.BTreeSet.{BTreeSet, contains}
 use Rattle.std.specs.List.{list_any}
 use Rattle.std.specs.Ordering.{nat_cmp, is_eq}
 use Rattle.std.specs.Cmp.{unsigned_tied}
+use Rattle.fidl_names.specs.declared.limits.TheConstants as limit
 use Rattle.toml.specs.Data.{Data}
 use Rattle.toml.specs.View.{view}
 use Rattle.toml.specs.declared.value.Value.{Value}
@@ -67,20 +68,20 @@ endpoints-more set more clients client has adds q =
     ∙ sym (any_push (λ one. one.endpoint == q) clients client)
 
 -- a server that is read is one of eight
-few_named : (earlier : List (List ℕ)) (text name : List ℕ) (few : Bool) → nat_lt (length earlier) 8 ≡ few
-    → cond (is_new_name earlier text) (Some text) None ≡ Some name → length (earlier ++ name ∷ []) ≤ 8
+few_named : (earlier : List (List ℕ)) (text name : List ℕ) (few : Bool) → nat_lt (length earlier) limit.MAX_SERVERS ≡ few
+    → cond (is_new_name earlier text) (Some text) None ≡ Some name → length (earlier ++ name ∷ []) ≤ limit.MAX_SERVERS
 few_named earlier text name true test is =
-    let below : length earlier < 8 = ltb-true (length earlier) 8 test in
+    let below : length earlier < limit.MAX_SERVERS = ltb-true (length earlier) limit.MAX_SERVERS test in
     simp length-append (omega arith)
 few_named earlier text name false test is =
     let none : None ≡ Some name = rw test at is in cc
 
 few_kept : (earlier : List (List ℕ)) (known : Bool) (found : Option (List ℕ)) (name : List ℕ)
-    → cond known (only (is_new_name earlier) found) None ≡ Some name → length (earlier ++ name ∷ []) ≤ 8
+    → cond known (only (is_new_name earlier) found) None ≡ Some name → length (earlier ++ name ∷ []) ≤ limit.MAX_SERVERS
 few_kept earlier false found name is = cc
 few_kept earlier true None name is = cc
-few_kept earlier true (Some text) name is = few_named earlier text name (nat_lt (length earlier) 8) refl is
+few_kept earlier true (Some text) name is = few_named earlier text name (nat_lt (length earlier) limit.MAX_SERVERS) refl is
 
-pub server_few : (earlier : List (List ℕ)) (value : Data) (name : List ℕ) → server_of earlier value ≡ Some name → length (earlier ++ name ∷ []) ≤ 8
+pub server_few : (earlier : List (List ℕ)) (value : Data) (name : List ℕ) → server_of earlier value ≡ Some name → length (earlier ++ name ∷ []) ≤ limit.MAX_SERVERS
 unfolding server_of
 server_few earlier value name is = few_kept earlier (has_only (codes "name" ∷ []) value) (text_at (codes "name") value) name is

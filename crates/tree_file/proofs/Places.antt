@@ -12,29 +12,21 @@ use Rattle.std.specs.Ordering.{nat_cmp, is_eq, ordering_then}
 use Rattle.std.specs.Str.{bytes_eq}
 use Rattle.std.specs.declared.cmp.Ordering.{Ordering}
 use Rattle.std.specs.declared.cmp.Ordering.TheVariants.{Less, Equal, Greater}
-use Rattle.node_graph.specs.declared.nodes.NodeKind.{NodeKind}
 use Rattle.tree_file.specs.Kept.{Stands, place_cmp}
-use Rattle.tree_file.specs.Rules.{Place, is_at_place, kind_among, first_failing, is_directory, fits_in}
-use Rattle.tree_file.specs.Texts.{parent_of}
+use Rattle.tree_file.specs.Rules.{Place, is_at_place, found_among, first_failing, is_directory, fits_in}
+use Rattle.path_walk.specs.Parts.{parent_of}
+use Rattle.tree_file.proofs.Found.{find_push}
 
-or_cond : {X : Type 0} (b : Bool) (o rest : Option X) (y : X) → cond b (Some y) (option_or o rest) ≡ option_or (cond b (Some y) o) rest
-or_cond true o rest y = refl
-or_cond false o rest y = refl
-
-find_push : {X : Type 0} (p : X → Bool) (xs : List X) (x : X) → find p (xs ++ x ∷ []) ≡ option_or (find p xs) (cond (p x) (Some x) None)
-find_push p [] x = refl
-find_push p (y ∷ ys) x = ap (λ o. cond (p y) (Some y) o) (find_push p ys x) ∙ or_cond (p y) (find p ys) (cond (p x) (Some x) None) y
-
-kind_of_or : (o : Option Place) (b : Bool) (x : Place) → option_map (λ place. place.kind) (option_or o (cond b (Some x) None)) ≡ option_or (option_map (λ place. place.kind) o) (cond b (Some x.kind) None)
+kind_of_or : (o : Option Place) (b : Bool) (x : Place) → option_map (λ place. place.directory) (option_or o (cond b (Some x) None)) ≡ option_or (option_map (λ place. place.directory) o) (cond b (Some x.directory) None)
 kind_of_or None true x = refl
 kind_of_or None false x = refl
 kind_of_or (Some y) b x = refl
 
-kind_push : (listed : List Place) (place : Place) (server : ℕ) (path : List ℕ)
-    → kind_among (listed ++ place ∷ []) server path ≡ option_or (kind_among listed server path) (cond (is_at_place server path place) (Some place.kind) None)
-unfolding kind_among
-kind_push listed place server path =
-    ap (λ o. option_map (λ place. place.kind) o) (find_push (is_at_place server path) listed place)
+pub found_push : (listed : List Place) (place : Place) (server : ℕ) (path : List ℕ)
+    → found_among (listed ++ place ∷ []) server path ≡ option_or (found_among listed server path) (cond (is_at_place server path place) (Some place.directory) None)
+unfolding found_among
+found_push listed place server path =
+    ap (λ o. option_map (λ place. place.directory) o) (find_push (is_at_place server path) listed place)
     ∙ kind_of_or (find (is_at_place server path) listed) (is_at_place server path place) place
 
 is_eq-then : (a b : Ordering) → is_eq (ordering_then a b) ≡ (is_eq a && is_eq b)
@@ -48,7 +40,7 @@ at_place place text key same =
     ∙ ap (λ b. b && is_eq (slice_cmp nat_cmp text.now key.1.now)) (unsigned_tied place.server key.0)
     ∙ ap (λ b. (place.server == key.0) && b) (is_eq-slice_cmp text.now key.1.now ∙ ap (λ t. bytes_eq t key.1.now) same)
 
-or_none : (o : Option NodeKind) → o ≡ option_or o None
+pub or_none : (o : Option Bool) → o ≡ option_or o None
 or_none None = refl
 or_none (Some kind) = refl
 
@@ -57,26 +49,26 @@ both_true true true h = (refl, refl)
 both_true true false h = cc
 both_true false b h = cc
 
-same_place : (listed : List Place) (place : Place) (server : ℕ) (path : List ℕ) → is_at_place server path place ≡ true → kind_among listed place.server place.path ≡ None → kind_among listed server path ≡ None
+same_place : (listed : List Place) (place : Place) (server : ℕ) (path : List ℕ) → is_at_place server path place ≡ true → found_among listed place.server place.path ≡ None → found_among listed server path ≡ None
 same_place listed place server path at free =
     let parts = both_true (place.server == server) (bytes_eq place.path path) at in
     let servers : place.server ≡ server = (unsigned_Decides place.server server).0 parts.0 in
     let paths : place.path ≡ path = (bytes_eq-Decides place.path path).0 parts.1 in
-    ap (λ s. kind_among listed s path) (sym servers) ∙ ap (λ p. kind_among listed place.server p) (sym paths) ∙ free
+    ap (λ s. found_among listed s path) (sym servers) ∙ ap (λ p. found_among listed place.server p) (sym paths) ∙ free
 
-joined : (at : Bool) (kind : NodeKind) (old new : Option NodeKind) → new ≡ cond at (Some kind) old → (at ≡ true → old ≡ None) → new ≡ option_or old (cond at (Some kind) None)
+joined : (at kind : Bool) (old new : Option Bool) → new ≡ cond at (Some kind) old → (at ≡ true → old ≡ None) → new ≡ option_or old (cond at (Some kind) None)
 joined true kind old new is free = is ∙ ap (λ o. option_or o (Some kind)) (sym (free refl))
 joined false kind old new is free = is ∙ or_none old
 
 -- a free place is put
-pub stands-more : (old new : BTreeMap (ℕ × Bor (List ℕ)) NodeKind) (listed : List Place) (place : Place) (text : Bor (List ℕ)) → text.now ≡ place.path → Stands old listed → kind_among listed place.server place.path ≡ None
-    → ((q : ℕ × Bor (List ℕ)) → get place_cmp new q ≡ cond (is_at (place_cmp (place.server, text)) q) (Some place.kind) (get place_cmp old q))
+pub stands-more : (old new : BTreeMap (ℕ × Bor (List ℕ)) Bool) (listed : List Place) (place : Place) (text : Bor (List ℕ)) → text.now ≡ place.path → Stands old listed → found_among listed place.server place.path ≡ None
+    → ((q : ℕ × Bor (List ℕ)) → get place_cmp new q ≡ cond (is_at (place_cmp (place.server, text)) q) (Some place.directory) (get place_cmp old q))
     → Stands new (listed ++ place ∷ [])
 stands-more old new listed place text same stands free adds key =
-    joined (is_at_place key.0 key.1.now place) place.kind (kind_among listed key.0 key.1.now) (get place_cmp new key)
-    (adds key ∙ ap (λ b. cond b (Some place.kind) (get place_cmp old key)) (at_place place text key same) ∙ ap (λ o. cond (is_at_place key.0 key.1.now place) (Some place.kind) o) (stands key))
+    joined (is_at_place key.0 key.1.now place) place.directory (found_among listed key.0 key.1.now) (get place_cmp new key)
+    (adds key ∙ ap (λ b. cond b (Some place.directory) (get place_cmp old key)) (at_place place text key same) ∙ ap (λ o. cond (is_at_place key.0 key.1.now place) (Some place.directory) o) (stands key))
     (λ at. same_place listed place key.0 key.1.now at free)
-    ∙ sym (kind_push listed place key.0 key.1.now)
+    ∙ sym (found_push listed place key.0 key.1.now)
 
 -- an item that passes, one that fails, and the end
 pub fail-on : {X : Type 0} (passes : List X → X → Bool) (xs : List X) (i : ℕ) (x : X) → i < length xs → x ≡ get_or xs i x → passes (take i xs) x ≡ true
@@ -124,20 +116,20 @@ pub more_mapped : {X Y : Type 0} (f : X → Y) (xs : List X) (i : ℕ) (x : X) �
     → map f (take i xs) ++ f x ∷ [] ≡ map f (take (i + 1) xs)
 more_mapped f xs i x within is = rw (take_more xs i x within, ← is) (map_push f (take i xs) x)
 
-none_of : (o : Option NodeKind) → is_none o ≡ true → o ≡ None
+none_of : (o : Option Bool) → is_none o ≡ true → o ≡ None
 none_of None h = refl
 none_of (Some kind) h = cc
 
 -- what fits in stands where nothing did
-pub free_where_fit : (listed : List Place) (server : ℕ) (path : List ℕ) → fits_in listed server path ≡ true → kind_among listed server path ≡ None
+pub free_where_fit : (listed : List Place) (server : ℕ) (path : List ℕ) → fits_in listed server path ≡ true → found_among listed server path ≡ None
 free_where_fit listed server path fits =
-    none_of (kind_among listed server path) (both_true (is_directory listed server (parent_of path)) (is_none (kind_among listed server path)) fits).1
+    none_of (found_among listed server path) (both_true (is_directory listed server (parent_of path)) (is_none (found_among listed server path)) fits).1
 
 pub fits-part : (a b : Bool) → (a && b) ≡ true → a ≡ true
 fits-part a b h = (both_true a b h).0
 
-pub stands-empty : (map : BTreeMap (ℕ × Bor (List ℕ)) NodeKind) → map.entries ≡ [] → Stands map []
-unfolding kind_among
+pub stands-empty : (map : BTreeMap (ℕ × Bor (List ℕ)) Bool) → map.entries ≡ [] → Stands map []
+unfolding found_among
 stands-empty map none key = rw none
 
 pub push_behind : {X : Type 0} (front back : List X) (x : X) → (front ++ back) ++ x ∷ [] ≡ front ++ (back ++ x ∷ [])

@@ -1,5 +1,5 @@
 -- The start that a tree stands for.
-use Rattle.std.specs.Prelude.{ℕ, ◌<◌, ◌^◌, List, length}
+use Rattle.std.specs.Prelude.{ℕ, List}
 use Rattle.io_rights.specs.Operations.{OperationSet}
 use Rattle.node_graph.specs.declared.nodes.NodeKind.{NodeKind}
 
@@ -32,10 +32,3 @@ pub record Lists : Type 0 where
   pub nodes : List NodeItem
   pub mounts : List MountItem
   pub clients : List ClientItem
-
--- how long the lists can be
-pub record Counted (lists : Lists) : Type 0 where
-  pub servers : length lists.servers < 2 ^ 32
-  pub nodes : length lists.nodes < 2 ^ 32
-  pub mounts : length lists.mounts < 2 ^ 32
-  pub clients : length lists.clients < 2 ^ 32

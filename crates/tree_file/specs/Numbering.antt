@@ -1,15 +1,15 @@
 -- How the nodes of a start are numbered, the tree that each server begins with, and the ends of mounts.
-use Rattle.std.specs.Prelude.{ℕ, ◌+◌, ◌==◌, if◌then◌else◌, List, [], ◌∷◌, ◌++◌, map, filter, reverse, slice_get, position, unwrap_or}
+use Rattle.std.specs.Prelude.{ℕ, ◌+◌, ◌==◌, if◌then◌else◌, List, [], ◌∷◌, ◌++◌, length, map, filter, position}
 use Rattle.std.specs.List.{enumerate_from}
 use Rattle.std.specs.FinMap as finite
 use Rattle.std.specs.Option.{option_map_or}
 use Rattle.std.specs.Str.{bytes_eq}
+use Rattle.fidl_names.specs.declared.limits.TheConstants as limit
 use Rattle.io_rights.specs.Operations.{OperationSet}
-use Rattle.path_walk.specs.Paths.{names_of}
+use Rattle.path_walk.specs.Parts.{is_dot, last_name, parent_of}
 use Rattle.node_graph.specs.declared.nodes.NodeKind.{NodeKind}
 use Rattle.node_graph.specs.declared.nodes.NodeKind.TheVariants.{Directory, Mount}
 use Rattle.node_graph.specs.Tree.{NodeRow, EdgeKey, EdgeTo, Tree}
-use Rattle.tree_file.specs.Texts.{is_dot, parent_of}
 use Rattle.tree_file.specs.Items.{NodeItem, MountItem, Lists}
 
 -- what a path of a server leads to: a node's kind and bytes, and the rights that pass through its name
@@ -36,9 +36,6 @@ named_of lists server =
 unfoldable pub number_at : List Named → List ℕ → ℕ
 number_at named path = if is_dot path then 1 else option_map_or (λ place. place + 2) (position (λ one. bytes_eq one.path path) named) 0
 
-abbrev pub last_name : List ℕ → List ℕ
-last_name path = unwrap_or (slice_get (reverse (names_of path)) 0) []
-
 -- the edge of a path: from its parent, by its last name
 abbrev pub edge_of : List Named → Named → EdgeKey × EdgeTo
 edge_of named one = (
@@ -56,13 +53,21 @@ tree_from named =
       edges = finite.from_entries (map (edge_of named) named);
     }
 
+-- a tree with one node more, of the next number, and its name
+abbrev pub with_node : Tree → EdgeKey → NodeKind → OperationSet → List ℕ → Tree
+with_node tree key kind mask bytes =
+    record {
+      nodes = tree.nodes ++ record { kind = kind; bytes = bytes } ∷ [];
+      edges = finite.insert tree.edges key (record { child = length tree.nodes + 1; mask = mask });
+    }
+
 -- the tree that a server begins with
 abbrev pub tree_of : Lists → ℕ → Tree
 tree_of lists server = tree_from (named_of lists server)
 
 -- the endpoint of the end of a mount, by its index over the mounts of all servers
 abbrev pub end_of_mount : ℕ → ℕ
-end_of_mount index = 1073741824 + index
+end_of_mount index = limit.FIRST_MOUNT_END + index
 
 -- the number of the node at which a path of a server stands: a client's, or a mount's `at`
 abbrev pub number_in : Lists → ℕ → List ℕ → ℕ

@@ -1,13 +1,16 @@
 -- What each item of the lists of a tree stands for; None where it breaks the rule of its list.
-use Rattle.std.specs.Prelude.{ℕ, Bool, true, false, not, ◌&&◌, ◌==◌, nat_le, nat_lt, if◌then◌else◌, List, [], ◌∷◌, ◌++◌, length, codes, ℤ, pos, negsuc, Option, Some, None, is_none, position, Result, Ok, Err}
+use Rattle.std.specs.Prelude.{ℕ, Bool, true, false, not, ◌&&◌, ◌==◌, nat_lt, if◌then◌else◌, List, [], ◌∷◌, ◌++◌, length, codes, ℤ, pos, negsuc, Option, Some, None, is_none, position, Result, Ok, Err}
 use Rattle.std.specs.List.{list_any}
 use Rattle.std.specs.Str.{bytes_eq}
+use Rattle.fidl_names.specs.HandleNumber.{is_client}
+use Rattle.fidl_names.specs.declared.limits.TheConstants as limit
 use Rattle.toml.specs.Data.{Data, get, as_str, as_integer}
 use Rattle.io_rights.specs.Operations.{OperationSet, all}
 use Rattle.node_graph.specs.declared.nodes.NodeKind.{NodeKind}
 use Rattle.node_graph.specs.declared.nodes.NodeKind.TheVariants.{File}
 use Rattle.tree_file.specs.Fields.{◌>>=◌, has_only, text_at}
-use Rattle.tree_file.specs.Texts.{only, is_name, is_path, is_dot, rights_of, kind_of, hex_of}
+use Rattle.path_walk.specs.Parts.{is_dot}
+use Rattle.tree_file.specs.Texts.{only, is_name, is_path, rights_of, kind_of, hex_of}
 use Rattle.tree_file.specs.Items.{NodeItem, MountItem, ClientItem}
 
 -- the index of a name among the servers' names
@@ -33,9 +36,9 @@ rights_from (Some value) = as_str value >>= rights_of
 unfoldable pub rights_at : Data → Option OperationSet
 rights_at value = rights_from (get (codes "rights") value)
 
--- a server has a name alone: a valid one, and no earlier server's. There are eight at most
+-- a server has a name alone: a valid one, and no earlier server's. There are MAX_SERVERS at most
 abbrev pub is_new_name : List (List ℕ) → List ℕ → Bool
-is_new_name earlier name = nat_lt (length earlier) 8 && (is_name name && is_none (index_of earlier name))
+is_new_name earlier name = nat_lt (length earlier) limit.MAX_SERVERS && (is_name name && is_none (index_of earlier name))
 
 unfoldable pub server_of : List (List ℕ) → Data → Option (List ℕ)
 server_of earlier value = if has_only (codes "name" ∷ []) value then only (is_new_name earlier) (text_at (codes "name") value) else None
@@ -85,9 +88,9 @@ mount_of names value =
     Some (record { server = server; path = path; target = target; at = at; rights = rights }))))))
     else None
 
--- an endpoint's number, and one that isn't an earlier client's
+-- the number of a client's endpoint, and one that isn't an earlier client's
 abbrev pub endpoint_from : ℤ → Option ℕ
-endpoint_from (pos number) = if nat_le 1 number && nat_le number 1073741823 then Some number else None
+endpoint_from (pos number) = if is_client number then Some number else None
 endpoint_from (negsuc number) = None
 
 abbrev pub is_new_endpoint : List ClientItem → ℕ → Bool

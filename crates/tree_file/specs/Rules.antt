@@ -4,12 +4,14 @@ use Rattle.std.specs.List.{list_all}
 use Rattle.std.specs.Option.{option_map, option_map_or}
 use Rattle.std.specs.Result.{result_ok, result_err}
 use Rattle.std.specs.Str.{bytes_eq, is_utf8}
+use Rattle.fidl_names.specs.First.{first_of}
+use Rattle.fidl_names.specs.declared.limits.TheConstants as limit
 use Rattle.toml.specs.Data.{Data, table, get, as_array, as_integer}
 use Rattle.toml.specs.Parse.{parse_document}
 use Rattle.node_graph.specs.declared.nodes.NodeKind.{NodeKind}
-use Rattle.node_graph.specs.declared.nodes.NodeKind.TheVariants.{Directory, Mount}
+use Rattle.node_graph.specs.declared.nodes.NodeKind.TheVariants.{Directory}
+use Rattle.path_walk.specs.Parts.{is_dot, parent_of}
 use Rattle.tree_file.specs.Fields.{has_only, list_of, is_table}
-use Rattle.tree_file.specs.Texts.{is_dot, parent_of}
 use Rattle.tree_file.specs.Items.{NodeItem, MountItem, ClientItem, Lists}
 use Rattle.tree_file.specs.Reading.{read_all, server_of, node_of, mount_of, client_of}
 
@@ -101,42 +103,43 @@ unfoldable pub first_failing : {X : Type 0} → (List X → X → Bool) → List
 first_failing passes earlier [] = None
 first_failing passes earlier (x ∷ xs) = if passes earlier x then first_failing passes (earlier ++ x ∷ []) xs else Some (length earlier)
 
--- the place of a node or a mount: what stands at a path of a server
-pub record Place : Type 0 where
-  pub server : ℕ
-  pub path : List ℕ
-  pub kind : NodeKind
-
-abbrev pub node_place : NodeItem → Place
-node_place node = record { server = node.server; path = node.path; kind = node.kind }
-
-abbrev pub mount_place : MountItem → Place
-mount_place mount = record { server = mount.server; path = mount.path; kind = Mount mount.target }
-
-abbrev pub is_at_place : ℕ → List ℕ → Place → Bool
-is_at_place server path place = (place.server == server) && bytes_eq place.path path
-
--- what stands at a path of a server, if anything
-unfoldable pub kind_among : List Place → ℕ → List ℕ → Option NodeKind
-kind_among places server path = option_map (λ place. place.kind) (find (is_at_place server path) places)
-
 abbrev pub is_directory_kind : NodeKind → Bool
 is_directory_kind Directory = true
 is_directory_kind _ = false
 
+-- the place of a node or a mount: a path of a server, and whether a directory stands there
+pub record Place : Type 0 where
+  pub server : ℕ
+  pub path : List ℕ
+  pub directory : Bool
+
+abbrev pub node_place : NodeItem → Place
+node_place node = record { server = node.server; path = node.path; directory = is_directory_kind node.kind }
+
+-- a mount is no directory
+abbrev pub mount_place : MountItem → Place
+mount_place mount = record { server = mount.server; path = mount.path; directory = false }
+
+abbrev pub is_at_place : ℕ → List ℕ → Place → Bool
+is_at_place server path place = (place.server == server) && bytes_eq place.path path
+
+-- whether what stands at a path of a server is a directory; none where nothing stands there
+unfoldable pub found_among : List Place → ℕ → List ℕ → Option Bool
+found_among places server path = option_map (λ place. place.directory) (find (is_at_place server path) places)
+
 -- the path is `.` or that of a directory
 unfoldable pub is_directory : List Place → ℕ → List ℕ → Bool
-is_directory places server path = is_dot path || option_map_or is_directory_kind (kind_among places server path) false
+is_directory places server path = is_dot path || unwrap_or (found_among places server path) false
 
 -- nothing stands at the path yet, and its parent is a directory
 abbrev pub fits_in : List Place → ℕ → List ℕ → Bool
-fits_in places server path = is_directory places server (parent_of path) && is_none (kind_among places server path)
+fits_in places server path = is_directory places server (parent_of path) && is_none (found_among places server path)
 
 -- a node among those before it
 abbrev pub node_fits : List NodeItem → NodeItem → Bool
 node_fits earlier node = fits_in (map node_place earlier) node.server node.path
 
--- a mount among all nodes and the mounts before it. A mount is no directory
+-- a mount among all nodes and the mounts before it
 abbrev pub mount_fits : List NodeItem → List MountItem → MountItem → Bool
 mount_fits nodes earlier mount =
     let places = map node_place nodes ++ map mount_place earlier in
@@ -147,7 +150,7 @@ abbrev pub client_fits : List Place → List ClientItem → ClientItem → Bool
 client_fits places earlier client = is_directory places client.server client.path
 
 abbrev pub bytes_fit : List NodeItem → NodeItem → Bool
-bytes_fit earlier node = nat_le (length node.bytes) 65536
+bytes_fit earlier node = nat_le (length node.bytes) limit.MAX_FILE
 
 -- how many nodes and mounts a server has, and how many connections at the start
 abbrev pub names_held : List NodeItem → List MountItem → ℕ → ℕ
@@ -158,10 +161,10 @@ connections_held mounts clients server = count_by (λ client. client.server == s
 
 -- a server's index is the number of those before it
 abbrev pub names_fit : List NodeItem → List MountItem → List (List ℕ) → List ℕ → Bool
-names_fit nodes mounts earlier name = nat_le (names_held nodes mounts (length earlier)) 4096
+names_fit nodes mounts earlier name = nat_le (names_held nodes mounts (length earlier)) limit.MAX_NAMES
 
 abbrev pub connections_fit : List MountItem → List ClientItem → List (List ℕ) → List ℕ → Bool
-connections_fit mounts clients earlier name = nat_le (connections_held mounts clients (length earlier)) 4096
+connections_fit mounts clients earlier name = nat_le (connections_held mounts clients (length earlier)) limit.MAX_CONNECTIONS
 
 -- rules 4 to 7: of each server, node, mount and client; 8 to 10: of their paths; 11: of files; 12 and 13: of each server
 abbrev pub rule_4 : Data → Option ℕ
@@ -194,11 +197,14 @@ rule_12 lists = first_failing (names_fit lists.nodes lists.mounts) [] lists.serv
 abbrev pub rule_13 : Lists → Option ℕ
 rule_13 lists = first_failing (connections_fit lists.mounts lists.clients) [] lists.servers
 
+-- rules that follow one another, each with its number where it is broken
+abbrev pub numbered : ℕ → List (Option ℕ) → List (Option (ℕ × ℕ))
+numbered rule [] = []
+numbered rule (found ∷ rules) = option_map (λ item. (rule, item)) found ∷ numbered (rule + 1) rules
+
 -- the first of these rules that is broken, with its first failing item
 abbrev pub first_broken : ℕ → List (Option ℕ) → Option (ℕ × ℕ)
-first_broken rule [] = None
-first_broken rule (None ∷ rules) = first_broken (rule + 1) rules
-first_broken rule (Some item ∷ rules) = Some (rule, item)
+first_broken rule rules = first_of (numbered rule rules)
 
 abbrev pub rules_on_form : Data → List (Option ℕ)
 rules_on_form document = rule_2 document ∷ rule_3 document ∷ rule_4 document ∷ rule_5 document ∷ rule_6 document ∷ rule_7 document ∷ []

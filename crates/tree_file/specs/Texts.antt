@@ -1,13 +1,12 @@
 -- What the texts of a tree stand for.
-use Rattle.std.specs.Prelude.{ℕ, Bool, ◌&&◌, ◌||◌, ◌==◌, nat_le, if◌then◌else◌, List, [], ◌∷◌, codes, Option, Some, None, is_none, unwrap_or}
+use Rattle.std.specs.Prelude.{ℕ, Bool, ◌&&◌, ◌||◌, ◌==◌, nat_le, if◌then◌else◌, List, codes, Option, Some, None, is_none}
 use Rattle.std.specs.List.{list_any, list_all}
-use Rattle.std.specs.Option.{option_or, option_map}
 use Rattle.std.specs.Result.{result_ok}
 use Rattle.std.specs.Str.{bytes_eq}
 use Rattle.hex.specs.Hex.{decode_of}
 use Rattle.io_rights.specs.Operations.{OperationSet, set_of}
 use Rattle.io_rights.specs.Letters.{letter_of, letters_of}
-use Rattle.path_walk.specs.Names.{slash, dot, name_fault}
+use Rattle.path_walk.specs.Names.{name_fault}
 use Rattle.path_walk.specs.Paths.{path_fault}
 use Rattle.node_graph.specs.declared.nodes.NodeKind.{NodeKind}
 use Rattle.node_graph.specs.declared.nodes.NodeKind.TheVariants.{Directory, File, Service}
@@ -22,9 +21,6 @@ is_name text = is_none (name_fault text)
 
 abbrev pub is_path : List ℕ → Bool
 is_path text = is_none (path_fault text)
-
-abbrev pub is_dot : List ℕ → Bool
-is_dot text = bytes_eq text dot
 
 -- the operations whose letters stand in the text
 abbrev pub named_in : List ℕ → OperationSet
@@ -49,12 +45,3 @@ is_digit byte = (nat_le 48 byte && nat_le byte 57) || (nat_le 97 byte && nat_le 
 -- the bytes that pairs of digits stand for
 unfoldable pub hex_of : List ℕ → Option (List ℕ)
 hex_of text = if list_all is_digit text then result_ok (decode_of text) else None
-
--- what stands before the last slash
-unfoldable pub before_last_slash : List ℕ → Option (List ℕ)
-before_last_slash [] = None
-before_last_slash (byte ∷ rest) = option_or (option_map (λ front. byte ∷ front) (before_last_slash rest)) (if byte == slash then Some [] else None)
-
--- a path without its last name: `.` where it has one name alone
-unfoldable pub parent_of : List ℕ → List ℕ
-parent_of path = unwrap_or (before_last_slash path) dot

@@ -4,6 +4,7 @@
 mod faults;
 mod fields;
 mod items;
+mod laws;
 mod lent;
 mod lists;
 mod reading;
@@ -11,6 +12,7 @@ mod rules;
 mod start;
 
 pub use faults::TreeFault;
+pub use laws::starts_are_sound;
 pub use lent::{StartClient, StartMount, StartNode};
 pub use start::{Start, start_of};
 

@@ -7,6 +7,7 @@ ghost use Rattle.tree_file.specs.Faults.{Breaks};
 use crate::faults::TreeFault;
 use crate::items::{Bytes, Client, Mount, Node};
 use crate::reading::{read_client, read_mount, read_node, read_server};
+use fidl_names::MAX_SERVERS;
 use std::alloc::Global;
 use std::collections::BTreeSet;
 use toml::Value;
@@ -14,7 +15,7 @@ use toml::Value;
 /// The servers' names.
 pub fn read_servers(alloc: Global, values: &[Value]) -> Result<Vec<Bytes>, TreeFault>
     ensures read { IfOk result (λ names. read_all server_of [] (map view values.now) ≡ Ok names.items) }
-    ensures few { IfOk result (λ names. length names.items ≤ 8) }
+    ensures few { IfOk result (λ names. length names.items ≤ MAX_SERVERS) }
     ensures refused { IfErr result (Breaks 4 (result_err (read_all server_of [] (map view values.now)))) }
 {
     let mut names = Vec::new(alloc);
@@ -32,7 +33,7 @@ pub fn read_servers(alloc: Global, values: &[Value]) -> Result<Vec<Bytes>, TreeF
 
 /// The nodes of all servers.
 pub fn read_nodes(alloc: Global, names: &[Bytes], values: &[Value]) -> Result<Vec<Node>, TreeFault>
-    requires { length names.now ≤ 8 }
+    requires { length names.now ≤ MAX_SERVERS }
     ensures read { IfOk result (λ nodes. read_all (λ _. node_of names.now) [] (map view values.now) ≡ Ok nodes.items) }
     ensures refused { IfErr result (Breaks 5 (result_err (read_all (λ _. node_of names.now) [] (map view values.now)))) }
 {
@@ -55,7 +56,7 @@ pub fn read_mounts(
     names: &[Bytes],
     values: &[Value],
 ) -> Result<Vec<Mount>, TreeFault>
-    requires { length names.now ≤ 8 }
+    requires { length names.now ≤ MAX_SERVERS }
     ensures read { IfOk result (λ mounts. read_all (λ _. mount_of names.now) [] (map view values.now) ≡ Ok mounts.items) }
     ensures refused { IfErr result (Breaks 6 (result_err (read_all (λ _. mount_of names.now) [] (map view values.now)))) }
 {
@@ -78,7 +79,7 @@ pub fn read_clients(
     names: &[Bytes],
     values: &[Value],
 ) -> Result<Vec<Client>, TreeFault>
-    requires { length names.now ≤ 8 }
+    requires { length names.now ≤ MAX_SERVERS }
     ensures read { IfOk result (λ clients. read_all (client_of names.now) [] (map view values.now) ≡ Ok clients.items) }
     ensures refused { IfErr result (Breaks 7 (result_err (read_all (client_of names.now) [] (map view values.now)))) }
 {

@@ -3,14 +3,15 @@ ghost use Rattle.std.specs.List.{list_all};
 ghost use Rattle.std.specs.Option.{option_copied, option_and_then};
 ghost use Rattle.toml.specs.Data.{as_str};
 ghost use Rattle.toml.specs.View.{view};
-ghost use Rattle.tree_file.specs.Texts.{only, rights_of, kind_of, is_digit, hex_of, is_dot};
+ghost use Rattle.path_walk.specs.Parts.{is_dot};
+ghost use Rattle.tree_file.specs.Texts.{only, rights_of, kind_of, is_digit, hex_of};
 ghost use Rattle.tree_file.specs.Reading.{index_of, server_at, path_at, place_at, rights_at, is_new_name, server_of, kind_at, is_file, bytes_at, is_new_endpoint, endpoint_at, node_of, mount_of, client_of};
 ghost use Rattle.tree_file.specs.Items.{ClientItem};
 ghost use Rattle.tree_file.specs.Kept.{HasEndpoints};
 
 use crate::fields::{has_only, text_at};
 use crate::items::{Bytes, Client, Mount, Node};
-use fidl_names::NoMemory;
+use fidl_names::{FIRST_MOUNT_END, MAX_SERVERS, NoMemory};
 use hex::FromHexError;
 use io_rights::{Rights, laws_of_rights, read_rights};
 use node_graph::NodeKind;
@@ -18,10 +19,6 @@ use path_walk::{Path, check_name};
 use std::alloc::Global;
 use std::collections::BTreeSet;
 use toml::Value;
-
-const MOST_SERVERS: usize = 8;
-
-const LAST_ENDPOINT: i64 = 1_073_741_823;
 
 /// The index of a name among the servers' names.
 #[tactic(auto, unfolding(crate::specs::Reading::index_of))]
@@ -35,7 +32,7 @@ pub fn index_of(names: &[Bytes], name: &[u8]) -> Option<usize>
 // The server that is named at a key.
 #[tactic(auto, unfolding(crate::specs::Reading::server_at))]
 fn server_at(names: &[Bytes], key: &str, value: &Value) -> Option<u32>
-    requires { length names.now ≤ 8 }
+    requires { length names.now ≤ MAX_SERVERS }
     ensures { result ≡ server_at names.now key.now (view value.now) }
 {
     let name = text_at(value, key)?;
@@ -122,7 +119,7 @@ fn endpoint_at(value: &Value) -> Option<u32>
     ensures { result ≡ endpoint_at (view value.now) }
 {
     let number = value.get("endpoint")?.as_integer()?;
-    if number >= 1 && number <= LAST_ENDPOINT {
+    if number >= 1 && number < FIRST_MOUNT_END as i64 {
         Some(number as u32)
     } else {
         None
@@ -207,7 +204,7 @@ fn bytes_of_hex(alloc: Global, kind: NodeKind, digits: &Value) -> Result<Option<
 fn is_new_name(earlier: &[Bytes], name: &[u8]) -> bool
     ensures { result ≡ is_new_name earlier.now name.now }
 {
-    earlier.len() < MOST_SERVERS && check_name(name).is_ok() && index_of(earlier, name).is_none()
+    earlier.len() < MAX_SERVERS && check_name(name).is_ok() && index_of(earlier, name).is_none()
 }
 
 /// The name of a server behind the earlier ones; `None` where it breaks the rule of servers.
@@ -234,7 +231,7 @@ pub fn read_server(
 /// The node that an item stands for; `None` where it breaks the rule of nodes.
 #[tactic(auto, unfolding(crate::specs::Reading::node_of))]
 pub fn read_node(alloc: Global, names: &[Bytes], value: &Value) -> Result<Option<Node>, NoMemory>
-    requires { length names.now ≤ 8 }
+    requires { length names.now ≤ MAX_SERVERS }
     ensures { IfOk result (λ found. found ≡ node_of names.now (view value.now)) }
 {
     if !has_only(value, &["server", "path", "kind", "rights", "text", "hex"]) {
@@ -268,7 +265,7 @@ pub fn read_node(alloc: Global, names: &[Bytes], value: &Value) -> Result<Option
 /// The mount that an item stands for; `None` where it breaks the rule of mounts.
 #[tactic(auto, unfolding(crate::specs::Reading::mount_of))]
 pub fn read_mount(alloc: Global, names: &[Bytes], value: &Value) -> Result<Option<Mount>, NoMemory>
-    requires { length names.now ≤ 8 }
+    requires { length names.now ≤ MAX_SERVERS }
     ensures { IfOk result (λ found. found ≡ mount_of names.now (view value.now)) }
 {
     if !has_only(value, &["server", "path", "target", "at", "rights"]) {
@@ -321,7 +318,7 @@ pub fn read_client(
     taken: &BTreeSet<u32>,
     value: &Value,
 ) -> Result<Option<Client>, NoMemory>
-    requires { length names.now ≤ 8 }
+    requires { length names.now ≤ MAX_SERVERS }
     ensures { IfOk result (λ found. (earlier : List ClientItem) → HasEndpoints taken.now earlier → found ≡ client_of names.now earlier (view value.now)) }
 {
     if !has_only(value, &["endpoint", "server", "path", "rights"]) {

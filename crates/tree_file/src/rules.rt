@@ -1,41 +1,23 @@
 ghost use Rattle.std.specs.Prelude.{◌≡◌, ◌++◌, ◌&&◌, [], ◌∷◌, None, List, map, length, nat_le, OnOk, IfErr, ◌≤◌};
-ghost use Rattle.tree_file.specs.Texts.{parent_of};
 ghost use Rattle.tree_file.specs.Items.{NodeItem};
-ghost use Rattle.tree_file.specs.Rules.{Place, kind_among, is_directory, is_directory_kind, fits_in, node_place, mount_place, first_failing, node_fits, mount_fits, client_fits, bytes_fit, names_held, connections_held, names_fit, connections_fit};
+ghost use Rattle.tree_file.specs.Rules.{Place, found_among, is_directory, is_directory_kind, fits_in, node_place, mount_place, first_failing, node_fits, mount_fits, client_fits, bytes_fit, names_held, connections_held, names_fit, connections_fit};
 ghost use Rattle.tree_file.specs.Kept.{Stands};
 ghost use Rattle.tree_file.specs.Faults.{Breaks};
 
 use crate::faults::TreeFault;
 use crate::items::{Bytes, Client, Mount, Node};
 use crate::reading::is_dot;
-use fidl_names::NoMemory;
-use memchr::memrchr;
+use fidl_names::{MAX_CONNECTIONS, MAX_FILE, MAX_NAMES, MAX_SERVERS, NoMemory};
 use node_graph::NodeKind;
+use path_walk::parent_of;
 use std::collections::BTreeMap;
 
-/// What stands at each path of each server.
-pub type Places<'a> = BTreeMap<(u32, &'a [u8]), NodeKind>;
+/// Whether a directory stands at each path of each server.
+pub type Places<'a> = BTreeMap<(u32, &'a [u8]), bool>;
 
-const MOST_NAMES: usize = 4096;
-
-const MOST_CONNECTIONS: usize = 4096;
-
-const MOST_BYTES: usize = 65_536;
-
-// A path without its last name.
-#[tactic(auto, unfolding(crate::specs::Texts::parent_of))]
-pub fn parent_of(path: &[u8]) -> &[u8]
-    ensures { result.now ≡ parent_of path.now }
-{
-    match memrchr(b'/', path) {
-        Some(place) => &path[..place],
-        None => b".",
-    }
-}
-
-// What stands at a path of a server, if anything.
-fn kind_among<'a>(places: &Places<'a>, server: u32, path: &'a [u8]) -> Option<NodeKind>
-    ensures { (listed : List Place) → Stands places.now listed → result ≡ kind_among listed server path.now }
+// Whether what stands at a path of a server is a directory; `None` where nothing stands there.
+fn found_among<'a>(places: &Places<'a>, server: u32, path: &'a [u8]) -> Option<bool>
+    ensures { (listed : List Place) → Stands places.now listed → result ≡ found_among listed server path.now }
 {
     places.get(&(server, path)).copied()
 }
@@ -48,10 +30,7 @@ fn is_directory<'a>(places: &Places<'a>, server: u32, path: &'a [u8]) -> bool
     if is_dot(path) {
         return true;
     }
-    match kind_among(places, server, path) {
-        Some(kind) => is_directory_kind(kind),
-        None => false,
-    }
+    found_among(places, server, path).unwrap_or(false)
 }
 
 fn is_directory_kind(kind: NodeKind) -> bool
@@ -70,7 +49,7 @@ fn fits_in<'a>(places: &Places<'a>, server: u32, path: &'a [u8]) -> bool
     if !is_directory(places, server, parent_of(path)) {
         return false;
     }
-    kind_among(places, server, path).is_none()
+    found_among(places, server, path).is_none()
 }
 
 // Puts what stands at a path where nothing does.
@@ -78,12 +57,12 @@ fn add<'a>(
     places: &mut Places<'a>,
     server: u32,
     path: &'a [u8],
-    kind: NodeKind,
+    directory: bool,
 ) -> Result<(), NoMemory>
-    ensures { OnOk result ((listed : List Place) → Stands places.old listed → kind_among listed server path.now ≡ None
-        → Stands places.new (listed ++ record { server = server; path = path.now; kind = kind } ∷ [])) }
+    ensures { OnOk result ((listed : List Place) → Stands places.old listed → found_among listed server path.now ≡ None
+        → Stands places.new (listed ++ record { server = server; path = path.now; directory = directory } ∷ [])) }
 {
-    places.insert((server, path), kind)?;
+    places.insert((server, path), directory)?;
     Ok(())
 }
 
@@ -96,11 +75,11 @@ fn node_fits<'a>(places: &Places<'a>, node: &'a Node) -> bool
 }
 
 fn add_node<'a>(places: &mut Places<'a>, node: &'a Node) -> Result<(), NoMemory>
-    ensures { OnOk result ((listed : List Place) → Stands places.old listed → kind_among listed node.now.server node.now.path ≡ None
+    ensures { OnOk result ((listed : List Place) → Stands places.old listed → found_among listed node.now.server node.now.path ≡ None
         → Stands places.new (listed ++ node_place node.now ∷ [])) }
 {
     let path = node.path.as_slice();
-    add(places, node.server, path, node.kind)
+    add(places, node.server, path, is_directory_kind(node.kind))
 }
 
 /// Puts all nodes, each in a directory before it.
@@ -133,11 +112,11 @@ fn mount_fits<'a>(places: &Places<'a>, mount: &'a Mount) -> bool
 }
 
 fn add_mount<'a>(places: &mut Places<'a>, mount: &'a Mount) -> Result<(), NoMemory>
-    ensures { OnOk result ((listed : List Place) → Stands places.old listed → kind_among listed mount.now.server mount.now.path ≡ None
+    ensures { OnOk result ((listed : List Place) → Stands places.old listed → found_among listed mount.now.server mount.now.path ≡ None
         → Stands places.new (listed ++ mount_place mount.now ∷ [])) }
 {
     let path = mount.path.as_slice();
-    add(places, mount.server, path, NodeKind::Mount(mount.target))
+    add(places, mount.server, path, false)
 }
 
 /// Puts all mounts among the nodes, each in a directory and on one.
@@ -181,9 +160,9 @@ pub fn misplaced_client<'a>(places: &Places<'a>, clients: &'a [Client]) -> Optio
 }
 
 fn is_small(node: &Node) -> bool
-    ensures { result ≡ nat_le (length node.now.bytes) 65536 }
+    ensures { result ≡ nat_le (length node.now.bytes) MAX_FILE }
 {
-    node.bytes.as_slice().len() <= MOST_BYTES
+    node.bytes.as_slice().len() <= MAX_FILE
 }
 
 /// The first node with more bytes than a file may have.
@@ -218,20 +197,20 @@ fn connections_held(mounts: &[Mount], clients: &[Client], server: u32) -> usize
 }
 
 fn has_few_names(nodes: &[Node], mounts: &[Mount], server: u32) -> bool
-    ensures { result ≡ nat_le (names_held nodes.now mounts.now server) 4096 }
+    ensures { result ≡ nat_le (names_held nodes.now mounts.now server) MAX_NAMES }
 {
-    names_held(nodes, mounts, server) <= MOST_NAMES
+    names_held(nodes, mounts, server) <= MAX_NAMES
 }
 
 fn has_few_connections(mounts: &[Mount], clients: &[Client], server: u32) -> bool
-    ensures { result ≡ nat_le (connections_held mounts.now clients.now server) 4096 }
+    ensures { result ≡ nat_le (connections_held mounts.now clients.now server) MAX_CONNECTIONS }
 {
-    connections_held(mounts, clients, server) <= MOST_CONNECTIONS
+    connections_held(mounts, clients, server) <= MAX_CONNECTIONS as usize
 }
 
 /// The first server with more nodes and mounts than it may have.
 pub fn crowded_server(names: &[Bytes], nodes: &[Node], mounts: &[Mount]) -> Option<usize>
-    requires { length names.now ≤ 8 }
+    requires { length names.now ≤ MAX_SERVERS }
     ensures { result ≡ first_failing (names_fit nodes.now mounts.now) [] names.now }
 {
     for server in 0..names.len() {
@@ -244,7 +223,7 @@ pub fn crowded_server(names: &[Bytes], nodes: &[Node], mounts: &[Mount]) -> Opti
 
 /// The first server with more connections at the start than it may have.
 pub fn busy_server(names: &[Bytes], mounts: &[Mount], clients: &[Client]) -> Option<usize>
-    requires { length names.now ≤ 8 }
+    requires { length names.now ≤ MAX_SERVERS }
     ensures { result ≡ first_failing (connections_fit mounts.now clients.now) [] names.now }
 {
     for server in 0..names.len() {

@@ -1,10 +1,10 @@
-ghost use Rattle.std.specs.Prelude.{◌≡◌, ◌≤◌, ◌<◌, IsTrue, slice_get, Some, Ok, None, codes, length, map, IfOk, IfErr, OnOk};
+ghost use Rattle.std.specs.Prelude.{◌≡◌, ◌≤◌, ◌<◌, slice_get, Some, Ok, None, codes, length, map, IfOk, IfErr, OnOk};
 ghost use Rattle.std.specs.List.{list_all};
 ghost use Rattle.toml.specs.Data.{get};
 ghost use Rattle.toml.specs.View.{view};
 ghost use Rattle.tree_file.specs.Fields.{is_table};
 ghost use Rattle.tree_file.specs.declared.faults.TreeFault.TheVariants.{Rule};
-ghost use Rattle.tree_file.specs.Items.{Counted};
+ghost use Rattle.tree_file.specs.Accepted.{AreAccepted};
 ghost use Rattle.tree_file.specs.Lent.{node_item, mount_item, client_item};
 ghost use Rattle.tree_file.specs.Rules.{document_of, broken_in, is_versioned, is_version_one, has_lists, has_all_tables, has_items, has_tables, items_at, read_servers, read_nodes, read_mounts, read_clients, servers_of, lists_of, rule_4, rule_5, rule_6, rule_7, rules_on_form, rules_on_lists, first_broken, first_failure, start_from};
 ghost use Rattle.tree_file.specs.Faults.{Breaks, IsFirst};
@@ -15,6 +15,7 @@ use crate::items::{Bytes, Client, Mount, Node};
 use crate::lent::{StartClient, StartMount, StartNode, lend_client, lend_mount, lend_node};
 use crate::lists;
 use crate::rules::{self, Places};
+use fidl_names::MAX_SERVERS;
 use std::alloc::Global;
 use std::collections::BTreeMap;
 use std::marker::Model;
@@ -38,23 +39,31 @@ impl Model for Parts {
 }
 
 /// What a session starts with: servers, nodes, mounts and first connections, each in the order of the
-/// file. Contracts see it as these lists.
+/// file. Contracts see it as these lists. They keep the rules of a tree (`keeps_rules`).
 #[derive(Drop)]
 pub struct Start {
     parts: Parts,
 }
 
 impl Model for Start {
-    ghost use Rattle.tree_file.specs.Items.{Lists, Counted};
+    ghost use Rattle.tree_file.specs.Accepted.{AreAccepted};
+    ghost use Rattle.tree_file.specs.Items.{Lists};
 
     ghost Value = { Lists };
 
     ghost view = { λ start. start.parts };
 
-    ghost invariant = { λ start. Counted start.parts };
+    ghost invariant = { λ start. AreAccepted start.parts };
 }
 
 impl Start {
+    /// Every start keeps the rules of a tree. The call tells it to a proof, and does nothing.
+    pub fn keeps_rules(&self)
+        ensures { AreAccepted self.now }
+    {
+        let _ = &self.parts;
+    }
+
     /// How many servers there are.
     pub fn servers(&self) -> u32
         ensures { result ≡ length self.now.servers }
@@ -205,7 +214,7 @@ fn has_lists(document: &Value) -> bool
 
 fn servers_in(alloc: Global, document: &Value) -> Result<Vec<Bytes>, TreeFault>
     ensures read { IfOk result (λ names. read_servers (view document.now) ≡ Ok names.items) }
-    ensures few { IfOk result (λ names. length names.items ≤ 8) }
+    ensures few { IfOk result (λ names. length names.items ≤ MAX_SERVERS) }
     ensures refused { IfErr result (Breaks 4 (rule_4 (view document.now))) }
 {
     lists::read_servers(alloc, items_at(document, "server"))
@@ -213,7 +222,7 @@ fn servers_in(alloc: Global, document: &Value) -> Result<Vec<Bytes>, TreeFault>
 
 fn nodes_in(alloc: Global, names: &[Bytes], document: &Value) -> Result<Vec<Node>, TreeFault>
     requires servers { servers_of (view document.now) ≡ names.now }
-    requires few { length names.now ≤ 8 }
+    requires few { length names.now ≤ MAX_SERVERS }
     ensures read { IfOk result (λ nodes. read_nodes (view document.now) ≡ Ok nodes.items) }
     ensures refused { IfErr result (Breaks 5 (rule_5 (view document.now))) }
 {
@@ -222,7 +231,7 @@ fn nodes_in(alloc: Global, names: &[Bytes], document: &Value) -> Result<Vec<Node
 
 fn mounts_in(alloc: Global, names: &[Bytes], document: &Value) -> Result<Vec<Mount>, TreeFault>
     requires servers { servers_of (view document.now) ≡ names.now }
-    requires few { length names.now ≤ 8 }
+    requires few { length names.now ≤ MAX_SERVERS }
     ensures read { IfOk result (λ mounts. read_mounts (view document.now) ≡ Ok mounts.items) }
     ensures refused { IfErr result (Breaks 6 (rule_6 (view document.now))) }
 {
@@ -231,7 +240,7 @@ fn mounts_in(alloc: Global, names: &[Bytes], document: &Value) -> Result<Vec<Mou
 
 fn clients_in(alloc: Global, names: &[Bytes], document: &Value) -> Result<Vec<Client>, TreeFault>
     requires servers { servers_of (view document.now) ≡ names.now }
-    requires few { length names.now ≤ 8 }
+    requires few { length names.now ≤ MAX_SERVERS }
     ensures read { IfOk result (λ clients. read_clients (view document.now) ≡ Ok clients.items) }
     ensures refused { IfErr result (Breaks 7 (rule_7 (view document.now))) }
 {
@@ -241,7 +250,7 @@ fn clients_in(alloc: Global, names: &[Bytes], document: &Value) -> Result<Vec<Cl
 // The lists of a document that keeps the rules on each item by itself.
 fn read_lists(alloc: Global, document: &Value) -> Result<Parts, TreeFault>
     ensures lists { IfOk result (λ parts. parts ≡ lists_of (view document.now)) }
-    ensures few { IfOk result (λ parts. length parts.servers ≤ 8) }
+    ensures few { IfOk result (λ parts. length parts.servers ≤ MAX_SERVERS) }
     ensures hold { OnOk result (first_broken 2 (rules_on_form (view document.now)) ≡ None) }
     ensures refused { IfErr result (IsFirst (first_broken 2 (rules_on_form (view document.now)))) }
 {
@@ -275,7 +284,7 @@ fn broken(rule: u32, item: usize) -> TreeFault
 
 // The rules on where the items stand and how many there are.
 fn check_lists(alloc: Global, parts: &Parts) -> Result<(), TreeFault>
-    requires { length parts.now.servers ≤ 8 }
+    requires { length parts.now.servers ≤ MAX_SERVERS }
     ensures hold { OnOk result (first_broken 8 (rules_on_lists parts.now) ≡ None) }
     ensures refused { IfErr result (IsFirst (first_broken 8 (rules_on_lists parts.now))) }
 {
@@ -297,36 +306,25 @@ fn check_lists(alloc: Global, parts: &Parts) -> Result<(), TreeFault>
     Ok(())
 }
 
-// Whether a `u32` counts each list. A text of less than 2^32 bytes has no other lists.
-fn is_counted(parts: &Parts) -> bool
-    ensures { IsTrue result → Counted parts.now }
-{
-    let most = u32::MAX as usize;
-    parts.servers.len() <= most
-        && parts.nodes.len() <= most
-        && parts.mounts.len() <= most
-        && parts.clients.len() <= most
-}
-
 // The start of a document, or the first rule behind the first that it breaks.
 fn start_in(alloc: Global, document: &Value) -> Result<Start, TreeFault>
     ensures start { IfOk result (λ start. start ≡ lists_of (view document.now)) }
     ensures sound { OnOk result (broken_in (view document.now) ≡ None) }
+    ensures accepted { IfOk result AreAccepted }
     ensures refused { IfErr result (IsFirst (broken_in (view document.now))) }
 {
     let parts = read_lists(alloc, document)?;
     check_lists(alloc, &parts)?;
-    if !is_counted(&parts) {
-        return Err(TreeFault::NoMemory);
-    }
     Ok(Start { parts })
 }
 
 /// The start that a tree file stands for, or the first rule that it breaks, with the first item that
-/// fails it. Rule 1 is that it is TOML 1.1.
+/// fails it. Rule 1 is that it is TOML 1.1. What is accepted keeps the rules of a tree, and a start is
+/// sound (`starts_are_sound`).
 pub fn start_of(alloc: Global, text: &[u8]) -> Result<Start, TreeFault>
     ensures start { IfOk result (λ start. start_from text.now ≡ Some start) }
     ensures sound { OnOk result (first_failure text.now ≡ None) }
+    ensures accepted { IfOk result AreAccepted }
     ensures refused { IfErr result (IsFirst (first_failure text.now)) }
 {
     let document = read_document(alloc, text)?;

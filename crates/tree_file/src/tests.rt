@@ -5,6 +5,7 @@ use std::test::Fail;
 mod accepted;
 mod forms;
 mod items;
+mod lent;
 mod limits;
 mod places;
 

@@ -4,7 +4,6 @@ ghost use Rattle.endpoint_link.specs.Views.{frame_of};
 ghost use Rattle.endpoint_link.specs.declared.kinds.Mode.TheVariants as mode;
 ghost use Rattle.endpoint_link.specs.declared.kinds.Side.TheVariants as side;
 ghost use Rattle.vfs_journal.specs.Starts.{Start as TheStart, start_of};
-ghost use Rattle.vfs_start.specs.Accepted.{IsAccepted};
 ghost use Rattle.vfs_program.specs.Causes.{AfterNames, AfterTree, AfterBuilt};
 ghost use Rattle.vfs_program.specs.Outside.{files_told, streams_told};
 ghost use Rattle.vfs_program.specs.Serving.{HeardOne};
@@ -71,7 +70,6 @@ struct TreeSession {
 impl TreeSession {
     /// The session of an accepted start with one server and no mounts, before its first frame.
     fn new(alloc: Global, ordinals: Ordinals, start: &Start) -> Result<TreeSession, NoMemory>
-        requires accepted { IsAccepted start.now }
         requires built { IsBuilt start.now }
         ensures stands { IfOk result (λ s. StandsBehind (start_of start.now) mode.Auto s.world []) }
         ensures empty { IfOk result (λ s. s.outbox ≡ []) }

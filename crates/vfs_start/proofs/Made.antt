@@ -1,22 +1,21 @@
 -- What a graph has after a node was made and its bytes were written.
-use Rattle.std.proofs.Common.{◌≡◌, ℕ, zero, suc, ◌+◌, ◌-◌, ◌≤◌, ◌==◌, ◌||◌, Bool, true, false, cond, List, [], ◌∷◌, ◌++◌, length, map, drop, Option, Some, None, refl, sym, ap, ◌∙◌, subst, arith, nat_lt, add-one}
-use Rattle.std.specs.Prelude.{slice_get, slice_set, unwrap_or}
-use Rattle.std.specs.List.{list_any}
+use Rattle.std.proofs.Common.{◌≡◌, ℕ, zero, suc, ◌+◌, ◌≤◌, ◌==◌, ◌||◌, true, cond, List, [], ◌∷◌, ◌++◌, length, drop, Option, Some, None, refl, sym, ap, ◌∙◌, subst, arith, nat_lt, append-nil}
+use Rattle.std.specs.Prelude.{unwrap_or}
 use Rattle.std.specs.Option.{option_map, option_map_or}
 use Rattle.std.specs.Ordering.{is_eq}
 use Rattle.std.specs.FinMap as finite
-use Rattle.std.specs.FinMap.Entries as entry
 use Rattle.std.proofs.Math.Bool.{or-true}
-use Rattle.std.proofs.lemmas.Bool.Decides.{nat_tests}
 use Rattle.std.proofs.lemmas.Cmp.{tied_itself}
 use Rattle.io_rights.specs.Operations.{OperationSet}
 use Rattle.node_graph.specs.declared.nodes.NodeKind.{NodeKind}
 use Rattle.node_graph.specs.declared.nodes.NodeRef.{NodeRef}
 use Rattle.node_graph.specs.Graph.{Seat, Kept, seat_of, Names, number_of, kind_at, bytes_at, holds_at, is_kept, StandsFor, Leads, SameHolds, KeepsNames, write_change, overwritten}
-use Rattle.node_graph.specs.Tree.{NodeRow, EdgeKey, EdgeTo, edge_cmp, Edges, Tree, Change, make, filled, row_of, kind_of, is_linked, after}
-use Rattle.vfs_start.specs.Growing.{with_node, Makes}
-use Rattle.vfs_start.proofs.Accepted.{append_none}
-use Rattle.vfs_start.proofs.Trees.{edges_total}
+use Rattle.node_graph.specs.Tree.{NodeRow, EdgeKey, EdgeTo, Edges, Tree, Change, make, filled, row_of, kind_of, is_linked, after}
+use Rattle.tree_file.specs.Numbering.{with_node}
+use Rattle.tree_file.proofs.Rising.{filled_last, row_last}
+use Rattle.tree_file.proofs.Standing.{linked_by}
+use Rattle.tree_file.proofs.Trees.{edges_total}
+use Rattle.vfs_start.specs.Growing.{Makes}
 
 -- ---- a node that is named
 
@@ -46,20 +45,6 @@ named_some graph tree node stands names =
 
 -- ---- edges
 
-any_of : (number : ℕ) (key : EdgeKey) (to : EdgeTo) (es : List (EdgeKey × EdgeTo)) → entry.find edge_cmp key es ≡ Some to → to.child == number ≡ true → list_any (λ (t : EdgeTo). t.child == number) (map (λ (e : EdgeKey × EdgeTo). e.1) es) ≡ true
-any_of number key to [] h is = absurd (cc)
-any_of number key to (e ∷ es) h is = by_test (is_eq (edge_cmp key e.0)) h (λ g. any_of number key to es g is) where
-  by_test : (b : Bool) → cond b (Some e.1) (entry.find edge_cmp key es) ≡ Some to → (entry.find edge_cmp key es ≡ Some to → list_any (λ (t : EdgeTo). t.child == number) (map (λ (e : EdgeKey × EdgeTo). e.1) es) ≡ true) →
-      ((e.1.child == number) || list_any (λ (t : EdgeTo). t.child == number) (map (λ (e : EdgeKey × EdgeTo). e.1) es)) ≡ true
-  by_test true h rest = let same : e.1 ≡ to = ap (λ o. unwrap_or o to) h in rw same (rw is)
-  by_test false h rest = rw (rest h) (or-true (e.1.child == number))
-
--- a name leads to where an edge ends
-pub linked_by : (edges : Edges) (key : EdgeKey) (to : EdgeTo) → finite.get edges key ≡ Some to → is_linked edges to.child ≡ true
-linked_by edges key to h = any_of to.child key to (finite.entries edges) (sym (finite.get-entries edges key) ∙ h) (itself to.child) where
-  itself : (n : ℕ) → n == n ≡ true
-  itself n = grind (arith, nat_tests)
-
 pub get_put : (edges : Edges) (key : EdgeKey) (to : EdgeTo) → finite.get (finite.insert edges key to) key ≡ Some to
 get_put edges key to = finite.get-insert edges_total edges key to key ∙ ap (λ o. cond (is_eq o) (Some to) (finite.get edges key)) (tied_itself edges_total key)
 
@@ -68,31 +53,13 @@ kept_linked graph number h = ap (λ b. number == 1 || (b || nat_lt 0 (holds_at g
 
 -- ---- rows
 
-row_last : {X : Type 0} (xs : List X) (x : X) → row_of (xs ++ x ∷ []) (length xs + 1) ≡ Some x
-row_last xs x = rw add-one (last xs x) where
-  last : {X : Type 0} (xs : List X) (x : X) → slice_get (xs ++ x ∷ []) (length xs) ≡ Some x
-  last [] x = refl
-  last (y ∷ xs) x = last xs x
-
-set_last : {X : Type 0} (xs : List X) (x y : X) → slice_set (xs ++ x ∷ []) (length xs) y ≡ xs ++ y ∷ []
-set_last [] x y = refl
-set_last (z ∷ xs) x y = ap (λ rest. z ∷ rest) (set_last xs x y)
-
-filled_last : (rows : List NodeRow) (kind : NodeKind) (bytes : List ℕ) → filled (rows ++ record { kind = kind; bytes = [] } ∷ []) (length rows + 1) bytes ≡ rows ++ record { kind = kind; bytes = bytes } ∷ []
-filled_last rows kind bytes =
-    let row : NodeRow = record { kind = kind; bytes = [] } in
-    let place : length rows + 1 - 1 ≡ length rows = omega arith in
-    ap (λ o. option_map_or (λ (r : NodeRow). slice_set (rows ++ row ∷ []) (length rows + 1 - 1) (record { kind = r.kind; bytes = bytes })) o (rows ++ row ∷ [])) (row_last rows row)
-    ∙ ap (λ (n : ℕ). slice_set (rows ++ row ∷ []) n (record { kind = kind; bytes = bytes })) place
-    ∙ set_last rows row (record { kind = kind; bytes = bytes })
-
 drop_none : (n : ℕ) → drop {A = ℕ} n [] ≡ []
 drop_none zero = refl
 drop_none (suc n) = refl
 
 -- bytes written over none
 over_none : (bytes : List ℕ) → overwritten [] 0 bytes ≡ bytes
-over_none bytes = ap (λ rest. bytes ++ rest) (drop_none (0 + length bytes)) ∙ append_none bytes
+over_none bytes = ap (λ rest. bytes ++ rest) (drop_none (0 + length bytes)) ∙ append-nil bytes
 
 -- a node that is made, and its bytes that are written, are a node with its bytes
 pub made_and_written : (tree : Tree) (key : EdgeKey) (kind : NodeKind) (mask : OperationSet) (bytes : List ℕ) →

@@ -1,83 +1,24 @@
 -- What stands behind the first nodes, and behind one more.
-use Rattle.std.proofs.Common.{◌≡◌, ℕ, suc, ◌+◌, ◌<◌, ◌≤◌, ◌==◌, ◌||◌, Bool, true, false, not, cond, if◌then◌else◌, List, [], ◌∷◌, ◌++◌, length, Option, Some, None, IsSome, All, refl, sym, ap, ◌∙◌, subst, arith, nat_lt, nat_le, Bor, ◌&&◌}
-use Rattle.std.specs.Prelude.{is_some}
+use Rattle.std.proofs.Common.{◌≡◌, ℕ, ◌+◌, ◌≤◌, ◌==◌, ◌||◌, Bool, true, false, cond, if◌then◌else◌, List, [], ◌∷◌, ◌++◌, length, Option, Some, None, IsSome, All, refl, sym, ap, ◌∙◌, subst, arith, nat_lt, Bor}
 use Rattle.std.specs.BTreeMap.{BTreeMap, get, is_at}
-use Rattle.std.specs.FinMap as finite
 use Rattle.std.specs.Option.{option_map_or}
 use Rattle.std.specs.Ordering.{is_eq, nat_cmp}
 use Rattle.std.specs.Cmp.Lexicographic.{slice_cmp}
 use Rattle.std.specs.Str.{bytes_eq}
-use Rattle.std.proofs.Math.Bool.{or-true}
-use Rattle.std.proofs.lemmas.Bool.Decides.{nat_tests}
 use Rattle.std.proofs.lemmas.List.{length-map}
-use Rattle.std.proofs.lemmas.List.Elements.{All-get_or}
 use Rattle.std.proofs.lemmas.Map.Text.{is_eq-slice_cmp}
-use Rattle.std.proofs.lemmas.Option.{slice_get_within, get_or_from_slice_get}
 use Rattle.std.proofs.lemmas.Slice.Eq.{bytes_eq-Decides}
-use Rattle.node_graph.specs.declared.TheConstants as limit
-use Rattle.node_graph.specs.declared.faults.GraphFault.TheVariants as fault
 use Rattle.node_graph.specs.declared.nodes.NodeRef.{NodeRef}
-use Rattle.node_graph.specs.Graph.{Kept, Names, number_of, kind_at, holds_at, is_kept, StandsFor, create_refusal}
-use Rattle.node_graph.specs.Tree.{EdgeKey, EdgeTo, edge_cmp, Edges, bare_tree, kind_of, is_linked, is_removed}
-use Rattle.tree_file.specs.Numbering.{Named, number_at, edge_of, row_of_named, tree_from}
+use Rattle.node_graph.specs.Graph.{Kept, Names, number_of, kind_at, holds_at, is_kept, StandsFor}
+use Rattle.node_graph.specs.Tree.{Edges, bare_tree, kind_of, is_linked}
+use Rattle.tree_file.specs.Numbering.{Named, number_at, row_of_named, tree_from, with_node}
 use Rattle.path_walk.specs.Names.{dot}
-use Rattle.tree_file.specs.Texts.{is_dot, parent_of}
-use Rattle.vfs_start.specs.Growing.{with_node, path_cmp, IsNumbering, Stands, Makes, key_in}
-use Rattle.vfs_start.proofs.Made.{named_kind, named_some, linked_by}
-use Rattle.vfs_start.proofs.Numbers.{At, root, there, absent, at, at_path, number_push, number_kept}
-use Rattle.vfs_start.proofs.Trees.{edges_total, edges_in, IsPlaced, Fits, Grows, more, placed, parent_there, fresh_key, tree_push}
-
--- ---- names that lead to nodes
-
--- the node at a path is the root, or a name leads to it
-pub kept_in : (named : List Named) → All (IsPlaced named) named → (path : List ℕ) → 1 ≤ number_at named path →
-    ((number_at named path == 1) || is_linked (tree_from named).edges (number_at named path)) ≡ true
-kept_in named all path some = by_at (at named path) where
-  by_at : At named path → ((number_at named path == 1) || is_linked (tree_from named).edges (number_at named path)) ≡ true
-  by_at (root is number) = rw number
-  by_at (absent is none number) = absurd (omega (arith, number, some))
-  by_at (there k one is found here same number) =
-      let within = slice_get_within named k one here in
-      let is_one = get_or_from_slice_get named k one one here in
-      let placed = subst (IsPlaced named) is_one (All-get_or (IsPlaced named) named k one within all) in
-      let edge = edge_of named one in
-      let linked = linked_by (tree_from named).edges edge.0 edge.1 (finite.get-from_entries edges_total (edges_in named) edge.0 ∙ placed.edge) in
-      let child : number_at named one.path ≡ number_at named path = ap (number_at named) same in
-      ap (λ b. (number_at named path == 1) || b) (ap (is_linked (tree_from named).edges) (sym child) ∙ linked) ∙ or-true (number_at named path == 1)
-
-few_edges : (es : List (EdgeKey × EdgeTo)) → finite.len (finite.from_entries {R = edge_cmp} es) ≤ length es
-few_edges [] = rw (finite.len-empty edge_cmp EdgeTo) (omega arith)
-few_edges (e ∷ es) = by_test (is_some (finite.get (finite.from_entries {R = edge_cmp} es) e.0)) (few_edges es) (finite.len-insert edges_total (finite.from_entries es) e.0 e.1) where
-  by_test : (b : Bool) → finite.len (finite.from_entries {R = edge_cmp} es) ≤ length es → finite.len (finite.from_entries {R = edge_cmp} (e ∷ es)) ≡ cond b (finite.len (finite.from_entries {R = edge_cmp} es)) (finite.len (finite.from_entries {R = edge_cmp} es) + 1) →
-      finite.len (finite.from_entries {R = edge_cmp} (e ∷ es)) ≤ suc (length es)
-  by_test true rest is = omega (arith, rest, is)
-  by_test false rest is = omega (arith, rest, is)
-
-not_removed : (root linked : Bool) → (root || linked) ≡ true → (not root && not linked) ≡ false
-not_removed true linked h = refl
-not_removed false true h = refl
-not_removed false false h = absurd (cc)
-
-refusal_none : (edges : Edges) (key : EdgeKey) → is_removed edges key.directory ≡ false → finite.get edges key ≡ None → finite.len edges < 4096 → create_refusal edges key ≡ None
-refusal_none edges key here free few =
-    ap (λ b. if b then Some fault.Removed else (if is_some (finite.get edges key) then Some fault.Exists else (if nat_le limit.MAX_NAMES (finite.len edges) then Some fault.NoSpace else None))) here
-    ∙ ap (λ o. if is_some o then Some fault.Exists else (if nat_le limit.MAX_NAMES (finite.len edges) then Some fault.NoSpace else None)) free
-    ∙ ap (λ b. if b then Some fault.NoSpace else None) (below (finite.len edges) few)
-  where
-    below : (count : ℕ) → count < 4096 → nat_le limit.MAX_NAMES count ≡ false
-    below count few = grind (arith, nat_tests)
-
--- no creation is refused
-pub free_in : (named : List Named) (one : Named) → Grows named → Fits named one → length named < 4096 → create_refusal (tree_from named).edges (key_in (number_at named (parent_of one.path)) one.path) ≡ None
-free_in named one grows fits few =
-    let all = placed named grows in
-    let key : EdgeKey = key_in (number_at named (parent_of one.path)) one.path in
-    let size = few_edges (edges_in named) in
-    let count = length-map named (edge_of named) in
-    refusal_none (tree_from named).edges key
-    (not_removed (number_at named (parent_of one.path) == 1) (is_linked (tree_from named).edges (number_at named (parent_of one.path))) (kept_in named all (parent_of one.path) (parent_there named one fits)))
-    (finite.get-from_entries edges_total (edges_in named) key ∙ fresh_key named one fits all)
-    (omega (arith, size, count, few))
+use Rattle.path_walk.specs.Parts.{is_dot, parent_of}
+use Rattle.tree_file.proofs.Numbers.{at_path, number_push, number_kept}
+use Rattle.tree_file.proofs.Standing.{kept_in}
+use Rattle.tree_file.proofs.Trees.{IsPlaced, Fits, Grows, more, placed, tree_push}
+use Rattle.vfs_start.specs.Growing.{path_cmp, IsNumbering, Stands, Makes, key_in}
+use Rattle.vfs_start.proofs.Made.{named_kind, named_some}
 
 -- ---- what stands
 

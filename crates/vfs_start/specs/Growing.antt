@@ -1,9 +1,8 @@
 -- How the tree of a server grows, node by node, and what stands behind each.
-use Rattle.std.specs.Prelude.{◌≡◌, ◌+◌, ℕ, List, [], ◌∷◌, ◌++◌, length, map, take, Some}
+use Rattle.std.specs.Prelude.{◌≡◌, ◌+◌, ℕ, List, map, take, Some}
 use Rattle.std.specs.Borrow.{Bor}
 use Rattle.std.specs.BTreeMap.{BTreeMap, get}
 use Rattle.std.specs.Cmp.Lexicographic.{slice_cmp}
-use Rattle.std.specs.FinMap as finite
 use Rattle.std.specs.Option.{option_map_or}
 use Rattle.std.specs.Ordering.{nat_cmp}
 use Rattle.std.specs.declared.cmp.Ordering.{Ordering}
@@ -13,15 +12,8 @@ use Rattle.node_graph.specs.declared.nodes.NodeRef.{NodeRef}
 use Rattle.node_graph.specs.Graph.{Kept, KeepsNames, Names, SameHolds, StandsFor, holds_at, number_of}
 use Rattle.node_graph.specs.Tree.{EdgeKey, Tree}
 use Rattle.tree_file.specs.Items.{Lists}
-use Rattle.tree_file.specs.Numbering.{Named, last_name, node_named, number_at, tree_from}
-
--- the tree with one node more, of the next number, and its name
-abbrev pub with_node : Tree → EdgeKey → NodeKind → OperationSet → List ℕ → Tree
-with_node tree key kind mask bytes =
-    record {
-      nodes = tree.nodes ++ record { kind = kind; bytes = bytes } ∷ [];
-      edges = finite.insert tree.edges key (record { child = length tree.nodes + 1; mask = mask });
-    }
+use Rattle.path_walk.specs.Parts.{last_name}
+use Rattle.tree_file.specs.Numbering.{Named, node_named, number_at, tree_from, with_node}
 
 -- paths by their bytes
 abbrev pub path_cmp : Bor (List ℕ) → Bor (List ℕ) → Ordering

@@ -1,4 +1,2 @@
-pub mod Accepted
-pub mod Items
 pub mod Growing
 pub mod Firsts

@@ -3,18 +3,18 @@
 ghost use Rattle.std.specs.Prelude.{◌≡◌, ◌≤◌, ◌<◌, ◌^◌, ℕ, false, true, [], All, IfOk, length, map};
 ghost use Rattle.endpoint_link.specs.Standings.{Starts};
 ghost use Rattle.node_graph.specs.Graph.{StandsFor, holds_at, is_kept, number_of};
+ghost use Rattle.tree_file.specs.Accepted.{AreAccepted};
 ghost use Rattle.tree_file.specs.Numbering.{tree_of};
 ghost use Rattle.conn_rules.specs.Births.{fresh};
 ghost use Rattle.conn_rules.specs.Shared.{CanBeBound};
 ghost use Rattle.journal_laws.specs.Knowing.{IsNumbered};
 ghost use Rattle.vfs_journal.specs.Starts.{start_of};
 ghost use Rattle.vfs_serving.specs.Bindings.{HasNoMount, bound_as};
-ghost use Rattle.vfs_start.specs.Accepted.{IsAccepted};
 
 use crate::firsts::{bind_firsts, known_endpoints};
 use crate::making::{Places, add_nodes};
 use endpoint_link::Endpoints;
-use fidl_names::NoMemory;
+use fidl_names::{MAX_CONNECTIONS, NoMemory};
 use journal_laws::starts_of_files_are_numbered;
 use node_graph::Graph;
 use std::alloc::Global;
@@ -36,9 +36,9 @@ pub struct Beginning {
     pub endpoints: Endpoints,
 }
 
-// What holds of each accepted file with one server and no mounts.
+// What holds of each start with one server and no mounts.
 fn file_laws(start: &Start)
-    requires accepted { IsAccepted start.now }
+    requires accepted { AreAccepted start.now }
     requires one { length start.now.servers ≡ 1 }
     requires mounts { start.now.mounts ≡ [] }
     ensures plain { HasNoMount (tree_of start.now 0) }
@@ -48,9 +48,8 @@ fn file_laws(start: &Start)
     starts_of_files_are_numbered();
 }
 
-/// Makes what the start of an accepted tree file with one server and no mounts begins with.
+/// Makes what a start with one server and no mounts begins with.
 pub fn begin(alloc: Global, start: &Start) -> Result<Beginning, NoMemory>
-    requires accepted { IsAccepted start.now }
     requires one { length start.now.servers ≡ 1 }
     requires mounts { start.now.mounts ≡ [] }
     ensures tree { IfOk result (λ b. StandsFor b.graph (tree_of start.now 0)) }
@@ -61,11 +60,12 @@ pub fn begin(alloc: Global, start: &Start) -> Result<Beginning, NoMemory>
     ensures bound { IfOk result (λ b. All (λ binding. CanBeBound b.graph binding.birth) b.slots.items) }
     ensures silent { IfOk result (λ b. All (λ binding. binding.birth.announce ≡ false) b.slots.items) }
     ensures kept { IfOk result (λ b. All (λ binding. is_kept b.graph (number_of binding.birth.node) ≡ true) b.slots.items) }
-    ensures few { IfOk result (λ b. length b.slots.items ≤ 4096) }
+    ensures few { IfOk result (λ b. length b.slots.items ≤ MAX_CONNECTIONS) }
     ensures known { IfOk result (λ b. Starts (map (λ bound. bound.endpoint) (start_of start.now).firsts) 0 1 b.endpoints) }
     ensures numbered { IsNumbered (start_of start.now) }
     ensures here { All (λ bound. bound.server ≡ 0) (start_of start.now).firsts }
 {
+    start.keeps_rules();
     file_laws(start);
     let mut graph = Graph::new(alloc)?;
     let mut places: Places<'_> = BTreeMap::new(alloc);

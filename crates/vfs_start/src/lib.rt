@@ -4,7 +4,6 @@
 mod beginning;
 mod firsts;
 mod making;
-mod paths;
 
 pub use beginning::{Beginning, begin};
 

@@ -6,16 +6,14 @@ ghost use Rattle.node_graph.specs.declared.nodes.NodeKind.TheVariants.{Directory
 ghost use Rattle.node_graph.specs.Graph.{KeepsNames, Leads, Names, SameHolds, StandsFor, bytes_at, create_refusal, kind_at, number_of, write_change};
 ghost use Rattle.node_graph.specs.Tree.{Tree, make};
 ghost use Rattle.path_walk.specs.Names.{IsName};
-ghost use Rattle.tree_file.specs.Numbering.{last_name};
-ghost use Rattle.tree_file.specs.Texts.{is_dot};
-ghost use Rattle.vfs_start.specs.Accepted.{IsAccepted};
+ghost use Rattle.path_walk.specs.Parts.{is_dot, last_name};
+ghost use Rattle.tree_file.specs.Accepted.{AreAccepted};
 ghost use Rattle.vfs_start.specs.Growing.{Makes, Stands, first_named, key_in, path_cmp};
 
-use crate::paths::{last_name, parent_of};
-use fidl_names::NoMemory;
+use fidl_names::{MAX_FILE, MAX_NAME, NoMemory};
 use io_rights::Rights;
 use node_graph::{Graph, GraphFault, NodeKind, NodeRef};
-use path_walk::path_laws;
+use path_walk::{last_name, parent_of};
 use std::collections::BTreeMap;
 use tree_file::{Start, StartNode};
 
@@ -44,7 +42,7 @@ fn create(
     requires named { Names graph.old dir }
     requires directory { kind_at graph.old (number_of dir) ≡ Some Directory }
     requires some { 1 ≤ length name.now }
-    requires few { length name.now ≤ 255 }
+    requires few { length name.now ≤ MAX_NAME }
     requires room { graph.old.made < 2 ^ 63 }
     requires free { create_refusal graph.old.edges (record { directory = number_of dir; name = name.now }) ≡ None }
     ensures created { OnOk result (Leads graph.old graph.new (make (record { directory = number_of dir; name = name.now }) kind mask)) }
@@ -65,7 +63,7 @@ fn create(
 fn write(graph: &mut Graph, node: NodeRef, bytes: &[u8]) -> Result<(), NoMemory>
     requires named { Names graph.old node }
     requires file { kind_at graph.old (number_of node) ≡ Some File }
-    requires short { length bytes.now ≤ 65536 }
+    requires short { length bytes.now ≤ MAX_FILE }
     ensures written { OnOk result (Leads graph.old graph.new (write_change (number_of node) (bytes_at graph.old (number_of node)) 0 bytes.now)) }
     ensures holds { SameHolds graph.old graph.new }
     ensures names { KeepsNames graph.old graph.new }
@@ -86,7 +84,7 @@ fn make(graph: &mut Graph, dir: NodeRef, node: &StartNode<'_>) -> Result<NodeRef
     requires room { graph.old.made < 2 ^ 63 }
     requires free { create_refusal graph.old.edges (key_in (number_of dir) node.now.path.now) ≡ None }
     requires bytes { (node.now.kind ≡ File) ⊎ (node.now.bytes.now ≡ []) }
-    requires short { length node.now.bytes.now ≤ 65536 }
+    requires short { length node.now.bytes.now ≤ MAX_FILE }
     ensures { IfOk result (λ made. (tree : Tree) → StandsFor graph.old tree →
         Makes graph.old graph.new tree (key_in (number_of dir) node.now.path.now) node.now.kind node.now.rights node.now.bytes.now made) }
 {
@@ -106,13 +104,12 @@ fn add_node<'a>(
     graph: &mut Graph,
     places: &mut Places<'a>,
 ) -> Result<(), NoMemory>
-    requires accepted { IsAccepted start.now }
+    requires accepted { AreAccepted start.now }
     requires one { length start.now.servers ≡ 1 }
     requires within { item < length start.now.nodes }
     requires stand { Stands (first_named start.now item) graph.old places.old }
     ensures { OnOk result (Stands (first_named start.now (item + 1)) graph.new places.new) }
 {
-    path_laws();
     let node = start.node_at(item);
     let dir = node_at(places, parent_of(node.path));
     let made = make(graph, dir, &node)?;
@@ -126,7 +123,7 @@ pub(crate) fn add_nodes<'a>(
     graph: &mut Graph,
     places: &mut Places<'a>,
 ) -> Result<(), NoMemory>
-    requires accepted { IsAccepted start.now }
+    requires accepted { AreAccepted start.now }
     requires one { length start.now.servers ≡ 1 }
     requires stand { Stands [] graph.old places.old }
     ensures { OnOk result (Stands (first_named start.now (length start.now.nodes)) graph.new places.new) }

@@ -5,6 +5,7 @@ use Rattle.std.proofs.lemmas.List.Elements.{All-cons, All-head, All-map, All-nil
 use Rattle.endpoint_link.specs.Standings.{Known, Starts}
 use Rattle.node_graph.specs.Graph.{Kept, StandsFor as GraphStandsFor}
 use Rattle.node_graph.specs.Tree.{Tree}
+use Rattle.tree_file.specs.Accepted.{AreAccepted}
 use Rattle.tree_file.specs.Items.{Lists, MountItem}
 use Rattle.tree_file.specs.Numbering.{tree_of}
 use Rattle.conn_rules.specs.Births.{Position, fresh}
@@ -17,13 +18,12 @@ use Rattle.vfs_journal.specs.Starts.{Bound, Start, end_of, first_of_client, star
 use Rattle.vfs_keeping.specs.Dying.{IsHere}
 use Rattle.vfs_keeping.specs.Keeping.{Keeping, seen}
 use Rattle.vfs_serving.specs.Bindings.{Binding, HasNoMount, bound_as}
-use Rattle.vfs_start.specs.Accepted.{IsAccepted}
 use Rattle.vfs_world.specs.World.{IsOneServer, Keeps, with_position}
 use Rattle.vfs_world.proofs.Lists.{filter_all}
 
 -- what a session over one server begins with
 pub record IsBegun (lists : Lists) (graph : Kept) (bindings : List Binding) (known : Known) : Type 0 where
-  pub accepted : IsAccepted lists
+  pub accepted : AreAccepted lists
   pub one : length lists.servers ≡ 1
   pub mounts : lists.mounts ≡ []
   pub tree : GraphStandsFor graph (tree_of lists 0)
@@ -56,7 +56,7 @@ firsts_here lists here =
 
 one_server : StartsAreSound → (lists : Lists) (graph : Kept) (bindings : List Binding) (known : Known) → IsBegun lists graph bindings known → IsOneServer (start_of lists)
 one_server sound lists graph bindings known b = record {
-  sound = sound b.accepted.0 lists b.accepted.1;
+  sound = sound lists b.accepted;
   numbered = b.numbered;
   one = ap length (trees_are lists b.one);
   no_mounts = no_mounts lists b.mounts;

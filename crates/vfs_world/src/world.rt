@@ -8,7 +8,6 @@ ghost use Rattle.vfs_journal.specs.History.{waiting};
 ghost use Rattle.vfs_journal.specs.Past.{history_of};
 ghost use Rattle.vfs_journal.specs.Session.{arrives, drained};
 ghost use Rattle.vfs_journal.specs.Starts.{Start, start_of};
-ghost use Rattle.vfs_start.specs.Accepted.{IsAccepted};
 ghost use Rattle.vfs_world.specs.World.{LeadsTo, StandsFor};
 
 use crate::arriving::arrive;
@@ -55,18 +54,18 @@ impl Model for World {
 }
 
 impl World {
-    /// The session of an accepted tree file with one server and no mounts, before its first frame.
+    /// The session of a start with one server and no mounts, before its first frame.
     pub fn new(
         alloc: Global,
         ordinals: Ordinals,
         start: &tree_file::Start,
     ) -> Result<World, NoMemory>
-        requires accepted { IsAccepted start.now }
         requires one { length start.now.servers ≡ 1 }
         requires mounts { start.now.mounts ≡ [] }
         ensures stands { IfOk result (λ world. StandsFor (start_of start.now) world []) }
         ensures frames { IfOk result (λ world. world.frames ≡ 0) }
     {
+        start.keeps_rules();
         starts_are_sound();
         starts_are_known();
         let beginning = begin(alloc, start)?;

@@ -4,8 +4,8 @@ use Rattle.std.specs.FinMap as finite
 use Rattle.io_rights.specs.Operations.{all}
 use Rattle.node_graph.specs.Tree.{EdgeKey, EdgeTo, Edges, edge_cmp}
 use Rattle.path_walk.specs.Paths.{names_of}
+use Rattle.path_walk.specs.Parts.{parent_of, before_last_slash}
 use Rattle.tree_file.specs.Numbering.{number_at, end_of_mount}
-use Rattle.tree_file.specs.Texts.{parent_of, before_last_slash}
 use Rattle.journal_rows.specs.RowTree.{worked_lists, leads, nodes_a, nodes_b, names_a, names_b, edges_of, reading, looking, at_root}
 use Rattle.vfs_journal.specs.Starts.{Start, start_of}
 use Rattle.journal_rows.proofs.RowTrees.{edges_with, edges_none, names_of_a, names_of_b}

@@ -4,7 +4,6 @@ use Rattle.node_graph.specs.Graph.{StandsFor}
 use Rattle.conn_rules.specs.Births.{fresh}
 use Rattle.vfs_serving.specs.Bindings.{Binding}
 use Rattle.vfs_start.specs.Firsts.{IsBound}
-use Rattle.vfs_start.proofs.Accepted.{accepted_good}
 use Rattle.vfs_start.proofs.Clients.{tree_whole}
 use Rattle.vfs_start.proofs.Standing.{stands_bare}
 use Rattle.vfs_start.proofs.beginning.begin.Goals as goal
@@ -17,7 +16,7 @@ add_nodes-requires-clause-stand c =
 pub returns-clause-tree : goal.returns-clause-tree
 returns-clause-tree c =
     let stands = c.in_ok-add_nodes.ensures in
-    subst (StandsFor c.add_nodes.new.graph) (sym (tree_whole c.args.start.now (accepted_good c.args.start.now c.requires.accepted) c.requires.one c.requires.mounts)) stands.tree
+    subst (StandsFor c.add_nodes.new.graph) (sym (tree_whole c.args.start.now c.keeps_rules.ensures c.requires.one c.requires.mounts)) stands.tree
 
 pub returns-clause-fresh : goal.returns-clause-fresh
 returns-clause-fresh c =

@@ -4,7 +4,6 @@ use Rattle.std.proofs.lemmas.List.Elements.{All-push}
 use Rattle.vfs_journal.specs.Starts.{Bound, first_of_client}
 use Rattle.vfs_serving.specs.Bindings.{bound_as}
 use Rattle.vfs_start.specs.Firsts.{IsBound}
-use Rattle.vfs_start.proofs.Accepted.{accepted_good}
 use Rattle.vfs_start.proofs.Clients.{more_mapped, some_at}
 use Rattle.vfs_start.proofs.Listed.{few_clients}
 use Rattle.vfs_start.proofs.firsts.bind_firsts.Goals as goal
@@ -26,7 +25,7 @@ loop-item-preserved c =
 pub returns-clause-few : goal.returns-clause-few
 returns-clause-few c =
     let lists = c.args.start.now in
-    let few = few_clients lists (accepted_good lists c.requires.accepted) c.requires.one in
+    let few = few_clients lists c.requires.accepted c.requires.one in
     let same = ap length c.loop-item.invariant.0 in
     let slots = length-map c.loop-item.slots.items bound_as in
     let firsts = length-map (take c.loop-item.item lists.clients) (first_of_client lists) in

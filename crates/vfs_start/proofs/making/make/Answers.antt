@@ -1,10 +1,10 @@
 use Rattle.std.proofs.Common.{◌≡◌, ℕ, List, subst, ap}
 use Rattle.node_graph.specs.Graph.{Leads, number_of}
 use Rattle.node_graph.specs.Tree.{EdgeKey, make}
-use Rattle.tree_file.specs.Numbering.{last_name}
+use Rattle.path_walk.specs.Parts.{last_name}
 use Rattle.vfs_start.specs.Growing.{key_in}
 use Rattle.vfs_start.proofs.Made.{makes_full}
-use Rattle.vfs_start.proofs.Names.{name_short}
+use Rattle.path_walk.proofs.PartLemmas.{name_short}
 use Rattle.vfs_start.proofs.making.make.Goals as goal
 
 pub create-requires-clause-some : goal.create-requires-clause-some

@@ -22,7 +22,7 @@ returns-clause-stands c =
       able = refl;
       keeps = begun c.starts_are_sound.ensures c.starts_are_known.ensures c.args.start.now b.beginning.graph b.beginning.slots.items b.beginning.endpoints c.in_ok-keeper.keeper
           (record {
-            accepted = c.requires.accepted;
+            accepted = c.keeps_rules.ensures;
             one = c.requires.one;
             mounts = c.requires.mounts;
             tree = b.ensures.tree;

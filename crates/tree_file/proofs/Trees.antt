@@ -16,21 +16,20 @@ use Rattle.path_walk.specs.Paths.{names_of}
 use Rattle.node_graph.specs.declared.nodes.NodeKind.{NodeKind}
 use Rattle.node_graph.specs.declared.nodes.NodeKind.TheVariants.{Directory}
 use Rattle.node_graph.specs.Tree.{EdgeKey, EdgeTo, edge_cmp, Edges, Tree, kind_of}
-use Rattle.tree_file.specs.Numbering.{Named, number_at, last_name, edge_of, row_of_named, tree_from}
-use Rattle.tree_file.specs.Texts.{parent_of, is_dot}
-use Rattle.vfs_start.specs.Growing.{with_node}
-use Rattle.vfs_start.proofs.Numbers.{IsNew, number_same, number_free, number_new, number_kept}
-use Rattle.vfs_start.proofs.Names.{same_path}
+use Rattle.path_walk.specs.Parts.{last_name, parent_of, is_dot}
+use Rattle.path_walk.proofs.PartLemmas.{same_path}
+use Rattle.tree_file.specs.Numbering.{Named, number_at, edge_of, row_of_named, tree_from, with_node}
+use Rattle.tree_file.proofs.Numbers.{IsNew, number_same, number_free, number_new, number_kept}
 
 -- ---- keys
 
 pub edges_total : IsTotalOrder edge_cmp
 edges_total = then_total (on_total (λ k. k.directory) nat_cmp_total) (on_total (λ k. k.name) nat_list_cmp_total)
 
-exact_edges : CmpEqualImpliesEq edge_cmp
+pub exact_edges : CmpEqualImpliesEq edge_cmp
 exact_edges a b h = ap (λ (p : ℕ × List ℕ). record { directory = p.0; name = p.1 }) (exact_pairs nat_cmp (slice_cmp nat_cmp) exact_unsigned exact_bytes (a.directory, a.name) (b.directory, b.name) h)
 
-equal_of : (o : Ordering) → is_eq o ≡ true → o ≡ Equal
+pub equal_of : (o : Ordering) → is_eq o ≡ true → o ≡ Equal
 equal_of Less h = absurd (cc)
 equal_of Equal h = refl
 equal_of Greater h = absurd (cc)

@@ -1,68 +1,18 @@
 -- The numbers that paths lead to, as a list grows at its end.
-use Rattle.std.proofs.Common.{◌≡◌, ℕ, zero, suc, ◌+◌, ◌<◌, ◌≤◌, ◌==◌, Bool, true, false, not, cond, if◌then◌else◌, nat_lt, List, [], ◌∷◌, ◌++◌, length, get_or, Option, Some, None, refl, sym, ap, ◌∙◌, arith}
+use Rattle.std.proofs.Common.{◌≡◌, ℕ, ◌+◌, ◌≤◌, Bool, true, false, if◌then◌else◌, List, [], ◌∷◌, ◌++◌, length, Option, Some, None, refl, sym, ap, ◌∙◌, arith}
 use Rattle.std.specs.Prelude.{slice_get}
-use Rattle.std.specs.List.{find, position, position_or_len}
+use Rattle.std.specs.List.{position}
 use Rattle.std.specs.Option.{option_or, option_map_or}
 use Rattle.std.specs.Str.{bytes_eq}
-use Rattle.std.proofs.lemmas.Bool.Decides.{nat_tests}
-use Rattle.std.proofs.lemmas.List.Folds.{find_at, position_or_len_push}
-use Rattle.std.proofs.lemmas.List.Quantifiers.{position-Some}
-use Rattle.std.proofs.lemmas.List.{length_push}
-use Rattle.std.proofs.lemmas.List.Sums.{prefix_len-le-length}
-use Rattle.std.proofs.lemmas.Bool.{ltb-false}
-use Rattle.std.proofs.lemmas.Option.{slice_get_past}
 use Rattle.std.proofs.lemmas.Slice.Eq.{bytes_eq-Decides}
 use Rattle.path_walk.specs.Names.{dot}
+use Rattle.path_walk.specs.Parts.{is_dot}
+use Rattle.path_walk.proofs.PathLemmas.{same_bytes}
 use Rattle.tree_file.specs.Numbering.{Named, number_at}
-use Rattle.tree_file.specs.Texts.{is_dot}
-use Rattle.vfs_start.proofs.Names.{same_text}
-use Rattle.vfs_start.proofs.Read.{same_some}
+use Rattle.tree_file.proofs.Found.{same_some, position_there, position_push}
 
 abbrev pub at_path : List ℕ → Named → Bool
 at_path path one = bytes_eq one.path path
-
--- ---- positions
-
-pub slice_at : {X : Type 0} (xs : List X) (k : ℕ) (d : X) → k < length xs → slice_get xs k ≡ Some (get_or xs k d)
-slice_at [] k d within = absurd (omega arith)
-slice_at (x ∷ xs) zero d within = refl
-slice_at (x ∷ xs) (suc k) d within = slice_at xs k d (omega arith)
-
-pub position_there : {X : Type 0} (p : X → Bool) (xs : List X) (k : ℕ) → position p xs ≡ Some k → (x : X) × (slice_get xs k ≡ Some x) × (p x ≡ true)
-position_there p [] k h = absurd (cc)
-position_there p (x ∷ xs) k h = let at = position-Some p (x ∷ xs) k x h in (get_or (x ∷ xs) k x, slice_at (x ∷ xs) k x at.0, at.1)
-
-last_cases : (last at count next : ℕ) (b : Bool) → at ≤ count → last ≡ cond (at == count) (count + cond b 0 1) at → next ≡ count + 1 →
-    cond (nat_lt last next) (Some last) None ≡ option_or (cond (nat_lt at count) (Some at) None) (if b then Some count else None)
-last_cases last at count next true few is more = grind (arith, nat_tests)
-last_cases last at count next false few is more = grind (arith, nat_tests)
-
-pub position_push : {X : Type 0} (p : X → Bool) (xs : List X) (y : X) → position p (xs ++ y ∷ []) ≡ option_or (position p xs) (if p y then Some (length xs) else None)
-position_push p xs y = last_cases (position_or_len p (xs ++ y ∷ [])) (position_or_len p xs) (length xs) (length (xs ++ y ∷ [])) (p y) (prefix_len-le-length (λ x. not (p x)) xs) (position_or_len_push p xs y) (length_push xs y)
-
-none_within : {X : Type 0} (p : X → Bool) (xs : List X) (at : ℕ) → at ≡ position_or_len p xs → (b : Bool) → nat_lt at (length xs) ≡ b → cond b (Some at) None ≡ None → slice_get xs at ≡ None
-none_within p xs at is true e h = absurd (cc)
-none_within p xs at is false e h = slice_get_past xs at (ltb-false at (length xs) e)
-
--- what isn't found stands nowhere
-pub found_none : {X : Type 0} (p : X → Bool) (xs : List X) → position p xs ≡ None → find p xs ≡ None
-found_none p xs h = find_at p xs ∙ none_within p xs (position_or_len p xs) refl (nat_lt (position_or_len p xs) (length xs)) refl h
-
-some_within : {X : Type 0} (p : X → Bool) (xs : List X) (at k : ℕ) (b : Bool) → cond b (Some at) None ≡ Some k → slice_get xs at ≡ slice_get xs k
-some_within p xs at k true h = let same : at ≡ k = cc in ap (slice_get xs) same
-some_within p xs at k false h = absurd (cc)
-
-pub found_at : {X : Type 0} (p : X → Bool) (xs : List X) (k : ℕ) → position p xs ≡ Some k → find p xs ≡ slice_get xs k
-found_at p xs k h = find_at p xs ∙ some_within p xs (position_or_len p xs) k (nat_lt (position_or_len p xs) (length xs)) h
-
-pub position_none : {X : Type 0} (p : X → Bool) (xs : List X) → find p xs ≡ None → position p xs ≡ None
-position_none {X} p xs h = by_place (position p xs) refl where
-  by_place : (o : Option ℕ) → position p xs ≡ o → position p xs ≡ None
-  by_place None e = e
-  by_place (Some k) e =
-      let at = position_there p xs k e in
-      let there : None ≡ Some at.0 = sym h ∙ found_at p xs k e ∙ at.1 in
-      absurd (cc)
 
 -- ---- what a path leads to
 
@@ -83,7 +33,7 @@ at_below : (named : List Named) (path : List ℕ) → is_dot path ≡ false → 
 at_below named path below None e = absent below e (number_below named path below ∙ ap (λ o. option_map_or (λ place. place + 2) o 0) e)
 at_below named path below (Some k) e =
     let found = position_there (at_path path) named k e in
-    there k found.0 below e found.1 (same_text found.0.path path found.2) (number_below named path below ∙ ap (λ o. option_map_or (λ place. place + 2) o 0) e)
+    there k found.0 below e found.1 (same_bytes found.0.path path found.2) (number_below named path below ∙ ap (λ o. option_map_or (λ place. place + 2) o 0) e)
 
 pub at : (named : List Named) (path : List ℕ) → At named path
 at named path = by_dot (is_dot path) refl where
@@ -95,7 +45,7 @@ at named path = by_dot (is_dot path) refl where
 pub number_same : (named : List Named) (p q : List ℕ) → 1 ≤ number_at named p → number_at named p ≡ number_at named q → p ≡ q
 number_same named p q some same = by_both (at named p) (at named q) where
   by_both : At named p → At named q → p ≡ q
-  by_both (root a m) (root b n) = same_text p dot a ∙ sym (same_text q dot b)
+  by_both (root a m) (root b n) = same_bytes p dot a ∙ sym (same_bytes q dot b)
   by_both (root a m) (there j two b f h e n) = absurd (omega (arith, m, n, same))
   by_both (root a m) (absent b h n) = absurd (omega (arith, m, n, same))
   by_both (there k one a f g d m) (root b n) = absurd (omega (arith, m, n, same))
@@ -123,10 +73,10 @@ pub number_push : (named : List Named) (one : Named) → IsNew named one.path �
 number_push named one new path = by_dot (is_dot path) refl (at_path path one) refl where
   by_dot : (d : Bool) → is_dot path ≡ d → (b : Bool) → at_path path one ≡ b → number_at (named ++ one ∷ []) path ≡ (if at_path path one then length named + 2 else number_at named path)
   by_dot true is true e =
-      let wrong : true ≡ false = sym is ∙ ap is_dot (sym (same_text one.path path e)) ∙ new.below in absurd (cc)
+      let wrong : true ≡ false = sym is ∙ ap is_dot (sym (same_bytes one.path path e)) ∙ new.below in absurd (cc)
   by_dot true is false e = number_dot (named ++ one ∷ []) path is ∙ sym (number_dot named path is) ∙ rw e
   by_dot false is true e =
-      let free : position (at_path path) named ≡ None = ap (λ text. position (at_path text) named) (sym (same_text one.path path e)) ∙ new.free in
+      let free : position (at_path path) named ≡ None = ap (λ text. position (at_path text) named) (sym (same_bytes one.path path e)) ∙ new.free in
       number_below (named ++ one ∷ []) path is
       ∙ ap (λ o. option_map_or (λ place. place + 2) o 0) (position_push (at_path path) named one ∙ ap (λ o. option_or o (if at_path path one then Some (length named) else None)) free ∙ ap (λ b. option_or None (if b then Some (length named) else None)) e)
       ∙ rw e
@@ -146,6 +96,6 @@ pub number_kept : (named : List Named) (one : Named) → IsNew named one.path �
 number_kept named one new path some = number_push named one new path ∙ by_test (at_path path one) refl where
   by_test : (b : Bool) → at_path path one ≡ b → (if b then length named + 2 else number_at named path) ≡ number_at named path
   by_test true e =
-      let none : number_at named path ≡ 0 = ap (number_at named) (sym (same_text one.path path e)) ∙ number_free named one.path new in
+      let none : number_at named path ≡ 0 = ap (number_at named) (sym (same_bytes one.path path e)) ∙ number_free named one.path new in
       absurd (omega (arith, none, some))
   by_test false e = refl

@@ -1,7 +1,7 @@
 use Rattle.std.proofs.Common.{◌≤◌, ◌+◌, ◌-◌, length, drop, arith, ◌∙◌, sym}
 use Rattle.std.proofs.lemmas.List.{take_all, length-drop}
-use Rattle.vfs_start.proofs.Slashes.{last_of_whole, last_behind}
-use Rattle.vfs_start.proofs.paths.last_name.Goals as goal
+use Rattle.path_walk.proofs.PartLemmas.{last_of_whole, last_behind}
+use Rattle.path_walk.proofs.parts.last_name.Goals as goal
 
 pub returns-in-Some : goal.returns-in-Some
 returns-in-Some c =

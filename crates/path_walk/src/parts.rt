@@ -1,14 +1,13 @@
 //! The parts of a path.
 
 ghost use Rattle.std.specs.Prelude.{◌≡◌, false};
-ghost use Rattle.tree_file.specs.Numbering.{last_name};
-ghost use Rattle.tree_file.specs.Texts.{is_dot, parent_of};
+ghost use Rattle.path_walk.specs.Parts.{is_dot, last_name, parent_of};
 
 use memchr::memrchr;
 
-/// A path without its last name.
-#[tactic(auto, unfolding(tree_file::specs::Texts::parent_of))]
-pub(crate) fn parent_of(path: &[u8]) -> &[u8]
+/// A path without its last name: `.` where it has one name alone.
+#[tactic(auto, unfolding(crate::specs::Parts::parent_of))]
+pub fn parent_of(path: &[u8]) -> &[u8]
     ensures { result.now ≡ parent_of path.now }
 {
     match memrchr(b'/', path) {
@@ -18,7 +17,7 @@ pub(crate) fn parent_of(path: &[u8]) -> &[u8]
 }
 
 /// The last name of a path below the root.
-pub(crate) fn last_name(path: &[u8]) -> &[u8]
+pub fn last_name(path: &[u8]) -> &[u8]
     requires below { is_dot path.now ≡ false }
     ensures { result.now ≡ last_name path.now }
 {

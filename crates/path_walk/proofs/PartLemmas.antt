@@ -1,11 +1,10 @@
--- A path is its parent's path and its last name.
-use Rattle.std.proofs.Common.{◌≡◌, ◌≢◌, ℕ, ◌≤◌, ◌==◌, Bool, true, false, if◌then◌else◌, List, [], ◌∷◌, ◌++◌, length, reverse, Option, Some, None, All, refl, sym, ap, ◌∙◌, subst, arith, nat_lt}
+-- The last slash of a path, and that a path is its parent's path and its last name.
+use Rattle.std.proofs.Common.{◌≡◌, ◌≢◌, ℕ, zero, suc, ◌+◌, ◌<◌, ◌≤◌, ◌==◌, Bool, true, false, if◌then◌else◌, List, [], ◌∷◌, ◌++◌, length, reverse, take, drop, get_or, Option, Some, None, All, refl, sym, ap, ◌∙◌, subst, arith, nat_lt}
 use Rattle.std.specs.Prelude.{slice_get, unwrap_or}
 use Rattle.std.specs.List.{slice_split, onto_first}
-use Rattle.std.specs.Str.{bytes_eq}
 use Rattle.std.proofs.lemmas.Bool.{ltb-false, eqb-false, eqb-true}
-use Rattle.std.proofs.lemmas.List.{reverse-append}
-use Rattle.std.proofs.lemmas.List.Elements.{All-nil, All-cons, All-head, All-contains, Contains-push}
+use Rattle.std.proofs.lemmas.List.{reverse-append, take-append-drop, drop_more, get_or-drop, length-drop}
+use Rattle.std.proofs.lemmas.List.Elements.{All-nil, All-cons, All-head, All-contains, Contains-push, All-from_get_or}
 use Rattle.std.proofs.lemmas.List.Splits.{slice_split_none, length-slice_split, slice_split-cons_yes, slice_split-cons_no}
 use Rattle.std.proofs.lemmas.Slice.Eq.{bytes_eq-Decides}
 use Rattle.fidl_names.specs.First.{cause_if, first_of}
@@ -14,12 +13,10 @@ use Rattle.fidl_names.proofs.FirstLaws.{first_of-none, cause_if-none}
 use Rattle.path_walk.specs.declared.faults.PathFault.{PathFault}
 use Rattle.path_walk.specs.declared.faults.PathFault.TheVariants as fault
 use Rattle.path_walk.specs.Names.{slash, dot, holds, dot_fault, name_fault, IsName}
+use Rattle.path_walk.specs.Parts.{before_last_slash, parent_of, last_name, is_dot}
 use Rattle.path_walk.specs.Paths.{names_of}
-use Rattle.tree_file.specs.Numbering.{last_name}
-use Rattle.tree_file.specs.Texts.{before_last_slash, parent_of, is_dot}
-
-abbrev pub is_slash : ℕ → Bool
-is_slash byte = byte == slash
+use Rattle.path_walk.proofs.NameLemmas.{dot_is_no_name}
+use Rattle.path_walk.proofs.PathLemmas.{is_slash, same_bytes, names_of-other}
 
 -- ---- the last name of a text
 
@@ -58,20 +55,16 @@ split_last : (front back : List ℕ) → All (λ byte. is_slash byte ≡ false) 
 split_last [] back h = ap (λ parts. [] ∷ parts) (slice_split_none is_slash back h)
 split_last (byte ∷ front) back h = split_by byte front back (split_last front back h) (is_slash byte) refl
 
-names_below : (text : List ℕ) → is_dot text ≡ false → names_of text ≡ slice_split is_slash text
-unfolding names_of
-names_below text below = rw below
-
 last_of : (names : List (List ℕ)) (name : List ℕ) → unwrap_or (slice_get (reverse (names ++ name ∷ [])) 0) [] ≡ name
 last_of names name = ap (λ turned. unwrap_or (slice_get turned 0) []) (reverse-append names (name ∷ []))
 
 pub last_whole : (text : List ℕ) → is_dot text ≡ false → All (λ byte. is_slash byte ≡ false) text → last_name text ≡ text
 last_whole text below h =
-    ap (λ names. unwrap_or (slice_get (reverse names) 0) []) (names_below text below ∙ slice_split_none is_slash text h)
+    ap (λ names. unwrap_or (slice_get (reverse names) 0) []) (names_of-other text below ∙ slice_split_none is_slash text h)
 
 pub last_parted : (text front back : List ℕ) → is_dot text ≡ false → text ≡ front ++ slash ∷ back → All (λ byte. is_slash byte ≡ false) back → last_name text ≡ back
 last_parted text front back below same h =
-    ap (λ names. unwrap_or (slice_get (reverse names) 0) []) (names_below text below ∙ ap (slice_split is_slash) same ∙ split_last front back h)
+    ap (λ names. unwrap_or (slice_get (reverse names) 0) []) (names_of-other text below ∙ ap (slice_split is_slash) same ∙ split_last front back h)
     ∙ last_of (slice_split is_slash front) back
 
 -- ---- what a path is
@@ -85,15 +78,8 @@ name_short name h =
     let some : length name ≢ 0 = eqb-false (length name) 0 (cause_if-none (length name == 0) fault.EmptyName a.0) in
     (omega arith, ltb-false limit.MAX_NAME (length name) (cause_if-none (nat_lt limit.MAX_NAME (length name)) fault.NameTooLong b.0))
 
-dot_no_name : IsName dot → ⊥
-unfolding name_fault
-dot_no_name h = cc
-
 abbrev pub joined : List ℕ → List ℕ → List ℕ
 joined parent name = if is_dot parent then name else parent ++ slash ∷ name
-
-pub same_text : (a b : List ℕ) → bytes_eq a b ≡ true → a ≡ b
-same_text a b h = (bytes_eq-Decides a b).0 h
 
 no_dot_front : (text front back : List ℕ) → is_dot text ≡ false → text ≡ front ++ slash ∷ back → All (λ byte. is_slash byte ≡ false) back → All IsName (names_of text) → is_dot front ≡ false
 no_dot_front text front back below same h valid = by_test (is_dot front) refl where
@@ -101,8 +87,8 @@ no_dot_front text front back below same h valid = by_test (is_dot front) refl wh
   by_test false is = is
   by_test true is =
       let parts : names_of text ≡ dot ∷ back ∷ [] =
-      names_below text below ∙ ap (slice_split is_slash) (same ∙ ap (λ first. first ++ slash ∷ back) (same_text front dot is)) ∙ split_last dot back h in
-      absurd (dot_no_name (All-head IsName dot (back ∷ []) (subst (All IsName) parts valid)))
+      names_of-other text below ∙ ap (slice_split is_slash) (same ∙ ap (λ first. first ++ slash ∷ back) (same_bytes front dot is)) ∙ split_last dot back h in
+      absurd (dot_is_no_name (All-head IsName dot (back ∷ []) (subst (All IsName) parts valid)))
 
 pub path_joined : (text : List ℕ) → is_dot text ≡ false → All IsName (names_of text) → text ≡ joined (parent_of text) (last_name text)
 unfolding parent_of
@@ -121,9 +107,45 @@ pub last_valid : (text : List ℕ) → is_dot text ≡ false → All IsName (nam
 last_valid text below valid = by_parts (parted_at text) where
   by_parts : Parted text → IsName (last_name text)
   by_parts (whole e h) =
-      let names : names_of text ≡ text ∷ [] = names_below text below ∙ slice_split_none is_slash text h in
+      let names : names_of text ≡ text ∷ [] = names_of-other text below ∙ slice_split_none is_slash text h in
       subst IsName (sym (last_whole text below h)) (All-head IsName text [] (subst (All IsName) names valid))
   by_parts (parted front back e same h) =
-      let names : names_of text ≡ slice_split is_slash front ++ back ∷ [] = names_below text below ∙ ap (slice_split is_slash) same ∙ split_last front back h in
+      let names : names_of text ≡ slice_split is_slash front ++ back ∷ [] = names_of-other text below ∙ ap (slice_split is_slash) same ∙ split_last front back h in
       subst IsName (sym (last_parted text front back below same h))
       (All-contains IsName (slice_split is_slash front ++ back ∷ []) back (subst (All IsName) names valid) (Contains-push (slice_split is_slash front) back))
+
+-- ---- the last slash, as its place tells it
+
+not_slash : (b : Bool) → (b ≡ true → ⊥) → b ≡ false
+not_slash true other = absurd (other refl)
+not_slash false other = refl
+
+pub no_slash : (text : List ℕ) → ((k : ℕ) → k < length text → (get_or text k 0 == 47) ≡ true → ⊥) → before_last_slash text ≡ None
+unfolding before_last_slash
+no_slash [] nowhere = refl
+no_slash (byte ∷ rest) nowhere =
+    rw (no_slash rest (λ k within at. nowhere (suc k) (omega arith) at), not_slash (byte == 47) (nowhere 0 (omega arith)))
+
+pub last_slash : (text : List ℕ) (k : ℕ) → k < length text → (get_or text k 0 == 47) ≡ true → ((j : ℕ) → k + 1 ≤ j → j < length text → (get_or text j 0 == 47) ≡ true → ⊥) → before_last_slash text ≡ Some (take k text)
+unfolding before_last_slash
+last_slash [] k within at after = absurd (omega arith)
+last_slash (byte ∷ rest) zero within at after =
+    rw (no_slash rest (λ j below is. after (suc j) (omega arith) (omega arith) is), at)
+last_slash (byte ∷ rest) (suc k) within at after =
+    rw (last_slash rest k (omega arith) at (λ j past below is. after (suc j) (omega arith) (omega arith) is))
+
+pub last_of_whole : (text : List ℕ) → is_dot text ≡ false → ((k : ℕ) → k < length text → (get_or text k 0 == 47) ≡ true → ⊥) → last_name text ≡ text
+last_of_whole text below nowhere =
+    last_whole text below (All-from_get_or (λ byte. is_slash byte ≡ false) text 0 (λ k within. not_slash (get_or text k 0 == 47) (nowhere k within)))
+
+pub last_behind : (text : List ℕ) (k : ℕ) → is_dot text ≡ false → k < length text → (get_or text k 0 == 47) ≡ true → ((j : ℕ) → k + 1 ≤ j → j < length text → (get_or text j 0 == 47) ≡ true → ⊥) →
+    last_name text ≡ drop (k + 1) text
+last_behind text k below within at after =
+    let byte : get_or text k 0 ≡ slash = eqb-true (get_or text k 0) slash at in
+    let parts : text ≡ take k text ++ slash ∷ drop (k + 1) text =
+    sym (take-append-drop k text) ∙ ap (λ rest. take k text ++ rest) (drop_more text k 0 within ∙ ap (λ (b : ℕ). b ∷ drop (k + 1) text) byte) in
+    last_parted text (take k text) (drop (k + 1) text) below parts
+    (All-from_get_or (λ b. is_slash b ≡ false) (drop (k + 1) text) 0
+    (λ j inside.
+    let size = length-drop (k + 1) text in
+    rw (get_or-drop (k + 1) text j 0) (not_slash (get_or text (k + 1 + j) 0 == 47) (after (k + 1 + j) (omega arith) (omega arith)))))

@@ -1,22 +1,28 @@
 -- What each item of a list that is read has, and how items that are read one by one differ.
-use Rattle.std.proofs.Common.{◌≡◌, ◌≢◌, ℕ, ◌<◌, ◌≤◌, ◌==◌, ◌&&◌, ◌||◌, ◌⊎◌, Bool, true, false, not, if◌then◌else◌, nat_le, nat_lt, ℤ, pos, negsuc, List, [], ◌∷◌, ◌++◌, length, Option, Some, None, Result, Ok, Err, All, AllPairs, refl, sym, ap, ◌∙◌, subst, inl, inr, codes, arith}
+use Rattle.std.proofs.Common.{◌≡◌, ◌≢◌, ℕ, ◌<◌, ◌≤◌, ◌==◌, ◌&&◌, ◌||◌, ◌⊎◌, Bool, true, false, not, if◌then◌else◌, nat_lt, ℤ, pos, negsuc, List, [], ◌∷◌, ◌++◌, length, Option, Some, None, Result, Ok, Err, All, AllPairs, refl, sym, ap, ◌∙◌, subst, inl, inr, codes, arith}
 use Rattle.std.specs.List.{list_any}
 use Rattle.std.specs.Str.{bytes_eq}
 use Rattle.std.specs.Option.{is_none}
-use Rattle.std.proofs.lemmas.Bool.{eqb-false, and_parts, and_from, not-true, lt-ltb, leb-true}
-use Rattle.std.proofs.lemmas.List.Elements.{All-nil, All-cons, All-push}
+use Rattle.std.proofs.lemmas.Bool.{eqb-false, and_parts, not-true}
+use Rattle.std.proofs.lemmas.List.Elements.{All-nil, All-cons, All-push, All-weaker}
 use Rattle.std.proofs.lemmas.List.Quantifiers.{all_pairs_push, position-Some}
+use Rattle.std.proofs.lemmas.Slice.Eq.{bytes_eq-Decides}
 use Rattle.fidl_names.specs.HandleNumber.{is_client}
+use Rattle.fidl_names.specs.declared.limits.TheConstants as limit
 use Rattle.node_graph.specs.declared.nodes.NodeKind.{NodeKind}
 use Rattle.node_graph.specs.declared.nodes.NodeKind.TheVariants.{Directory, File, Service, Mount}
+use Rattle.path_walk.specs.Names.{name_fault, IsName}
+use Rattle.path_walk.specs.Parts.{is_dot}
 use Rattle.path_walk.specs.Paths.{path_fault}
 use Rattle.toml.specs.Data.{Data, get, as_str, as_integer}
+use Rattle.tree_file.specs.Accepted.{IsPlain, IsNode, IsMount, IsClient, AreServers}
 use Rattle.tree_file.specs.Fields.{◌>>=◌, has_only, text_at}
-use Rattle.tree_file.specs.Items.{NodeItem, ClientItem}
-use Rattle.tree_file.specs.Reading.{index_of, server_at, path_at, place_at, kind_at, rights_at, is_file, bytes_from, bytes_at, node_keys, node_of, client_keys, client_of, endpoint_from, endpoint_at, is_new_endpoint, read_all}
+use Rattle.tree_file.specs.Items.{NodeItem, MountItem, ClientItem}
+use Rattle.tree_file.specs.Reading.{index_of, server_at, path_at, place_at, kind_at, rights_at, is_file, bytes_from, bytes_at, node_keys, node_of, mount_keys, mount_of, client_keys, client_of, endpoint_from, endpoint_at, is_new_endpoint, is_new_name, server_of, read_all}
 use Rattle.tree_file.specs.Rules.{all_or_none}
-use Rattle.tree_file.specs.Texts.{only, is_path, is_dot, kind_of, hex_of}
-use Rattle.vfs_start.specs.Items.{IsPlain, IsNode, IsFirst}
+use Rattle.tree_file.specs.Texts.{only, is_name, is_path, kind_of, hex_of}
+use Rattle.tree_file.proofs.Found.{same_some, from_none, found_none, none_pass}
+use Rattle.tree_file.proofs.Passes.{server_few}
 
 -- ---- lists that are read
 
@@ -24,35 +30,29 @@ bind_some : {A B : Type 0} (o : Option A) (f : A → Option B) (y : B) → (o >>
 bind_some (Some x) f y h = (x, refl, h)
 bind_some None f y h = absurd (cc)
 
-read_by : {X Y : Type 0} (P : Y → Type 0) (read : List Y → X → Option Y) → ((earlier : List Y) (x : X) (y : Y) → read earlier x ≡ Some y → P y) → (earlier : List Y) (x : X) (xs : List X) → All P earlier →
-    ((more : List Y) → All P more → (ys : List Y) → read_all read more xs ≡ Ok ys → All P ys) → (o : Option Y) → read earlier x ≡ o → (ys : List Y) →
-    elim o as (λ p. Result (List Y) ℕ) [ None ↦ Err (length earlier) | Some y ↦ read_all read (earlier ++ y ∷ []) xs ] ≡ Ok ys → All P ys
-read_by P read each earlier x xs h rest None e ys is = absurd (cc)
-read_by P read each earlier x xs h rest (Some y) e ys is = rest (earlier ++ y ∷ []) (All-push P earlier y h (each earlier x y e)) ys is
+-- what each reading keeps of those read before, all that are read have
+kept_by : {X Y : Type 0} (K : List Y → Type 0) (read : List Y → X → Option Y) → ((earlier : List Y) (x : X) (y : Y) → K earlier → read earlier x ≡ Some y → K (earlier ++ y ∷ [])) → (earlier : List Y) (x : X) (xs : List X) → K earlier →
+    ((more : List Y) → K more → (ys : List Y) → read_all read more xs ≡ Ok ys → K ys) → (o : Option Y) → read earlier x ≡ o → (ys : List Y) →
+    elim o as (λ p. Result (List Y) ℕ) [ None ↦ Err (length earlier) | Some y ↦ read_all read (earlier ++ y ∷ []) xs ] ≡ Ok ys → K ys
+kept_by K read each earlier x xs h rest None e ys is = absurd (cc)
+kept_by K read each earlier x xs h rest (Some y) e ys is = rest (earlier ++ y ∷ []) (each earlier x y h e) ys is
 
-pub all_read : {X Y : Type 0} (P : Y → Type 0) (read : List Y → X → Option Y) → ((earlier : List Y) (x : X) (y : Y) → read earlier x ≡ Some y → P y) → (xs : List X) (earlier : List Y) → All P earlier → (ys : List Y) → read_all read earlier xs ≡ Ok ys → All P ys
+kept_read : {X Y : Type 0} (K : List Y → Type 0) (read : List Y → X → Option Y) → ((earlier : List Y) (x : X) (y : Y) → K earlier → read earlier x ≡ Some y → K (earlier ++ y ∷ [])) → (xs : List X) (earlier : List Y) → K earlier → (ys : List Y) → read_all read earlier xs ≡ Ok ys → K ys
 unfolding read_all
-all_read P read each [] earlier h ys is = let same : earlier ≡ ys = cc in subst (All P) same h
-all_read P read each (x ∷ xs) earlier h ys is = read_by P read each earlier x xs h (λ more g zs e. all_read P read each xs more g zs e) (read earlier x) refl ys is
+kept_read K read each [] earlier h ys is = let same : earlier ≡ ys = cc in subst K same h
+kept_read K read each (x ∷ xs) earlier h ys is = kept_by K read each earlier x xs h (λ more g zs e. kept_read K read each xs more g zs e) (read earlier x) refl ys is
 
-pub some_read : {Y : Type 0} (P : Y → Type 0) (r : Result (List Y) ℕ) → ((ys : List Y) → r ≡ Ok ys → All P ys) → All P (all_or_none r)
-some_read P (Ok ys) h = h ys refl
-some_read P (Err e) h = All-nil P
+pub all_kept : {X Y : Type 0} (K : List Y → Type 0) (read : List Y → X → Option Y) → ((earlier : List Y) (x : X) (y : Y) → K earlier → read earlier x ≡ Some y → K (earlier ++ y ∷ [])) → K [] → (xs : List X) → K (all_or_none (read_all read [] xs))
+all_kept {X} {Y} K read each none xs = by_result (read_all read [] xs) (λ ys e. kept_read K read each xs [] none ys e) where
+  by_result : (r : Result (List Y) ℕ) → ((ys : List Y) → r ≡ Ok ys → K ys) → K (all_or_none r)
+  by_result (Ok ys) h = h ys refl
+  by_result (Err e) h = none
 
-apart_by : {X Y : Type 0} (R : Y → Y → Type 0) (read : List Y → X → Option Y) → ((earlier : List Y) (x : X) (y : Y) → read earlier x ≡ Some y → All (λ e. R e y) earlier) → (earlier : List Y) (x : X) (xs : List X) → AllPairs R earlier →
-    ((more : List Y) → AllPairs R more → (ys : List Y) → read_all read more xs ≡ Ok ys → AllPairs R ys) → (o : Option Y) → read earlier x ≡ o → (ys : List Y) →
-    elim o as (λ p. Result (List Y) ℕ) [ None ↦ Err (length earlier) | Some y ↦ read_all read (earlier ++ y ∷ []) xs ] ≡ Ok ys → AllPairs R ys
-apart_by R read each earlier x xs h rest None e ys is = absurd (cc)
-apart_by R read each earlier x xs h rest (Some y) e ys is = rest (earlier ++ y ∷ []) (all_pairs_push R earlier y h (λ k d l. each earlier x y e k d l)) ys is
+pub all_read : {X Y : Type 0} (P : Y → Type 0) (read : List Y → X → Option Y) → ((earlier : List Y) (x : X) (y : Y) → read earlier x ≡ Some y → P y) → (xs : List X) → All P (all_or_none (read_all read [] xs))
+all_read P read each xs = all_kept (All P) read (λ earlier x y h e. All-push P earlier y h (each earlier x y e)) (All-nil P) xs
 
-pub apart_read : {X Y : Type 0} (R : Y → Y → Type 0) (read : List Y → X → Option Y) → ((earlier : List Y) (x : X) (y : Y) → read earlier x ≡ Some y → All (λ e. R e y) earlier) → (xs : List X) (earlier : List Y) → AllPairs R earlier → (ys : List Y) → read_all read earlier xs ≡ Ok ys → AllPairs R ys
-unfolding read_all
-apart_read R read each [] earlier h ys is = let same : earlier ≡ ys = cc in subst (AllPairs R) same h
-apart_read R read each (x ∷ xs) earlier h ys is = apart_by R read each earlier x xs h (λ more g zs e. apart_read R read each xs more g zs e) (read earlier x) refl ys is
-
-pub some_apart : {Y : Type 0} (R : Y → Y → Type 0) (r : Result (List Y) ℕ) → ((ys : List Y) → r ≡ Ok ys → AllPairs R ys) → AllPairs R (all_or_none r)
-some_apart R (Ok ys) h = h ys refl
-some_apart R (Err e) h = λ i j d l m. absurd (omega arith)
+pub apart_read : {X Y : Type 0} (R : Y → Y → Type 0) (read : List Y → X → Option Y) → ((earlier : List Y) (x : X) (y : Y) → read earlier x ≡ Some y → All (λ e. R e y) earlier) → (xs : List X) → AllPairs R (all_or_none (read_all read [] xs))
+apart_read R read each xs = all_kept (AllPairs R) read (λ earlier x y h e. all_pairs_push R earlier y h (λ k d l. each earlier x y e k d l)) (λ i j d l m. absurd (omega arith)) xs
 
 -- ---- the parts of an item
 
@@ -75,10 +75,6 @@ unfolding server_at index_of
 server_in names key value server h =
     let at = bind_some (text_at key value) (index_of names) server h in
     (position-Some (λ known. bytes_eq known at.0) names server [] at.2).0
-
-from_none : {X : Type 0} (o : Option X) → is_none o ≡ true → o ≡ None
-from_none None h = refl
-from_none (Some x) h = absurd (cc)
 
 path_in : (key : List ℕ) (value : Data) (path : List ℕ) → path_at key value ≡ Some path → path_fault path ≡ None
 unfolding path_at
@@ -121,17 +117,10 @@ bytes_in : (kind : NodeKind) (value : Data) (bytes : List ℕ) → bytes_at kind
 unfolding bytes_at
 bytes_in kind value bytes h = bytes_by kind (get (codes "text") value) (get (codes "hex") value) bytes h
 
-client_number : (n : ℕ) → (nat_le 1 n && nat_le n 1073741823) ≡ true → is_client n ≡ true
-client_number n h =
-    let parts = and_parts (nat_le 1 n) (nat_le n 1073741823) h in
-    let low : 1 ≤ n = leb-true 1 n parts.0 in
-    let high : n ≤ 1073741823 = leb-true n 1073741823 parts.1 in
-    and_from (nat_lt 0 n) (nat_lt n 0x40000000) (lt-ltb 0 n (omega arith)) (lt-ltb n 0x40000000 (omega arith))
-
 number_read : (z : ℤ) (n : ℕ) → endpoint_from z ≡ Some n → is_client n ≡ true
-number_read (pos number) n h = by_test (nat_le 1 number && nat_le number 1073741823) refl h where
-  by_test : (b : Bool) → (nat_le 1 number && nat_le number 1073741823) ≡ b → (if b then Some number else None) ≡ Some n → is_client n ≡ true
-  by_test true is e = let same : number ≡ n = cc in ap is_client (sym same) ∙ client_number number is
+number_read (pos number) n h = by_test (is_client number) refl h where
+  by_test : (b : Bool) → is_client number ≡ b → (if b then Some number else None) ≡ Some n → is_client n ≡ true
+  by_test true is e = let same : number ≡ n = cc in ap is_client (sym same) ∙ is
   by_test false is e = absurd (cc)
 number_read (negsuc below) n h = absurd (cc)
 
@@ -139,10 +128,35 @@ endpoint_in : (value : Data) (n : ℕ) → endpoint_at value ≡ Some n → is_c
 unfolding endpoint_at
 endpoint_in value n h = let at = bind_some (get (codes "endpoint") value >>= as_integer) endpoint_from n h in number_read at.0 n at.2
 
--- ---- nodes
+-- ---- servers
 
-pub same_some : {A : Type 0} {x y : A} → Some x ≡ Some y → x ≡ y
-same_some e = cc
+name_by : (b : Bool) (earlier : List (List ℕ)) (found : Option (List ℕ)) (name : List ℕ) → (if b then only (is_new_name earlier) found else None) ≡ Some name → is_new_name earlier name ≡ true
+name_by true earlier found name h = only_passes (is_new_name earlier) found name h
+name_by false earlier found name h = absurd (cc)
+
+new_by : (earlier : List (List ℕ)) (name : List ℕ) → is_new_name earlier name ≡ true → IsName name × All (λ known. known ≢ name) earlier
+unfolding index_of
+new_by earlier name h =
+    let a = and_parts (nat_lt (length earlier) limit.MAX_SERVERS) (is_name name && is_none (index_of earlier name)) h in
+    let b = and_parts (is_name name) (is_none (index_of earlier name)) a.1 in
+    let none = none_pass (λ known. bytes_eq known name) earlier (found_none (λ known. bytes_eq known name) earlier (from_none (index_of earlier name) b.1)) in (
+      from_none (name_fault name) b.0,
+      All-weaker (λ (known : List ℕ). bytes_eq known name ≡ false) (λ known. known ≢ name)
+          (λ known other same. let is : bytes_eq known name ≡ true = (bytes_eq-Decides known name).1 same in absurd (cc)) earlier none,
+    )
+
+name_read : (earlier : List (List ℕ)) (value : Data) (name : List ℕ) → server_of earlier value ≡ Some name → IsName name × All (λ known. known ≢ name) earlier
+unfolding server_of
+name_read earlier value name h = new_by earlier name (name_by (has_only (codes "name" ∷ []) value) earlier (text_at (codes "name") value) name h)
+
+pub servers_read : (values : List Data) → AreServers (all_or_none (read_all server_of [] values))
+servers_read values = record {
+  few = all_kept (λ (names : List (List ℕ)). length names ≤ limit.MAX_SERVERS) server_of (λ earlier value name h e. server_few earlier value name e) (omega arith) values;
+  valid = all_read IsName server_of (λ earlier value name e. (name_read earlier value name e).0) values;
+  apart = apart_read (λ one other. one ≢ other) server_of (λ earlier value name e. (name_read earlier value name e).1) values;
+}
+
+-- ---- nodes
 
 node_by : (b : Bool) (names : List (List ℕ)) (value : Data) (node : NodeItem) →
     (if b then
@@ -160,10 +174,10 @@ node_by true names value node h =
     let c = bind_some (kind_at value) _ node b.2 in
     let d = bind_some (rights_at value) _ node c.2 in
     let e = bind_some (bytes_at c.0 value) _ node d.2 in
+    let place = place_in (codes "path") value b.0 b.1 in
     subst (IsNode (length names)) (same_some e.2) (record {
-      server = server_in names (codes "server") value a.0 a.1;
-      path = (place_in (codes "path") value b.0 b.1).0;
-      below = (place_in (codes "path") value b.0 b.1).1;
+      at = record { server = server_in names (codes "server") value a.0 a.1; path = place.0 };
+      below = place.1;
       plain = kind_in value c.0 c.1;
       bytes = bytes_in c.0 value e.0 e.1;
     })
@@ -171,6 +185,35 @@ node_by true names value node h =
 pub node_read : (names : List (List ℕ)) (value : Data) (node : NodeItem) → node_of names value ≡ Some node → IsNode (length names) node
 unfolding node_of
 node_read names value node h = node_by (has_only node_keys value) names value node h
+
+-- ---- mounts
+
+mount_by : (b : Bool) (names : List (List ℕ)) (value : Data) (mount : MountItem) →
+    (if b then
+    server_at names (codes "server") value >>= (λ server.
+    place_at (codes "path") value >>= (λ path.
+    server_at names (codes "target") value >>= (λ target.
+    path_at (codes "at") value >>= (λ at.
+    rights_at value >>= (λ rights.
+    Some (record { server = server; path = path; target = target; at = at; rights = rights }))))))
+    else None) ≡ Some mount → IsMount (length names) mount
+mount_by false names value mount h = absurd (cc)
+mount_by true names value mount h =
+    let a = bind_some (server_at names (codes "server") value) _ mount h in
+    let b = bind_some (place_at (codes "path") value) _ mount a.2 in
+    let c = bind_some (server_at names (codes "target") value) _ mount b.2 in
+    let d = bind_some (path_at (codes "at") value) _ mount c.2 in
+    let e = bind_some (rights_at value) _ mount d.2 in
+    let place = place_in (codes "path") value b.0 b.1 in
+    subst (IsMount (length names)) (same_some e.2) (record {
+      at = record { server = server_in names (codes "server") value a.0 a.1; path = place.0 };
+      below = place.1;
+      target = record { server = server_in names (codes "target") value c.0 c.1; path = path_in (codes "at") value d.0 d.1 };
+    })
+
+pub mount_read : (names : List (List ℕ)) (value : Data) (mount : MountItem) → mount_of names value ≡ Some mount → IsMount (length names) mount
+unfolding mount_of
+mount_read names value mount h = mount_by (has_only mount_keys value) names value mount h
 
 -- ---- clients
 
@@ -181,22 +224,22 @@ client_by : (b : Bool) (names : List (List ℕ)) (earlier : List ClientItem) (va
     path_at (codes "path") value >>= (λ path.
     rights_at value >>= (λ rights.
     Some (record { endpoint = endpoint; server = server; path = path; rights = rights })))))
-    else None) ≡ Some client → IsFirst (length names) client × (is_new_endpoint earlier client.endpoint ≡ true)
+    else None) ≡ Some client → IsClient (length names) client × (is_new_endpoint earlier client.endpoint ≡ true)
 client_by false names earlier value client h = absurd (cc)
 client_by true names earlier value client h =
     let a = bind_some (only (is_new_endpoint earlier) (endpoint_at value)) _ client h in
     let b = bind_some (server_at names (codes "server") value) _ client a.2 in
     let c = bind_some (path_at (codes "path") value) _ client b.2 in
     let d = bind_some (rights_at value) _ client c.2 in
-    subst (λ (one : ClientItem). IsFirst (length names) one × (is_new_endpoint earlier one.endpoint ≡ true)) (same_some d.2) (
+    subst (λ (one : ClientItem). IsClient (length names) one × (is_new_endpoint earlier one.endpoint ≡ true)) (same_some d.2) (
       record {
-        server = server_in names (codes "server") value b.0 b.1;
+        at = record { server = server_in names (codes "server") value b.0 b.1; path = path_in (codes "path") value c.0 c.1 };
         endpoint = endpoint_in value a.0 (only_is (is_new_endpoint earlier) (endpoint_at value) a.0 a.1);
       },
       only_passes (is_new_endpoint earlier) (endpoint_at value) a.0 a.1,
     )
 
-pub client_read : (names : List (List ℕ)) (earlier : List ClientItem) (value : Data) (client : ClientItem) → client_of names earlier value ≡ Some client → IsFirst (length names) client × (is_new_endpoint earlier client.endpoint ≡ true)
+pub client_read : (names : List (List ℕ)) (earlier : List ClientItem) (value : Data) (client : ClientItem) → client_of names earlier value ≡ Some client → IsClient (length names) client × (is_new_endpoint earlier client.endpoint ≡ true)
 unfolding client_of
 client_read names earlier value client h = client_by (has_only client_keys value) names earlier value client h
 

@@ -1,7 +1,7 @@
 use Rattle.std.proofs.Common.{arith}
-use Rattle.tree_file.specs.Texts.{parent_of}
-use Rattle.vfs_start.proofs.Slashes.{no_slash, last_slash}
-use Rattle.vfs_start.proofs.paths.parent_of.Goals as goal
+use Rattle.path_walk.specs.Parts.{parent_of}
+use Rattle.path_walk.proofs.PartLemmas.{no_slash, last_slash}
+use Rattle.path_walk.proofs.parts.parent_of.Goals as goal
 
 pub returns-in-Some : goal.returns-in-Some
 unfolding parent_of
