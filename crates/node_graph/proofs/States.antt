@@ -2,8 +2,10 @@
 use Rattle.std.proofs.Common.{◌≡◌, ◌≢◌, ℕ, zero, suc, ◌+◌, ◌-◌, ◌<◌, ◌≤◌, List, [], ◌∷◌, ◌++◌, length, Option, Some, None, refl, ap, sym, ◌∙◌, subst, arith, cond, Bool, true, false, eqb-true, ◌^◌, length-append, length-drop, nat_le, take, drop}
 use Rattle.std.specs.FinMap as finite
 use Rattle.std.proofs.lemmas.List.{length-take}
-use Rattle.node_graph.specs.declared.TheConstants as limit
+use Rattle.fidl_names.specs.declared.limits.TheConstants as limit
+use Rattle.node_graph.specs.declared.faults.GraphFault.{GraphFault}
 use Rattle.node_graph.specs.declared.faults.GraphFault.TheVariants as fault
+use Rattle.fidl_names.specs.First.{cause_if, first_of}
 use Rattle.node_graph.specs.declared.nodes.NodeKind.{NodeKind}
 use Rattle.std.specs.Prelude.{insert, is_some, slice_get, slice_set, slice_index_or, ◌==◌}
 use Rattle.std.specs.Option.{option_map, option_map_or}
@@ -11,7 +13,7 @@ use Rattle.std.proofs.lemmas.Bool.Decides.{nat_tests}
 use Rattle.node_graph.specs.declared.nodes.NodeRef.{NodeRef}
 use Rattle.node_graph.specs.declared.edges.Edge.{Edge}
 use Rattle.node_graph.specs.Cell.{Cell}
-use Rattle.node_graph.specs.Tree.{NodeRow, Tree, Edges, EdgeKey, EdgeTo, row_of, make, fill, stay, filled, is_removed}
+use Rattle.node_graph.specs.Tree.{NodeRow, Tree, Edges, EdgeKey, EdgeTo, row_of, make, new_row, fill, stay, filled, is_removed}
 use Rattle.node_graph.specs.Graph.{Seat, Kept, seat_of, Names, kind_at, bytes_at, StandsFor, Leads, SameHolds, HoldsNow, KeepsNames, create_refusal}
 use Rattle.node_graph.specs.declared.nodes.NodeKind.TheVariants.{Directory}
 use Rattle.node_graph.specs.Rows.{seat_from, kept_of, AreRows, edge_map, key_of, end_of, front_count, comes_before}
@@ -197,7 +199,7 @@ module _ {old new : Kept} {number : ℕ} {is : Seat} {key : EdgeKey} {to : EdgeT
         | other e b ↦ ap (λ s. option_map_or (λ (s : Seat). s.holds) s 0) (r.others n e)
       ]
 
-  pub leads_made : Adds old new number is key to → (what : NodeKind) → is.kind ≡ what → Leads old new (make key what to.mask)
+  pub leads_made : Adds old new number is key to → (what : NodeKind) → is.kind ≡ what → Leads old new (make key (new_row what) to.mask)
   leads_made r what kind tree stands =
       let count : number ≡ length tree.nodes + 1 = r.next ∙ ap (λ n. n + 1) stands.made in
       let row : NodeRow = record { kind = what; bytes = [] } in
@@ -236,12 +238,15 @@ pub record IsFree (edges : Edges) (key : EdgeKey) : Type 0 where
   pub absent : finite.get edges key ≡ None
   pub few : finite.len edges < limit.MAX_NAMES
 
+abbrev pub three_causes : Bool → Bool → Bool → Option GraphFault
+three_causes cut there full = first_of (cause_if cut fault.Removed ∷ cause_if there fault.Exists ∷ cause_if full fault.NoSpace ∷ [])
+
 pub refusal_of : (edges : Edges) (key : EdgeKey) (cut there full : Bool) → is_removed edges key.directory ≡ cut → is_some (finite.get edges key) ≡ there → nat_le limit.MAX_NAMES (finite.len edges) ≡ full
-    → create_refusal edges key ≡ cond cut (Some fault.Removed) (cond there (Some fault.Exists) (cond full (Some fault.NoSpace) None))
+    → create_refusal edges key ≡ three_causes cut there full
 refusal_of edges key cut there full is_cut is_there is_full =
-    ap (λ b. cond b (Some fault.Removed) (cond (is_some (finite.get edges key)) (Some fault.Exists) (cond (nat_le limit.MAX_NAMES (finite.len edges)) (Some fault.NoSpace) None))) is_cut
-    ∙ ap (λ b. cond cut (Some fault.Removed) (cond b (Some fault.Exists) (cond (nat_le limit.MAX_NAMES (finite.len edges)) (Some fault.NoSpace) None))) is_there
-    ∙ ap (λ b. cond cut (Some fault.Removed) (cond there (Some fault.Exists) (cond b (Some fault.NoSpace) None))) is_full
+    ap (λ b. three_causes b (is_some (finite.get edges key)) (nat_le limit.MAX_NAMES (finite.len edges))) is_cut
+    ∙ ap (λ b. three_causes cut b (nat_le limit.MAX_NAMES (finite.len edges))) is_there
+    ∙ ap (λ b. three_causes cut there b) is_full
 
 no_value : {X : Type 0} (o : Option X) → is_some o ≡ false → o ≡ None
 no_value None e = refl

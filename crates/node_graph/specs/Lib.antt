@@ -1,5 +1,6 @@
 pub mod Tree
 pub mod Graph
+pub mod Refusals
 pub mod Cell
 pub mod Codes
 pub mod Listing

@@ -4,10 +4,10 @@ ghost use Rattle.node_graph.specs.declared.faults.GraphFault.TheVariants as faul
 ghost use Rattle.node_graph.specs.Tree.{stay, fill};
 ghost use Rattle.node_graph.specs.Graph.{number_of, Names, kind_at, bytes_at, holds_at, Leads, SameHolds, HoldsNow, KeepsNames, Answers, write_refusal, write_change, resize_refusal, resized};
 
-use crate::MAX_FILE;
 use crate::faults::GraphFault;
 use crate::graph::Graph;
 use crate::nodes::NodeRef;
+use fidl_names::MAX_FILE;
 
 impl Graph {
     /// One more hold on the node, so that it is kept though no name leads to it.

@@ -19,12 +19,5 @@ pub use listing::{NameView, Names};
 pub use names::NameBuf;
 pub use nodes::{Entry, NodeKind, NodeRef};
 
-/// The most names in the tree of one server.
-pub const MAX_NAMES: usize = 4096;
-/// The most bytes of a file.
-pub const MAX_FILE: usize = 65536;
-/// The most bytes of a name.
-pub const MAX_NAME: usize = 255;
-
 #[cfg(test)]
 mod tests;

@@ -6,11 +6,11 @@ ghost use Rattle.node_graph.specs.Graph.{number_of, Names as NamesNode, kind_at,
 ghost use Rattle.node_graph.specs.Rows.{InOrder, front_count, stands_off, is_listed, listed_of};
 ghost use Rattle.node_graph.specs.Listing.{listed};
 
-use crate::MAX_NAMES;
 use crate::edges::{Edge, place_of, place_past};
 use crate::graph::Graph;
 use crate::nodes::{NodeKind, NodeRef};
 use crate::rows::Node;
+use fidl_names::MAX_NAMES;
 use std::marker::Model;
 
 /// A name of a directory, with the number and the kind of the node that it leads to.

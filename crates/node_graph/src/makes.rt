@@ -1,6 +1,6 @@
 ghost use Rattle.std.specs.Prelude.{◌≡◌, ◌^◌, ◌<◌, ◌≤◌, ◌+◌, [], ◌∷◌, ◌++◌, insert, length, OnOk, OnErr, IfOk, Some};
 ghost use Rattle.node_graph.specs.declared.nodes.NodeKind.TheVariants.{Directory};
-ghost use Rattle.node_graph.specs.Tree.{make};
+ghost use Rattle.node_graph.specs.Tree.{make, new_row};
 ghost use Rattle.node_graph.specs.Rows.{InOrder, edge_map, key_of, front_count, comes_before};
 ghost use Rattle.node_graph.specs.Graph.{number_of, Names, kind_at, Leads, SameHolds, KeepsNames, Answers, create_refusal};
 
@@ -10,8 +10,7 @@ use crate::graph::Graph;
 use crate::names::NameBuf;
 use crate::nodes::{NodeKind, NodeRef};
 use crate::rows::Node;
-use crate::{MAX_NAME, MAX_NAMES};
-use fidl_names::NoMemory;
+use fidl_names::{MAX_NAME, MAX_NAMES, NoMemory};
 use io_rights::Rights;
 
 impl Graph {
@@ -33,7 +32,7 @@ impl Graph {
         requires room { self.old.made < 2 ^ 63 }
         ensures answer { Answers result (create_refusal self.old.edges (record { directory = number_of dir; name = name.now })) }
         ensures unchanged { OnErr result (self.new ≡ self.old) }
-        ensures created { OnOk result (Leads self.old self.new (make (record { directory = number_of dir; name = name.now }) kind mask)) }
+        ensures created { OnOk result (Leads self.old self.new (make (record { directory = number_of dir; name = name.now }) (new_row kind) mask)) }
         ensures number { IfOk result (λ node. number_of node ≡ self.old.made + 1) }
         ensures kept { IfOk result (λ node. Names self.new node) }
         ensures kind { OnOk result (kind_at self.new (self.old.made + 1) ≡ Some kind) }

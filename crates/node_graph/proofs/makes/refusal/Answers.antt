@@ -3,7 +3,7 @@ use Rattle.std.specs.Prelude.{is_some}
 use Rattle.std.specs.Option.{option_map}
 use Rattle.std.specs.FinMap as finite
 use Rattle.std.proofs.lemmas.Bool.Decides.{nat_tests}
-use Rattle.node_graph.specs.declared.TheConstants as limit
+use Rattle.fidl_names.specs.declared.limits.TheConstants as limit
 use Rattle.node_graph.specs.Rows.{edge_map}
 use Rattle.node_graph.proofs.Ordered.{len-edge_map}
 use Rattle.node_graph.proofs.States.{refusal_of}

@@ -2,7 +2,7 @@ use Rattle.std.proofs.Common.{◌≡◌, ◌+◌, ◌-◌, ◌<◌, ◌^◌, Lis
 use Rattle.std.specs.Prelude.{insert}
 use Rattle.node_graph.specs.declared.edges.Edge.{Edge}
 use Rattle.node_graph.specs.Cell.{Cell}
-use Rattle.node_graph.specs.Tree.{make}
+use Rattle.node_graph.specs.Tree.{make, new_row}
 use Rattle.node_graph.specs.Graph.{Kept, Leads, create_refusal}
 use Rattle.node_graph.specs.Rows.{AreRows, kept_of, edge_map, key_of, front_count, comes_before}
 use Rattle.node_graph.proofs.States.{IsFree, unrefused, added_here, rows_added, leads_made, names_stay, holds_stay, new_named, new_kind}
@@ -33,7 +33,7 @@ returns-clause-created c =
     let count : c.len.result ≡ length c.self.inside.nodes.items = omega (arith, c.len.ensures, c.self.inside.nodes.ok.0) in
     let child : edge.child ≡ length c.self.inside.nodes.items + 1 = ap (λ n. n + 1) count in
     let step = added_here c.self.inside.nodes.items c.grow.new.nodes.items c.self.inside.edges.items c.grow.new.edges.items c.args.self.now c.args.kind edge c.self.view_is c.self.invariant free c.in_ok-grow.ensures.nodes c.in_ok-grow.ensures.edges child in
-    let R : List ℕ → Type 0 = λ name. Leads c.args.self.now (kept_of c.grow.new.nodes.items c.grow.new.edges.items) (make (record { directory = c.args.dir.number; name = name }) c.args.kind c.args.mask) in
+    let R : List ℕ → Type 0 = λ name. Leads c.args.self.now (kept_of c.grow.new.nodes.items c.grow.new.edges.items) (make (record { directory = c.args.dir.number; name = name }) (new_row c.args.kind) c.args.mask) in
     subst R c.new.ensures (leads_made step c.args.kind refl)
 
 pub returns-clause-kept : goal.returns-clause-kept
