@@ -5,7 +5,7 @@ use Rattle.fidl_names.specs.declared.statuses.Status.{Status}
 use Rattle.fidl_names.specs.declared.statuses.Status.TheVariants as status
 use Rattle.io_messages.specs.Asked.{Asked}
 use Rattle.io_messages.specs.Replies.{Answered, done, counted, payload}
-use Rattle.node_graph.specs.declared.TheConstants as limit
+use Rattle.fidl_names.specs.declared.limits.TheConstants as limit
 use Rattle.node_graph.specs.Graph.{resized, write_change}
 use Rattle.node_graph.specs.Tree.{Tree, fill}
 use Rattle.conn_rules.specs.Births.{Birth, Position}

@@ -9,7 +9,7 @@ use Rattle.fidl_names.specs.declared.statuses.Status.{Status}
 use Rattle.fidl_names.specs.declared.statuses.Status.TheVariants as status
 use Rattle.io_messages.specs.Asked.{Asked}
 use Rattle.io_messages.specs.Replies.{done, settled, token}
-use Rattle.node_graph.specs.declared.TheConstants as limit
+use Rattle.fidl_names.specs.declared.limits.TheConstants as limit
 use Rattle.node_graph.specs.Tree.{Tree, Edges, EdgeKey, EdgeTo, add, cut, move, is_removed}
 use Rattle.path_walk.specs.Names.{name_fault}
 use Rattle.conn_rules.specs.declared.births.Room.{Room}

@@ -5,4 +5,6 @@ pub mod Cell
 pub mod Codes
 pub mod Listing
 pub mod Rows
+pub mod Keys
+pub mod Ends
 pub use Rattle.io_rights.specs.Operations

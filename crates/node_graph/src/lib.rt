@@ -5,6 +5,7 @@ mod changes;
 mod edges;
 mod faults;
 mod graph;
+mod keys;
 mod laws;
 mod listing;
 mod makes;
