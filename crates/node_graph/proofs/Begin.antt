@@ -53,10 +53,10 @@ module _ (bare nodes : Slab Cell) (place : ℕ) (none : (p : ℕ) → get bare p
     made = refl;
     edges = edges_of-empty;
     rows = λ n seat there.
-      let one = seat_came nodes n seat there in
-      let cell = (only one.place one.cell one.at).1 in
-      let number : 1 ≡ n = ap (λ (c : Cell). c.number) (sym cell) ∙ one.number in
-      ap (row_of bare_tree.nodes) (sym number) ∙ ap (λ (s : Seat). Some (record { kind = s.kind; bytes = s.bytes })) (ap (seat_from one.place) (sym cell) ∙ sym one.seat_is);
+        let one = seat_came nodes n seat there in
+        let cell = (only one.place one.cell one.at).1 in
+        let number : 1 ≡ n = ap (λ (c : Cell). c.number) (sym cell) ∙ one.number in
+        ap (row_of bare_tree.nodes) (sym number) ∙ ap (λ (s : Seat). Some (record { kind = s.kind; bytes = s.bytes })) (ap (seat_from one.place) (sym cell) ∙ sym one.seat_is);
   }
 
   pub bare_holds : (n : ℕ) → holds_at (kept_of nodes finite.empty 1) n ≡ 0

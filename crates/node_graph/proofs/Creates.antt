@@ -81,7 +81,7 @@ module _ (nodes reserved new : Slab Cell) (ends ends_new : Ends) (made : ℕ) (g
     absent = absent;
     up_number = ap (λ (c : Cell). c.parent.number) is_it;
     up = let P : NodeRef → Type 0 = λ n. Sits nodes n.place n.number (λ c. (c.kind ≡ Directory) × (is_reached c ≡ true)) in
-    subst P (ap (λ (c : Cell). c.parent) (sym is_it)) (reached_here nodes ends made graph dir view rows names directory (not_removed graph.edges key free));
+        subst P (ap (λ (c : Cell). c.parent) (sym is_it)) (reached_here nodes ends made graph dir view rows names directory (not_removed graph.edges key free));
     few = let few = (unrefused graph.edges key free).few in let len = sym (len-edges_of ends) ∙ ap (λ (g : Kept). finite.len g.edges) view in omega (arith, few, len);
     room = let same = ap (λ (g : Kept). g.made) view in omega (arith, room, same);
   }

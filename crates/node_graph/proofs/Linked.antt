@@ -186,12 +186,12 @@ found_value number (e ∷ es) sorted any =
     later_found : (k : EdgeKey) (to : EdgeTo) → entry.find edge_cmp k es ≡ Some to → entry.find edge_cmp k (e ∷ es) ≡ Some to
     later_found k to found = elim (same_or_other k e.0) [
       | same eq b ↦ absurd (
-        let lower : edge_cmp e.0 k ≡ Less = below_found e.0 k es to (both_true _ _ sorted).0 found in
-        let tied : eq_by_cmp edge_cmp e.0 k ≡ false = ap is_eq lower in
-        let same_one : eq_by_cmp edge_cmp k k ≡ false = ap (λ (x : EdgeKey). eq_by_cmp edge_cmp x k) eq ∙ tied in
-        let alike_one : eq_by_cmp edge_cmp k k ≡ true = ap (eq_by_cmp edge_cmp k) eq ∙ b in
-        cc
-      )
+          let lower : edge_cmp e.0 k ≡ Less = below_found e.0 k es to (both_true _ _ sorted).0 found in
+          let tied : eq_by_cmp edge_cmp e.0 k ≡ false = ap is_eq lower in
+          let same_one : eq_by_cmp edge_cmp k k ≡ false = ap (λ (x : EdgeKey). eq_by_cmp edge_cmp x k) eq ∙ tied in
+          let alike_one : eq_by_cmp edge_cmp k k ≡ true = ap (eq_by_cmp edge_cmp k) eq ∙ b in
+          cc
+          )
       | other apart b ↦ ap (λ c. cond c (Some e.1) (entry.find edge_cmp k es)) b ∙ found
     ]
 

@@ -122,11 +122,11 @@ each P (e ∷ es) sorted holds =
     later : (k : EdgeKey) (t : Target) → entry.find edge_cmp k es ≡ Some t → entry.find edge_cmp k (e ∷ es) ≡ Some t
     later k t found = elim (same_or_other k e.0) [
       | same eq b ↦ absurd (
-        let lower : edge_cmp e.0 k ≡ Less = below_found e.0 k es t (both_true _ _ sorted).0 found in
-        let apart : is_eq (edge_cmp k k) ≡ false = ap (λ (x : EdgeKey). is_eq (edge_cmp x k)) eq ∙ ap is_eq lower in
-        let tied : is_eq (edge_cmp k k) ≡ true = ap (λ (x : EdgeKey). is_eq (edge_cmp k x)) eq ∙ b in
-        cc
-      )
+          let lower : edge_cmp e.0 k ≡ Less = below_found e.0 k es t (both_true _ _ sorted).0 found in
+          let apart : is_eq (edge_cmp k k) ≡ false = ap (λ (x : EdgeKey). is_eq (edge_cmp x k)) eq ∙ ap is_eq lower in
+          let tied : is_eq (edge_cmp k k) ≡ true = ap (λ (x : EdgeKey). is_eq (edge_cmp k x)) eq ∙ b in
+          cc
+          )
       | other apart b ↦ ap (λ c. cond c (Some e.1) (entry.find edge_cmp k es)) b ∙ found
     ]
 
@@ -154,8 +154,8 @@ listed_mapped : (directory : ℕ) (place : Option (List ℕ)) (es : List (EdgeKe
 listed_mapped directory place [] = refl
 listed_mapped directory place (e ∷ es) =
     elim ((e.0.directory == directory) && comes_after place e.0.name) as (λ b.
-      map {B = List ℕ × ℕ} (λ (l : Listed). (l.name, l.number)) (map listed_of (cond b (e ∷ filter (λ (e : EdgeKey × Target). (e.0.directory == directory) && comes_after place e.0.name) es) (filter (λ (e : EdgeKey × Target). (e.0.directory == directory) && comes_after place e.0.name) es)))
-      ≡ map {B = List ℕ × ℕ} (λ (e : EdgeKey × EdgeTo). (e.0.name, e.1.child)) (cond b (edge_of e ∷ filter (λ (e : EdgeKey × EdgeTo). (e.0.directory == directory) && comes_after place e.0.name) (map edge_of es)) (filter (λ (e : EdgeKey × EdgeTo). (e.0.directory == directory) && comes_after place e.0.name) (map edge_of es)))) [
+    map {B = List ℕ × ℕ} (λ (l : Listed). (l.name, l.number)) (map listed_of (cond b (e ∷ filter (λ (e : EdgeKey × Target). (e.0.directory == directory) && comes_after place e.0.name) es) (filter (λ (e : EdgeKey × Target). (e.0.directory == directory) && comes_after place e.0.name) es)))
+    ≡ map {B = List ℕ × ℕ} (λ (e : EdgeKey × EdgeTo). (e.0.name, e.1.child)) (cond b (edge_of e ∷ filter (λ (e : EdgeKey × EdgeTo). (e.0.directory == directory) && comes_after place e.0.name) (map edge_of es)) (filter (λ (e : EdgeKey × EdgeTo). (e.0.directory == directory) && comes_after place e.0.name) (map edge_of es)))) [
       | true ↦ ap (λ rest. (e.0.name, e.1.node.number) ∷ rest) (listed_mapped directory place es)
       | false ↦ listed_mapped directory place es
     ]

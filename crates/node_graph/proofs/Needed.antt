@@ -149,6 +149,6 @@ module _ (nodes : Slab Cell) (ends : Ends) (made : ℕ) (rows : AreRows nodes en
 
   pub count_kept : slab_len nodes ≡ count_by (is_kept graph) (numbers_to made)
   count_kept = sym (
-    count_same (is_kept graph) (has_seat 0 nodes.slots) made (λ n. kept_seat n ∙ ap is_some (get-seat_map nodes.slots n))
-    ∙ count_slots 0 nodes.slots made rows.apart rows.numbers
-  )
+      count_same (is_kept graph) (has_seat 0 nodes.slots) made (λ n. kept_seat n ∙ ap is_some (get-seat_map nodes.slots n))
+      ∙ count_slots 0 nodes.slots made rows.apart rows.numbers
+      )

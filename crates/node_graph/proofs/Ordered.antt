@@ -172,10 +172,10 @@ pub named_put : (old new : BTreeMap EdgeKey Target) (key : EdgeKey) (to : Target
 named_put old new key to named some few u sorted = record {
   in_order = in_order new.entries sorted;
   named = λ from x there.
-    elim (comes (map_of old.entries) key to from x (ap (λ (m : Ends). finite.get m from) (sym (map_put old new key to u)) ∙ there)) [
-      | fresh e is ↦ let P : EdgeKey → Type 0 = λ k. (1 ≤ length k.name) × (length k.name ≤ limit.MAX_NAME) in subst P (sym e) (some, few)
-      | known apart was ↦ named.named from x was
-    ];
+      elim (comes (map_of old.entries) key to from x (ap (λ (m : Ends). finite.get m from) (sym (map_put old new key to u)) ∙ there)) [
+        | fresh e is ↦ let P : EdgeKey → Type 0 = λ k. (1 ≤ length k.name) × (length k.name ≤ limit.MAX_NAME) in subst P (sym e) (some, few)
+        | known apart was ↦ named.named from x was
+      ];
 }
 
 pub named_cut : (old new : BTreeMap EdgeKey Target) (key : EdgeKey) → IsNamed old.entries → UpdatesBy edge_cmp (edge_cmp key) old new None → IsStrictlySortedBy edge_cmp (keys_of new.entries) → IsNamed new.entries

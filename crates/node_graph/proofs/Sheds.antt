@@ -38,14 +38,14 @@ shed old new ends made place rows (drops cell at spare u count) =
       made = refl;
       came = λ n seat there. let one = seat_came new n seat there in seat_found old rows.apart n seat (record { place = one.place; cell = one.cell; at = (back one.place one.cell one.at).1; number = one.number; seat_is = one.seat_is });
       kept = λ n seat there.
-        let one = seat_came old n seat there in
-        elim (cases one.place place) [
-          | same e b ↦
-              let cell_is : cell ≡ one.cell = same_some _ _ (sym at ∙ ap (get old) (sym e) ∙ one.at) in
-              let number : cell.number ≡ n = ap (λ (c : Cell). c.number) cell_is ∙ one.number in
-              inr (not_kept n number, ap (λ (s : Seat). s.holds) one.seat_is ∙ ap (λ (c : Cell). c.holds) (sym cell_is) ∙ un.unheld, gone n number)
-          | other e b ↦ inl (seat_found new apart_new n seat (record { place = one.place; cell = one.cell; at = u.others one.place e ∙ one.at; number = one.number; seat_is = one.seat_is }))
-        ];
+          let one = seat_came old n seat there in
+          elim (cases one.place place) [
+            | same e b ↦
+                let cell_is : cell ≡ one.cell = same_some _ _ (sym at ∙ ap (get old) (sym e) ∙ one.at) in
+                let number : cell.number ≡ n = ap (λ (c : Cell). c.number) cell_is ∙ one.number in
+                inr (not_kept n number, ap (λ (s : Seat). s.holds) one.seat_is ∙ ap (λ (c : Cell). c.holds) (sym cell_is) ∙ un.unheld, gone n number)
+            | other e b ↦ inl (seat_found new apart_new n seat (record { place = one.place; cell = one.cell; at = u.others one.place e ∙ one.at; number = one.number; seat_is = one.seat_is }))
+          ];
     }
   where
     un : Unneeded cell
@@ -66,10 +66,10 @@ shed old new ends made place rows (drops cell at spare u count) =
         by_cases : (o : Option Seat) → seat_of (kept_of new ends made) n ≡ o → seat_of (kept_of new ends made) n ≡ None
         by_cases None e = e
         by_cases (Some seat) e = absurd (
-          let one = seat_came new n seat e in
-          let was = back one.place one.cell one.at in
-          was.0 (rows.apart one.place place one.cell cell was.1 at (one.number ∙ sym number))
-        )
+            let one = seat_came new n seat e in
+            let was = back one.place one.cell one.at in
+            was.0 (rows.apart one.place place one.cell cell was.1 at (one.number ∙ sym number))
+            )
 
     not_kept : (n : ℕ) → cell.number ≡ n → is_kept (kept_of new ends made) n ≡ false
     not_kept n number =

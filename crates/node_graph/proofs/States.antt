@@ -198,4 +198,3 @@ unrefused edges key none =
       where
         below_limit : (n most : ℕ) → nat_le most n ≡ false → n < most
         below_limit n most e = grind (arith, nat_tests)
-

@@ -155,21 +155,23 @@ forgotten old new ends made place rows (drops cell at spare u count) =
       links = λ p c there. rows.links p c (back p c there).1;
       needed = λ p c there _. rows.needed p c (back p c there).1 (back p c there).0;
       children = λ key to there.
-        let one = rows.children key to there in
-        sits_else to.node.place to.node.number _ one (λ e. absurd (
+          let one = rows.children key to there in
+          sits_else to.node.place to.node.number _ one (λ e. absurd (
           let cell_is : cell ≡ one.0 = same_some _ _ (sym at ∙ ap (get old) (sym e) ∙ one.1) in
           let number : cell.number ≡ to.node.number = ap (λ (c : Cell). c.number) cell_is ∙ one.2 in
           let counted = leads_count ends key to there in
           let links : 0 ≡ link_count (edges_of ends) to.node.number = sym un.unlinked ∙ rows.links place cell at ∙ ap (link_count (edges_of ends)) number in
           omega (arith, counted, links)
-        ));
+          ));
       parents = λ key to there. let one = rows.parents key to there in (one.0, sits_else one.0 key.directory _ one.1 (not_parent key to there));
       one_name = λ p c there single. rows.one_name p c (back p c there).1 single;
       ways_up = λ key to c there directory there_c.
-        let up = rows.ways_up key to c there directory (back to.node.place c there_c).1 in
-        let parent = rows.parents key to there in
-        (up.0, sits_else c.parent.place c.parent.number _ up.1 (λ e.
-          not_parent key to there (rows.apart parent.0 c.parent.place parent.1.0 up.1.0 parent.1.1 up.1.1 (parent.1.2 ∙ sym up.0 ∙ sym up.1.2) ∙ e)));
+          let up = rows.ways_up key to c there directory (back to.node.place c there_c).1 in
+          let parent = rows.parents key to there in (
+            up.0,
+            sits_else c.parent.place c.parent.number _ up.1 (λ e.
+                not_parent key to there (rows.apart parent.0 c.parent.place parent.1.0 up.1.0 parent.1.1 up.1.1 (parent.1.2 ∙ sym up.0 ∙ sym up.1.2) ∙ e)),
+          );
       few = rows.few;
       room = rows.room;
     }
@@ -208,13 +210,13 @@ nobody old ends made n rows past = by_cases (nat_lt 0 (link_count (edges_of ends
     by_cases : (b : Bool) → nat_lt 0 (link_count (edges_of ends) n) ≡ b → link_count (edges_of ends) n ≡ 0
     by_cases false e = no_more _ e
     by_cases true e = absurd (
-      let edge = linked_by (edges_of ends) n (linked_counted (edges_of ends) n ∙ e) in
-      let one = mapped end_of (finite.get ends edge.0) edge.1 (sym (get-edges_of ends edge.0) ∙ edge.2) in
-      let child = rows.children edge.0 one.0 one.1 in
-      let range = rows.numbers one.0.node.place child.0 child.1 in
-      let number : child.0.number ≡ n = child.2 ∙ ap (λ (to : EdgeTo). to.child) one.2 ∙ edge.3 in
-      omega (arith, range.1, number, past)
-    )
+        let edge = linked_by (edges_of ends) n (linked_counted (edges_of ends) n ∙ e) in
+        let one = mapped end_of (finite.get ends edge.0) edge.1 (sym (get-edges_of ends edge.0) ∙ edge.2) in
+        let child = rows.children edge.0 one.0 one.1 in
+        let range = rows.numbers one.0.node.place child.0 child.1 in
+        let number : child.0.number ≡ n = child.2 ∙ ap (λ (to : EdgeTo). to.child) one.2 ∙ edge.3 in
+        omega (arith, range.1, number, past)
+        )
 
 pub or_true : (a : Bool) → (a || true) ≡ true
 or_true true = refl

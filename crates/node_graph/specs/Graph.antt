@@ -9,7 +9,6 @@ use Rattle.node_graph.specs.declared.nodes.NodeRef.{NodeRef}
 use Rattle.node_graph.specs.declared.faults.GraphFault.{GraphFault}
 use Rattle.node_graph.specs.declared.faults.GraphFault.TheVariants as fault
 use Rattle.node_graph.specs.Tree.{EdgeKey, EdgeTo, edge_cmp, Edges, Tree, Change, fill, stay, row_of, is_linked, after}
-
 pub use Rattle.node_graph.specs.Refusals.{create_refusal, resize_refusal, write_refusal}
 
 -- the number of the node that a reference names
