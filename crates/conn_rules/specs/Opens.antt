@@ -18,7 +18,7 @@ use Rattle.io_rights.specs.declared.operations.Operation.TheVariants as op
 use Rattle.io_rights.specs.Operations.{OperationSet, single, all}
 use Rattle.node_graph.specs.declared.nodes.NodeKind.{NodeKind}
 use Rattle.node_graph.specs.declared.nodes.NodeKind.TheVariants.{Directory, File, Service, Mount}
-use Rattle.node_graph.specs.Tree.{Tree, EdgeKey, Change, make, fill, stay, is_removed}
+use Rattle.node_graph.specs.Tree.{Tree, EdgeKey, Change, make, new_row, fill, stay, is_removed}
 use Rattle.path_walk.specs.Names.{dot}
 use Rattle.path_walk.specs.Paths.{path_fault, names_of}
 use Rattle.conn_rules.specs.declared.births.Room.{Room}
@@ -129,7 +129,7 @@ making position tree word limit key =
     record {
       answer = binding word limit (length tree.nodes + 1) (kind_made word);
       position = position;
-      change = make key (kind_made word) all;
+      change = make key (new_row (kind_made word)) all;
       told = record { removed = None; added = Some key; deleted = None };
     }
 

@@ -15,7 +15,7 @@ use Rattle.io_messages.specs.Replies as answered
 use Rattle.io_rights.specs.Operations.{OperationSet, is_within}
 use Rattle.node_graph.specs.declared.nodes.NodeKind.{NodeKind}
 use Rattle.node_graph.specs.declared.nodes.NodeKind.TheVariants.{Directory, File, Service, Mount}
-use Rattle.node_graph.specs.declared.TheConstants as limit
+use Rattle.fidl_names.specs.declared.limits.TheConstants as limit
 use Rattle.node_graph.specs.Graph.{write_change}
 use Rattle.node_graph.specs.Tree.{Tree, EdgeTo, Change, make, fill, stay}
 use Rattle.path_walk.specs.Paths.{path_fault, names_of}
@@ -148,7 +148,7 @@ IsMade (Mount index) = ⊥
 IsMade _ = Unit {0}
 
 abbrev pub KeepsMounts : Change → Type 0
-KeepsMounts (make key kind mask) = IsMade kind
+KeepsMounts (make key row mask) = IsMade row.kind
 KeepsMounts _ = Unit {0}
 
 abbrev IsOpenAct : Tree → List ℕ → ℕ → Act → Type 0

@@ -136,7 +136,7 @@ no_mount Service h index e = cc
 no_mount (Mount i) h index e = h
 
 after_mounted : (start : Start) (tree : Tree) (change : Change) → KeepsMounts change → AreMounted start tree → AreMounted start (after tree change)
-after_mounted start tree (make key kind mask) keeps h = All-push (HasEnd start) tree.nodes _ h (λ index e. absurd (no_mount kind keeps index e))
+after_mounted start tree (make key row mask) keeps h = All-push (HasEnd start) tree.nodes _ h (λ index e. absurd (no_mount row.kind keeps index e))
 after_mounted start tree (add key to) keeps h = h
 after_mounted start tree (cut key) keeps h = h
 after_mounted start tree (move from to) keeps h = h

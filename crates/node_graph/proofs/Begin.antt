@@ -1,53 +1,79 @@
 -- The tree that a server begins with, and its root.
-use Rattle.std.proofs.Common.{◌≡◌, ℕ, zero, suc, List, [], ◌∷◌, ◌++◌, Some, refl, ap, sym, ◌∙◌, subst}
-use Rattle.std.specs.Prelude.{slice_get}
+use Rattle.std.proofs.Common.{◌≡◌, ◌≢◌, ℕ, zero, suc, ◌+◌, ◌≤◌, List, [], ◌∷◌, length, map, Option, Some, None, refl, ap, sym, ◌∙◌, subst, arith, Bool, true, false}
+use Rattle.std.specs.Prelude.{filter, ◌==◌}
 use Rattle.std.specs.Option.{option_map, option_map_or}
 use Rattle.std.specs.FinMap as finite
+use Rattle.slab.specs.Slab.{Slab, get, Updates}
 use Rattle.node_graph.specs.declared.nodes.NodeKind.TheVariants.{Directory}
-use Rattle.node_graph.specs.declared.edges.Edge.{Edge}
+use Rattle.node_graph.specs.declared.edges.Target.{Target}
 use Rattle.node_graph.specs.Cell.{Cell}
-use Rattle.node_graph.specs.Tree.{row_of, bare_tree}
+use Rattle.node_graph.specs.Tree.{EdgeKey, EdgeTo, Edges, edge_cmp, link_count, row_of, bare_tree}
 use Rattle.node_graph.specs.Graph.{Seat, Kept, seat_of, kind_at, holds_at, StandsFor}
-use Rattle.node_graph.specs.Rows.{seat_from, edge_map, kept_of, AreRows}
-use Rattle.node_graph.proofs.RowLists.{mapped, same_some}
-use Rattle.node_graph.proofs.Ordered.{edge_map-none}
-use Rattle.node_graph.proofs.Seats.{seat_of-kept_of}
+use Rattle.node_graph.specs.Ends.{Ends, edges_of}
+use Rattle.node_graph.specs.Rows.{seat_from, kept_of, is_needed, AreRows}
+use Rattle.node_graph.proofs.RowLists.{same_some}
+use Rattle.node_graph.proofs.States.{Cases, cases, same, other}
+use Rattle.node_graph.proofs.Ordered.{entries-map_of}
+use Rattle.node_graph.proofs.Linked.{edges_of-empty}
+use Rattle.node_graph.proofs.Seats.{IsSeat, seat_came, seat_at}
 
-pub bare_edges : (edges : List Edge) → edges ≡ [] → edge_map edges ≡ finite.empty
-bare_edges edges none = ap edge_map none ∙ edge_map-none
+abbrev pub root_cell : Cell
+root_cell = record { number = 1; kind = Directory; bytes = []; holds = 0; links = 0; parent = record { place = 0; number = 1 } }
 
-seat_one : (edges : List Edge) (number : ℕ) (seat : Seat) → seat_of (kept_of (record { kind = Directory; bytes = []; holds = 0 } ∷ []) edges) number ≡ Some seat
-    → row_of bare_tree.nodes number ≡ Some (record { kind = seat.kind; bytes = seat.bytes })
-seat_one edges zero seat there = absurd (let none = sym (seat_of-kept_of (record { kind = Directory; bytes = []; holds = 0 } ∷ []) edges 0) ∙ there in cc)
-seat_one edges (suc zero) seat there =
-    let is = same_some _ _ (sym (seat_of-kept_of (record { kind = Directory; bytes = []; holds = 0 } ∷ []) edges 1) ∙ there) in
-    ap (λ (s : Seat). Some (record { kind = s.kind; bytes = s.bytes })) is
-seat_one edges (suc (suc more)) seat there = absurd (let none = sym (seat_of-kept_of (record { kind = Directory; bytes = []; holds = 0 } ∷ []) edges (suc (suc more))) ∙ there in cc)
+no_links : (n : ℕ) → link_count finite.empty n ≡ 0
+no_links n = ap (λ (es : List (EdgeKey × EdgeTo)). length (filter (λ (to : EdgeTo). to.child == n) (map (λ (e : EdgeKey × EdgeTo). e.1) es))) (entries-map_of [] refl)
 
-pub bare_stands : (cells : List Cell) (edges : List Edge) (cell : Cell) → cells ≡ [] ++ cell ∷ [] → edges ≡ [] → cell ≡ record { kind = Directory; bytes = []; holds = 0 } → StandsFor (kept_of cells edges) bare_tree
-bare_stands cells edges cell are none is =
-    let P : Cell → Type 0 = λ cell. StandsFor (kept_of (cell ∷ []) edges) bare_tree in
-    let Q : List Cell → Type 0 = λ cells. StandsFor (kept_of cells edges) bare_tree in
-    subst Q (sym are) (subst P (sym is) (record { made = refl; edges = bare_edges edges none; rows = seat_one edges }))
+no_end : (key : EdgeKey) (to : Target) → finite.get {R = edge_cmp} finite.empty key ≡ Some to → ⊥
+no_end key to there = let wrong : None ≡ Some to = sym (finite.get-empty edge_cmp key) ∙ there in cc
 
-holds_one : (edges : List Edge) (number : ℕ) → holds_at (kept_of (record { kind = Directory; bytes = []; holds = 0 } ∷ []) edges) number ≡ 0
-holds_one edges zero = ap (λ s. option_map_or (λ (s : Seat). s.holds) s 0) (seat_of-kept_of (record { kind = Directory; bytes = []; holds = 0 } ∷ []) edges 0)
-holds_one edges (suc zero) = ap (λ s. option_map_or (λ (s : Seat). s.holds) s 0) (seat_of-kept_of (record { kind = Directory; bytes = []; holds = 0 } ∷ []) edges 1)
-holds_one edges (suc (suc more)) = ap (λ s. option_map_or (λ (s : Seat). s.holds) s 0) (seat_of-kept_of (record { kind = Directory; bytes = []; holds = 0 } ∷ []) edges (suc (suc more)))
+module _ (bare nodes : Slab Cell) (place : ℕ) (none : (p : ℕ) → get bare p ≡ None) (first : place ≡ 0) (u : Updates bare nodes place (Some root_cell)) where
+  only : (p : ℕ) (cell : Cell) → get nodes p ≡ Some cell → (p ≡ 0) × (cell ≡ root_cell)
+  only p cell there = elim (cases p place) [
+    | same e b ↦ (e ∙ first, same_some _ _ (sym there ∙ ap (get nodes) e ∙ u.changed))
+    | other e b ↦ absurd (let wrong : None ≡ Some cell = sym (none p) ∙ sym (u.others p e) ∙ there in cc)
+  ]
 
-pub bare_holds : (cells : List Cell) (edges : List Edge) (cell : Cell) → cells ≡ [] ++ cell ∷ [] → cell ≡ record { kind = Directory; bytes = []; holds = 0 } → (number : ℕ) → holds_at (kept_of cells edges) number ≡ 0
-bare_holds cells edges cell are is number =
-    ap (λ cells. holds_at (kept_of cells edges) number) (are ∙ ap (λ (c : Cell). c ∷ []) is) ∙ holds_one edges number
+  pub bare_rows : AreRows nodes finite.empty 1
+  bare_rows = record {
+    root = (root_cell, ap (get nodes) (sym first) ∙ u.changed, refl, (refl, refl));
+    numbers = λ p c there. let P : Cell → Type 0 = λ c. (1 ≤ c.number) × (c.number ≤ 1) in subst P (sym (only p c there).1) (omega arith, omega arith);
+    apart = λ a b x y ax bx alike. (only a x ax).0 ∙ sym (only b y bx).0;
+    links = λ p c there. ap (λ (c : Cell). c.links) (only p c there).1 ∙ sym (ap (λ (edges : Edges). link_count edges c.number) edges_of-empty ∙ no_links c.number);
+    needed = λ p c there _. let P : Cell → Type 0 = λ c. is_needed c ≡ true in subst P (sym (only p c there).1) refl;
+    children = λ key to there. absurd (no_end key to there);
+    parents = λ key to there. absurd (no_end key to there);
+    one_name = λ p c there single. let links : c.links ≡ 0 = ap (λ (c : Cell). c.links) (only p c there).1 in omega (arith, links);
+    ways_up = λ key to c there directory at. absurd (no_end key to there);
+    few = omega (arith, finite.len-empty edge_cmp Target);
+    room = omega arith;
+  }
 
-root_row : (cells : List Cell) (edges : List Edge) → AreRows cells edges → (cell : Cell) × (row_of cells 1 ≡ Some cell) × (cell.kind ≡ Directory)
-root_row cells edges rows = mapped (λ (c : Cell). c.kind) (slice_get cells 0) Directory rows.root
+  pub bare_stands : StandsFor (kept_of nodes finite.empty 1) bare_tree
+  bare_stands = record {
+    made = refl;
+    edges = edges_of-empty;
+    rows = λ n seat there.
+        let one = seat_came nodes n seat there in
+        let cell = (only one.place one.cell one.at).1 in
+        let number : 1 ≡ n = ap (λ (c : Cell). c.number) (sym cell) ∙ one.number in
+        ap (row_of bare_tree.nodes) (sym number) ∙ ap (λ (s : Seat). Some (record { kind = s.kind; bytes = s.bytes })) (ap (seat_from one.place) (sym cell) ∙ sym one.seat_is);
+  }
 
-pub root_named : (cells : List Cell) (edges : List Edge) (graph : Kept) → kept_of cells edges ≡ graph → AreRows cells edges → option_map (λ (s : Seat). s.node) (seat_of graph 1) ≡ Some (record { place = 0; number = 1 })
-root_named cells edges graph view rows =
-    let root = root_row cells edges rows in
-    ap (λ g. option_map (λ (s : Seat). s.node) (seat_of g 1)) (sym view) ∙ ap (option_map (λ (s : Seat). s.node)) (seat_of-kept_of cells edges 1 ∙ ap (option_map (seat_from 1)) root.1)
+  pub bare_holds : (n : ℕ) → holds_at (kept_of nodes finite.empty 1) n ≡ 0
+  bare_holds n = by_cases (seat_of (kept_of nodes finite.empty 1) n) refl
+    where
+      by_cases : (o : Option Seat) → seat_of (kept_of nodes finite.empty 1) n ≡ o → holds_at (kept_of nodes finite.empty 1) n ≡ 0
+      by_cases None e = ap (λ s. option_map_or (λ (s : Seat). s.holds) s 0) e
+      by_cases (Some seat) e =
+          let one = seat_came nodes n seat e in
+          ap (λ s. option_map_or (λ (s : Seat). s.holds) s 0) e ∙ ap (λ (s : Seat). s.holds) one.seat_is ∙ ap (λ (c : Cell). c.holds) (only one.place one.cell one.at).1
 
-pub root_kind : (cells : List Cell) (edges : List Edge) (graph : Kept) → kept_of cells edges ≡ graph → AreRows cells edges → kind_at graph 1 ≡ Some Directory
-root_kind cells edges graph view rows =
-    let root = root_row cells edges rows in
-    ap (λ g. kind_at g 1) (sym view) ∙ ap (option_map (λ (s : Seat). s.kind)) (seat_of-kept_of cells edges 1 ∙ ap (option_map (seat_from 1)) root.1) ∙ ap Some root.2
+module _ (nodes : Slab Cell) (ends : Ends) (made : ℕ) (graph : Kept) (view : kept_of nodes ends made ≡ graph) (rows : AreRows nodes ends made) where
+  root_seat : seat_of (kept_of nodes ends made) 1 ≡ Some (seat_from 0 rows.root.0)
+  root_seat = ap (seat_of (kept_of nodes ends made)) (sym rows.root.2) ∙ seat_at nodes rows.apart 0 rows.root.0 rows.root.1
+
+  pub root_named : option_map (λ (s : Seat). s.node) (seat_of graph 1) ≡ Some (record { place = 0; number = 1 })
+  root_named = ap (λ g. option_map (λ (s : Seat). s.node) (seat_of g 1)) (sym view) ∙ ap (option_map (λ (s : Seat). s.node)) root_seat ∙ ap (λ n. Some (record { place = 0; number = n })) rows.root.2
+
+  pub root_kind : kind_at graph 1 ≡ Some Directory
+  root_kind = ap (λ g. kind_at g 1) (sym view) ∙ ap (option_map (λ (s : Seat). s.kind)) root_seat ∙ ap Some rows.root.3.0

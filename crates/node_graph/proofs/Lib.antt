@@ -1,10 +1,14 @@
 mod Begin
 mod Bytes
-mod Found
+mod Calls
+mod Creates
+mod Linked
 mod Listed
-mod Ordered
 mod Needed
+mod Ordered
 mod RowLists
 mod Seats
+mod Sheds
 pub mod Soundness
 mod States
+mod Steps

@@ -1,45 +1,28 @@
--- Rows of edges that stand in the order of their keys, and the map that they are.
-use Rattle.std.proofs.Common.{◌≡◌, ℕ, zero, suc, ◌<◌, ◌≤◌, List, [], ◌∷◌, length, refl, ap, sym, ◌∙◌, subst, arith, Bool, true, false, not, T}
-use Rattle.std.specs.Prelude.{slice_index_or, ◌&&◌}
+-- How keys of edges stand to each other, and maps by them.
+use Rattle.std.proofs.Common.{◌≡◌, ℕ, List, [], ◌∷◌, Option, Some, None, refl, ap, sym, ◌∙◌, subst, cond, Bool, true, false, T}
+use Rattle.std.specs.Prelude.{◌&&◌, length, ◌≤◌}
+use Rattle.std.specs.BTreeMap.{BTreeMap, is_at, UpdatesBy}
+use Rattle.std.specs.Map.{lookup, keys_of}
 use Rattle.std.specs.declared.cmp.Ordering.{Ordering}
 use Rattle.std.specs.declared.cmp.Ordering.TheVariants.{Less, Equal, Greater}
-use Rattle.std.specs.Ordering.{nat_cmp, is_lt, is_gt, ordering_reverse}
-use Rattle.std.specs.List.Sorted.{IsPartitionedBy, IsPartitionPoint}
-use Rattle.std.specs.Cmp.{IsTotalOrder, nat_cmp_total}
-use Rattle.std.specs.Cmp.Lexicographic.{slice_cmp, nat_list_cmp_total}
+use Rattle.std.specs.Ordering.{nat_cmp, is_lt, is_eq, eq_by_cmp, ordering_reverse}
+use Rattle.std.specs.List.{AllByRecursion}
+use Rattle.std.specs.List.Sorted.{IsStrictlySortedBy}
+use Rattle.std.specs.Cmp.{eq_by_cmp_equiv}
+use Rattle.std.specs.Cmp.Lexicographic.{slice_cmp}
 use Rattle.std.specs.FinMap as finite
 use Rattle.std.specs.FinMap.Entries as entry
-use Rattle.std.proofs.lemmas.Cmp.{on_total, then_total}
 use Rattle.std.proofs.lemmas.Map.Lookups.{CmpEqualImpliesEq, exact_pairs, exact_unsigned, exact_bytes}
-use Rattle.node_graph.specs.declared.edges.Edge.{Edge}
+use Rattle.fidl_names.specs.declared.limits.TheConstants as limit
+use Rattle.node_graph.specs.declared.edges.Target.{Target}
 use Rattle.node_graph.specs.Tree.{EdgeKey, edge_cmp}
-use Rattle.node_graph.specs.Rows.{edge_entries, edge_map, key_of, front_count, InOrder}
-
-pub edges_total : IsTotalOrder edge_cmp
-edges_total = then_total (on_total (λ k. k.directory) nat_cmp_total) (on_total (λ k. k.name) nat_list_cmp_total)
+use Rattle.node_graph.specs.Ends.{Ends, IsNamed}
+use Rattle.node_graph.proofs.RowLists.{same_some}
+pub use Rattle.node_graph.specs.Keys.{edges_total}
 
 -- keys that compare alike are one
 pub exact_edges : CmpEqualImpliesEq edge_cmp
 exact_edges a b h = ap (λ (p : ℕ × List ℕ). record { directory = p.0; name = p.1 }) (exact_pairs nat_cmp (slice_cmp nat_cmp) exact_unsigned exact_bytes (a.directory, a.name) (b.directory, b.name) h)
-
-length-edge_entries : (edges : List Edge) → length (edge_entries edges) ≡ length edges
-length-edge_entries [] = refl
-length-edge_entries (edge ∷ edges) = ap suc (length-edge_entries edges)
-
-module _ (edges : List Edge) (in_order : finite.is_sorted edge_cmp (edge_entries edges) ≡ true) where
-  pub entries-edge_map : finite.entries (edge_map edges) ≡ edge_entries edges
-  unfolding edge_map
-  entries-edge_map = finite.entries-from_sorted edge_cmp (edge_entries edges) (subst T (sym in_order) tt)
-
-  pub get-edge_map : (key : EdgeKey) → finite.get (edge_map edges) key ≡ entry.find edge_cmp key (edge_entries edges)
-  unfolding edge_map
-  get-edge_map key = finite.get-from_sorted edge_cmp (edge_entries edges) key (subst T (sym in_order) tt)
-
-  pub len-edge_map : finite.len (edge_map edges) ≡ length edges
-  len-edge_map = finite.len-entries (edge_map edges) ∙ ap length entries-edge_map ∙ length-edge_entries edges
-
-pub edge_map-none : edge_map [] ≡ finite.empty
-edge_map-none = finite.empty_of_len (edge_map []) (len-edge_map [] refl)
 
 pub both_true : (a b : Bool) → a && b ≡ true → (a ≡ true) × (b ≡ true)
 both_true true b h = (refl, h)
@@ -49,11 +32,6 @@ pub less : (o : Ordering) → is_lt o ≡ true → o ≡ Less
 less Less h = refl
 less Equal h = absurd (cc)
 less Greater h = absurd (cc)
-
-turn : (o : Ordering) → ordering_reverse o ≡ Less → o ≡ Greater
-turn Less h = absurd (cc)
-turn Equal h = absurd (cc)
-turn Greater h = refl
 
 -- two keys stand in one of three ways
 pub data Standing (a b : EdgeKey) : Type 0 where
@@ -69,62 +47,139 @@ standing a b =
       | Greater ↦ λ e. later e (edges_total.antisymm b a ∙ ap ordering_reverse e)
     ] refl
 
--- a test that no later key passes where an earlier one fails
-pub record Falls (test : EdgeKey → Bool) : Type 0 where
-  pub falls : (a b : EdgeKey) → edge_cmp a b ≡ Less → test a ≡ false → test b ≡ false
+-- one key is another, or its entry is not concerned
+pub data Same (q k : EdgeKey) : Type 0 where
+  same : q ≡ k → eq_by_cmp edge_cmp q k ≡ true → Same q k
+  other : ¬ (q ≡ k) → eq_by_cmp edge_cmp q k ≡ false → Same q k
 
-pub before_falls : (key : EdgeKey) → Falls (λ k. is_lt (edge_cmp k key))
-before_falls key = record {
-  falls = λ a b ab fails. elim (standing b key) [
-    | earlier bk kb ↦ absurd (let ak : edge_cmp a key ≡ Less = edges_total.trans a b key ab bk in let passes : is_lt (edge_cmp a key) ≡ true = ap is_lt ak in true_false (sym passes ∙ fails))
-    | alike bk kb ↦ ap is_lt bk
-    | later bk kb ↦ ap is_lt bk
-  ];
-}
+pub same_or_other : (q k : EdgeKey) → Same q k
+same_or_other q k =
+    elim (standing q k) [
+      | earlier a b ↦ other (λ e. absurd (let tied : edge_cmp q k ≡ Equal = ap (λ (x : EdgeKey). edge_cmp q x) (sym e) ∙ self q in let wrong : Less ≡ Equal = sym a ∙ tied in cc)) (ap is_eq a)
+      | alike a b ↦ same (exact_edges q k a) (ap is_eq a)
+      | later a b ↦ other (λ e. absurd (let tied : edge_cmp q k ≡ Equal = ap (λ (x : EdgeKey). edge_cmp q x) (sym e) ∙ self q in let wrong : Greater ≡ Equal = sym a ∙ tied in cc)) (ap is_eq a)
+    ]
   where
-    true_false : true ≡ false → ⊥
-    true_false e = cc
+    self : (q : EdgeKey) → edge_cmp q q ≡ Equal
+    self q = elim (standing q q) [
+      | earlier a b ↦ absurd (let wrong : Less ≡ Greater = sym a ∙ b in cc)
+      | alike a b ↦ a
+      | later a b ↦ absurd (let wrong : Greater ≡ Less = sym a ∙ b in cc)
+    ]
 
-pub up_to_falls : (key : EdgeKey) → Falls (λ k. not (is_gt (edge_cmp k key)))
-up_to_falls key = record {
-  falls = λ a b ab fails. elim (standing a key) [
-    | earlier ak ka ↦ absurd (let passes : not (is_gt (edge_cmp a key)) ≡ true = ap (λ o. not (is_gt o)) ak in true_false (sym passes ∙ fails))
-    | alike ak ka ↦ absurd (let passes : not (is_gt (edge_cmp a key)) ≡ true = ap (λ o. not (is_gt o)) ak in true_false (sym passes ∙ fails))
-    | later ak ka ↦
-        let kb : edge_cmp key b ≡ Less = edges_total.trans key a b ka ab in
-        ap (λ o. not (is_gt o)) (edges_total.antisymm b key ∙ ap ordering_reverse kb)
-  ];
+module _ {X : Type 0} where
+  find-lookup : (es : List (EdgeKey × X)) (q : EdgeKey) → entry.find edge_cmp q es ≡ lookup (is_at (edge_cmp q)) es
+  find-lookup [] q = refl
+  find-lookup (e ∷ es) q = ap (cond (is_eq (edge_cmp q e.0)) (Some e.1)) (find-lookup es q)
+
+  abbrev pub map_of : List (EdgeKey × X) → finite.FinMap edge_cmp X
+  map_of es = finite.from_entries es
+
+  pub get-map_of : (es : List (EdgeKey × X)) (q : EdgeKey) → finite.get (map_of es) q ≡ lookup (is_at (edge_cmp q)) es
+  get-map_of es q = finite.get-from_entries edges_total es q ∙ find-lookup es q
+
+  pub same_edges : (m n : finite.FinMap edge_cmp X) → ((q : EdgeKey) → finite.get m q ≡ finite.get n q) → m ≡ n
+  same_edges m n is = finite.same_map edges_total exact_edges m n is
+
+  pub map_put : (old new : BTreeMap EdgeKey X) (key : EdgeKey) (x : X) → UpdatesBy edge_cmp (edge_cmp key) old new (Some x) → map_of new.entries ≡ finite.insert (map_of old.entries) key x
+  map_put old new key x u = same_edges _ _ (λ q.
+      get-map_of new.entries q
+      ∙ u.0 q
+      ∙ ap (λ b. cond b (Some x) (lookup (is_at (edge_cmp q)) old.entries)) ((eq_by_cmp_equiv edges_total).symm key q)
+      ∙ ap (cond (eq_by_cmp edge_cmp q key) (Some x)) (sym (get-map_of old.entries q))
+      ∙ sym (finite.get-insert edges_total (map_of old.entries) key x q))
+
+  pub map_cut : (old new : BTreeMap EdgeKey X) (key : EdgeKey) → UpdatesBy edge_cmp (edge_cmp key) old new None → map_of new.entries ≡ finite.remove (map_of old.entries) key
+  map_cut old new key u = same_edges _ _ (λ q.
+      get-map_of new.entries q
+      ∙ u.0 q
+      ∙ ap (λ b. cond b None (lookup (is_at (edge_cmp q)) old.entries)) ((eq_by_cmp_equiv edges_total).symm key q)
+      ∙ ap (cond (eq_by_cmp edge_cmp q key) None) (sym (get-map_of old.entries q))
+      ∙ sym (finite.get-remove edges_total (map_of old.entries) key q))
+
+  below : (e : EdgeKey) (es : List (EdgeKey × X)) → AllByRecursion (λ y. edge_cmp e y ≡ Less) (keys_of es) → entry.below_all edge_cmp e es ≡ true
+  below e [] all = refl
+  below e (x ∷ es) all = rw (all.0, below e es all.1) refl
+
+  pub in_order : (es : List (EdgeKey × X)) → IsStrictlySortedBy edge_cmp (keys_of es) → finite.is_sorted edge_cmp es ≡ true
+  unfolding IsStrictlySortedBy
+  in_order [] sorted = refl
+  in_order (e ∷ es) sorted = rw (below e.0 es sorted.0, in_order es sorted.1) refl
+
+  pub entries-map_of : (es : List (EdgeKey × X)) → finite.is_sorted edge_cmp es ≡ true → finite.entries (map_of es) ≡ es
+  entries-map_of es sorted =
+      let t : T (finite.is_sorted edge_cmp es) = subst T (sym sorted) tt in
+      ap finite.entries (same_edges (map_of es) (finite.from_sorted es) (λ q. finite.get-from_entries edges_total es q ∙ sym (finite.get-from_sorted edge_cmp es q t)))
+      ∙ finite.entries-from_sorted edge_cmp es t
+
+  pub len-map_of : (es : List (EdgeKey × X)) → finite.is_sorted edge_cmp es ≡ true → finite.len (map_of es) ≡ length es
+  len-map_of es sorted = finite.len-entries (map_of es) ∙ ap length (entries-map_of es sorted)
+
+-- what is found after an entry was put in is that one or an old one
+pub data Comes {X : Type 0} (m : finite.FinMap edge_cmp X) (key : EdgeKey) (to : X) (from : EdgeKey) (x : X) : Type 0 where
+  fresh : from ≡ key → to ≡ x → Comes m key to from x
+  known : ¬ (from ≡ key) → finite.get m from ≡ Some x → Comes m key to from x
+
+same_value : {X : Type 0} (x y : X) → Some x ≡ Some y → x ≡ y
+same_value x y e = same_some x y e
+
+pub comes : {X : Type 0} (m : finite.FinMap edge_cmp X) (key : EdgeKey) (to : X) (from : EdgeKey) (x : X) → finite.get (finite.insert m key to) from ≡ Some x → Comes m key to from x
+comes m key to from x there =
+    let is = sym (finite.get-insert edges_total m key to from) ∙ there in
+    elim (same_or_other from key) [
+      | same e b ↦ fresh e (same_value _ _ (sym (ap (λ c. cond c (Some to) (finite.get m from)) b) ∙ is))
+      | other e b ↦ known e (sym (ap (λ c. cond c (Some to) (finite.get m from)) b) ∙ is)
+    ]
+
+-- what is found after a key was taken out was there under another key
+pub stays : {X : Type 0} (m : finite.FinMap edge_cmp X) (key from : EdgeKey) (x : X) → finite.get (finite.remove m key) from ≡ Some x → (¬ (from ≡ key)) × (finite.get m from ≡ Some x)
+stays m key from x there =
+    let is = sym (finite.get-remove edges_total m key from) ∙ there in
+    elim (same_or_other from key) [
+      | same e b ↦ absurd (let wrong : None ≡ Some x = sym (ap (λ c. cond c None (finite.get m from)) b) ∙ is in cc)
+      | other e b ↦ (e, sym (ap (λ c. cond c None (finite.get m from)) b) ∙ is)
+    ]
+
+pub get-put_here : {X : Type 0} (m : finite.FinMap edge_cmp X) (key : EdgeKey) (to : X) → finite.get (finite.insert m key to) key ≡ Some to
+get-put_here m key to = elim (same_or_other key key) [
+  | same e b ↦ finite.get-insert edges_total m key to key ∙ ap (λ c. cond c (Some to) (finite.get m key)) b
+  | other e b ↦ absurd (e refl)
+]
+
+pub get-put_other : {X : Type 0} (m : finite.FinMap edge_cmp X) (key from : EdgeKey) (to : X) → ¬ (from ≡ key) → finite.get (finite.insert m key to) from ≡ finite.get m from
+get-put_other m key from to apart = elim (same_or_other from key) [
+  | same e b ↦ absurd (apart e)
+  | other e b ↦ finite.get-insert edges_total m key to from ∙ ap (λ c. cond c (Some to) (finite.get m from)) b
+]
+
+pub get-cut_here : {X : Type 0} (m : finite.FinMap edge_cmp X) (key : EdgeKey) → finite.get (finite.remove m key) key ≡ None
+get-cut_here m key = elim (same_or_other key key) [
+  | same e b ↦ finite.get-remove edges_total m key key ∙ ap (λ c. cond c None (finite.get m key)) b
+  | other e b ↦ absurd (e refl)
+]
+
+pub get-cut_other : {X : Type 0} (m : finite.FinMap edge_cmp X) (key from : EdgeKey) → ¬ (from ≡ key) → finite.get (finite.remove m key) from ≡ finite.get m from
+get-cut_other m key from apart = elim (same_or_other from key) [
+  | same e b ↦ absurd (apart e)
+  | other e b ↦ finite.get-remove edges_total m key from ∙ ap (λ c. cond c None (finite.get m from)) b
+]
+
+pub named_none : IsNamed []
+named_none = record { in_order = refl; named = λ key to there. absurd (let wrong : None ≡ Some to = sym (get-map_of [] key) ∙ there in cc) }
+
+pub named_put : (old new : BTreeMap EdgeKey Target) (key : EdgeKey) (to : Target) → IsNamed old.entries → 1 ≤ length key.name → length key.name ≤ limit.MAX_NAME
+    → UpdatesBy edge_cmp (edge_cmp key) old new (Some to) → IsStrictlySortedBy edge_cmp (keys_of new.entries) → IsNamed new.entries
+named_put old new key to named some few u sorted = record {
+  in_order = in_order new.entries sorted;
+  named = λ from x there.
+      elim (comes (map_of old.entries) key to from x (ap (λ (m : Ends). finite.get m from) (sym (map_put old new key to u)) ∙ there)) [
+        | fresh e is ↦ let P : EdgeKey → Type 0 = λ k. (1 ≤ length k.name) × (length k.name ≤ limit.MAX_NAME) in subst P (sym e) (some, few)
+        | known apart was ↦ named.named from x was
+      ];
 }
-  where
-    true_false : true ≡ false → ⊥
-    true_false e = cc
 
-module _ (test : EdgeKey → Bool) (fall : Falls test) where
-  -- behind an edge that fails all fail
-  pub all_fail : (from : EdgeKey) (edges : List Edge) → entry.below_all edge_cmp from (edge_entries edges) ≡ true → test from ≡ false → (k : ℕ) (d : Edge) → k < length edges → test (key_of (slice_index_or edges k d)) ≡ false
-  all_fail from [] below fails k d within = absurd (omega arith)
-  all_fail from (edge ∷ edges) below fails zero d within = fall.falls from (key_of edge) (less _ (both_true _ _ below).0) fails
-  all_fail from (edge ∷ edges) below fails (suc k) d within = all_fail from edges (both_true _ _ below).1 fails k d (omega arith)
-
-  pub parted : (edges : List Edge) → InOrder edges → IsPartitionedBy (λ edge. test (key_of edge)) edges
-  parted [] order i j d upto within passes = absurd (omega arith)
-  parted (edge ∷ edges) order zero zero d upto within passes = passes
-  parted (edge ∷ edges) order (suc i) zero d upto within passes = absurd (omega arith)
-  parted (edge ∷ edges) order (suc i) (suc j) d upto within passes = parted edges (both_true _ _ order).1 i j d (omega arith) (omega arith) passes
-  parted (edge ∷ edges) order zero (suc j) d upto within passes =
-      elim (test (key_of edge)) as (λ b. test (key_of edge) ≡ b → test (key_of edge) ≡ true) [
-        | true ↦ λ e. e
-        | false ↦ λ e. absurd (true_false (sym passes ∙ all_fail (key_of edge) edges (both_true _ _ order).0 e j d (omega arith)))
-      ] refl
-    where
-      true_false : true ≡ false → ⊥
-      true_false e = cc
-
--- where a list is parted at a place, so many stand in front
-pub front_at : {X : Type 0} (p : X → Bool) (xs : List X) (i : ℕ) → i ≤ length xs → IsPartitionPoint (λ x. p x ≡ true) (λ x. p x ≡ false) xs i → i ≡ front_count p xs
-front_at p [] i within point = omega arith
-front_at p (x ∷ xs) zero within point = let fails : p x ≡ false = point.1 0 x (omega arith) (omega arith) in rw fails refl
-front_at p (x ∷ xs) (suc i) within point =
-    let passes : p x ≡ true = point.0 0 x (omega arith) (omega arith) in
-    let rest = front_at p xs i (omega arith) ((λ k d low high. point.0 (suc k) d (omega arith) (omega arith)), (λ k d low high. point.1 (suc k) d (omega arith) (omega arith))) in
-    rw passes (ap suc rest)
+pub named_cut : (old new : BTreeMap EdgeKey Target) (key : EdgeKey) → IsNamed old.entries → UpdatesBy edge_cmp (edge_cmp key) old new None → IsStrictlySortedBy edge_cmp (keys_of new.entries) → IsNamed new.entries
+named_cut old new key named u sorted = record {
+  in_order = in_order new.entries sorted;
+  named = λ from x there. named.named from x (stays (map_of old.entries) key from x (ap (λ (m : Ends). finite.get m from) (sym (map_cut old new key u)) ∙ there)).1;
+}

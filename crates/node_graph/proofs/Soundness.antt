@@ -8,12 +8,13 @@ use Rattle.std.specs.FinMap as finite
 use Rattle.std.specs.FinMap.Entries as entry
 use Rattle.std.proofs.lemmas.List.{length-take, length-replicate}
 use Rattle.std.proofs.lemmas.Bool.Decides.{nat_tests}
+use Rattle.fidl_names.specs.First.{cause_if}
 use Rattle.io_rights.specs.Operations.{OperationSet}
-use Rattle.node_graph.specs.declared.TheConstants as limit
+use Rattle.fidl_names.specs.declared.limits.TheConstants as limit
 use Rattle.node_graph.specs.declared.nodes.NodeKind.{NodeKind}
 use Rattle.node_graph.specs.declared.nodes.NodeKind.TheVariants.{Directory, File}
 use Rattle.node_graph.specs.declared.faults.GraphFault.TheVariants as fault
-use Rattle.node_graph.specs.Tree.{NodeRow, Tree, Edges, EdgeKey, EdgeTo, edge_cmp, row_of, kind_of, is_linked, is_removed, Below, child, deeper, make, fill, filled, after, bare_tree, IsSound}
+use Rattle.node_graph.specs.Tree.{NodeRow, Tree, Edges, EdgeKey, EdgeTo, edge_cmp, row_of, kind_of, is_linked, is_removed, Below, child, deeper, make, new_row, fill, filled, after, bare_tree, IsSound}
 use Rattle.node_graph.specs.Graph.{create_refusal, resize_refusal, write_refusal, write_change, resized, overwritten}
 use Rattle.node_graph.proofs.RowLists.{mapped, same_some, row_within, row_of-push_same, row_of-push_other, row_of-set_same, row_of-set_other}
 use Rattle.node_graph.proofs.Ordered.{edges_total, exact_edges, standing, earlier, alike, later}
@@ -137,7 +138,7 @@ no_below_new tree key to sound parent _ _ (child from y there) is =
 no_below_new tree key to sound parent _ _ (deeper from y d there below) is = no_below_new tree key to sound parent from.directory d below is
 
 pub made_sound : (tree : Tree) (key : EdgeKey) (what : NodeKind) (mask : OperationSet) → IsSound tree → create_refusal tree.edges key ≡ None → kind_of tree key.directory ≡ Some Directory → 1 ≤ length key.name → length key.name ≤ limit.MAX_NAME
-    → IsSound (after tree (make key what mask))
+    → IsSound (after tree (make key (new_row what) mask))
 made_sound tree key what mask sound free_is parent some few =
     let row : NodeRow = record { kind = what; bytes = [] } in
     let to : EdgeTo = record { child = length tree.nodes + 1; mask = mask } in
@@ -265,7 +266,7 @@ small_enough : (size : ℕ) → resize_refusal size ≡ None → size ≤ limit.
 small_enough size none = by_cases (nat_lt limit.MAX_FILE size) refl
   where
     by_cases : (b : Bool) → nat_lt limit.MAX_FILE size ≡ b → size ≤ limit.MAX_FILE
-    by_cases true e = absurd (let wrong : Some fault.FileBig ≡ None = sym (ap (λ b. cond b (Some fault.FileBig) None) e) ∙ none in cc)
+    by_cases true e = absurd (let wrong : Some fault.FileBig ≡ None = sym (ap (λ b. cause_if b fault.FileBig) e) ∙ none in cc)
     by_cases false e = at_most limit.MAX_FILE size e
       where
         at_most : (most n : ℕ) → nat_lt most n ≡ false → n ≤ most

@@ -8,8 +8,8 @@ use Rattle.node_graph.specs.declared.nodes.NodeKind.{NodeKind}
 use Rattle.node_graph.specs.declared.nodes.NodeRef.{NodeRef}
 use Rattle.node_graph.specs.declared.faults.GraphFault.{GraphFault}
 use Rattle.node_graph.specs.declared.faults.GraphFault.TheVariants as fault
-use Rattle.node_graph.specs.declared.TheConstants as limit
-use Rattle.node_graph.specs.Tree.{EdgeKey, EdgeTo, edge_cmp, Edges, Tree, Change, fill, stay, row_of, is_linked, is_removed, after}
+use Rattle.node_graph.specs.Tree.{EdgeKey, EdgeTo, edge_cmp, Edges, Tree, Change, fill, stay, row_of, is_linked, after}
+pub use Rattle.node_graph.specs.Refusals.{create_refusal, resize_refusal, write_refusal}
 
 -- the number of the node that a reference names
 abbrev pub number_of : NodeRef → ℕ
@@ -74,21 +74,6 @@ KeepsNames old new = (node : NodeRef) → Names old node → is_kept new (number
 abbrev pub Answers : {T : Type 0} → Result T GraphFault → Option GraphFault → Type 0
 Answers result None = IfErr result (λ found. found ≡ fault.NoMemory)
 Answers result (Some refusal) = result ≡ Err refusal
-
--- why no node is made at this name: the first that holds
-abbrev pub create_refusal : Edges → EdgeKey → Option GraphFault
-create_refusal edges key =
-    if is_removed edges key.directory then Some fault.Removed
-    else (if is_some (finite.get edges key) then Some fault.Exists
-    else (if nat_le limit.MAX_NAMES (finite.len edges) then Some fault.NoSpace else None))
-
--- why a file isn't written or resized. A write of no bytes is never refused
-abbrev pub resize_refusal : ℕ → Option GraphFault
-resize_refusal size = if nat_lt limit.MAX_FILE size then Some fault.FileBig else None
-
-abbrev pub write_refusal : ℕ → List ℕ → Option GraphFault
-write_refusal offset [] = None
-write_refusal offset (byte ∷ bytes) = resize_refusal (offset + length (byte ∷ bytes))
 
 -- the bytes cut at a length, or filled up to it with zeros
 abbrev pub resized : List ℕ → ℕ → List ℕ

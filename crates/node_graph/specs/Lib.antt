@@ -1,7 +1,10 @@
 pub mod Tree
 pub mod Graph
+pub mod Refusals
 pub mod Cell
 pub mod Codes
 pub mod Listing
 pub mod Rows
+pub mod Keys
+pub mod Ends
 pub use Rattle.io_rights.specs.Operations

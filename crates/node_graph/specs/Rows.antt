@@ -1,80 +1,68 @@
--- How two vectors of rows are seen as what a graph keeps.
-use Rattle.std.specs.Prelude.{◌≡◌, ℕ, suc, ◌+◌, ◌-◌, ◌^◌, ◌≤◌, ◌==◌, Bool, true, not, ◌&&◌, if◌then◌else◌, List, [], ◌∷◌, length, map, Option, Some, None, slice_get, unwrap_or}
+-- How a slab of nodes and a map of names are seen as what a graph keeps.
+use Rattle.std.specs.Prelude.{◌≡◌, ℕ, ◌^◌, ◌≤◌, ◌==◌, ◌||◌, Bool, true, false, nat_lt, List, map, Option, Some, None, ◌+◌}
 use Rattle.std.specs.Option.{option_map}
-use Rattle.std.specs.Ordering.{nat_cmp, is_lt, is_gt}
+use Rattle.std.specs.Ordering.{nat_cmp}
 use Rattle.std.specs.FinMap as finite
+use Rattle.slab.specs.Slab.{Slab, get, entries_from, Updates, slab_len}
+use Rattle.fidl_names.specs.declared.limits.TheConstants as limit
 use Rattle.node_graph.specs.declared.nodes.NodeKind.TheVariants.{Directory}
-use Rattle.node_graph.specs.declared.edges.Edge.{Edge}
-use Rattle.node_graph.specs.declared.TheConstants as limit
+use Rattle.node_graph.specs.declared.edges.Target.{Target}
 use Rattle.node_graph.specs.Cell.{Cell}
-use Rattle.node_graph.specs.Tree.{EdgeKey, EdgeTo, edge_cmp, row_of}
-use Rattle.node_graph.specs.Graph.{Seat, Kept, Listed, comes_after}
+use Rattle.node_graph.specs.Tree.{EdgeKey, link_count, has_one_name}
+use Rattle.node_graph.specs.Graph.{Seat, Kept}
+use Rattle.node_graph.specs.Ends.{Ends, edges_of}
 
--- the seat of the cell with this number
+-- the seat of the cell at this place
 abbrev pub seat_from : ℕ → Cell → Seat
-seat_from number cell = record { node = record { place = number - 1; number = number }; kind = cell.kind; bytes = cell.bytes; holds = cell.holds }
+seat_from place cell = record { node = record { place = place; number = cell.number }; kind = cell.kind; bytes = cell.bytes; holds = cell.holds }
 
--- the cells numbered from `first` on
-abbrev pub seat_entries : ℕ → List Cell → List (ℕ × Seat)
-seat_entries first [] = []
-seat_entries first (cell ∷ cells) = (first, seat_from first cell) ∷ seat_entries (first + 1) cells
+abbrev pub seat_entry : ℕ × Cell → ℕ × Seat
+seat_entry entry = (entry.1.number, seat_from entry.0 entry.1)
 
-abbrev pub key_of : Edge → EdgeKey
-key_of edge = record { directory = edge.parent; name = edge.name }
+unfoldable pub seat_map : List (Option Cell) → finite.FinMap nat_cmp Seat
+seat_map slots = finite.from_entries (map seat_entry (entries_from 0 slots))
 
-abbrev pub end_of : Edge → EdgeTo
-end_of edge = record { child = edge.child; mask = edge.mask }
+abbrev pub kept_of : Slab Cell → Ends → ℕ → Kept
+kept_of nodes ends made = record { seats = seat_map nodes.slots; edges = edges_of ends; made = made }
 
-abbrev pub edge_entries : List Edge → List (EdgeKey × EdgeTo)
-edge_entries edges = map (λ edge. (key_of edge, end_of edge)) edges
+-- the root, or linked, or held
+abbrev pub is_needed : Cell → Bool
+is_needed cell = cell.number == 1 || (nat_lt 0 cell.links || nat_lt 0 cell.holds)
 
--- the map of rows that stand in the order of their keys
-unfoldable pub edge_map : List Edge → finite.FinMap edge_cmp EdgeTo
-edge_map edges = finite.from_sorted (edge_entries edges)
+-- names can lead on from here: the root, or linked
+abbrev pub is_reached : Cell → Bool
+is_reached cell = cell.number == 1 || nat_lt 0 cell.links
 
-unfoldable pub seat_map : List Cell → finite.FinMap nat_cmp Seat
-seat_map cells = finite.from_entries (seat_entries 1 cells)
+-- a node with this number is at this place
+abbrev pub Sits : Slab Cell → ℕ → ℕ → (Cell → Type 0) → Type 0
+Sits nodes place number P = (cell : Cell) × (get nodes place ≡ Some cell) × (cell.number ≡ number) × P cell
 
-abbrev pub kept_of : List Cell → List Edge → Kept
-kept_of cells edges = record { seats = seat_map cells; edges = edge_map edges; made = length cells }
+-- what nodes and names always are, but that a node at one place may be needed no more
+pub record AreAlmost (nodes : Slab Cell) (ends : Ends) (made : ℕ) (spare : ℕ → Type 0) : Type 0 where
+  -- the root comes first, and no name leads to it
+  pub root : Sits nodes 0 1 (λ cell. (cell.kind ≡ Directory) × (cell.links ≡ 0))
+  pub numbers : (place : ℕ) (cell : Cell) → get nodes place ≡ Some cell → (1 ≤ cell.number) × (cell.number ≤ made)
+  pub apart : (a b : ℕ) (x y : Cell) → get nodes a ≡ Some x → get nodes b ≡ Some y → x.number ≡ y.number → a ≡ b
+  pub links : (place : ℕ) (cell : Cell) → get nodes place ≡ Some cell → cell.links ≡ link_count (edges_of ends) cell.number
+  -- nothing is kept for nobody
+  pub needed : (place : ℕ) (cell : Cell) → get nodes place ≡ Some cell → ¬ (spare place) → is_needed cell ≡ true
+  pub children : (key : EdgeKey) (to : Target) → finite.get ends key ≡ Some to → Sits nodes to.node.place to.node.number (λ cell. cell.kind ≡ to.kind)
+  -- names stand in directories to which names lead
+  pub parents : (key : EdgeKey) (to : Target) → finite.get ends key ≡ Some to → (place : ℕ) × Sits nodes place key.directory (λ cell. (cell.kind ≡ Directory) × (is_reached cell ≡ true))
+  -- at most one name leads to a directory or a mount, and a directory knows where it stands
+  pub one_name : (place : ℕ) (cell : Cell) → get nodes place ≡ Some cell → has_one_name cell.kind ≡ true → cell.links ≤ 1
+  pub ways_up : (key : EdgeKey) (to : Target) (cell : Cell) → finite.get ends key ≡ Some to → to.kind ≡ Directory → get nodes to.node.place ≡ Some cell
+      → (cell.parent.number ≡ key.directory) × Sits nodes cell.parent.place cell.parent.number (λ above. above.kind ≡ Directory)
+  pub few : finite.len ends ≤ limit.MAX_NAMES
+  pub room : made ≤ 2 ^ 63
 
--- the rows stand in the order of their keys
-abbrev pub InOrder : List Edge → Type 0
-InOrder edges = finite.is_sorted edge_cmp (edge_entries edges) ≡ true
+abbrev pub nowhere : ℕ → Type 0
+nowhere place = ⊥
 
--- each row leads to one of so many nodes
-abbrev pub LeadTo : ℕ → List Edge → Type 0
-LeadTo count edges = (place : ℕ) (edge : Edge) → slice_get edges place ≡ Some edge → (1 ≤ edge.child) × (edge.child ≤ count)
+abbrev pub AreRows : Slab Cell → Ends → ℕ → Type 0
+AreRows nodes ends made = AreAlmost nodes ends made nowhere
 
--- what rows always are: the first is the root, edges stand in order, lead to rows and are not too many
-pub record AreRows (cells : List Cell) (edges : List Edge) : Type 0 where
-  pub root : option_map (λ cell. cell.kind) (slice_get cells 0) ≡ Some Directory
-  pub in_order : InOrder edges
-  pub children : LeadTo (length cells) edges
-  pub few : length edges ≤ limit.MAX_NAMES
-  pub room : length cells ≤ 2 ^ 63
-
--- how many elements stand before the first that fails a test
-abbrev pub front_count : {X : Type 0} → (X → Bool) → List X → ℕ
-front_count test [] = 0
-front_count test (x ∷ xs) = if test x then suc (front_count test xs) else 0
-
--- what a listing shows of an edge whose child is one of the cells
-abbrev pub listed_of : List Cell → Edge → Listed
-listed_of cells edge = record { name = edge.name; number = edge.child; kind = unwrap_or (option_map (λ cell. cell.kind) (row_of cells edge.child)) Directory }
-
--- whether an edge stands before a key, and whether it stands no later than the key
-abbrev pub comes_before : EdgeKey → Edge → Bool
-comes_before key edge = is_lt (edge_cmp (key_of edge) key)
-
-abbrev pub comes_up_to : EdgeKey → Edge → Bool
-comes_up_to key edge = not (is_gt (edge_cmp (key_of edge) key))
-
--- whether an edge stands before the first name of a directory behind a place in a listing
-abbrev pub stands_off : ℕ → Option (List ℕ) → Edge → Bool
-stands_off directory None = comes_before (record { directory = directory; name = [] })
-stands_off directory (Some name) = comes_up_to (record { directory = directory; name = name })
-
--- whether an edge is a name of a directory behind a place in a listing
-abbrev pub is_listed : ℕ → Option (List ℕ) → Edge → Bool
-is_listed directory place edge = (edge.parent == directory) && comes_after place edge.name
+-- a node that isn't needed is taken out, and nothing else happens
+pub data Forgets (old new : Slab Cell) (place : ℕ) : Type 0 where
+  keeps : (cell : Cell) → get old place ≡ Some cell → is_needed cell ≡ true → new ≡ old → Forgets old new place
+  drops : (cell : Cell) → get old place ≡ Some cell → is_needed cell ≡ false → Updates old new place None → slab_len new + 1 ≡ slab_len old → Forgets old new place

@@ -7,15 +7,19 @@ use Rattle.std.specs.declared.cmp.Ordering.{Ordering}
 use Rattle.std.specs.Ordering.{nat_cmp, ordering_then}
 use Rattle.std.specs.Cmp.Lexicographic.{slice_cmp}
 use Rattle.std.specs.FinMap as finite
+use Rattle.fidl_names.specs.declared.limits.TheConstants as limit
 use Rattle.io_rights.specs.Operations.{OperationSet}
 use Rattle.node_graph.specs.declared.nodes.NodeKind.{NodeKind}
 use Rattle.node_graph.specs.declared.nodes.NodeKind.TheVariants.{Directory, File, Service, Mount}
-use Rattle.node_graph.specs.declared.TheConstants as limit
 
 -- a node: what it is, and a file's bytes
 pub record NodeRow : Type 0 where
   pub kind : NodeKind
   pub bytes : List ℕ
+
+-- the row of a node that has no bytes yet
+abbrev pub new_row : NodeKind → NodeRow
+new_row kind = record { kind = kind; bytes = [] }
 
 -- where an edge starts: the number of a directory, and a name in it
 pub record EdgeKey : Type 0 where
@@ -69,10 +73,10 @@ pub data Below (edges : Edges) : ℕ → ℕ → Type 0 where
   child : (from : EdgeKey) (to : EdgeTo) → finite.get edges from ≡ Some to → Below edges to.child from.directory
   deeper : (from : EdgeKey) (to : EdgeTo) (directory : ℕ) → finite.get edges from ≡ Some to → Below edges from.directory directory → Below edges to.child directory
 
--- what can happen to a tree: a new node with its first name; a further name of a node; a name is gone;
+-- what can happen to a tree: a new node, whose row is given, with its first name; a further name of a node; a name is gone;
 -- a name moves, and takes the place of the one that was there; a file's bytes are set; nothing
 pub data Change : Type 0 where
-  make : EdgeKey → NodeKind → OperationSet → Change
+  make : EdgeKey → NodeRow → OperationSet → Change
   add : EdgeKey → EdgeTo → Change
   cut : EdgeKey → Change
   move : EdgeKey → EdgeKey → Change
@@ -89,9 +93,9 @@ moved edges from to = option_map_or (λ edge. finite.insert (finite.remove edges
 
 -- the tree with that change, and all other rows as they were
 abbrev pub after : Tree → Change → Tree
-after tree (make key kind mask) =
+after tree (make key row mask) =
     record {
-      nodes = tree.nodes ++ record { kind = kind; bytes = [] } ∷ [];
+      nodes = tree.nodes ++ row ∷ [];
       edges = finite.insert tree.edges key (record { child = length tree.nodes + 1; mask = mask });
     }
 after tree (add key to) = record { nodes = tree.nodes; edges = finite.insert tree.edges key to }

@@ -1,13 +1,17 @@
 ghost use Rattle.std.specs.Prelude.{◌≡◌, ◌≢◌, ◌^◌, ◌<◌, ◌≤◌, ◌+◌, ◌-◌, nat_le, length, OnOk, OnErr, IfErr, Some};
 ghost use Rattle.node_graph.specs.declared.nodes.NodeKind.TheVariants.{File};
 ghost use Rattle.node_graph.specs.declared.faults.GraphFault.TheVariants as fault;
+ghost use Rattle.slab.specs.Slab.{ContainsKey};
 ghost use Rattle.node_graph.specs.Tree.{stay, fill};
+ghost use Rattle.node_graph.specs.Rows.{Forgets};
 ghost use Rattle.node_graph.specs.Graph.{number_of, Names, kind_at, bytes_at, holds_at, Leads, SameHolds, HoldsNow, KeepsNames, Answers, write_refusal, write_change, resize_refusal, resized};
 
-use crate::MAX_FILE;
 use crate::faults::GraphFault;
 use crate::graph::Graph;
 use crate::nodes::NodeRef;
+use crate::rows::Node;
+use fidl_names::MAX_FILE;
+use slab::Slab;
 
 impl Graph {
     /// One more hold on the node, so that it is kept though no name leads to it.
@@ -36,6 +40,7 @@ impl Graph {
     {
         let row = &mut self.nodes[node.place];
         row.release();
+        forget(&mut self.nodes, node.place);
     }
 
     /// Writes the bytes over the file's from an offset on; a gap before them is filled with zeros.
@@ -89,4 +94,14 @@ fn ends_within(offset: u64, count: usize) -> bool
     ensures { result ≡ nat_le (offset + count) MAX_FILE }
 {
     count <= MAX_FILE && offset <= (MAX_FILE - count) as u64
+}
+
+// The node is kept only where it is the root, linked or held. Its place may then be used again.
+pub fn forget(nodes: &mut Slab<Node>, place: usize)
+    requires { ContainsKey nodes.old place }
+    ensures { Forgets nodes.old nodes.new place }
+{
+    if !nodes[place].is_needed() {
+        nodes.remove(place);
+    }
 }

@@ -1,89 +1,122 @@
-ghost use Rattle.std.specs.Prelude.{◌≡◌, ◌≤◌, ◌==◌, ℕ, List, [], length, filter, slice_get, Some, IfSome};
+ghost use Rattle.std.specs.Prelude.{◌≡◌, ◌≤◌, ◌<◌, ◌-◌, ◌^◌, take, length, OnOk, OnErr};
 ghost use Rattle.std.specs.Option.{option_map};
 ghost use Rattle.std.specs.FinMap as finite;
-ghost use Rattle.std.specs.List.{list_any};
-ghost use Rattle.node_graph.specs.Tree.{edge_cmp, is_removed};
-ghost use Rattle.node_graph.specs.Rows.{key_of, end_of, edge_map, front_count, comes_before, comes_up_to, InOrder};
+ghost use Rattle.node_graph.specs.Ends.{ends_after, name_in, start_of};
 
-use crate::names::NameBuf;
+use crate::keys::EdgeName;
+use crate::nodes::{NodeKind, NodeRef};
+use fidl_names::{MAX_NAME, NoMemory};
 use io_rights::Rights;
-use std::cmp::Ordering;
+use std::alloc::Global;
+use std::collections::BTreeMap;
+use std::collections::btree_map::Range;
+use std::marker::Model;
+use std::ops::Bound;
 
-// A name in a directory, and where it leads.
-#[derive(Drop)]
-pub struct Edge {
-    pub parent: u64,
-    pub name: NameBuf,
-    pub child: u64,
+/// Where a name leads: the node, what it is, and the mask of the rights that pass through the name.
+#[derive(Clone, Copy)]
+pub struct Target {
+    pub node: NodeRef,
+    pub kind: NodeKind,
     pub mask: Rights,
 }
 
-impl Edge {
-    // How the edge stands to a name in a directory.
-    pub fn order(&self, directory: u64, name: &[u8]) -> Ordering
-        ensures { result ≡ edge_cmp (key_of self.now) (record { directory = directory; name = name.now }) }
+/// All names of a server, in the order of directories and of the names' bytes.
+#[derive(Drop)]
+pub struct Edges {
+    names: BTreeMap<EdgeName, Target>,
+}
+
+impl Model for Edges {
+    ghost use Rattle.std.specs.FinMap as finite;
+    ghost use Rattle.node_graph.specs.Tree.{edge_cmp};
+    ghost use Rattle.node_graph.specs.Ends.{Ends, ends_code, IsNamed};
+
+    ghost Value = { Ends };
+
+    ghost coded = { ends_code };
+
+    ghost view = { λ edges. finite.from_entries edges.names.entries };
+
+    ghost invariant = { λ edges. IsNamed edges.names.entries };
+}
+
+impl Edges {
+    pub fn new(alloc: Global) -> Edges
+        ensures { result ≡ finite.empty }
     {
-        match self.parent.cmp(&directory) {
-            Ordering::Equal => self.name.as_bytes().cmp(name),
-            other => other,
+        Edges {
+            names: BTreeMap::new(alloc),
         }
     }
-}
 
-// How many edges stand before a name in a directory.
-pub fn place_of(edges: &[Edge], directory: u64, name: &[u8]) -> usize
-    requires { InOrder edges.now }
-    ensures bound { result ≤ length edges.now }
-    ensures place { result ≡ front_count (comes_before (record { directory = directory; name = name.now })) edges.now }
-{
-    edges.partition_point(|edge| edge.order(directory, name).is_lt())
-}
-
-// How many edges stand before a name in a directory or are that name.
-pub fn place_past(edges: &[Edge], directory: u64, name: &[u8]) -> usize
-    requires { InOrder edges.now }
-    ensures bound { result ≤ length edges.now }
-    ensures place { result ≡ front_count (comes_up_to (record { directory = directory; name = name.now })) edges.now }
-{
-    edges.partition_point(|edge| !edge.order(directory, name).is_gt())
-}
-
-// The edge of a name in a directory.
-pub fn find_edge<'a>(edges: &'a [Edge], directory: u64, name: &[u8]) -> Option<&'a Edge>
-    requires { InOrder edges.now }
-    ensures found { option_map (λ edge. end_of edge.now) result ≡ finite.get (edge_map edges.now) (record { directory = directory; name = name.now }) }
-    ensures among { IfSome result (λ edge. (place : ℕ) × (slice_get edges.now place ≡ Some edge.now)) }
-{
-    let place = place_of(edges, directory, name);
-    if place == edges.len() {
-        return None;
+    pub fn len(&self) -> usize
+        ensures { result ≡ finite.len self.now }
+    {
+        self.names.len()
     }
-    let edge = &edges[place];
-    if edge.order(directory, name).is_eq() {
-        Some(edge)
-    } else {
-        None
+
+    // No name is longer than a name may be.
+    pub fn find(&self, directory: u64, name: &[u8]) -> Option<Target>
+        ensures { result ≡ finite.get self.now (name_in directory name.now) }
+    {
+        let names = &self.names;
+        if name.len() > MAX_NAME {
+            return None;
+        }
+        let key = EdgeName::new(directory, name);
+        names.get(&key).copied()
+    }
+
+    // Room is made before anything changes.
+    pub fn put(&mut self, directory: u64, name: &[u8], to: Target) -> Result<(), NoMemory>
+        requires some { 1 ≤ length name.now }
+        requires few { length name.now ≤ MAX_NAME }
+        ensures put { OnOk result (self.new ≡ finite.insert self.old (name_in directory name.now) to) }
+        ensures unchanged { OnErr result (self.new ≡ self.old) }
+    {
+        self.names.insert(EdgeName::new(directory, name), to)?;
+        Ok(())
+    }
+
+    pub fn cut(&mut self, directory: u64, name: &[u8])
+        requires { length name.now ≤ MAX_NAME }
+        ensures { self.new ≡ finite.remove self.old (name_in directory name.now) }
+    {
+        let key = EdgeName::new(directory, name);
+        self.names.remove(&key);
+    }
+
+    // The names of a directory behind a place in its listing, and where they lead. A longer place than
+    // a name stands to each name as its front does.
+    pub fn after(&self, directory: u64, place: Option<&[u8]>) -> Range<'_, EdgeName, Target>
+        requires { directory < 2 ^ 64 - 1 }
+        ensures { result ≡ ends_after self.now directory (option_map (λ name. name.now) place.entry) }
+    {
+        let end = EdgeName::new(directory + 1, &[]);
+        self.names
+            .range((start_of(directory, place), Bound::Excluded(end)))
     }
 }
 
-// How many edges lead to a node.
-pub fn links_to(edges: &[Edge], number: u64) -> usize
-    ensures { result ≡ length (filter (λ edge. edge.child == number) edges.now) }
+// Where the names of a directory behind a place begin.
+fn start_of(directory: u64, place: Option<&[u8]>) -> Bound<EdgeName>
+    ensures { result ≡ start_of directory (option_map (λ name. name.now) place.entry) }
 {
-    edges.iter().filter(|edge| edge.child == number).count()
+    match place {
+        Some(name) => Bound::Excluded(EdgeName::new(directory, front_of(name))),
+        None => Bound::Included(EdgeName::new(directory, &[])),
+    }
 }
 
-// Whether an edge leads to a node.
-pub fn leads_to(edges: &[Edge], number: u64) -> bool
-    ensures { result ≡ list_any (λ edge. edge.child == number) edges.now }
+// As much of a place as a name can have.
+fn front_of(place: &[u8]) -> &[u8]
+    ensures value { result.now ≡ take MAX_NAME place.now }
+    ensures few { length result.now ≤ MAX_NAME }
 {
-    edges.iter().any(|edge| edge.child == number)
-}
-
-// Whether a node isn't the root and no edge leads to it.
-pub fn is_cut_off(edges: &[Edge], number: u64) -> bool
-    requires { InOrder edges.now }
-    ensures { result ≡ is_removed (edge_map edges.now) number }
-{
-    number != 1 && !leads_to(edges, number)
+    if place.len() <= MAX_NAME {
+        return place;
+    }
+    let (front, _) = place.split_at(MAX_NAME);
+    front
 }

@@ -1,23 +1,25 @@
-ghost use Rattle.std.specs.Prelude.{◌≡◌, ◌==◌, ◌||◌, ℕ, true, is_some, nat_lt, length, IfOk, IfSome, Some, count_by};
+ghost use Rattle.std.specs.Prelude.{◌≡◌, ℕ, true, is_some, IfOk, IfSome, Some, count_by};
 ghost use Rattle.std.specs.Option.{option_map};
 ghost use Rattle.std.specs.FinMap as finite;
 ghost use Rattle.node_graph.specs.declared.nodes.NodeKind.TheVariants.{Directory, File};
-ghost use Rattle.node_graph.specs.Tree.{bare_tree, link_count, is_linked, is_removed};
-ghost use Rattle.node_graph.specs.Rows.{InOrder, edge_map, kept_of};
+ghost use Rattle.node_graph.specs.Tree.{bare_tree, link_count, is_removed};
 ghost use Rattle.node_graph.specs.Graph.{number_of, Names, kind_at, bytes_at, holds_at, is_kept, seat_of, StandsFor, numbers_to};
 
-use crate::edges::{Edge, find_edge, is_cut_off, leads_to, links_to};
+use crate::edges::Edges;
 use crate::nodes::{Entry, NodeKind, NodeRef};
 use crate::rows::Node;
 use fidl_names::NoMemory;
+use slab::Slab;
 use std::alloc::Global;
 use std::marker::Model;
 
 /// One server's tree.
 #[derive(Drop)]
 pub struct Graph {
-    pub(crate) nodes: Vec<Node>,
-    pub(crate) edges: Vec<Edge>,
+    pub(crate) nodes: Slab<Node>,
+    pub(crate) edges: Edges,
+    pub(crate) made: u64,
+    pub(crate) alloc: Global,
 }
 
 impl Model for Graph {
@@ -29,10 +31,15 @@ impl Model for Graph {
 
     ghost coded = { kept_code };
 
-    ghost view = { λ graph. kept_of graph.nodes.items graph.edges.items };
+    ghost view = { λ graph. kept_of graph.nodes graph.edges graph.made };
 
-    ghost invariant = { λ graph. AreRows graph.nodes.items graph.edges.items };
+    ghost invariant = { λ graph. AreRows graph.nodes graph.edges graph.made };
 }
+
+const ROOT: NodeRef = NodeRef {
+    place: 0,
+    number: 1,
+};
 
 impl Graph {
     /// A tree of the root alone, a directory with number 1. It grows by this allocator.
@@ -42,11 +49,14 @@ impl Graph {
         ensures edges { IfOk result (λ graph. graph.edges ≡ finite.empty) }
         ensures holds { IfOk result (λ graph. (number : ℕ) → holds_at graph number ≡ 0) }
     {
-        let mut nodes = Vec::new(alloc);
-        nodes.push(Node::new(alloc, NodeKind::Directory))?;
+        let mut nodes = Slab::new(alloc);
+        nodes.reserve(1)?;
+        nodes.insert_reserved(Node::new(alloc, 1, NodeKind::Directory, 0, ROOT));
         Ok(Graph {
             nodes,
-            edges: Vec::new(alloc),
+            edges: Edges::new(alloc),
+            made: 1,
+            alloc,
         })
     }
 
@@ -57,10 +67,7 @@ impl Graph {
         ensures kind { kind_at self.now 1 ≡ Some Directory }
     {
         let _rows = &self.nodes;
-        NodeRef {
-            place: 0,
-            number: 1,
-        }
+        ROOT
     }
 
     /// The node's number: one more than the count of nodes that were made before it.
@@ -83,7 +90,7 @@ impl Graph {
     pub fn made(&self) -> u64
         ensures { result ≡ self.now.made }
     {
-        self.nodes.len() as u64
+        self.made
     }
 
     /// How many names lead to the node.
@@ -91,7 +98,7 @@ impl Graph {
         requires { Names self.now node }
         ensures { result ≡ link_count self.now.edges (number_of node) }
     {
-        links_to(&self.edges, node.number) as u32
+        self.row(node).links()
     }
 
     /// Whether the node isn't the root and no name leads to it. Such a directory is empty for good.
@@ -99,7 +106,7 @@ impl Graph {
         requires { Names self.now node }
         ensures { result ≡ is_removed self.now.edges (number_of node) }
     {
-        is_cut_off(&self.edges, node.number)
+        node.number != 1 && self.row(node).links() == 0
     }
 
     /// How many names there are.
@@ -125,10 +132,10 @@ impl Graph {
         ensures found { option_map (λ entry. record { child = number_of entry.node; mask = entry.mask }) result ≡ finite.get self.now.edges (record { directory = number_of dir; name = name.now }) }
         ensures kept { IfSome result (λ entry. Names self.now entry.node) }
     {
-        match find_edge(&self.edges, dir.number, name) {
-            Some(edge) => Some(Entry {
-                node: NodeRef::to(edge.child),
-                mask: edge.mask,
+        match self.edges.find(dir.number, name) {
+            Some(to) => Some(Entry {
+                node: to.node,
+                mask: to.mask,
             }),
             None => None,
         }
@@ -139,7 +146,7 @@ impl Graph {
         ensures count { result ≡ count_by (is_kept self.now) (numbers_to self.now.made) }
         ensures seated { (number : ℕ) → is_kept self.now number ≡ true → is_some (seat_of self.now number) ≡ true }
     {
-        count_needed(&self.nodes, &self.edges)
+        self.nodes.len()
     }
 
     // The node's row.
@@ -148,35 +155,8 @@ impl Graph {
         ensures kind { kind_at self.now (number_of node) ≡ Some result.now.kind }
         ensures bytes { bytes_at self.now (number_of node) ≡ result.now.bytes }
         ensures holds { holds_at self.now (number_of node) ≡ result.now.holds }
+        ensures links { result.now.links ≡ link_count self.now.edges (number_of node) }
     {
         &self.nodes[node.place]
     }
-}
-
-// How many of the nodes are the root, linked or held.
-fn count_needed(nodes: &[Node], edges: &[Edge]) -> usize
-    requires { InOrder edges.now }
-    ensures { result ≡ count_by (is_kept (kept_of nodes.now edges.now)) (numbers_to (length nodes.now)) }
-{
-    let mut count = 0;
-    for place in 0..nodes.len() {
-        if is_needed(&nodes[place], edges, place as u64 + 1) {
-            count += 1;
-        }
-    }
-    count
-}
-
-// Whether the node with this number is the root, linked or held.
-fn is_needed(node: &Node, edges: &[Edge], number: u64) -> bool
-    requires { InOrder edges.now }
-    ensures { result ≡ (number == 1 || (is_linked (edge_map edges.now) number || nat_lt 0 node.now.holds)) }
-{
-    if number == 1 {
-        return true;
-    }
-    if leads_to(edges, number) {
-        return true;
-    }
-    node.is_held()
 }

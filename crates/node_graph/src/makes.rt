@@ -1,17 +1,14 @@
-ghost use Rattle.std.specs.Prelude.{◌≡◌, ◌^◌, ◌<◌, ◌≤◌, ◌+◌, [], ◌∷◌, ◌++◌, insert, length, OnOk, OnErr, IfOk, Some};
+ghost use Rattle.std.specs.Prelude.{◌≡◌, ◌^◌, ◌<◌, ◌≤◌, ◌+◌, length, OnOk, OnErr, IfOk, Some};
 ghost use Rattle.node_graph.specs.declared.nodes.NodeKind.TheVariants.{Directory};
-ghost use Rattle.node_graph.specs.Tree.{make};
-ghost use Rattle.node_graph.specs.Rows.{InOrder, edge_map, key_of, front_count, comes_before};
+ghost use Rattle.node_graph.specs.Tree.{make, new_row};
 ghost use Rattle.node_graph.specs.Graph.{number_of, Names, kind_at, Leads, SameHolds, KeepsNames, Answers, create_refusal};
 
-use crate::edges::{Edge, find_edge, is_cut_off, place_of};
+use crate::edges::Target;
 use crate::faults::GraphFault;
 use crate::graph::Graph;
-use crate::names::NameBuf;
 use crate::nodes::{NodeKind, NodeRef};
 use crate::rows::Node;
-use crate::{MAX_NAME, MAX_NAMES};
-use fidl_names::NoMemory;
+use fidl_names::{MAX_NAME, MAX_NAMES};
 use io_rights::Rights;
 
 impl Graph {
@@ -33,7 +30,7 @@ impl Graph {
         requires room { self.old.made < 2 ^ 63 }
         ensures answer { Answers result (create_refusal self.old.edges (record { directory = number_of dir; name = name.now })) }
         ensures unchanged { OnErr result (self.new ≡ self.old) }
-        ensures created { OnOk result (Leads self.old self.new (make (record { directory = number_of dir; name = name.now }) kind mask)) }
+        ensures created { OnOk result (Leads self.old self.new (make (record { directory = number_of dir; name = name.now }) (new_row kind) mask)) }
         ensures number { IfOk result (λ node. number_of node ≡ self.old.made + 1) }
         ensures kept { IfOk result (λ node. Names self.new node) }
         ensures kind { OnOk result (kind_at self.new (self.old.made + 1) ≡ Some kind) }
@@ -41,55 +38,42 @@ impl Graph {
         ensures holds { SameHolds self.old self.new }
         ensures names { KeepsNames self.old self.new }
     {
-        if let Some(fault) = refusal(&self.edges, dir.number, name) {
+        if let Some(fault) = self.create_fault(dir, name) {
             return Err(fault);
         }
-        let number = self.nodes.len() as u64 + 1;
-        let edge = Edge {
-            parent: dir.number,
-            name: NameBuf::new(name),
-            child: number,
+        if self.nodes.reserve(1).is_err() {
+            return Err(GraphFault::NoMemory);
+        }
+        let child = NodeRef {
+            place: self.nodes.vacant_key(),
+            number: self.made + 1,
+        };
+        let to = Target {
+            node: child,
+            kind,
             mask,
         };
-        grow(&mut self.nodes, &mut self.edges, kind, edge)?;
-        Ok(NodeRef::to(number))
+        self.edges.put(dir.number, name, to)?;
+        let row = Node::new(self.alloc, child.number, kind, 1, dir);
+        self.nodes.insert_reserved(row);
+        self.made = child.number;
+        Ok(child)
     }
-}
 
-// Why no node is made at this name.
-fn refusal(edges: &[Edge], directory: u64, name: &[u8]) -> Option<GraphFault>
-    requires { InOrder edges.now }
-    ensures { result ≡ create_refusal (edge_map edges.now) (record { directory = directory; name = name.now }) }
-{
-    if is_cut_off(edges, directory) {
-        return Some(GraphFault::Removed);
+    // Why no node is made at this name.
+    fn create_fault(&self, dir: NodeRef, name: &[u8]) -> Option<GraphFault>
+        requires { Names self.now dir }
+        ensures { result ≡ create_refusal self.now.edges (record { directory = number_of dir; name = name.now }) }
+    {
+        if self.removed(dir) {
+            return Some(GraphFault::Removed);
+        }
+        if self.edges.find(dir.number, name).is_some() {
+            return Some(GraphFault::Exists);
+        }
+        if self.edges.len() >= MAX_NAMES {
+            return Some(GraphFault::NoSpace);
+        }
+        None
     }
-    if find_edge(edges, directory, name).is_some() {
-        return Some(GraphFault::Exists);
-    }
-    if edges.len() >= MAX_NAMES {
-        return Some(GraphFault::NoSpace);
-    }
-    None
-}
-
-// One more node, and the edge where it belongs. Room is made before anything changes.
-fn grow(
-    nodes: &mut Vec<Node>,
-    edges: &mut Vec<Edge>,
-    kind: NodeKind,
-    edge: Edge,
-) -> Result<(), NoMemory>
-    requires { InOrder edges.old.items }
-    ensures nodes { OnOk result (nodes.new.items ≡ nodes.old.items ++ record { kind = kind; bytes = []; holds = 0 } ∷ []) }
-    ensures edges { OnOk result (edges.new.items ≡ insert edges.old.items (front_count (comes_before (key_of edge)) edges.old.items) edge) }
-    ensures same_nodes { OnErr result (nodes.new.items ≡ nodes.old.items) }
-    ensures same_edges { OnErr result (edges.new.items ≡ edges.old.items) }
-{
-    nodes.reserve(1)?;
-    let place = place_of(edges, edge.parent, edge.name.as_bytes());
-    edges.insert(place, edge)?;
-    let alloc = *nodes.allocator();
-    nodes.push_reserved(Node::new(alloc, kind));
-    Ok(())
 }

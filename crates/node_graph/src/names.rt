@@ -1,6 +1,6 @@
 ghost use Rattle.std.specs.Prelude.{◌≡◌, ◌≤◌, length};
 
-use crate::MAX_NAME;
+use fidl_names::MAX_NAME;
 use std::marker::Model;
 
 /// A name of 1 to 255 bytes in an array, so that it takes no memory of its own. Contracts see it as
@@ -13,7 +13,7 @@ pub struct NameBuf {
 
 impl Model for NameBuf {
     ghost use Rattle.std.specs.Prelude.{ℕ, List, take, ◌≤◌};
-    ghost use Rattle.node_graph.specs.declared.TheConstants.{MAX_NAME};
+    ghost use Rattle.fidl_names.specs.declared.limits.TheConstants.{MAX_NAME};
 
     ghost Value = { List ℕ };
 

@@ -1,5 +1,3 @@
-ghost use Rattle.std.specs.Prelude.{◌≡◌, ◌≤◌, ◌-◌};
-
 use io_rights::Rights;
 
 /// What a node is.
@@ -18,20 +16,6 @@ pub enum NodeKind {
 pub struct NodeRef {
     pub(crate) place: usize,
     pub(crate) number: u64,
-}
-
-impl NodeRef {
-    // The reference to the node with this number, whose row stands at one less.
-    pub(crate) fn to(number: u64) -> NodeRef
-        requires { 1 ≤ number }
-        ensures number { result.number ≡ number }
-        ensures place { result.place ≡ number - 1 }
-    {
-        NodeRef {
-            place: (number - 1) as usize,
-            number,
-        }
-    }
 }
 
 /// What a name leads to: a node, and the mask of the rights that pass through the name.

@@ -1,18 +1,23 @@
-ghost use Rattle.std.specs.Prelude.{◌≡◌, ◌+◌, ◌-◌, ◌^◌, ◌<◌, ◌≤◌, nat_lt, List, [], length, OnOk, OnErr};
+ghost use Rattle.std.specs.Prelude.{◌≡◌, ◌+◌, ◌-◌, ◌^◌, ◌<◌, ◌≤◌, List, [], length, OnOk, OnErr};
 ghost use Rattle.node_graph.specs.Cell.{Cell};
 ghost use Rattle.node_graph.specs.Graph.{resized, overwritten};
+ghost use Rattle.node_graph.specs.Rows.{is_needed};
 
-use crate::nodes::NodeKind;
+use crate::nodes::{NodeKind, NodeRef};
 use fidl_names::NoMemory;
 use std::alloc::Global;
 use std::marker::Model;
 
-// A node's row with its holds. It stays for good.
+// A node's row with its holds, how many names lead to it, and the directory that a directory's name
+// stands in.
 #[derive(Drop)]
 pub struct Node {
+    number: u64,
     kind: NodeKind,
     bytes: Vec<u8>,
     holds: u32,
+    links: u32,
+    parent: NodeRef,
 }
 
 impl Model for Node {
@@ -20,17 +25,20 @@ impl Model for Node {
 
     ghost Value = { Cell };
 
-    ghost view = { λ node. record { kind = node.kind; bytes = node.bytes.items; holds = node.holds } };
+    ghost view = { λ node. record { number = node.number; kind = node.kind; bytes = node.bytes.items; holds = node.holds; links = node.links; parent = node.parent } };
 }
 
 impl Node {
-    pub fn new(alloc: Global, kind: NodeKind) -> Node
-        ensures { result ≡ record { kind = kind; bytes = []; holds = 0 } }
+    pub fn new(alloc: Global, number: u64, kind: NodeKind, links: u32, parent: NodeRef) -> Node
+        ensures { result ≡ record { number = number; kind = kind; bytes = []; holds = 0; links = links; parent = parent } }
     {
         Node {
+            number,
             kind,
             bytes: Vec::new(alloc),
             holds: 0,
+            links,
+            parent,
         }
     }
 
@@ -46,10 +54,23 @@ impl Node {
         &self.bytes
     }
 
-    pub fn is_held(&self) -> bool
-        ensures { result ≡ nat_lt 0 self.now.holds }
+    pub fn links(&self) -> u32
+        ensures { result ≡ self.now.links }
     {
-        self.holds > 0
+        self.links
+    }
+
+    pub fn parent(&self) -> NodeRef
+        ensures { result ≡ self.now.parent }
+    {
+        self.parent
+    }
+
+    // Whether it is the root, linked or held.
+    pub fn is_needed(&self) -> bool
+        ensures { result ≡ is_needed self.now }
+    {
+        self.number == 1 || self.links > 0 || self.holds > 0
     }
 
     pub fn hold(&mut self)
@@ -64,6 +85,28 @@ impl Node {
         ensures { self.new ≡ record self.old { holds = self.old.holds - 1 } }
     {
         self.holds -= 1;
+    }
+
+    // One name more leads to it.
+    pub fn link(&mut self)
+        requires { self.old.links < 2 ^ 32 - 1 }
+        ensures { self.new ≡ record self.old { links = self.old.links + 1 } }
+    {
+        self.links += 1;
+    }
+
+    // One name less leads to it.
+    pub fn unlink(&mut self)
+        requires { 0 < self.old.links }
+        ensures { self.new ≡ record self.old { links = self.old.links - 1 } }
+    {
+        self.links -= 1;
+    }
+
+    pub fn set_parent(&mut self, parent: NodeRef)
+        ensures { self.new ≡ record self.old { parent = parent } }
+    {
+        self.parent = parent;
     }
 
     // A gap before the offset is filled with zeros.

@@ -2,9 +2,8 @@ ghost use Rattle.std.specs.Prelude.{◌≡◌, ◌≤◌, ◌<◌, ◌^◌, ℕ,
 ghost use Rattle.node_graph.specs.declared.nodes.NodeKind.TheVariants.{Directory, File};
 ghost use Rattle.node_graph.specs.Graph.{number_of, Names, kind_at, holds_at, SameHolds};
 
-use crate::{
-    Graph, GraphFault, MAX_FILE, MAX_NAME, NameBuf, NodeKind, NodeRef, changes_keep_trees_sound,
-};
+use crate::{Graph, GraphFault, NameBuf, NodeKind, NodeRef, changes_keep_trees_sound};
+use fidl_names::{MAX_FILE, MAX_NAME};
 use io_rights::{Operation, Rights};
 use std::process::Abort;
 use std::test::Fail;

@@ -9,7 +9,7 @@ use Rattle.io_rights.specs.Operations.{OperationSet}
 use Rattle.node_graph.specs.declared.nodes.NodeKind.{NodeKind}
 use Rattle.node_graph.specs.declared.nodes.NodeKind.TheVariants.{Directory, File}
 use Rattle.node_graph.specs.Graph.{create_refusal}
-use Rattle.node_graph.specs.Tree.{NodeRow, EdgeKey, Tree, row_of, kind_of, filled, make, fill, after, IsSound}
+use Rattle.node_graph.specs.Tree.{NodeRow, EdgeKey, Tree, row_of, kind_of, filled, make, new_row, fill, after, IsSound}
 use Rattle.node_graph.proofs.Soundness.{bare_sound, made_sound, filled_sound}
 use Rattle.path_walk.specs.Parts.{last_name, parent_of}
 use Rattle.path_walk.proofs.PartLemmas.{last_valid, name_short}
@@ -37,7 +37,7 @@ filled_last rows kind bytes =
     ∙ ap (λ (n : ℕ). slice_set (rows ++ row ∷ []) n (record { kind = kind; bytes = bytes })) place
     ∙ set_last rows row (record { kind = kind; bytes = bytes })
 
-made_full : (tree : Tree) (key : EdgeKey) (kind : NodeKind) (mask : OperationSet) (bytes : List ℕ) → after (after tree (make key kind mask)) (fill (length tree.nodes + 1) bytes) ≡ with_node tree key kind mask bytes
+made_full : (tree : Tree) (key : EdgeKey) (kind : NodeKind) (mask : OperationSet) (bytes : List ℕ) → after (after tree (make key (new_row kind) mask)) (fill (length tree.nodes + 1) bytes) ≡ with_node tree key kind mask bytes
 made_full tree key kind mask bytes = ap (λ (rows : List NodeRow). record { nodes = rows; edges = (with_node tree key kind mask bytes).edges }) (filled_last tree.nodes kind bytes)
 
 with_sound : (tree : Tree) (key : EdgeKey) (kind : NodeKind) (mask : OperationSet) (bytes : List ℕ) → IsSound tree → create_refusal tree.edges key ≡ None → kind_of tree key.directory ≡ Some Directory → 1 ≤ length key.name → length key.name ≤ limit.MAX_NAME →
@@ -47,7 +47,7 @@ with_sound tree key kind mask bytes sound free parent some few (inr none) short 
 with_sound tree key kind mask bytes sound free parent some few (inl file) short =
     subst (λ (k : NodeKind). IsSound (with_node tree key k mask bytes)) (sym file)
     (subst IsSound (made_full tree key File mask bytes)
-    (filled_sound (after tree (make key File mask)) (length tree.nodes + 1) [] bytes (made_sound tree key File mask sound free parent some few) (row_last tree.nodes (record { kind = File; bytes = [] })) short))
+    (filled_sound (after tree (make key (new_row File) mask)) (length tree.nodes + 1) [] bytes (made_sound tree key File mask sound free parent some few) (row_last tree.nodes (record { kind = File; bytes = [] })) short))
 
 -- ---- a list
 

@@ -14,6 +14,7 @@ use Rattle.std.proofs.lemmas.List.Elements.{All-get_or}
 use Rattle.std.proofs.lemmas.List.Quantifiers.{all_pairs_push}
 use Rattle.std.proofs.lemmas.Option.{slice_get-map, slice_get_within, get_or_from_slice_get}
 use Rattle.std.proofs.lemmas.Slice.Eq.{bytes_eq-Decides}
+use Rattle.fidl_names.specs.First.{cause_if, first_of}
 use Rattle.fidl_names.specs.declared.limits.TheConstants as limit
 use Rattle.node_graph.specs.declared.faults.GraphFault.TheVariants as fault
 use Rattle.node_graph.specs.declared.nodes.NodeKind.{NodeKind}
@@ -96,9 +97,9 @@ not_removed false false h = absurd (cc)
 
 refusal_none : (edges : Edges) (key : EdgeKey) → is_removed edges key.directory ≡ false → finite.get edges key ≡ None → finite.len edges < limit.MAX_NAMES → create_refusal edges key ≡ None
 refusal_none edges key here free few =
-    ap (λ b. if b then Some fault.Removed else (if is_some (finite.get edges key) then Some fault.Exists else (if nat_le limit.MAX_NAMES (finite.len edges) then Some fault.NoSpace else None))) here
-    ∙ ap (λ o. if is_some o then Some fault.Exists else (if nat_le limit.MAX_NAMES (finite.len edges) then Some fault.NoSpace else None)) free
-    ∙ ap (λ b. if b then Some fault.NoSpace else None) (below (finite.len edges) few)
+    ap (λ b. first_of (cause_if b fault.Removed ∷ cause_if (is_some (finite.get edges key)) fault.Exists ∷ cause_if (nat_le limit.MAX_NAMES (finite.len edges)) fault.NoSpace ∷ [])) here
+    ∙ ap (λ o. first_of (cause_if (is_some o) fault.Exists ∷ cause_if (nat_le limit.MAX_NAMES (finite.len edges)) fault.NoSpace ∷ [])) free
+    ∙ ap (λ b. first_of (cause_if b fault.NoSpace ∷ [])) (below (finite.len edges) few)
   where
     below : (count : ℕ) → count < limit.MAX_NAMES → nat_le limit.MAX_NAMES count ≡ false
     below count few = grind (arith, nat_tests)

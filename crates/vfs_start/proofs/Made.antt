@@ -10,7 +10,7 @@ use Rattle.io_rights.specs.Operations.{OperationSet}
 use Rattle.node_graph.specs.declared.nodes.NodeKind.{NodeKind}
 use Rattle.node_graph.specs.declared.nodes.NodeRef.{NodeRef}
 use Rattle.node_graph.specs.Graph.{Seat, Kept, seat_of, Names, number_of, kind_at, bytes_at, holds_at, is_kept, StandsFor, Leads, SameHolds, KeepsNames, write_change, overwritten}
-use Rattle.node_graph.specs.Tree.{NodeRow, EdgeKey, EdgeTo, Edges, Tree, Change, make, filled, row_of, kind_of, is_linked, after}
+use Rattle.node_graph.specs.Tree.{NodeRow, EdgeKey, EdgeTo, Edges, Tree, Change, make, new_row, filled, row_of, kind_of, is_linked, after}
 use Rattle.tree_file.specs.Numbering.{with_node}
 use Rattle.tree_file.proofs.Rising.{filled_last, row_last}
 use Rattle.tree_file.proofs.Standing.{linked_by}
@@ -63,7 +63,7 @@ over_none bytes = ap (λ rest. bytes ++ rest) (drop_none (0 + length bytes)) ∙
 
 -- a node that is made, and its bytes that are written, are a node with its bytes
 pub made_and_written : (tree : Tree) (key : EdgeKey) (kind : NodeKind) (mask : OperationSet) (bytes : List ℕ) →
-    after (after tree (make key kind mask)) (write_change (length tree.nodes + 1) [] 0 bytes) ≡ with_node tree key kind mask bytes
+    after (after tree (make key (new_row kind) mask)) (write_change (length tree.nodes + 1) [] 0 bytes) ≡ with_node tree key kind mask bytes
 made_and_written tree key kind mask [] = refl
 made_and_written tree key kind mask (byte ∷ bytes) =
     ap (λ rows. record { nodes = rows; edges = finite.insert tree.edges key (record { child = length tree.nodes + 1; mask = mask }) })
@@ -84,7 +84,7 @@ names_on old mid new edges holds first second node names kept =
 
 -- what `create` leaves, where no bytes are written
 module _ (old mid : Kept) (tree : Tree) (key : EdgeKey) (kind : NodeKind) (mask : OperationSet) (made : NodeRef) (stood : StandsFor old tree)
-    (leads : Leads old mid (make key kind mask)) (number : number_of made ≡ old.made + 1) (named : Names mid made) (holds : SameHolds old mid) (names : KeepsNames old mid) where
+    (leads : Leads old mid (make key (new_row kind) mask)) (number : number_of made ≡ old.made + 1) (named : Names mid made) (holds : SameHolds old mid) (names : KeepsNames old mid) where
   pub makes_bare : (bytes : List ℕ) → bytes ≡ [] → Makes old mid tree key kind mask bytes made
   makes_bare bytes none = record {
     grown = subst (λ bs. StandsFor mid (with_node tree key kind mask bs)) (sym none) (leads tree stood);
@@ -99,7 +99,7 @@ module _ (old mid : Kept) (tree : Tree) (key : EdgeKey) (kind : NodeKind) (mask 
 
   bytes_none : bytes_at mid (number_of made) ≡ []
   bytes_none =
-      named_bytes mid (after tree (make key kind mask)) made (record { kind = kind; bytes = [] }) (leads tree stood) named
+      named_bytes mid (after tree (make key (new_row kind) mask)) made (record { kind = kind; bytes = [] }) (leads tree stood) named
       (ap (row_of (tree.nodes ++ record { kind = kind; bytes = [] } ∷ [])) count_is ∙ row_last tree.nodes (record { kind = kind; bytes = [] }))
 
   -- and where they are
@@ -109,7 +109,7 @@ module _ (old mid : Kept) (tree : Tree) (key : EdgeKey) (kind : NodeKind) (mask 
         let change : write_change (number_of made) (bytes_at mid (number_of made)) 0 bytes ≡ write_change (length tree.nodes + 1) [] 0 bytes =
         ap (λ (n : ℕ). write_change n (bytes_at mid (number_of made)) 0 bytes) count_is ∙ ap (λ (was : List ℕ). write_change (length tree.nodes + 1) was 0 bytes) bytes_none in
         subst (StandsFor new) (made_and_written tree key kind mask bytes)
-        (subst (λ (change : Change). StandsFor new (after (after tree (make key kind mask)) change)) change (written (after tree (make key kind mask)) (leads tree stood)))
+        (subst (λ (change : Change). StandsFor new (after (after tree (make key (new_row kind) mask)) change)) change (written (after tree (make key (new_row kind) mask)) (leads tree stood)))
 
     same_edges : new.edges ≡ mid.edges
     same_edges = let first = leads tree stood in grown.edges ∙ sym first.edges

@@ -4,7 +4,7 @@ ghost use Rattle.std.specs.Prelude.{◌≡◌, ◌⊎◌, ◌<◌, ◌≤◌, �
 ghost use Rattle.std.specs.BTreeMap.{get};
 ghost use Rattle.node_graph.specs.declared.nodes.NodeKind.TheVariants.{Directory, File};
 ghost use Rattle.node_graph.specs.Graph.{KeepsNames, Leads, Names, SameHolds, StandsFor, bytes_at, create_refusal, kind_at, number_of, write_change};
-ghost use Rattle.node_graph.specs.Tree.{Tree, make};
+ghost use Rattle.node_graph.specs.Tree.{Tree, make, new_row};
 ghost use Rattle.path_walk.specs.Names.{IsName};
 ghost use Rattle.path_walk.specs.Parts.{is_dot, last_name};
 ghost use Rattle.tree_file.specs.Accepted.{AreAccepted};
@@ -45,7 +45,7 @@ fn create(
     requires few { length name.now ≤ MAX_NAME }
     requires room { graph.old.made < 2 ^ 63 }
     requires free { create_refusal graph.old.edges (record { directory = number_of dir; name = name.now }) ≡ None }
-    ensures created { OnOk result (Leads graph.old graph.new (make (record { directory = number_of dir; name = name.now }) kind mask)) }
+    ensures created { OnOk result (Leads graph.old graph.new (make (record { directory = number_of dir; name = name.now }) (new_row kind) mask)) }
     ensures number { IfOk result (λ made. number_of made ≡ graph.old.made + 1) }
     ensures kept { IfOk result (λ made. Names graph.new made) }
     ensures kind { OnOk result (kind_at graph.new (graph.old.made + 1) ≡ Some kind) }

@@ -9,7 +9,7 @@ use Rattle.io_messages.specs.Replies.{done, payload, counted, attributes}
 use Rattle.io_rights.specs.declared.operations.Operation.TheVariants as op
 use Rattle.io_rights.specs.Operations.{all}
 use Rattle.node_graph.specs.declared.nodes.NodeKind.TheVariants.{File}
-use Rattle.node_graph.specs.Tree.{make, cut, fill}
+use Rattle.node_graph.specs.Tree.{make, new_row, cut, fill}
 use Rattle.conn_rules.specs.Answers.{Act, only, replies, binds, nothing_told}
 use Rattle.conn_rules.specs.Births.{fresh}
 use Rattle.conn_rules.specs.NameRows.{name_in}
@@ -123,7 +123,7 @@ module _
   request_5 = asks.open_path (codes "d/f") 0x20800000012 None 4
 
   abbrev act_5 : Act
-  act_5 = record { answer = binds bound_4.birth false; position = fresh; change = make (name_in 2 (codes "f")) File all; told = record { removed = None; added = Some (name_in 2 (codes "f")); deleted = None } }
+  act_5 = record { answer = binds bound_4.birth false; position = fresh; change = make (name_in 2 (codes "f")) (new_row File) all; told = record { removed = None; added = Some (name_in 2 (codes "f")); deleted = None } }
 
   acts_5 : Does two_servers (was_sent (request_sent past_4 root making (4 ∷ [])) ∷ past_4) root request_5 act_5
   unfolding looked_through

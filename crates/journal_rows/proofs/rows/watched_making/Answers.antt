@@ -9,7 +9,7 @@ use Rattle.io_messages.specs.Replies.{settled}
 use Rattle.io_rights.specs.declared.operations.Operation.TheVariants as op
 use Rattle.io_rights.specs.Operations.{all}
 use Rattle.node_graph.specs.declared.nodes.NodeKind.TheVariants.{File}
-use Rattle.node_graph.specs.Tree.{make}
+use Rattle.node_graph.specs.Tree.{make, new_row}
 use Rattle.path_walk.specs.Names.{dot}
 use Rattle.conn_rules.specs.Answers.{Act, only, binds, watches}
 use Rattle.conn_rules.specs.Births.{fresh}
@@ -74,7 +74,7 @@ module _
   request_2 = asks.open_path (codes "b") 0x20800000000 None 4
 
   abbrev act_2 : Act
-  act_2 = record { answer = binds bound_4.birth false; position = fresh; change = make (name_in 2 (codes "b")) File all; told = record { removed = None; added = Some (name_in 2 (codes "b")); deleted = None } }
+  act_2 = record { answer = binds bound_4.birth false; position = fresh; change = make (name_in 2 (codes "b")) (new_row File) all; told = record { removed = None; added = Some (name_in 2 (codes "b")); deleted = None } }
 
   acts_2 : Does two_servers (was_sent (request_sent past_1 bound_2 making (4 ∷ [])) ∷ past_1) bound_2 request_2 act_2
   unfolding looked_through

@@ -1,31 +1,26 @@
-use Rattle.std.proofs.Common.{ap, sym, ◌∙◌, ◌-◌, ◌≡◌, arith}
-use Rattle.std.specs.Option.{option_map_or}
-use Rattle.std.specs.Prelude.{if◌then◌else◌, ◌==◌}
-use Rattle.node_graph.specs.Graph.{Seat, holds_at}
-use Rattle.node_graph.proofs.Seats.{place_within, seat_here}
-use Rattle.node_graph.proofs.States.{replaced_here, holds_now, leads_stay, keeps_names}
+use Rattle.std.proofs.Common.{ap}
+use Rattle.std.specs.Prelude.{is_some}
+use Rattle.node_graph.proofs.Seats.{present}
+use Rattle.node_graph.proofs.Calls.{holds_here, written, rows_released, released_now, released_tree, released_names}
 use Rattle.node_graph.proofs.graph.Graph.release.Goals as goal
 
 pub index_mut-row-requires : goal.index_mut-row-requires
-index_mut-row-requires c = let within = place_within _ _ _ c.args.node c.self.view_is c.requires.named in omega (arith, c.self.inside.nodes.ok.0)
+index_mut-row-requires c = present c.self.inside.nodes c.self.inside.edges c.self.inside.made _ c.args.node c.self.view_is c.requires.named
 
 pub release-requires : goal.release-requires
-release-requires c =
-    let holds : holds_at c.args.self.now c.args.node.number ≡ c.index_mut-row.result.now.holds =
-    ap (λ s. option_map_or (λ (s : Seat). s.holds) s 0) (seat_here _ _ _ c.args.node c.index_mut-row.result.now c.self.view_is c.requires.named c.index_mut-row.ensures.value) in
-    rw (← holds) c.requires.held
+release-requires c = rw (← holds_here _ _ _ _ c.args.node c.self.view_is c.self.invariant c.requires.named c.index_mut-row.result.now c.index_mut-row.ensures.value) c.requires.held
+
+pub forget-requires : goal.forget-requires
+forget-requires c = ap is_some ((written _ _ _ _ c.args.node c.self.view_is c.self.invariant c.requires.named c.index_mut-row.result.now c.release.new.self c.index_mut-row.ensures.value).changed)
+
+pub invariant_of-self : goal.invariant_of-self
+invariant_of-self c = rows_released _ _ _ _ c.args.node c.self.view_is c.self.invariant c.requires.named c.index_mut-row.result.now c.release.new.self c.forget.new.nodes c.index_mut-row.ensures.value c.release.ensures c.forget.ensures
 
 pub returns-clause-released : goal.returns-clause-released
-returns-clause-released c n =
-    let holds : holds_at c.args.self.now c.args.node.number ≡ c.index_mut-row.result.now.holds =
-    ap (λ s. option_map_or (λ (s : Seat). s.holds) s 0) (seat_here _ _ _ c.args.node c.index_mut-row.result.now c.self.view_is c.requires.named c.index_mut-row.ensures.value) in
-    let step = replaced_here _ _ _ c.args.node c.index_mut-row.result.now c.release.new.self c.self.view_is c.requires.named c.index_mut-row.ensures.value (ap (λ cell. cell.kind) c.release.ensures) in
-    holds_now step n ∙ ap (λ h. if n == c.args.node.number then h else holds_at c.args.self.now n) (ap (λ cell. cell.holds) c.release.ensures ∙ ap (λ h. h - 1) (sym holds))
+returns-clause-released c = released_now _ _ _ _ c.args.node c.self.view_is c.self.invariant c.requires.named c.index_mut-row.result.now c.release.new.self c.forget.new.nodes c.index_mut-row.ensures.value c.release.ensures c.forget.ensures
 
 pub returns-clause-tree : goal.returns-clause-tree
-returns-clause-tree c =
-    leads_stay (replaced_here _ _ _ c.args.node c.index_mut-row.result.now c.release.new.self c.self.view_is c.requires.named c.index_mut-row.ensures.value (ap (λ cell. cell.kind) c.release.ensures)) (ap (λ cell. cell.bytes) c.release.ensures)
+returns-clause-tree c = released_tree _ _ _ _ c.args.node c.self.view_is c.self.invariant c.requires.named c.index_mut-row.result.now c.release.new.self c.forget.new.nodes c.index_mut-row.ensures.value c.release.ensures c.forget.ensures
 
 pub returns-clause-names : goal.returns-clause-names
-returns-clause-names c =
-    keeps_names (replaced_here _ _ _ c.args.node c.index_mut-row.result.now c.release.new.self c.self.view_is c.requires.named c.index_mut-row.ensures.value (ap (λ cell. cell.kind) c.release.ensures))
+returns-clause-names c = released_names _ _ _ _ c.args.node c.self.view_is c.self.invariant c.requires.named c.index_mut-row.result.now c.release.new.self c.forget.new.nodes c.index_mut-row.ensures.value c.release.ensures c.forget.ensures

@@ -1,7 +1,6 @@
-use Rattle.std.proofs.Common.{ap, ◌∙◌}
-use Rattle.node_graph.specs.Tree.{is_removed}
-use Rattle.node_graph.specs.Rows.{edge_map}
+use Rattle.std.proofs.Common.{◌∙◌}
+use Rattle.node_graph.proofs.Calls.{removed_counted}
 use Rattle.node_graph.proofs.graph.Graph.removed.Goals as goal
 
-pub returns : goal.returns
-returns c = c.is_cut_off.ensures ∙ ap (λ edges. is_removed (edge_map edges) c.args.node.number) c.deref.ensures.value ∙ ap (λ g. is_removed g.edges c.args.node.number) c.self.view_is
+pub returns-then-node-ne1 : goal.returns-then-node-ne1
+returns-then-node-ne1 c = removed_counted c.args.self.now.edges c.args.node.number c.links.result c.if-node-ne1.true (c.links.ensures ∙ c.row.ensures.links)

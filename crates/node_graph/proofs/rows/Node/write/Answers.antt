@@ -10,5 +10,5 @@ returns-clause-written c =
     let most = c.max.ensures ∙ ap (λ n. max n (c.args.offset + length c.args.bytes.now)) (c.len.ensures ∙ count) in
     let filled = c.deref_mut.ensures.value ∙ c.in_ok-resize.ensures.items ∙ ap (λ n. take c.max.result c.self.inside.bytes.items ++ replicate (c.max.result - n) 0) count in
     let here = written_items c.resize.new.self c.self.inside.bytes.items c.args.offset c.max.result c.args.bytes.now c.deref_mut.result.now c.copy_from_slice.new.self most filled c.copy_from_slice.ensures.after c.deref_mut.ensures.value in
-    let P : Cell → Cell = λ cell. record { kind = cell.kind; bytes = overwritten cell.bytes c.args.offset c.args.bytes.now; holds = cell.holds } in
-    ap (λ b. record { kind = c.self.inside.kind; bytes = b; holds = c.self.inside.holds }) here ∙ ap P c.self.view_is
+    let P : Cell → Cell = λ cell. record { number = cell.number; kind = cell.kind; bytes = overwritten cell.bytes c.args.offset c.args.bytes.now; holds = cell.holds; links = cell.links; parent = cell.parent } in
+    ap (λ b. record { number = c.self.inside.number; kind = c.self.inside.kind; bytes = b; holds = c.self.inside.holds; links = c.self.inside.links; parent = c.self.inside.parent }) here ∙ ap P c.self.view_is

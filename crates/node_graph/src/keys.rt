@@ -1,0 +1,95 @@
+ghost use Rattle.std.specs.Prelude.{◌≡◌, ◌≤◌, length, refl};
+ghost use Rattle.std.specs.Cmp.{partial_order_from_total, partial_equiv_from_equiv, eq_by_cmp_equiv};
+ghost use Rattle.std.specs.Ordering.{eq_by_cmp, as_partial_cmp};
+ghost use Rattle.node_graph.specs.Tree.{EdgeKey, edge_cmp};
+ghost use Rattle.node_graph.specs.Keys.{edges_total};
+
+use fidl_names::MAX_NAME;
+use std::cmp::Ordering;
+use std::marker::Model;
+
+/// Where an edge starts: the number of a directory, and a name in it, or what a name is compared with.
+#[derive(Drop)]
+pub struct EdgeName {
+    directory: u64,
+    bytes: [u8; MAX_NAME],
+    length: usize,
+}
+
+impl Model for EdgeName {
+    ghost use Rattle.std.specs.Prelude.{take, ◌≤◌};
+    ghost use Rattle.fidl_names.specs.declared.limits.TheConstants.{MAX_NAME};
+    ghost use Rattle.node_graph.specs.Tree.{EdgeKey};
+    ghost use Rattle.node_graph.specs.Codes.{key_code};
+
+    ghost Value = { EdgeKey };
+
+    ghost coded = { key_code };
+
+    ghost view = { λ key. record { directory = key.directory; name = take key.length key.bytes } };
+
+    ghost invariant = { λ key. key.length ≤ MAX_NAME };
+}
+
+impl EdgeName {
+    pub fn new(directory: u64, name: &[u8]) -> EdgeName
+        requires { length name.now ≤ MAX_NAME }
+        ensures { result ≡ record { directory = directory; name = name.now } }
+    {
+        let mut bytes = [0; MAX_NAME];
+        bytes[..name.len()].copy_from_slice(name);
+        EdgeName {
+            directory,
+            bytes,
+            length: name.len(),
+        }
+    }
+
+    pub fn name(&self) -> &[u8]
+        ensures value { result.now ≡ self.now.name }
+        ensures few { length result.now ≤ MAX_NAME }
+    {
+        &self.bytes[..self.length]
+    }
+}
+
+impl PartialEq for EdgeName {
+    ghost eq = { eq_by_cmp edge_cmp };
+
+    ghost laws = { partial_equiv_from_equiv (eq_by_cmp_equiv edges_total) };
+
+    fn eq(&self, other: &EdgeName) -> bool {
+        self.cmp(other).is_eq()
+    }
+}
+
+impl Eq for EdgeName {
+    ghost laws = { eq_by_cmp_equiv edges_total };
+}
+
+impl PartialOrd for EdgeName {
+    ghost partial_cmp = { as_partial_cmp edge_cmp };
+
+    ghost laws = { partial_order_from_total edges_total };
+
+    fn partial_cmp(&self, other: &EdgeName) -> Option<Ordering> {
+        Some(self.cmp(other))
+    }
+}
+
+impl Ord for EdgeName {
+    ghost cmp = { edge_cmp };
+
+    ghost total = { edges_total };
+
+    ghost matches_partial_cmp = { λ x y. refl };
+
+    ghost matches_eq = { λ x y. refl };
+
+    fn cmp(&self, other: &EdgeName) -> Ordering {
+        match self.directory.cmp(&other.directory) {
+            Ordering::Equal => self.name().cmp(other.name()),
+            apart => apart,
+        }
+    }
+}
