@@ -45,11 +45,12 @@ abbrev pub FaultsAreMeant : Type 0
 FaultsAreMeant =
     (layout : Layout) (message : List ℕ) (handles : List Handle) (e : WireFault) → body_of layout message handles ≡ Err e → IsFaultOf layout message handles e
 
--- and what is meant is answered, so that a body has at most one fault
+-- and what is meant is answered
 abbrev pub MeantFaultsAreAnswered : Type 0
 MeantFaultsAreAnswered =
     (layout : Layout) (message : List ℕ) (handles : List Handle) (e : WireFault) → IsFaultOf layout message handles e → body_of layout message handles ≡ Err e
 
+-- so a body has at most one fault
 abbrev pub FaultsAreMeantOnce : Type 0
 FaultsAreMeantOnce =
     (layout : Layout) (message : List ℕ) (handles : List Handle) (a b : WireFault) → IsFaultOf layout message handles a → IsFaultOf layout message handles b → a ≡ b

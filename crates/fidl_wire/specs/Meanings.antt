@@ -67,6 +67,7 @@ pub record IsFirstUsed (message : List ℕ) (from until at : ℕ) : Type 0 where
   pub used : slice_index message at ≢ 0
   pub blank : AreBlank message from at
 
+-- padding between two fields: the fault is at the first byte that is not zero
 abbrev pub PadFault : ℕ → Spot → ℕ → WireWhat → Type 0
 PadFault size s at Padding = IsFirstUsed s.message s.place (s.place + size) at
 PadFault size s at _ = ⊥
@@ -83,6 +84,7 @@ abbrev pub HasNone : HandleKind → List Handle → Type 0
 HasNone kind [] = Unit {0}
 HasNone kind (h ∷ hs) = is_kind kind h ≡ false
 
+-- a handle: its word, and then the handle itself
 abbrev pub HandleFault : HandleKind → Bool → Spot → ℕ → WireWhat → Type 0
 HandleFault kind nullable s at Presence = (at ≡ s.place) × IsNoMark nullable (number_at 4 s.place s.message)
 HandleFault kind nullable s at Handles = (at ≡ s.place) × (number_at 4 s.place s.message ≡ present_word) × HasNone kind s.handles
@@ -90,10 +92,11 @@ HandleFault kind nullable s at _ = ⊥
 
 -- ---- strings and vectors
 
--- the count and the mark of a list
+-- the count of a list
 abbrev pub count_of : Spot → ℕ
 count_of s = number_at 8 s.place s.message
 
+-- and its mark
 abbrev pub mark_of : Spot → ℕ
 mark_of s = number_at 8 (s.place + 8) s.message
 
@@ -111,6 +114,7 @@ abbrev pub IsText : Bool → List ℕ → Type 0
 IsText true bytes = IsUtf8 bytes
 IsText false bytes = Unit {0}
 
+-- a list: its mark, its count, its text, and the padding behind it, each where those before it are as they have to be
 abbrev pub ListFault : Bool → Spot → ℕ → WireWhat → Type 0
 ListFault is_text s at Presence = (at ≡ s.place) × (mark_of s ≢ present_list)
 ListFault is_text s at Count = (at ≡ s.place) × (mark_of s ≡ present_list) × (length s.message < s.out + padded (count_of s))
@@ -137,6 +141,7 @@ pub record IsEntered (size at out left : ℕ) (message : List ℕ) : Type 0 wher
   pub fits : end_of size at out message ≤ length message
   pub enough : handles_at at message ≤ left
 
+-- the envelope of a value out of line: its form or its end, and then its handles
 abbrev pub EntryFault : ℕ → ℕ → ℕ → ℕ → List ℕ → WireWhat → Type 0
 EntryFault size at out left message Envelope = (HasForm at message → ⊥) ⊎ (length message < end_of size at out message)
 EntryFault size at out left message Handles = HasForm at message × (end_of size at out message ≤ length message) × (left < handles_at at message)
@@ -149,6 +154,7 @@ pub record IsNoNumber (at out left : ℕ) (message : List ℕ) : Type 0 where
   pub entered : IsEntered 8 at out left message
   pub counts : bytes_at at message ≡ 8 → handles_at at message ≡ 0 → ⊥
 
+-- a known member: its envelope, and then what that counts
 abbrev pub KnownFault : ℕ → ℕ → ℕ → List ℕ → WireWhat → Type 0
 KnownFault at out left message Envelope = EntryFault 8 at out left message Envelope ⊎ IsNoNumber at out left message
 KnownFault at out left message what = EntryFault 8 at out left message what
@@ -158,6 +164,7 @@ pub record IsFewLeft (at left : ℕ) (message : List ℕ) : Type 0 where
   pub inlined : flags_at at message ≡ 1
   pub few : left < handles_at at message
 
+-- an unknown member: the handles that its envelope counts, and out of line its form and its end before them
 abbrev pub UnknownFault : ℕ → ℕ → ℕ → List ℕ → WireWhat → Type 0
 UnknownFault at out left message Handles =
     IsFewLeft at left message ⊎ ((flags_at at message ≢ 1) × EntryFault 0 at out left message Handles)
@@ -184,6 +191,7 @@ pub record MembersFault (known : List Bool) (count first out : ℕ) (handles : L
   pub means : MemberFault (is_known (drop before known)) at (out + length part.outside) (length handles - length part.handles) message what
   pub none : NoneIsMember (is_known (drop before known)) message at (out + length part.outside) (drop (length part.handles) handles)
 
+-- a table: its mark, its count, and then its members
 abbrev pub TableFault : List Bool → Spot → ℕ → WireWhat → Type 0
 TableFault known s at Presence = (at ≡ s.place) × (mark_of s ≢ present_list)
 TableFault known s at Count = (at ≡ s.place) × (mark_of s ≡ present_list) × (length s.message < s.out + 8 * count_of s)
@@ -241,6 +249,7 @@ pub record EndsFault (envelope : Option ℕ) (cells : List Cell) (s : Spot) (at 
   pub stands : Stands s.message s.place s.out s.handles part
   pub means : EndFault envelope s part at what
 
+-- an object that the message ends with: a cell, or the end
 abbrev pub ObjectFault : Option ℕ → List Cell → Spot → ℕ → WireWhat → Type 0
 ObjectFault envelope cells s at what = CellsFault cells s at what ⊎ EndsFault envelope cells s at what
 
@@ -252,6 +261,7 @@ pub record IsInlined (size : ℕ) (message : List ℕ) (handles : List Handle) :
   pub enough : handles_at 24 message ≤ length handles
   pub blank : AreBlank message (24 + size) 28
 
+-- a union whose value stands in its envelope: the flags, the handles, the bytes behind the value, no handle; then what is left over
 abbrev pub InlinedFault : ℕ → List ℕ → List Handle → ℕ → WireWhat → Type 0
 InlinedFault size message handles at Envelope = (at ≡ 24) × ((flags_at 24 message ≢ 1) ⊎ (IsInlined size message handles × (handles_at 24 message ≢ 0)))
 InlinedFault size message handles at Padding = (flags_at 24 message ≡ 1) × (handles_at 24 message ≤ length handles) × IsFirstUsed message (24 + size) 28 at
@@ -269,6 +279,7 @@ OutsideFault cells message handles at what =
     ⊎ ((4 < sizes_of cells) × IsEntered (sizes_of cells) 24 32 (length handles) message
     × ObjectFault (Some 24) cells (before_object message handles 32 (sizes_of cells)) at what)
 
+-- the value of a branch
 abbrev pub VariantFault : Variant → List ℕ → List Handle → ℕ → WireWhat → Type 0
 VariantFault empty message handles at what = InlinedFault 0 message handles at what
 VariantFault word message handles at what = InlinedFault 4 message handles at what
@@ -287,6 +298,7 @@ pub record IsShort (size : ℕ) (message : List ℕ) (at : ℕ) (what : WireWhat
   pub place : at ≡ length message
   pub short : length message < 16 + padded size
 
+-- a body: too short a message, or its object or union
 abbrev pub BodyFault : Layout → List ℕ → List Handle → ℕ → WireWhat → Type 0
 BodyFault (struct cells) message handles at what =
     IsShort (sizes_of cells) message at what

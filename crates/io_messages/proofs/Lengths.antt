@@ -1,6 +1,6 @@
 -- How many bytes the parts of fields have.
 use Rattle.std.proofs.Common.{◌≡◌, ℕ, ◌+◌, ◌*◌, ◌%◌, ◌<◌, ◌≤◌, List, [], ◌∷◌, ◌++◌, length, replicate, take, drop, get_or, Option, Some, None, is_some, true, false, MatchOption, SomeIff, ◌-◌, inl, inr, refl, sym, ap, ◌∙◌, append_assoc, length-append, length-take, drop-cons, add-one, arith}
-use Rattle.std.proofs.lemmas.List.{append-nil, length-replicate, take_more}
+use Rattle.std.proofs.lemmas.List.{length-replicate, take_more}
 use Rattle.std.proofs.lemmas.Bool.{cases_lt}
 use denote.Bor.{Bor}
 use Rattle.byteorder.specs.Numbers.{length-bytes_low_first}
