@@ -1,6 +1,6 @@
 // What a start lends, over a tree with every kind of item.
 
-use crate::{Start, StartClient, StartMount, StartNode, start_of};
+use crate::{StartClient, StartMount, StartNode, start_of};
 use io_rights::{Operation, Rights};
 use node_graph::NodeKind;
 use std::test::Fail;
@@ -20,114 +20,101 @@ fn read_and_ask() -> Rights {
     Rights::of(Operation::ReadBytes).join(Rights::of(Operation::GetAttributes))
 }
 
-fn node(start: &Start, i: u32) -> Option<StartNode<'_>> {
-    if i < start.nodes() {
-        Some(start.node_at(i))
-    } else {
-        None
-    }
+fn is_node(
+    node: &StartNode<'_>,
+    server: u32,
+    path: &[u8],
+    kind: NodeKind,
+    rights: Rights,
+    bytes: &[u8],
+) -> bool {
+    node.server == server
+        && node.path == path
+        && node.kind == kind
+        && node.rights == rights
+        && node.bytes == bytes
 }
 
-fn mount(start: &Start, i: u32) -> Option<StartMount<'_>> {
-    if i < start.mounts() {
-        Some(start.mount_at(i))
-    } else {
-        None
-    }
+fn is_mount(
+    mount: &StartMount<'_>,
+    server: u32,
+    path: &[u8],
+    target: u32,
+    at: &[u8],
+    rights: Rights,
+) -> bool {
+    mount.server == server
+        && mount.path == path
+        && mount.target == target
+        && mount.at == at
+        && mount.rights == rights
 }
 
-fn client(start: &Start, i: u32) -> Option<StartClient<'_>> {
-    if i < start.clients() {
-        Some(start.client_at(i))
-    } else {
-        None
-    }
-}
-
-// A row of a node: its server, path, kind, rights and bytes.
-type Row = (u32, &'static [u8], NodeKind, Rights, &'static [u8]);
-
-fn is_node(found: Option<StartNode<'_>>, row: Row) -> bool {
-    let (server, path, kind, rights, bytes) = row;
-    match found {
-        Some(node) => {
-            node.server == server
-                && node.path == path
-                && node.kind == kind
-                && node.rights == rights
-                && node.bytes == bytes
-        }
-        None => false,
-    }
+fn is_client(
+    client: &StartClient<'_>,
+    endpoint: u32,
+    server: u32,
+    path: &[u8],
+    rights: Rights,
+) -> bool {
+    client.endpoint == endpoint
+        && client.server == server
+        && client.path == path
+        && client.rights == rights
 }
 
 #[test]
 fn nodes_are_lent_in_the_order_of_the_file(rt: HostRuntime) -> Result<(), Fail> {
     let start = start_of(rt.alloc(), TREE).ok().ok_or("a tree")?;
+    if start.nodes() != 5 {
+        return Err("five nodes".into());
+    }
     let all = Rights::all();
-    let rows: [Row; 5] = [
-        (0, b"d", NodeKind::Directory, all, b""),
-        (0, b"d/f", NodeKind::File, all, b"hello world"),
-        (1, b"g", NodeKind::Directory, Rights::none(), b""),
-        (0, b"ro", NodeKind::File, read_and_ask(), b"\x00\xff"),
-        (0, b"echo", NodeKind::Service, all, b""),
-    ];
-    let mut place = 0;
-    for row in rows {
-        assert!(rt; is_node(node(&start, place), row), "node {place}");
-        place += 1;
-    }
-    assert!(rt; node(&start, place).is_none());
+    let none = Rights::none();
+    assert!(rt; is_node(&start.node_at(0), 0, b"d", NodeKind::Directory, all, b""));
+    assert!(rt;
+        is_node(
+            &start.node_at(1),
+            0,
+            b"d/f",
+            NodeKind::File,
+            all,
+            b"hello world"
+        )
+    );
+    assert!(rt; is_node(&start.node_at(2), 1, b"g", NodeKind::Directory, none, b""));
+    assert!(rt;
+        is_node(
+            &start.node_at(3),
+            0,
+            b"ro",
+            NodeKind::File,
+            read_and_ask(),
+            b"\x00\xff"
+        )
+    );
+    assert!(rt; is_node(&start.node_at(4), 0, b"echo", NodeKind::Service, all, b""));
     Ok(())
-}
-
-// A row of a mount: its server, path, target, directory there and rights.
-type MountRow = (u32, &'static [u8], u32, &'static [u8], Rights);
-
-fn is_mount(found: Option<StartMount<'_>>, row: MountRow) -> bool {
-    let (server, path, target, at, rights) = row;
-    match found {
-        Some(mount) => {
-            mount.server == server
-                && mount.path == path
-                && mount.target == target
-                && mount.at == at
-                && mount.rights == rights
-        }
-        None => false,
-    }
 }
 
 #[test]
 fn mounts_are_lent_in_the_order_of_the_file(rt: HostRuntime) -> Result<(), Fail> {
     let start = start_of(rt.alloc(), TREE).ok().ok_or("a tree")?;
-    assert!(rt; is_mount(mount(&start, 0), (0, b"d/m", 1, b"g", read_and_ask())));
-    assert!(rt; is_mount(mount(&start, 1), (1, b"back", 0, b".", Rights::all())));
-    assert!(rt; mount(&start, 2).is_none());
-    Ok(())
-}
-
-// A row of a client: its endpoint, server, path and rights.
-type ClientRow = (u32, u32, &'static [u8], Rights);
-
-fn is_client(found: Option<StartClient<'_>>, row: ClientRow) -> bool {
-    let (endpoint, server, path, rights) = row;
-    match found {
-        Some(client) => {
-            client.endpoint == endpoint
-                && client.server == server
-                && client.path == path
-                && client.rights == rights
-        }
-        None => false,
+    if start.mounts() != 2 {
+        return Err("two mounts".into());
     }
+    assert!(rt; is_mount(&start.mount_at(0), 0, b"d/m", 1, b"g", read_and_ask()));
+    assert!(rt; is_mount(&start.mount_at(1), 1, b"back", 0, b".", Rights::all()));
+    Ok(())
 }
 
 #[test]
 fn clients_are_lent_in_the_order_of_the_file(rt: HostRuntime) -> Result<(), Fail> {
     let start = start_of(rt.alloc(), TREE).ok().ok_or("a tree")?;
-    assert!(rt; is_client(client(&start, 0), (7, 0, b".", Rights::all())));
-    assert!(rt; is_client(client(&start, 1), (1_073_741_823, 1, b"g", read_and_ask())));
-    assert!(rt; client(&start, 2).is_none());
+    if start.clients() != 2 {
+        return Err("two clients".into());
+    }
+    assert!(rt; is_client(&start.client_at(0), 7, 0, b".", Rights::all()));
+    assert!(rt; is_client(&start.client_at(1), 1_073_741_823, 1, b"g", read_and_ask()));
     Ok(())
 }
