@@ -173,12 +173,13 @@ fn every_prefix_is_done_or_truncated(rt: HostRuntime) -> Result<(), Fail> {
     let Some(all) = bytes(alloc, MIXED)? else {
         return Err(Fail::from("digits"));
     };
-    let row = rows(alloc, PREFIXES)?[0];
-    for (at, _) in all.iter().enumerate() {
-        let status = run(alloc, &row, &all[..at], 100)?.status;
-        match begun(at) {
-            None => assert_eq!(rt; status, Status::Done, "at {at}"),
-            Some(place) => assert_eq!(rt; status, Status::Truncated { at: place }, "at {at}"),
+    for row in &rows(alloc, PREFIXES)? {
+        for (at, _) in all.iter().enumerate() {
+            let status = run(alloc, row, &all[..at], 100)?.status;
+            match begun(at) {
+                None => assert_eq!(rt; status, Status::Done, "at {at}"),
+                Some(place) => assert_eq!(rt; status, Status::Truncated { at: place }, "at {at}"),
+            }
         }
     }
     Ok(())
