@@ -15,9 +15,9 @@ use crate::serving::drain;
 use endpoint_link::{FrameView, Outbox};
 use fidl_names::NoMemory;
 use fidl_wire::Ordinals;
+use journal_laws::{starts_are_known, starts_are_sound};
 use std::alloc::Global;
 use std::marker::Model;
-use journal_laws::{starts_are_known, starts_are_sound};
 use vfs_keeping::Keeper;
 use vfs_start::begin;
 
