@@ -1,7 +1,6 @@
 -- The lemmas of this crate. Laws and what it names are those that crates above cite.
 pub mod Found
 pub mod Views
-pub mod Texts
 pub mod Passes
 pub mod Places
 pub mod First

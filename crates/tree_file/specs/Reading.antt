@@ -5,12 +5,13 @@ use Rattle.std.specs.Str.{bytes_eq}
 use Rattle.fidl_names.specs.HandleNumber.{is_client}
 use Rattle.fidl_names.specs.declared.limits.TheConstants as limit
 use Rattle.toml.specs.Data.{Data, get, as_str, as_integer}
+use Rattle.io_rights.specs.Letters.{rights_of}
 use Rattle.io_rights.specs.Operations.{OperationSet, all}
 use Rattle.node_graph.specs.declared.nodes.NodeKind.{NodeKind}
 use Rattle.node_graph.specs.declared.nodes.NodeKind.TheVariants.{File}
 use Rattle.tree_file.specs.Fields.{◌>>=◌, has_only, text_at}
 use Rattle.path_walk.specs.Parts.{is_dot}
-use Rattle.tree_file.specs.Texts.{only, is_name, is_path, rights_of, kind_of, hex_of}
+use Rattle.tree_file.specs.Texts.{only, is_name, is_path, kind_of, hex_of}
 use Rattle.tree_file.specs.Items.{NodeItem, MountItem, ClientItem}
 
 -- the index of a name among the servers' names

@@ -1,11 +1,9 @@
 -- What the texts of a tree stand for.
-use Rattle.std.specs.Prelude.{ℕ, Bool, ◌&&◌, ◌||◌, ◌==◌, nat_le, if◌then◌else◌, List, codes, Option, Some, None, is_none}
-use Rattle.std.specs.List.{list_any, list_all}
+use Rattle.std.specs.Prelude.{ℕ, Bool, ◌&&◌, ◌||◌, nat_le, if◌then◌else◌, List, codes, Option, Some, None, is_none}
+use Rattle.std.specs.List.{list_all}
 use Rattle.std.specs.Result.{result_ok}
 use Rattle.std.specs.Str.{bytes_eq}
 use Rattle.hex.specs.Hex.{decode_of}
-use Rattle.io_rights.specs.Operations.{OperationSet, set_of}
-use Rattle.io_rights.specs.Letters.{letter_of, letters_of}
 use Rattle.path_walk.specs.Names.{name_fault}
 use Rattle.path_walk.specs.Paths.{path_fault}
 use Rattle.node_graph.specs.declared.nodes.NodeKind.{NodeKind}
@@ -21,14 +19,6 @@ is_name text = is_none (name_fault text)
 
 abbrev pub is_path : List ℕ → Bool
 is_path text = is_none (path_fault text)
-
--- the operations whose letters stand in the text
-abbrev pub named_in : List ℕ → OperationSet
-named_in text = set_of (λ operation. list_any (λ byte. byte == letter_of operation) text)
-
--- the set whose letters are the text
-unfoldable pub rights_of : List ℕ → Option OperationSet
-rights_of text = if bytes_eq (letters_of (named_in text)) text then Some (named_in text) else None
 
 -- `dir`, `file` and `service`
 unfoldable pub kind_of : List ℕ → Option NodeKind

@@ -4,7 +4,7 @@ ghost use Rattle.std.specs.Option.{option_copied, option_and_then};
 ghost use Rattle.toml.specs.Data.{as_str};
 ghost use Rattle.toml.specs.View.{view};
 ghost use Rattle.path_walk.specs.Parts.{is_dot};
-ghost use Rattle.tree_file.specs.Texts.{only, rights_of, kind_of, is_digit, hex_of};
+ghost use Rattle.tree_file.specs.Texts.{only, kind_of, is_digit, hex_of};
 ghost use Rattle.tree_file.specs.Reading.{index_of, server_at, path_at, place_at, rights_at, is_new_name, server_of, kind_at, is_file, bytes_at, is_new_endpoint, endpoint_at, node_of, mount_of, client_of};
 ghost use Rattle.tree_file.specs.Items.{ClientItem};
 ghost use Rattle.tree_file.specs.Kept.{HasEndpoints};
@@ -13,7 +13,7 @@ use crate::fields::{has_only, text_at};
 use crate::items::{Bytes, Client, Mount, Node};
 use fidl_names::{FIRST_MOUNT_END, MAX_SERVERS, NoMemory};
 use hex::FromHexError;
-use io_rights::{Rights, laws_of_rights, read_rights};
+use io_rights::{Rights, read_rights};
 use node_graph::NodeKind;
 use path_walk::{Path, check_name};
 use std::alloc::Global;
@@ -69,22 +69,13 @@ fn place_at<'a>(key: &str, value: &'a Value) -> Option<&'a [u8]>
     if is_dot(path) { None } else { Some(path) }
 }
 
-// The rights whose letters are this text.
-#[tactic(auto, unfolding(crate::specs::Texts::rights_of))]
-fn rights_of(text: &[u8]) -> Option<Rights>
-    ensures { result ≡ rights_of text.now }
-{
-    laws_of_rights();
-    read_rights(text)
-}
-
 // The rights of an item: all nine where none are given.
 #[tactic(auto, unfolding(crate::specs::Reading::rights_at))]
 fn rights_at(value: &Value) -> Option<Rights>
     ensures { result ≡ rights_at (view value.now) }
 {
     match value.get("rights") {
-        Some(found) => rights_of(found.as_str()?.as_bytes()),
+        Some(found) => read_rights(found.as_str()?.as_bytes()),
         None => Some(Rights::all()),
     }
 }
