@@ -80,20 +80,20 @@ births_apart below built start s apart journal (lawful.served earlier entry h is
 abbrev pub OtherNumber : ℕ → ℕ → Type 0
 OtherNumber one other = one ≢ other
 
--- no entry carries an endpoint twice
-abbrev CarryApart : List Sent → Type 0
-CarryApart ones = (one : Sent) → Contains ones one → AllPairs OtherNumber (endpoints_in one)
+-- no entry carries a handle twice
+abbrev pub CarryApart : List Sent → Type 0
+CarryApart ones = (one : Sent) → Contains ones one → AllPairs OtherNumber (handles_of one.sending)
 
 endpoints_apart : (one : Sent) → AllPairs OtherNumber (handles_of one.sending) → AllPairs OtherNumber (endpoints_in one)
 endpoints_apart one h = AllPairs-filter OtherNumber is_client (handles_of one.sending) h
 
 more_apart : (ones now : List Sent) (new : Sent) → CarryApart ones → AllPairs OtherNumber (handles_of new.sending) → now ≡ ones ++ new ∷ [] → CarryApart now
 more_apart ones now new past h e one p = by_side (Contains-append_cases ones (new ∷ []) one (subst (λ xs. Contains xs one) e p)) where
-  by_place : (new ≡ one) ⊎ Contains [] one → AllPairs OtherNumber (endpoints_in one)
-  by_place (inl same) = subst (λ (x : Sent). AllPairs OtherNumber (endpoints_in x)) same (endpoints_apart new h)
+  by_place : (new ≡ one) ⊎ Contains [] one → AllPairs OtherNumber (handles_of one.sending)
+  by_place (inl same) = subst (λ (x : Sent). AllPairs OtherNumber (handles_of x.sending)) same h
   by_place (inr q) = absurd (contains_none one q)
 
-  by_side : Contains ones one ⊎ Contains (new ∷ []) one → AllPairs OtherNumber (endpoints_in one)
+  by_side : Contains ones one ⊎ Contains (new ∷ []) one → AllPairs OtherNumber (handles_of one.sending)
   by_side (inl q) = past one q
   by_side (inr q) = by_place (contains_cases one new [] q)
 
@@ -108,7 +108,7 @@ forward_apart built start journal origin (Some f) h =
     more_apart (all_sent (history_of built start journal)) (all_sent (behind built start (sends new) (history_of built start journal))) new h (λ i j d a b. absurd (omega arith))
     (sendings_wait_last built start (history_of built start journal) new).sent_last
 
-carry_apart : (built : Built) (start : Start) (journal : Journal) → Lawful built start journal → CarryApart (all_sent (history_of built start journal))
+pub carry_apart : (built : Built) (start : Start) (journal : Journal) → Lawful built start journal → CarryApart (all_sent (history_of built start journal))
 unfolding history_of
 carry_apart built start journal lawful.begun = λ one p. absurd (contains_none one p)
 carry_apart built start journal (lawful.refused earlier frame why h is admits) =
@@ -132,7 +132,7 @@ CarriedOnce ones = (one other : Sent) (n : ℕ) → Contains ones one → Contai
 flat_apart : (ones : List Sent) → CarryApart ones → CarriedOnce ones → AllPairs (λ one other. one.place < other.place) ones → AllPairs OtherNumber (flat_map endpoints_in ones)
 flat_apart [] each once rises = λ i j d a b. absurd (omega arith)
 flat_apart (one ∷ ones) each once rises =
-    pairs-append OtherNumber (endpoints_in one) (flat_map endpoints_in ones) (each one (contains_here one ones))
+    pairs-append OtherNumber (endpoints_in one) (flat_map endpoints_in ones) (endpoints_apart one (each one (contains_here one ones)))
     (flat_apart ones (λ x p. each x (contains_later x one ones p)) (λ x y n p q. once x y n (contains_later x one ones p) (contains_later y one ones q)) (pairs-tail (λ (x y : Sent). x.place < y.place) one ones rises))
     (All-weaker (Contains (endpoints_in one)) (λ n. All (OtherNumber n) (flat_map endpoints_in ones))
     (λ n p. All-weaker (Contains (flat_map endpoints_in ones)) (OtherNumber n) (λ m q same. clash n m p q same) (flat_map endpoints_in ones) (All-contains_itself (flat_map endpoints_in ones)))

@@ -58,7 +58,7 @@ head_from : (start : Start) (history : History) (one : Sent) → is_bound start 
 head_from start history one bound first =
     ap (λ (b : Bool). if b then find (λ sent. sent.endpoint == one.endpoint) (waiting history) else None) bound ∙ first
 
-next_is_head : (start : Start) → ChoosesHeads start (next start)
+pub next_is_head : (start : Start) → ChoosesHeads start (next start)
 next_is_head start history one h =
     let bound = (found (λ sent. is_bound start history sent.endpoint) (waiting history) one h).1 in
     head_from start history one bound
@@ -69,7 +69,7 @@ bound_somewhere : (server : ℕ) (o : Option Bound) → option_map_or (λ bound.
 bound_somewhere server None h = absurd (cc)
 bound_somewhere server (Some b) h = refl
 
-oldest_is_head : (start : Start) (server : ℕ) → ChoosesHeads start (λ history. oldest start history server)
+pub oldest_is_head : (start : Start) (server : ℕ) → ChoosesHeads start (λ history. oldest start history server)
 oldest_is_head start server history one h =
     let there = (found (λ sent. is_bound_at start history server sent.endpoint) (waiting history) one h).1 in
     head_from start history one (bound_somewhere server (bound_at start history one.endpoint) there)
@@ -80,7 +80,7 @@ picked_by : (start : Start) (history : History) (endpoint : ℕ) (one : Sent) (b
 picked_by start history endpoint one true h = eqb-true one.endpoint endpoint (found (λ sent. sent.endpoint == endpoint) (waiting history) one h).1
 picked_by start history endpoint one false h = absurd (cc)
 
-pick_is_head : (start : Start) (endpoint : ℕ) → ChoosesHeads start (λ history. head start history endpoint)
+pub pick_is_head : (start : Start) (endpoint : ℕ) → ChoosesHeads start (λ history. head start history endpoint)
 pick_is_head start endpoint history one h = ap (head start history) (picked_by start history endpoint one (is_bound start history endpoint) h) ∙ h
 
 -- ---- journals stay lawful

@@ -29,13 +29,13 @@ use Rattle.vfs_journal.specs.Serving.{Read, read_by, outcome_of}
 use Rattle.vfs_journal.specs.Session.{head, look_ups, sent_behind, with_forward}
 use Rattle.journal_laws.specs.Soundness.{IsStart, mount_ends}
 use Rattle.vfs_journal.specs.Starts.{Bound, Start}
-use Rattle.vfs_journal.specs.Tokens.{all_given, is_held, was_given}
+use Rattle.vfs_journal.specs.Tokens.{all_given, is_held, next_token, was_given}
 use Rattle.journal_laws.proofs.Acts.{KeepsMounts}
 use Rattle.journal_laws.proofs.Among.{one_passes, passes_any, carried_is, carried_from, carrier_of, some_found, is_found}
 use Rattle.journal_laws.proofs.Below.{Below}
 use Rattle.journal_laws.proofs.Members.{none_passes, contains_none}
 use Rattle.journal_laws.proofs.Onward.{AreBytes, flags_small, onward_small, onward_reads, path_left}
-use Rattle.journal_laws.proofs.Outcomes.{HasParts, IsOpened, outcome_is, opened_ends}
+use Rattle.journal_laws.proofs.Outcomes.{HasParts, IsOpened, outcome_is, opened_ends, token_is_high}
 use Rattle.journal_laws.proofs.Places.{head_is, in_order}
 use Rattle.journal_laws.proofs.Requests.{IsCarried, among_here}
 use Rattle.journal_laws.proofs.Served.{IsAnswered, goes_on_with, gone_on, serving_sound, serving_transit}
@@ -62,7 +62,7 @@ pub record IsServing (built : Built) (start : Start) (history : History) (k : Se
   pub keeps : KeepsMounts (outcome_of built start history k).change
   pub at : Bound
   pub bound : bound_at start history k.endpoint ≡ Some at
-  pub parts : HasParts (tree_at (trees_of start history) at.server) at k.sending (outcome_of built start history k).ends (outcome_of built start history k).bound (outcome_of built start history k).forward (outcome_of built start history k).token
+  pub parts : HasParts (next_token history) (tree_at (trees_of start history) at.server) at k.sending (outcome_of built start history k).ends (outcome_of built start history k).bound (outcome_of built start history k).forward (outcome_of built start history k).token
 
 -- the connection that serves what was forwarded is a directory
 forwarded_to : (start : Start) (history : History) (b : Bound) (k : Sent) → IsStart start → Sound start (view start history) → Contains (births start history) b → b.endpoint ≡ k.endpoint → IsForwarded start k → b.birth.protocol ≡ protocol.Directory
@@ -104,7 +104,7 @@ is_serving below built start journal k s steps past h =
         at = at;
         ends_in = λ n e. ends_by below built start history k b.0 s past (is.living_born b.0 b.2).0 at b.1 right k.origin right.by_origin n (parts.0.ends_in n e) e;
         bound_in = λ x e. carried_client start (all_sent history) k x.endpoint right (parts.0.bound_in x e);
-        token_in = λ g e. parts.0.token_high g e;
+        token_in = λ g e. token_is_high history g.token (parts.0.token_next g e);
         goes_on = λ f e.
             let on = parts.0.goes_on f e in
             let none = parts.0.alone f e in
@@ -207,7 +207,7 @@ pub record IsKept (built : Built) (start : Start) (journal : Journal) : Type 0 w
   pub sound : Sound start (view start (history_of built start journal))
   pub transit : Transit start (view start (history_of built start journal)) nothing_left
 
-one_handle : (n m : ℕ) → among n (m ∷ []) ≡ true → n ≡ m
+pub one_handle : (n m : ℕ) → among n (m ∷ []) ≡ true → n ≡ m
 one_handle n m h = by_test (cases_Bool (m == n)) where
   by_test : ((m == n) ≡ true) ⊎ ((m == n) ≡ false) → n ≡ m
   by_test (inl e) = sym (eqb-true m n e)

@@ -21,7 +21,7 @@ use Rattle.vfs_journal.specs.History.{all_sent, waiting, is_dead, is_live, is_us
 use Rattle.journal_laws.specs.Knowing.{Knows}
 use Rattle.vfs_journal.specs.Lawful.{Lawful}
 use Rattle.vfs_journal.specs.Past.{history_of}
-use Rattle.vfs_journal.specs.Serving.{Sight}
+use Rattle.vfs_journal.specs.Serving.{Moment}
 use Rattle.vfs_journal.specs.Session.{look_ups}
 use Rattle.journal_laws.specs.Soundness.{IsStart}
 use Rattle.vfs_journal.specs.Starts.{Bound, Start, directory_birth}
@@ -52,7 +52,7 @@ refusals_known built start journal endpoint why known k =
       waiting = k.waiting ∙ sym (ap (λ (l : LookUps). l.waiting) h.looked_up);
       servers = k.servers;
       holds = λ n. k.holds n ∙ sym (ap (λ (l : LookUps). l.holds n) h.looked_up);
-      next = k.next ∙ sym (ap (λ (sight : Sight). sight.room.token) (h.seen some_bound));
+      next = k.next ∙ sym (ap (λ (moment : Moment). moment.room.token) (h.seen some_bound));
     }
 
 -- ---- admission

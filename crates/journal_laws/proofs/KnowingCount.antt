@@ -27,7 +27,7 @@ use Rattle.journal_laws.specs.Laws.{but_for, newly_living}
 use Rattle.vfs_journal.specs.Lawful.{Lawful, begun, refused, sent, closed, served}
 use Rattle.vfs_journal.specs.Outcomes.{Asker, Outcome, Forwarded, ends_of as ends_by}
 use Rattle.vfs_journal.specs.Past.{event_of, behind, history_of}
-use Rattle.vfs_journal.specs.Serving.{Read, Sight, sight_of, read_by, object_of, asker_of, request_act, fault_txid, fault_answer, outcome_of_read, outcome_of_message, outcome_of_sending, outcome_at, outcome_of}
+use Rattle.vfs_journal.specs.Serving.{Read, Moment, moment_of, read_by, object_of, asker_of, request_act, fault_txid, fault_answer, outcome_of_read, outcome_of_message, outcome_of_sending, outcome_at, outcome_of}
 use Rattle.vfs_journal.specs.Session.{head, look_ups, sent_behind, with_forward, after_serving}
 use Rattle.journal_laws.specs.Soundness.{IsStart, mount_ends}
 use Rattle.vfs_journal.specs.Starts.{Bound, Start}
@@ -351,25 +351,25 @@ answer_ends asker (ends status) = apart_one asker.endpoint
 answer_ends asker hangs_up = apart_one asker.endpoint
 answer_ends asker silent = tt
 
-read_ends : (built : Built) (sight : Sight) (read : Read) → Apart (outcome_of_read built sight read).ends
-read_ends built sight (Ok found) = answer_ends (asker_of sight.bound found.0 (object_of found.1)) (request_act built sight found.1).answer
-read_ends built sight (Err fault) = answer_ends (asker_of sight.bound (fault_txid fault) 0) (fault_answer fault)
+read_ends : (built : Built) (moment : Moment) (read : Read) → Apart (outcome_of_read built moment read).ends
+read_ends built moment (Ok found) = answer_ends (asker_of moment.bound found.0 (object_of found.1)) (request_act built moment found.1).answer
+read_ends built moment (Err fault) = answer_ends (asker_of moment.bound (fault_txid fault) 0) (fault_answer fault)
 
-message_ends : (built : Built) (sight : Sight) (p : Protocol) (bytes handles : List ℕ) → Apart (outcome_of_message built sight p bytes handles).ends
-message_ends built sight protocol.Watcher bytes handles = tt
-message_ends built sight protocol.Directory bytes handles = read_ends built sight (read_by protocol.Directory bytes handles)
-message_ends built sight protocol.File bytes handles = read_ends built sight (read_by protocol.File bytes handles)
-message_ends built sight protocol.Node bytes handles = read_ends built sight (read_by protocol.Node bytes handles)
-message_ends built sight protocol.Echo bytes handles = read_ends built sight (read_by protocol.Echo bytes handles)
+message_ends : (built : Built) (moment : Moment) (p : Protocol) (bytes handles : List ℕ) → Apart (outcome_of_message built moment p bytes handles).ends
+message_ends built moment protocol.Watcher bytes handles = tt
+message_ends built moment protocol.Directory bytes handles = read_ends built moment (read_by protocol.Directory bytes handles)
+message_ends built moment protocol.File bytes handles = read_ends built moment (read_by protocol.File bytes handles)
+message_ends built moment protocol.Node bytes handles = read_ends built moment (read_by protocol.Node bytes handles)
+message_ends built moment protocol.Echo bytes handles = read_ends built moment (read_by protocol.Echo bytes handles)
 
-sending_ends : (built : Built) (sight : Sight) (sending' : Sending) → Apart (outcome_of_sending built sight sending').ends
+sending_ends : (built : Built) (moment : Moment) (sending' : Sending) → Apart (outcome_of_sending built moment sending').ends
 unfolding outcome_of_sending
-sending_ends built sight (message bytes handles) = message_ends built sight sight.bound.birth.protocol bytes handles
-sending_ends built sight hang_up = apart_one sight.bound.endpoint
+sending_ends built moment (message bytes handles) = message_ends built moment moment.bound.birth.protocol bytes handles
+sending_ends built moment hang_up = apart_one moment.bound.endpoint
 
 outcome_ends : (built : Built) (start : Start) (history : History) (k : Sent) (o : Option Bound) → Apart (outcome_at built start history k o).ends
 outcome_ends built start history k None = tt
-outcome_ends built start history k (Some b) = sending_ends built (sight_of start history b) k.sending
+outcome_ends built start history k (Some b) = sending_ends built (moment_of start history b) k.sending
 
 -- what waits carries nothing twice
 pub waiting_own : Below → (built : Built) (start : Start) (journal : Journal) → IsStart start → Lawful built start journal → AreOwn (waiting (history_of built start journal))

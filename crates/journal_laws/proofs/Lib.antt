@@ -28,3 +28,10 @@ pub mod KnowingSent
 pub mod KnowingServes
 pub mod KnowingStarts
 pub mod Carrying
+pub mod ViewParts
+pub mod ViewSteps
+pub mod TokensGiven
+pub mod ViewLaws
+pub mod Fits
+pub mod LookedUp
+pub mod Rooms

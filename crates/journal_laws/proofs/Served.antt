@@ -90,7 +90,7 @@ left_dies v k o n h left =
     (among_of n _ (kept (λ endpoint. not (is_settled o endpoint)) (endpoints_in k) n (member_of n (endpoints_in k) h) (ap not left))))
 
 -- a client's endpoint dies, which is known
-known_by_death : (start : Start) (v : View) (k : Sent) (o : Outcome) (n : ℕ) → IsStart start → Sound start v → IsView v → IsAnswered v k o → Dies v k o n → IsKnown start v.sent n
+pub known_by_death : (start : Start) (v : View) (k : Sent) (o : Outcome) (n : ℕ) → IsStart start → Sound start v → IsView v → IsAnswered v k o → Dies v k o n → IsKnown start v.sent n
 known_by_death start v k o n s past is answered (ended h) = by_side (answered.ends_in n h) where
   by_side : ((n ≡ k.endpoint) × (is_client n ≡ true)) ⊎ (among n (endpoints_in k) ≡ true) → IsKnown start v.sent n
   by_side (inl own) =

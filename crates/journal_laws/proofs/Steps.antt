@@ -19,7 +19,7 @@ use Rattle.vfs_journal.specs.History.{Event, History, sent_by, all_sent, was_ser
 use Rattle.journal_laws.specs.Laws.{HasSameEndpoints, IsUnchanged, IsSent, IsServed, but_for, newly_living}
 use Rattle.vfs_journal.specs.Past.{event_of, behind}
 use Rattle.vfs_journal.specs.Session.{look_ups}
-use Rattle.vfs_journal.specs.Serving.{Sight, sight_of}
+use Rattle.vfs_journal.specs.Serving.{Moment, moment_of}
 use Rattle.vfs_journal.specs.Starts.{Bound, Start}
 use Rattle.vfs_journal.specs.Outcomes.{Given}
 use Rattle.vfs_journal.specs.Tokens.{all_given, first_token, most_tokens}
@@ -123,7 +123,7 @@ refusal_looks built start past endpoint why =
     kept.alive (refusal_sends built start past endpoint why) (refusal_waits built start past endpoint why) kept.tokens
 
 -- what a serving sees, from its parts
-abbrev seen_by : Bound → Position → Tree → List Bound → List Sent → List Sent → List Given → Sight
+abbrev seen_by : Bound → Position → Tree → List Bound → List Sent → List Sent → List Given → Moment
 seen_by bound position tree living sent waiting given =
     record {
       bound = bound;
@@ -150,7 +150,7 @@ seen_same bound position a b l m s t w x g h o p q r u =
     ∙ ap (λ c. seen_by bound position b m t c g) r
     ∙ ap (λ c. seen_by bound position b m t x c) u
 
-refusal_shows : (built : Built) (start : Start) (past : History) (endpoint : ℕ) (why : Refusal) (bound : Bound) → sight_of start (behind built start (refuses endpoint why) past) bound ≡ sight_of start past bound
+refusal_shows : (built : Built) (start : Start) (past : History) (endpoint : ℕ) (why : Refusal) (bound : Bound) → moment_of start (behind built start (refuses endpoint why) past) bound ≡ moment_of start past bound
 unfolding event_of
 refusal_shows built start past endpoint why bound =
     let now = behind built start (refuses endpoint why) past in

@@ -10,7 +10,7 @@ use Rattle.vfs_journal.specs.History.{Event, History, served_by, all_sent, was_s
 use Rattle.vfs_journal.specs.Lawful.{Lawful}
 use Rattle.vfs_journal.specs.Past.{event_of, behind, history_of}
 use Rattle.vfs_journal.specs.Session.{look_ups, sent_behind}
-use Rattle.vfs_journal.specs.Serving.{sight_of}
+use Rattle.vfs_journal.specs.Serving.{moment_of}
 use Rattle.vfs_journal.specs.Starts.{Bound, Start}
 use Rattle.vfs_journal.specs.Tokens.{all_given}
 
@@ -33,7 +33,7 @@ pub record IsUnchanged (start : Start) (now past : History) : Type 0 where
   pub served : (sent : Sent) → was_served now sent ≡ was_served past sent
   pub queue : waiting now ≡ waiting past
   pub looked_up : look_ups start now ≡ look_ups start past
-  pub seen : (bound : Bound) → sight_of start now bound ≡ sight_of start past bound
+  pub seen : (bound : Bound) → moment_of start now bound ≡ moment_of start past bound
 
 -- what is sent waits behind all others, if it waits, and is carried and travels with them
 pub record IsSent (start : Start) (sent : Sent) (now past : History) : Type 0 where

@@ -3,6 +3,7 @@
 
 mod knowing;
 mod laws;
+mod viewing;
 
 pub use knowing::{
     hang_ups_are_known, knowers_admit, messages_are_known, refusals_are_known, servings_are_known,
@@ -13,4 +14,9 @@ pub use laws::{
     refusals_change_nothing, sendings_wait_last, served_once, servings_bind_what_they_carry,
     servings_lower_the_weight, servings_take_effect, sessions_are_lawful, sessions_serve_all,
     starts_are_sound, what_goes_on_waits, what_is_sent_waits,
+};
+pub use viewing::{
+    connections_are_few, reached_views_go_on, refusals_are_viewed, sendings_are_looked_up,
+    sendings_are_viewed, servings_are_in_view, servings_are_looked_up, servings_are_viewed,
+    servings_take_counted_places, servings_write_their_frames, turns_are_viewed, views_are_fit,
 };

@@ -8,7 +8,7 @@ use Rattle.std.specs.Cmp.{nat_cmp_total}
 use Rattle.endpoint_link.specs.Frames.{Frame}
 use Rattle.endpoint_link.specs.Numbering.{among}
 use Rattle.vfs_journal.specs.Entries.{Sent, serves}
-use Rattle.vfs_journal.specs.History.{Event, History, trees_of, tree_at}
+use Rattle.vfs_journal.specs.History.{Event, History, trees_of, tree_at, living}
 use Rattle.vfs_journal.specs.Outcomes.{Outcome, close_frame}
 use Rattle.vfs_journal.specs.Output.{close_frames, frames_of}
 use Rattle.vfs_journal.specs.Starts.{Start}
@@ -41,9 +41,9 @@ closed sent outcome deaths closes r =
     ap (λ (entries : List (ℕ × Bool)). map close_frame (map (λ (entry : ℕ × Bool). entry.0) entries)) (in_places (filter (λ endpoint. not (among endpoint outcome.ends)) deaths)) ∙ ap (map close_frame) r
 
 pub adds : (start : Start) (past : History) (sent : Sent) (outcome : Outcome) (deaths closes : List ℕ) (before part : List Frame) → frames_of start past ≡ before → rest_of outcome deaths ≡ closes
-    → outcome.frames ++ option_map_or (λ bound. first_frames (tree_at (trees_of start past) bound.server) bound) outcome.bound [] ++ told_frames start past outcome.server outcome.told ++ map close_frame closes ≡ part
+    → outcome.frames ++ option_map_or (λ bound. first_frames (tree_at (trees_of start past) bound.server) bound) outcome.bound [] ++ told_frames (living start past) outcome.server outcome.told ++ map close_frame closes ≡ part
     → frames_of start (was_answered sent outcome deaths ∷ past) ≡ before ++ part
 adds start past sent outcome deaths closes before part b r p =
-    ap (λ (fs : List Frame). fs ++ (outcome.frames ++ option_map_or (λ bound. first_frames (tree_at (trees_of start past) bound.server) bound) outcome.bound [] ++ told_frames start past outcome.server outcome.told ++ close_frames (was_answered sent outcome deaths))) b
-    ∙ ap (λ (fs : List Frame). before ++ (outcome.frames ++ option_map_or (λ bound. first_frames (tree_at (trees_of start past) bound.server) bound) outcome.bound [] ++ told_frames start past outcome.server outcome.told ++ fs)) (closed sent outcome deaths closes r)
+    ap (λ (fs : List Frame). fs ++ (outcome.frames ++ option_map_or (λ bound. first_frames (tree_at (trees_of start past) bound.server) bound) outcome.bound [] ++ told_frames (living start past) outcome.server outcome.told ++ close_frames (was_answered sent outcome deaths))) b
+    ∙ ap (λ (fs : List Frame). before ++ (outcome.frames ++ option_map_or (λ bound. first_frames (tree_at (trees_of start past) bound.server) bound) outcome.bound [] ++ told_frames (living start past) outcome.server outcome.told ++ fs)) (closed sent outcome deaths closes r)
     ∙ ap (λ (fs : List Frame). before ++ fs) p

@@ -15,12 +15,12 @@ use Rattle.conn_rules.specs.Answers.{Act}
 use Rattle.conn_rules.specs.Built.{everything}
 use Rattle.vfs_journal.specs.Entries.{Sending, Sent, Journal, message, hang_up, sends, serves, refuses}
 use Rattle.vfs_journal.specs.Deaths.{deaths_of}
-use Rattle.vfs_journal.specs.History.{Event, History, waiting, trees_of, tree_at}
+use Rattle.vfs_journal.specs.History.{Event, History, waiting, trees_of, tree_at, living}
 use Rattle.vfs_journal.specs.Outcomes.{Outcome, outcome_with, no_outcome, Forwarded, close_frame}
 use Rattle.vfs_journal.specs.Output.{frames_of, refused_frame}
 use Rattle.vfs_journal.specs.Past.{history_of, event_of}
 use Rattle.journal_rows.specs.Rows.{message_on, turn_of, pick_of, written}
-use Rattle.vfs_journal.specs.Serving.{Read, read_by, outcome_of, request_act, sight_of, asker_of, object_of}
+use Rattle.vfs_journal.specs.Serving.{Read, read_by, outcome_of, request_act, moment_of, asker_of, object_of}
 use Rattle.vfs_journal.specs.Session.{ended, serving, after_serving, with_forward, sent_behind, arrives, admitted, by_refusal, look_ups, serving_one, next, oldest, head, steps, session, drained, weight, weight_of, weight_of_read}
 use Rattle.vfs_journal.specs.Starts.{Bound, Start}
 use Rattle.vfs_journal.specs.Watching.{first_frames, told_frames}
@@ -77,7 +77,7 @@ parts_of start past sent outcome deaths closes =
       frames =
           outcome.frames
           ++ option_map_or (λ bound. first_frames (tree_at (trees_of start past) bound.server) bound) outcome.bound []
-          ++ told_frames start past outcome.server outcome.told
+          ++ told_frames (living start past) outcome.server outcome.told
           ++ map close_frame closes;
     }
 
@@ -235,10 +235,10 @@ module _ (start : Start) (frames : List Frame) (past : History) (output : List F
       → waiting (was_sent sent ∷ past) ≡ sent ∷ [] → weight_of sent.sending ≡ times → Serves start (next start) times (was_sent sent ∷ past) end → Knows start end then
       → Stands start mode.Auto (frames ++ frame ∷ []) end then
   serves_all before frame sent times end then e w h served known =
-      let sight = behind_sends start past output before.known sent in
+      let moment = behind_sends start past output before.known sent in
       one_more mode.Auto before frame end then
       (ap (drained everything start) (frame_enters before.known frame sent e)
-      ∙ ap (λ h. serving (weight h) everything start (next start) (journal_of (was_sent sent ∷ past))) sight.is
+      ∙ ap (λ h. serving (weight h) everything start (next start) (journal_of (was_sent sent ∷ past))) moment.is
       ∙ ap (λ (xs : List Sent). serving (sum_by (λ s. weight_of s.sending) xs) everything start (next start) (journal_of (was_sent sent ∷ past))) w
       ∙ ap (λ times. serving times everything start (next start) (journal_of (was_sent sent ∷ past))) (from_none _ _ h)
       ∙ served)
@@ -276,11 +276,11 @@ pub serves_it : (start : Start) (frames : List Frame) (past : History) (output :
     → step_of start past frame sent outcome deaths closes ≡ step past sent deaths closes part → Stands start mode.Auto (frames ++ frame ∷ []) (asked past sent outcome deaths) (output ++ part)
 serves_it start frames past output before frame sent outcome deaths closes part o s =
     let heavy = weight_of_one sent.sending in
-    let sight = behind_sends start past output before.known sent in
-    let end = behind_serves start (was_sent sent ∷ past) output sight sent outcome deaths closes part o (ap (λ (s : Step). s.parts) s) in
+    let moment = behind_sends start past output before.known sent in
+    let end = behind_serves start (was_sent sent ∷ past) output moment sent outcome deaths closes part o (ap (λ (s : Step). s.parts) s) in
     serves_all start frames past output before frame sent (suc heavy.0) (asked past sent outcome deaths) (output ++ part)
     (ap (λ (s : Step). s.entrance) s) (ap (λ (s : Step). s.waits) s) heavy.1
-    (serves_one start (next start) (was_sent sent ∷ past) output sight heavy.0 sent outcome deaths (asked past sent outcome deaths) o (ap (λ (s : Step). s.choice) s)
+    (serves_one start (next start) (was_sent sent ∷ past) output moment heavy.0 sent outcome deaths (asked past sent outcome deaths) o (ap (λ (s : Step). s.choice) s)
     (serves_none start (next start) (asked past sent outcome deaths) (output ++ part) end (ap (λ (s : Step). s.left) s) heavy.0))
     end
 
@@ -290,7 +290,7 @@ request_sent past bound bytes carried = sent_now past bound.endpoint (message by
 
 -- what a request does where it is seen
 abbrev pub Does : Start → History → Bound → Asked → Act → Type 0
-Does start sight bound request act = request_act everything (sight_of start sight bound) request ≡ act
+Does start moment bound request act = request_act everything (moment_of start moment bound) request ≡ act
 
 pub serves_request : (start : Start) (frames : List Frame) (past : History) (output : List Frame) → Stands start mode.Auto frames past output
     → (bound : Bound) (bytes carried : List ℕ) (txid : ℕ) (request : Asked) (act : Act) (deaths closes : List ℕ) (part : List Frame)

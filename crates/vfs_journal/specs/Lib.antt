@@ -11,3 +11,5 @@ pub mod Watching
 pub mod Output
 pub mod Session
 pub mod Lawful
+pub mod View
+pub mod Fit

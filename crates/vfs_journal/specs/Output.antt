@@ -11,12 +11,13 @@ use Rattle.endpoint_link.specs.declared.kinds.FrameKind.TheVariants as kind
 use Rattle.endpoint_link.specs.declared.kinds.Refusal.{Refusal}
 use Rattle.endpoint_link.specs.Refusals.{status_of}
 use Rattle.endpoint_link.specs.Numbering.{among}
+use Rattle.node_graph.specs.Tree.{Tree}
 use Rattle.conn_rules.specs.Built.{Built}
 use Rattle.vfs_journal.specs.Entries.{Entry, sends, serves, refuses, Journal}
-use Rattle.vfs_journal.specs.History.{Event, History, trees_of, tree_at}
+use Rattle.vfs_journal.specs.History.{Event, History, living, trees_of, tree_at}
 use Rattle.vfs_journal.specs.Outcomes.{close_frame}
 use Rattle.vfs_journal.specs.Past.{history_of}
-use Rattle.vfs_journal.specs.Starts.{Start}
+use Rattle.vfs_journal.specs.Starts.{Bound, Start}
 use Rattle.vfs_journal.specs.Watching.{first_frames, told_frames}
 
 -- a Refused frame, on the number that the refused frame had
@@ -31,18 +32,18 @@ rising numbers = finite.keys (finite.from_entries {R = nat_cmp} (map (λ number.
 abbrev pub close_frames : Event → List Frame
 close_frames event = map close_frame (rising (filter (λ endpoint. not (among endpoint event.outcome.ends)) event.deaths))
 
--- what is written for a serving: its answer, a new watcher's first messages (a Watch changes no tree), what watchers are told of the
--- change, and Close frames
-abbrev pub frames_of_serving : Start → History → Event → List Frame
-frames_of_serving start past event =
+-- what is written for a serving: its answer, a new watcher's first messages (a Watch changes no tree), what those who lived until then are
+-- told of the change, and Close frames
+abbrev pub frames_of_serving : List Tree → List Bound → Event → List Frame
+frames_of_serving trees living event =
     event.outcome.frames
-    ++ option_map_or (λ bound. first_frames (tree_at (trees_of start past) bound.server) bound) event.outcome.bound []
-    ++ told_frames start past event.outcome.server event.outcome.told
+    ++ option_map_or (λ bound. first_frames (tree_at trees bound.server) bound) event.outcome.bound []
+    ++ told_frames living event.outcome.server event.outcome.told
     ++ close_frames event
 
 abbrev pub frames_by : Start → History → Event → Entry → List Frame
 frames_by start past event (sends sent) = []
-frames_by start past event (serves sent) = frames_of_serving start past event
+frames_by start past event (serves sent) = frames_of_serving (trees_of start past) (living start past) event
 frames_by start past event (refuses endpoint why) = refused_frame endpoint why ∷ []
 
 -- what is written for an event behind its past, and for a whole history, in order

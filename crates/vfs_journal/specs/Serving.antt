@@ -44,7 +44,7 @@ token_of _ = 0
 
 -- what a serving sees: the endpoint that it serves and where that stands, what is in use, the tree of its server, and the directories
 -- there that tokens name
-pub record Sight : Type 0 where
+pub record Moment : Type 0 where
   pub bound : Bound
   pub position : Position
   pub room : Room
@@ -54,9 +54,9 @@ pub record Sight : Type 0 where
 -- ---- what one entry is answered
 
 -- a request, by the rows of its method
-abbrev pub request_act : Built → Sight → Asked → Act
-request_act built sight request =
-    act_of built sight.bound.birth sight.position sight.room sight.tree (sight.directory (token_of request)) request
+abbrev pub request_act : Built → Moment → Asked → Act
+request_act built moment request =
+    act_of built moment.bound.birth moment.position moment.room moment.tree (moment.directory (token_of request)) request
 
 -- a message that is no request of the protocol: it is malformed, or its ordinal is unknown
 abbrev pub fault_answer : RequestFault → Answer
@@ -73,18 +73,18 @@ fault_txid _ = 0
 abbrev pub asker_of : Bound → ℕ → ℕ → Asker
 asker_of bound txid object = record { endpoint = bound.endpoint; server = bound.server; node = bound.birth.node; txid = txid; object = object }
 
-abbrev pub outcome_of_read : Built → Sight → Read → Outcome
-outcome_of_read built sight (Ok found) = outcome_with (asker_of sight.bound found.0 (object_of found.1)) (request_act built sight found.1)
-outcome_of_read built sight (Err fault) = outcome_with (asker_of sight.bound (fault_txid fault) 0) (only sight.position (fault_answer fault))
+abbrev pub outcome_of_read : Built → Moment → Read → Outcome
+outcome_of_read built moment (Ok found) = outcome_with (asker_of moment.bound found.0 (object_of found.1)) (request_act built moment found.1)
+outcome_of_read built moment (Err fault) = outcome_with (asker_of moment.bound (fault_txid fault) 0) (only moment.position (fault_answer fault))
 
 -- a watcher's protocol has no method, and what is sent to it is passed over
-abbrev pub outcome_of_message : Built → Sight → Protocol → List ℕ → List ℕ → Outcome
-outcome_of_message built sight protocol.Watcher bytes handles = outcome_with (asker_of sight.bound 0 0) (only sight.position silent)
-outcome_of_message built sight other bytes handles = outcome_of_read built sight (read_by other bytes handles)
+abbrev pub outcome_of_message : Built → Moment → Protocol → List ℕ → List ℕ → Outcome
+outcome_of_message built moment protocol.Watcher bytes handles = outcome_with (asker_of moment.bound 0 0) (only moment.position silent)
+outcome_of_message built moment other bytes handles = outcome_of_read built moment (read_by other bytes handles)
 
-unfoldable pub outcome_of_sending : Built → Sight → Sending → Outcome
-outcome_of_sending built sight (message bytes handles) = outcome_of_message built sight sight.bound.birth.protocol bytes handles
-outcome_of_sending built sight hang_up = outcome_with (asker_of sight.bound 0 0) (only sight.position hangs_up)
+unfoldable pub outcome_of_sending : Built → Moment → Sending → Outcome
+outcome_of_sending built moment (message bytes handles) = outcome_of_message built moment moment.bound.birth.protocol bytes handles
+outcome_of_sending built moment hang_up = outcome_with (asker_of moment.bound 0 0) (only moment.position hangs_up)
 
 -- ---- looking back
 
@@ -97,8 +97,8 @@ room_of start history bound =
       token = next_token history;
     }
 
-abbrev pub sight_of : Start → History → Bound → Sight
-sight_of start history bound =
+abbrev pub moment_of : Start → History → Bound → Moment
+moment_of start history bound =
     record {
       bound = bound;
       position = position_of history bound.endpoint;
@@ -109,7 +109,7 @@ sight_of start history bound =
 
 abbrev pub outcome_at : Built → Start → History → Sent → Option Bound → Outcome
 outcome_at built start history sent None = no_outcome
-outcome_at built start history sent (Some bound) = outcome_of_sending built (sight_of start history bound) sent.sending
+outcome_at built start history sent (Some bound) = outcome_of_sending built (moment_of start history bound) sent.sending
 
 -- what the serving of a waiting entry answers; its endpoint is bound
 abbrev pub outcome_of : Built → Start → History → Sent → Outcome

@@ -7,8 +7,8 @@ use Rattle.endpoint_link.specs.declared.kinds.FrameKind.TheVariants as kind
 use Rattle.node_graph.specs.Tree.{Tree, EdgeKey, names_in}
 use Rattle.path_walk.specs.Names.{dot}
 use Rattle.conn_rules.specs.Answers.{Told}
-use Rattle.vfs_journal.specs.History.{History, watchers_of}
-use Rattle.vfs_journal.specs.Starts.{Bound, Start}
+use Rattle.vfs_journal.specs.History.{watches_node}
+use Rattle.vfs_journal.specs.Starts.{Bound}
 
 -- the events by their numbers; the bit of an event in a mask has its number
 abbrev pub deleted : ℕ
@@ -63,18 +63,18 @@ first_frames tree bound = map (watch_frame bound.endpoint) (first_messages tree 
 
 -- ---- changes
 
--- one message to each watcher of the directory that asked for the event, in order of their births
-abbrev pub told_of : Start → History → ℕ → ℕ → ℕ → List ℕ → List Frame
-told_of start past server directory event name =
+-- one message to each living watcher of the directory that asked for the event, in order of their births
+abbrev pub told_of : List Bound → ℕ → ℕ → ℕ → List ℕ → List Frame
+told_of living server directory event name =
     map (λ bound. watch_frame bound.endpoint (event_bytes event name))
-    (filter (λ bound. asks_for bound.mask event) (watchers_of start past server directory))
+    (filter (λ bound. asks_for bound.mask event) (filter (watches_node server directory) living))
 
-abbrev pub told_of_name : Start → History → ℕ → ℕ → Option EdgeKey → List Frame
-told_of_name start past server event key = option_map_or (λ name. told_of start past server name.directory event name.name) key []
+abbrev pub told_of_name : List Bound → ℕ → ℕ → Option EdgeKey → List Frame
+told_of_name living server event key = option_map_or (λ name. told_of living server name.directory event name.name) key []
 
 -- removals, then additions, then that a directory is gone
-abbrev pub told_frames : Start → History → ℕ → Told → List Frame
-told_frames start past server told =
-    told_of_name start past server removed told.removed
-    ++ told_of_name start past server added told.added
-    ++ option_map_or (λ directory. told_of start past server directory deleted dot) told.deleted []
+abbrev pub told_frames : List Bound → ℕ → Told → List Frame
+told_frames living server told =
+    told_of_name living server removed told.removed
+    ++ told_of_name living server added told.added
+    ++ option_map_or (λ directory. told_of living server directory deleted dot) told.deleted []

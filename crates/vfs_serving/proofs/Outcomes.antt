@@ -10,17 +10,17 @@ use Rattle.conn_rules.specs.Answers.{hangs_up, only}
 use Rattle.conn_rules.specs.Built.{first_methods}
 use Rattle.vfs_journal.specs.Entries.{Sending, message, hang_up}
 use Rattle.vfs_journal.specs.Outcomes.{outcome_with}
-use Rattle.vfs_journal.specs.Serving.{Sight, asker_of, outcome_of_message, outcome_of_read, outcome_of_sending, read_by}
+use Rattle.vfs_journal.specs.Serving.{Moment, asker_of, outcome_of_message, outcome_of_read, outcome_of_sending, read_by}
 use Rattle.vfs_serving.specs.Bindings.{Binding, bound_as, message_outcome, outcome_for, sight_from}
 use Rattle.vfs_serving.specs.Parcels.{IsMessage, numbers_of}
 
-by_protocol : (sight : Sight) (p : Protocol) (bytes numbers : List ℕ) → p ≢ protocol.Watcher →
-    outcome_of_message first_methods sight p bytes numbers ≡ outcome_of_read first_methods sight (read_by p bytes numbers)
-by_protocol sight protocol.Directory bytes numbers isnt = refl
-by_protocol sight protocol.File bytes numbers isnt = refl
-by_protocol sight protocol.Node bytes numbers isnt = refl
-by_protocol sight protocol.Echo bytes numbers isnt = refl
-by_protocol sight protocol.Watcher bytes numbers isnt = absurd (isnt refl)
+by_protocol : (moment : Moment) (p : Protocol) (bytes numbers : List ℕ) → p ≢ protocol.Watcher →
+    outcome_of_message first_methods moment p bytes numbers ≡ outcome_of_read first_methods moment (read_by p bytes numbers)
+by_protocol moment protocol.Directory bytes numbers isnt = refl
+by_protocol moment protocol.File bytes numbers isnt = refl
+by_protocol moment protocol.Node bytes numbers isnt = refl
+by_protocol moment protocol.Echo bytes numbers isnt = refl
+by_protocol moment protocol.Watcher bytes numbers isnt = absurd (isnt refl)
 
 of_bytes : (binding : Binding) (room : Room) (tree : Tree) (directory : ℕ → Option ℕ) (bytes numbers : List ℕ) → binding.birth.protocol ≢ protocol.Watcher →
     outcome_for binding room tree directory (message bytes numbers)

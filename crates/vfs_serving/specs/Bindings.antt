@@ -15,7 +15,7 @@ use Rattle.conn_rules.specs.Built.{first_methods}
 use Rattle.conn_rules.specs.Nodes.{kind_here}
 use Rattle.vfs_journal.specs.Entries.{Sending}
 use Rattle.vfs_journal.specs.Outcomes.{Outcome}
-use Rattle.vfs_journal.specs.Serving.{Sight, outcome_of_read, outcome_of_sending, Read}
+use Rattle.vfs_journal.specs.Serving.{Moment, outcome_of_read, outcome_of_sending, Read}
 use Rattle.vfs_journal.specs.Starts.{Bound}
 
 -- an endpoint, the server at which it is bound, and its connection
@@ -30,7 +30,7 @@ abbrev pub bound_as : Binding → Bound
 bound_as binding = record { endpoint = binding.endpoint; server = binding.server; birth = born binding.birth; mask = 0 }
 
 -- what a serving on it sees
-abbrev pub sight_from : Binding → Room → Tree → (ℕ → Option ℕ) → Sight
+abbrev pub sight_from : Binding → Room → Tree → (ℕ → Option ℕ) → Moment
 sight_from binding room tree directory =
     record { bound = bound_as binding; position = binding.position; room = room; tree = tree; directory = directory }
 

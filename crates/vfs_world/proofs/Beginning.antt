@@ -15,10 +15,11 @@ use Rattle.vfs_journal.specs.Lawful as lawful
 use Rattle.vfs_journal.specs.Past.{history_of}
 use Rattle.journal_laws.specs.Soundness.{StartsAreSound}
 use Rattle.vfs_journal.specs.Starts.{Bound, Start, end_of, first_of_client, start_of}
+use Rattle.vfs_journal.specs.View.{with_position}
 use Rattle.vfs_keeping.specs.Dying.{IsHere}
 use Rattle.vfs_keeping.specs.Keeping.{Keeping, seen}
 use Rattle.vfs_serving.specs.Bindings.{Binding, HasNoMount, bound_as}
-use Rattle.vfs_world.specs.World.{IsOneServer, Keeps, with_position}
+use Rattle.vfs_world.specs.World.{IsOneServer, Keeps}
 use Rattle.vfs_world.proofs.Lists.{filter_all}
 
 -- what a session over one server begins with

@@ -28,11 +28,12 @@ use Rattle.vfs_journal.specs.Output.{refused_frame}
 use Rattle.vfs_journal.specs.Past.{history_of}
 use Rattle.vfs_journal.specs.Session.{admitted, arrives, by_refusal, look_ups, picked, sent_behind, turned}
 use Rattle.vfs_journal.specs.Starts.{Bound, Start}
+use Rattle.vfs_journal.specs.View.{with_position}
 use Rattle.vfs_keeping.specs.Admitting.{Hears, at_place, sent_by_frame, sent_by_kind}
 use Rattle.vfs_keeping.specs.Dying.{IsHere}
 use Rattle.vfs_keeping.specs.Keeping.{Keeping, seen}
 use Rattle.vfs_world.specs.Steps.{JournalLaws, KnowingLaws, Leads}
-use Rattle.vfs_world.specs.World.{Keeps, Remembers, with_position}
+use Rattle.vfs_world.specs.World.{Keeps, Remembers}
 use Rattle.vfs_world.proofs.Written.{nothing_written, refusal_written}
 use Rattle.vfs_world.proofs.Lists.{map_agree}
 

@@ -11,14 +11,15 @@ use Rattle.vfs_journal.specs.Deaths.{deaths_of, others, spread, first_deaths}
 use Rattle.vfs_journal.specs.Entries.{Sent}
 use Rattle.vfs_journal.specs.History.{History, bound_at, connections_at, is_bound, living, position_of, tree_at, trees_of, waiting, watches_node, watchers_of}
 use Rattle.vfs_journal.specs.Outcomes.{Outcome}
-use Rattle.vfs_journal.specs.Serving.{Sight, outcome_at, outcome_of, outcome_of_sending, room_of, sight_of}
+use Rattle.vfs_journal.specs.Serving.{Moment, outcome_at, outcome_of, outcome_of_sending, room_of, moment_of}
 use Rattle.vfs_journal.specs.Session.{head, is_bound_at, next, oldest}
 use Rattle.vfs_journal.specs.Starts.{Bound, Start}
 use Rattle.vfs_journal.specs.Tokens.{directory_of}
+use Rattle.vfs_journal.specs.View.{with_position}
 use Rattle.vfs_keeping.specs.Dying.{IsHere, deaths_in}
 use Rattle.vfs_keeping.specs.Keeping.{Keeping, binding_of, is_bound_in, next_in, next_on, others_in, room_in, seen}
 use Rattle.vfs_serving.specs.Bindings.{Binding, outcome_for, sight_from}
-use Rattle.vfs_world.specs.World.{Remembers, with_position}
+use Rattle.vfs_world.specs.World.{Remembers}
 use Rattle.vfs_world.proofs.Lists.{count_all, filter_none, find_mapped, find_same, found_has, is_some_mapped}
 
 -- ---- what is bound
@@ -113,17 +114,17 @@ room_same start history k bound r here =
     ∙ ap (λ (t : Option ℕ). let room : Room = record { connections = connections_at start history bound.server; watchers = length (watchers_of start history bound.server bound.birth.node); token = t } in room) r.knows.next
 
 sight_same : (start : Start) (history : History) (k : Keeping) (endpoint : ℕ) (r : Remembers start history k) (is : IsKnownAs start history k endpoint) →
-    sight_from is.binding (room_in k) (tree_at (trees_of start history) is.bound.server) (directory_of history is.bound.server) ≡ sight_of start history is.bound
+    sight_from is.binding (room_in k) (tree_at (trees_of start history) is.bound.server) (directory_of history is.bound.server) ≡ moment_of start history is.bound
 sight_same start history k endpoint r is =
-    ap (λ (pair : Bound × Position). let sight : Sight = record { bound = pair.0; position = pair.1; room = room_in k; tree = tree_at (trees_of start history) is.bound.server; directory = directory_of history is.bound.server } in sight) is.same
-    ∙ ap (λ (room : Room). let sight : Sight = record { bound = is.bound; position = position_of history is.bound.endpoint; room = room; tree = tree_at (trees_of start history) is.bound.server; directory = directory_of history is.bound.server } in sight)
+    ap (λ (pair : Bound × Position). let moment : Moment = record { bound = pair.0; position = pair.1; room = room_in k; tree = tree_at (trees_of start history) is.bound.server; directory = directory_of history is.bound.server } in moment) is.same
+    ∙ ap (λ (room : Room). let moment : Moment = record { bound = is.bound; position = position_of history is.bound.endpoint; room = room; tree = tree_at (trees_of start history) is.bound.server; directory = directory_of history is.bound.server } in moment)
     (room_same start history k is.bound r is.here)
 
 -- what the serving of an entry on it answers
 pub outcome_same : (start : Start) (history : History) (k : Keeping) (sent : Sent) (r : Remembers start history k) (is : IsKnownAs start history k sent.endpoint) →
     outcome_for is.binding (room_in k) (tree_at (trees_of start history) is.bound.server) (directory_of history is.bound.server) sent.sending ≡ outcome_of first_methods start history sent
 outcome_same start history k sent r is =
-    ap (λ (sight : Sight). outcome_of_sending first_methods sight sent.sending) (sight_same start history k sent.endpoint r is)
+    ap (λ (moment : Moment). outcome_of_sending first_methods moment sent.sending) (sight_same start history k sent.endpoint r is)
     ∙ ap (outcome_at first_methods start history sent) (sym is.there)
 
 -- ---- the others, and what dies

@@ -11,10 +11,10 @@ use Rattle.vfs_journal.specs.History.{Event, History, binds_endpoint, is_dead, l
 use Rattle.journal_laws.specs.Laws.{IsServed, but_for, newly_living}
 use Rattle.journal_laws.specs.Soundness.{OtherEndpoint}
 use Rattle.vfs_journal.specs.Starts.{Bound, Start}
+use Rattle.vfs_journal.specs.View.{with_position}
 use Rattle.vfs_keeping.specs.Dying.{newly_seen}
 use Rattle.vfs_keeping.specs.Keeping.{positioned, seen}
 use Rattle.vfs_serving.specs.Bindings.{Binding}
-use Rattle.vfs_world.specs.World.{with_position}
 use Rattle.vfs_world.proofs.Lists.{eqb_sym, filter_mapped, map_agree, pairs-head, pairs-tail}
 
 -- ---- the position of the endpoint that is served

@@ -9,11 +9,11 @@ use Rattle.conn_rules.specs.Answers.{Answer, Told, binds, closes, ends, forwards
 use Rattle.conn_rules.specs.Built.{Built}
 use Rattle.vfs_journal.specs.Deaths.{deaths_of}
 use Rattle.vfs_journal.specs.Entries.{Journal, Sending, Sent, hang_up, message, refuses, sends, serves}
-use Rattle.vfs_journal.specs.History.{History, bound_at, is_watcher, tree_at, trees_of}
+use Rattle.vfs_journal.specs.History.{History, bound_at, is_watcher, tree_at, trees_of, living}
 use Rattle.vfs_journal.specs.Outcomes.{Asker, Outcome, bound_of}
 use Rattle.vfs_journal.specs.Output.{close_frames, frames_of, frames_of_serving, output_of, refused_frame}
 use Rattle.vfs_journal.specs.Past.{event_of, history_of}
-use Rattle.vfs_journal.specs.Serving.{Read, Sight, asker_of, fault_answer, fault_txid, object_of, outcome_at, outcome_of, outcome_of_message, outcome_of_read, outcome_of_sending, read_by, request_act, sight_of}
+use Rattle.vfs_journal.specs.Serving.{Read, Moment, asker_of, fault_answer, fault_txid, object_of, outcome_at, outcome_of, outcome_of_message, outcome_of_read, outcome_of_sending, read_by, request_act, moment_of}
 use Rattle.vfs_journal.specs.Starts.{Bound, Start}
 use Rattle.vfs_journal.specs.Watching.{asks_for, event_bytes, existing, first_frames, idle, snapshot, told_frames, watch_frame}
 use Rattle.endpoint_link.specs.Frames.{Frame, spelling, spellings}
@@ -48,25 +48,25 @@ answer_mask asker (ends status) = none_bound
 answer_mask asker hangs_up = none_bound
 answer_mask asker silent = none_bound
 
-read_mask : (built : Built) (sight : Sight) (read : Read) → HasNoMask (outcome_of_read built sight read).bound
-read_mask built sight (Ok found) = answer_mask (asker_of sight.bound found.0 (object_of found.1)) (request_act built sight found.1).answer
-read_mask built sight (Err fault) = answer_mask (asker_of sight.bound (fault_txid fault) 0) (fault_answer fault)
+read_mask : (built : Built) (moment : Moment) (read : Read) → HasNoMask (outcome_of_read built moment read).bound
+read_mask built moment (Ok found) = answer_mask (asker_of moment.bound found.0 (object_of found.1)) (request_act built moment found.1).answer
+read_mask built moment (Err fault) = answer_mask (asker_of moment.bound (fault_txid fault) 0) (fault_answer fault)
 
-message_mask : (built : Built) (sight : Sight) (p : Protocol) (bytes handles : List ℕ) → HasNoMask (outcome_of_message built sight p bytes handles).bound
-message_mask built sight protocol.Watcher bytes handles = none_bound
-message_mask built sight protocol.Directory bytes handles = read_mask built sight (read_by protocol.Directory bytes handles)
-message_mask built sight protocol.File bytes handles = read_mask built sight (read_by protocol.File bytes handles)
-message_mask built sight protocol.Node bytes handles = read_mask built sight (read_by protocol.Node bytes handles)
-message_mask built sight protocol.Echo bytes handles = read_mask built sight (read_by protocol.Echo bytes handles)
+message_mask : (built : Built) (moment : Moment) (p : Protocol) (bytes handles : List ℕ) → HasNoMask (outcome_of_message built moment p bytes handles).bound
+message_mask built moment protocol.Watcher bytes handles = none_bound
+message_mask built moment protocol.Directory bytes handles = read_mask built moment (read_by protocol.Directory bytes handles)
+message_mask built moment protocol.File bytes handles = read_mask built moment (read_by protocol.File bytes handles)
+message_mask built moment protocol.Node bytes handles = read_mask built moment (read_by protocol.Node bytes handles)
+message_mask built moment protocol.Echo bytes handles = read_mask built moment (read_by protocol.Echo bytes handles)
 
-sending_mask : (built : Built) (sight : Sight) (sending : Sending) → HasNoMask (outcome_of_sending built sight sending).bound
+sending_mask : (built : Built) (moment : Moment) (sending : Sending) → HasNoMask (outcome_of_sending built moment sending).bound
 unfolding outcome_of_sending
-sending_mask built sight (message bytes handles) = message_mask built sight sight.bound.birth.protocol bytes handles
-sending_mask built sight hang_up = none_bound
+sending_mask built moment (message bytes handles) = message_mask built moment moment.bound.birth.protocol bytes handles
+sending_mask built moment hang_up = none_bound
 
 mask_at : (built : Built) (start : Start) (past : History) (sent : Sent) (o : Option Bound) → HasNoMask (outcome_at built start past sent o).bound
 mask_at built start past sent None = none_bound
-mask_at built start past sent (Some bound) = sending_mask built (sight_of start past bound) sent.sending
+mask_at built start past sent (Some bound) = sending_mask built (moment_of start past bound) sent.sending
 
 -- ---- no watcher's first frames, and nothing told
 
@@ -90,15 +90,15 @@ pub record IsQuiet (o : Outcome) : Type 0 where
   pub speaks : (bound : Bound) → o.bound ≡ Some bound → is_watcher bound.birth.protocol ≡ false
 
 quiet_frames : (built : Built) (start : Start) (past : History) (sent : Sent) → IsQuiet (outcome_of built start past sent) →
-    frames_of_serving start past (event_of built start past (serves sent)) ≡ written_for (outcome_of built start past sent) (deaths_of past sent (outcome_of built start past sent))
+    frames_of_serving (trees_of start past) (living start past) (event_of built start past (serves sent)) ≡ written_for (outcome_of built start past sent) (deaths_of past sent (outcome_of built start past sent))
 unfolding event_of
 quiet_frames built start past sent quiet =
     let o = outcome_of built start past sent in
     let closes = close_frames (event_of built start past (serves sent)) in
     let firsts = option_map_or (λ (bound : Bound). first_frames (tree_at (trees_of start past) bound.server) bound) o.bound [] in
-    ap (λ (frames : List Frame). o.frames ++ frames ++ told_frames start past o.server o.told ++ closes)
+    ap (λ (frames : List Frame). o.frames ++ frames ++ told_frames (living start past) o.server o.told ++ closes)
     (no_first_of (tree_at (trees_of start past)) o.bound (mask_at built start past sent (bound_at start past sent.endpoint)) quiet.speaks)
-    ∙ ap (λ (told : Told). o.frames ++ [] ++ told_frames start past o.server told ++ closes) quiet.told
+    ∙ ap (λ (told : Told). o.frames ++ [] ++ told_frames (living start past) o.server told ++ closes) quiet.told
     ∙ ap (λ (frames : List Frame). frames ++ [] ++ closes) (append-nil o.frames)
     ∙ ap (λ (frames : List Frame). frames ++ closes) (append-nil o.frames)
 
@@ -110,7 +110,7 @@ pub more_written : (built : Built) (start : Start) (journal : Journal) (sent : S
 unfolding history_of event_of
 more_written built start journal sent quiet =
     let past = history_of built start journal in
-    flat_map-append spelling (frames_of start past) (frames_of_serving start past (event_of built start past (serves sent)))
+    flat_map-append spelling (frames_of start past) (frames_of_serving (trees_of start past) (living start past) (event_of built start past (serves sent)))
     ∙ ap (λ (frames : List Frame). spellings (frames_of start past) ++ spellings frames) (quiet_frames built start past sent quiet)
 
 -- ---- entries that are sent or refused

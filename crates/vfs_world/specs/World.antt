@@ -1,17 +1,17 @@
 -- What a world stands for: one journal of a session over one server.
 use Rattle.std.specs.Prelude.{◌≡◌, ℕ, Bool, false, List, [], ◌++◌, All, length, map}
 use Rattle.node_graph.specs.Graph.{StandsFor as GraphStandsFor}
-use Rattle.conn_rules.specs.Births.{Position}
 use Rattle.conn_rules.specs.Built.{first_methods}
 use Rattle.vfs_journal.specs.Entries.{Journal}
-use Rattle.vfs_journal.specs.History.{History, living, position_of, tree_at, trees_of, waiting}
+use Rattle.vfs_journal.specs.History.{History, living, tree_at, trees_of, waiting}
 use Rattle.journal_laws.specs.Knowing.{IsNumbered, Knows}
 use Rattle.vfs_journal.specs.Lawful.{Lawful}
 use Rattle.vfs_journal.specs.Output.{output_of}
 use Rattle.vfs_journal.specs.Past.{history_of}
 use Rattle.journal_laws.specs.Soundness.{IsStart}
-use Rattle.vfs_journal.specs.Starts.{Bound, Start}
+use Rattle.vfs_journal.specs.Starts.{Start}
 use Rattle.vfs_journal.specs.Tokens.{all_given}
+use Rattle.vfs_journal.specs.View.{with_position}
 use Rattle.vfs_keeping.specs.Dying.{IsHere}
 use Rattle.vfs_keeping.specs.Keeping.{Keeping, seen}
 use Rattle.vfs_serving.specs.Bindings.{HasNoMount}
@@ -30,10 +30,6 @@ pub record IsOneServer (start : Start) : Type 0 where
   pub no_mounts : start.mounts ≡ []
   pub plain : All HasNoMount start.trees
   pub here : All (IsHere 0) start.firsts
-
--- an endpoint that is bound, with its position
-abbrev pub with_position : History → Bound → Bound × Position
-with_position history bound = (bound, position_of history bound.endpoint)
 
 -- all that looking back finds in a past
 pub record Remembers (start : Start) (history : History) (keeping : Keeping) : Type 0 where

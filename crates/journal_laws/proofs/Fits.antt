@@ -1,0 +1,213 @@
+-- The view of each lawful journal is fit.
+use Rattle.std.proofs.Common.{◌≡◌, ◌≢◌, ℕ, ◌+◌, ◌<◌, ◌≤◌, ◌==◌, ◌⊎◌, ◌&&◌, Bool, true, false, not, List, [], ◌∷◌, length, flat_map, Some, All, AllPairs, Contains, refl, sym, ap, ◌∙◌, subst, inl, inr, arith}
+use Rattle.std.specs.List.{list_any}
+use Rattle.std.proofs.lemmas.Bool.{or_cases, true≢false}
+use Rattle.std.proofs.lemmas.List.Elements.{All-weaker, All-filter, All-contains, All-contains_itself}
+use Rattle.std.proofs.lemmas.List.Kept.{AllPairs-filter}
+use Rattle.endpoint_link.specs.Numbering.{among}
+use Rattle.fidl_names.specs.HandleNumber.{is_client}
+use Rattle.conn_rules.specs.Births.{Position}
+use Rattle.conn_rules.specs.Built.{Built}
+use Rattle.vfs_journal.specs.Deaths.{deaths_of}
+use Rattle.vfs_journal.specs.Entries.{Sent, Journal, message, endpoints_in, handles_of, serves}
+use Rattle.vfs_journal.specs.Fit.{IsFit, ServesFit, handles_out}
+use Rattle.vfs_journal.specs.History.{History, all_sent, births, is_bound, is_dead, living, travelling, waiting, waits, was_carried}
+use Rattle.vfs_journal.specs.Lawful.{Lawful}
+use Rattle.vfs_journal.specs.Lawful as lawful
+use Rattle.vfs_journal.specs.Outcomes.{Given, Outcome}
+use Rattle.vfs_journal.specs.Past.{history_of}
+use Rattle.vfs_journal.specs.Serving.{outcome_of}
+use Rattle.vfs_journal.specs.Session.{after_serving, head, sent_behind}
+use Rattle.vfs_journal.specs.Starts.{Bound, Start}
+use Rattle.vfs_journal.specs.Tokens.{all_given, first_token, is_held, was_given}
+use Rattle.vfs_journal.specs.View.{View, deaths_in, head_in, is_bound_in, is_held_in, then_in, view_of, with_position}
+use Rattle.journal_laws.specs.Soundness.{IsStart, OtherEndpoint}
+use Rattle.journal_laws.specs.Viewing.{IsReached, view_behind}
+use Rattle.journal_laws.proofs.Among.{carried_from, among_of, passes_any}
+use Rattle.journal_laws.proofs.Apart.{births_apart, carry_apart}
+use Rattle.journal_laws.proofs.Below.{Below}
+use Rattle.journal_laws.proofs.Kept.{end_lives, is_forwarded, is_serving, lawful_kept, mounts_born}
+use Rattle.journal_laws.proofs.KnowingCount.{deaths_apart}
+use Rattle.journal_laws.proofs.KnowingLists.{apart_pairs}
+use Rattle.journal_laws.proofs.KnowingServed.{after_served}
+use Rattle.journal_laws.proofs.Lists.{pairs-append, pairs-head, pairs-map, pairs-tail}
+use Rattle.journal_laws.proofs.Members.{contains_here, contains_later}
+use Rattle.journal_laws.proofs.Places.{in_order, waiting_rises, waits_of_sent}
+use Rattle.journal_laws.proofs.Sound.{end_apart, view}
+use Rattle.journal_laws.proofs.Spreading.{among_sides}
+use Rattle.journal_laws.proofs.Served.{how_it_dies, known_by_death}
+use Rattle.journal_laws.proofs.Stepping.{stepped}
+use Rattle.journal_laws.proofs.TokensGiven.{lawful_given}
+use Rattle.journal_laws.proofs.TransitLaws.{deaths_reach_all, in_transit}
+use Rattle.journal_laws.proofs.ViewParts.{bound_is, deaths_are, head_is_in, held_is, outcome_is_in, token_is}
+use Rattle.journal_laws.proofs.ViewLaws.{served_behind_viewed}
+use Rattle.journal_laws.proofs.Views.{is_view}
+
+-- ---- numbers of many entries
+
+-- what one of them has
+from_many : (f : Sent → List ℕ) (n : ℕ) (ones : List Sent) → among n (flat_map f ones) ≡ true → (x : Sent) × Contains ones x × (among n (f x) ≡ true)
+from_many f n [] h = absurd (true≢false (sym h))
+from_many f n (one ∷ ones) h = by_side (from_many f n ones) (among_sides n (f one) (flat_map f ones) h) where
+  by_side : (among n (flat_map f ones) ≡ true → (x : Sent) × Contains ones x × (among n (f x) ≡ true)) → (among n (f one) ≡ true) ⊎ (among n (flat_map f ones) ≡ true) → (x : Sent) × Contains (one ∷ ones) x × (among n (f x) ≡ true)
+  by_side rest (inl g) = (one, contains_here one ones, g)
+  by_side rest (inr g) = let later = rest g in (later.0, contains_later later.0 one ones later.1, later.2)
+
+-- numbers that no entry has twice, and no two entries have, are apart
+many_apart : (f : Sent → List ℕ) (ones : List Sent) → ((one : Sent) → Contains ones one → AllPairs (λ (x y : ℕ). x ≢ y) (f one)) →
+    ((one other : Sent) (n : ℕ) → Contains ones one → Contains ones other → among n (f one) ≡ true → among n (f other) ≡ true → one ≡ other) →
+    AllPairs (λ one other. one.place < other.place) ones → AllPairs (λ (x y : ℕ). x ≢ y) (flat_map f ones)
+many_apart f [] each once rises = λ i j d a b. absurd (omega arith)
+many_apart f (one ∷ ones) each once rises =
+    pairs-append (λ (x y : ℕ). x ≢ y) (f one) (flat_map f ones) (each one (contains_here one ones))
+    (many_apart f ones (λ x p. each x (contains_later x one ones p)) (λ x y n p q. once x y n (contains_later x one ones p) (contains_later y one ones q)) (pairs-tail (λ (x y : Sent). x.place < y.place) one ones rises))
+    (All-weaker (Contains (f one)) (λ n. All (λ m. n ≢ m) (flat_map f ones))
+    (λ n p. All-weaker (Contains (flat_map f ones)) (λ m. n ≢ m) (λ m q same. clash n m p q same) (flat_map f ones) (All-contains_itself (flat_map f ones)))
+    (f one) (All-contains_itself (f one))) where
+      clash : (n m : ℕ) → Contains (f one) n → Contains (flat_map f ones) m → n ≡ m → ⊥
+      clash n m p q same =
+          let u = from_many f m ones (among_of m (flat_map f ones) q) in
+          let has : among m (f one) ≡ true = among_of m (f one) (subst (Contains (f one)) same p) in
+          let one_is : one ≡ u.0 = once one u.0 m (contains_here one ones) (contains_later u.0 one ones u.1) has u.2 in
+          let after : one.place < u.0.place = All-contains (λ (x : Sent). one.place < x.place) ones u.0 (pairs-head (λ (x y : Sent). x.place < y.place) one ones rises) u.1 in
+          let equal : one.place ≡ u.0.place = ap (λ (x : Sent). x.place) one_is in
+          omega (arith, after, equal)
+
+-- ---- who lives, and what is in transit
+
+lives_apart : Below → (built : Built) (start : Start) (journal : Journal) → IsStart start → Lawful built start journal →
+    AllPairs (λ one other. one.0.endpoint ≢ other.0.endpoint) (view_behind built start journal).living
+lives_apart below built start journal s h =
+    let past = history_of built start journal in
+    pairs-map (λ (one other : Bound × Position). one.0.endpoint ≢ other.0.endpoint) (with_position past) (living start past)
+    (AllPairs-filter OtherEndpoint (λ bound. not (is_dead past bound.endpoint)) (births start past) (births_apart below built start s s.apart journal h))
+
+live_by : (built : Built) (start : Start) (past : History) (n : ℕ) → (is_bound start past n ≡ true) ⊎ (among n (travelling past) ≡ true) → (is_bound_in (view_of built start past) n ≡ true) ⊎ (among n (travelling past) ≡ true)
+live_by built start past n (inl h) = inl (sym (bound_is built start past n) ∙ h)
+live_by built start past n (inr h) = inr h
+
+-- ---- handles
+
+handle_once : Below → (built : Built) (start : Start) (journal : Journal) → IsStart start → Lawful built start journal → (one other : Sent) (n : ℕ) →
+    Contains (waiting (history_of built start journal)) one → Contains (waiting (history_of built start journal)) other → among n (handles_of one.sending) ≡ true → among n (handles_of other.sending) ≡ true → one ≡ other
+handle_once below built start journal s h one other n p q c d =
+    let past = history_of built start journal in
+    let kept = lawful_kept below built start s journal h in
+    let given = lawful_given below built start s journal h in
+    by_kind ((kept.sound.right one (waits_of_sent past one p)).handles n c) kept.transit.once given.once where
+      by_kind : (is_client n ≡ true) ⊎ (0x80000000 ≤ n) →
+          ((x y : Sent) (m : ℕ) → Contains (waiting (history_of built start journal)) x → Contains (waiting (history_of built start journal)) y → among m (endpoints_in x) ≡ true → among m (endpoints_in y) ≡ true → x ≡ y) →
+          ((x y : Sent) (m : ℕ) → first_token ≤ m → Contains (all_sent (history_of built start journal)) x → Contains (all_sent (history_of built start journal)) y → among m (handles_of x.sending) ≡ true → among m (handles_of y.sending) ≡ true → x ≡ y) → one ≡ other
+      by_kind (inl client) endpoints tokens = endpoints one other n p q (carried_from one n client c) (carried_from other n client d)
+      by_kind (inr high) endpoints tokens =
+          tokens one other n high (waits_of_sent (history_of built start journal) one p) (waits_of_sent (history_of built start journal) other q) c d
+
+not_held : (history : History) (n : ℕ) → was_carried history n ≡ true → is_held history n ≡ false
+not_held history n h = by_test (was_given history n) (was_carried history n) h where
+  by_test : (a b : Bool) → b ≡ true → a && not b ≡ false
+  by_test true true e = refl
+  by_test true false e = absurd (true≢false (sym e))
+  by_test false b e = refl
+
+handle_kind : Below → (built : Built) (start : Start) (journal : Journal) → IsStart start → Lawful built start journal → (n : ℕ) → among n (handles_out (view_behind built start journal)) ≡ true →
+    (is_client n ≡ true) ⊎ ((list_any (λ (given : Given). given.token == n) (view_behind built start journal).given ≡ true) × (is_held_in (view_behind built start journal) n ≡ false))
+handle_kind below built start journal s h n c =
+    let past = history_of built start journal in
+    let kept = lawful_kept below built start s journal h in
+    let given = lawful_given below built start s journal h in
+    let one = from_many (λ sent. handles_of sent.sending) n (waiting past) c in
+    let carried : was_carried past n ≡ true = passes_any (λ (x : Sent). among n (handles_of x.sending)) (all_sent past) one.0 (waits_of_sent past one.0 one.1) one.2 in
+    by_kind carried (given.given n) ((kept.sound.right one.0 (waits_of_sent past one.0 one.1)).handles n one.2) where
+      by_kind : was_carried (history_of built start journal) n ≡ true → (first_token ≤ n → was_carried (history_of built start journal) n ≡ true → was_given (history_of built start journal) n ≡ true) → (is_client n ≡ true) ⊎ (0x80000000 ≤ n) →
+          (is_client n ≡ true) ⊎ ((list_any (λ (given : Given). given.token == n) (view_behind built start journal).given ≡ true) × (is_held_in (view_behind built start journal) n ≡ false))
+      by_kind carried given (inl client) = inl client
+      by_kind carried given (inr high) = inr (given high carried, sym (held_is built start (history_of built start journal) n) ∙ not_held (history_of built start journal) n carried)
+
+-- ---- servings
+
+serves_fit : Below → (built : Built) (start : Start) (journal : Journal) → IsStart start → Lawful built start journal → (sent : Sent) → head_in (view_behind built start journal) sent.endpoint ≡ Some sent → ServesFit (view_behind built start journal) sent
+serves_fit below built start journal s h sent in_view =
+    let past = history_of built start journal in
+    let steps = stepped built start journal h in
+    let kept = lawful_kept below built start s journal h in
+    let is = is_view built start journal steps in
+    let first : head start past sent.endpoint ≡ Some sent = head_is_in built start past sent.endpoint ∙ in_view in
+    let serving' = is_serving below built start journal sent s steps kept.sound first in
+    let after = after_served below built start journal sent s h first in
+    let o = outcome_is_in built start past sent in
+    let deaths = deaths_are built start past sent in
+    let outcome = outcome_of built start past sent in
+    let died = λ (n : ℕ) (e : among n (deaths_in (view_behind built start journal) sent) ≡ true). ap (among n) deaths ∙ e in
+    record {
+      binds = λ bound e. serving'.answered.bound_in bound (ap (λ (x : Outcome). x.bound) o ∙ e);
+      sends_on = λ forward e. (serving'.answered.goes_on forward (ap (λ (x : Outcome). x.forward) o ∙ e)).0;
+      goes_to = λ forward e.
+          let on = ap (λ (x : Outcome). x.forward) o ∙ e in
+          let new = sent_behind (serves sent ∷ journal) forward.endpoint (message forward.bytes (forward.object ∷ [])) (Some sent.place) in
+          let end = (is_forwarded below built start past sent new forward s kept.sound is serving' on refl refl).end in
+          (end_apart start forward.endpoint s end, sym (bound_is built start past forward.endpoint) ∙ (end_lives start (view start past) forward.endpoint s kept.sound is (mounts_born start past) end).1);
+      gives = λ given e. sym (token_is built start past) ∙ serving'.parts.token_next given (ap (λ (x : Outcome). x.token) o ∙ e);
+      clients = λ n e. (
+        (known_by_death start (view start past) sent outcome n s kept.sound is serving'.answered (how_it_dies (view start past) sent outcome n (died n e))).0,
+        live_by built start past n (or_cases (is_bound start past n) (among n (travelling past)) (after.died n (died n e))),
+      );
+      once = subst (AllPairs (λ one other. one ≢ other)) deaths (apart_pairs (deaths_of past sent outcome) (deaths_apart below built start journal sent s h first));
+      closed = λ other n p dead c.
+          ap (among n) (sym deaths) ∙ deaths_reach_all below built start journal sent s h first other n p (died other.endpoint dead) c;
+    }
+
+-- what was sent has places below the journal's length
+same_length : (built : Built) (start : Start) (journal : Journal) → length (history_of built start journal) ≡ length journal
+unfolding history_of
+same_length built start [] = refl
+same_length built start (entry ∷ journal) = let rest = same_length built start journal in omega (arith, rest)
+
+waits_below : (built : Built) (start : Start) (journal : Journal) → All (λ (one : Sent). one.place < length journal) (all_sent (history_of built start journal)) → All (λ (one : Sent). one.place < length (history_of built start journal)) (waiting (history_of built start journal))
+waits_below built start journal below =
+    let past = history_of built start journal in
+    subst (λ (n : ℕ). All (λ (one : Sent). one.place < n) (waiting past)) (sym (same_length built start journal))
+    (All-filter (waits past) (λ (one : Sent). one.place < length journal) (all_sent past) below)
+
+pub views_fit : Below → (built : Built) (start : Start) (journal : Journal) → IsStart start → Lawful built start journal → IsFit (view_behind built start journal)
+views_fit below built start journal s h =
+    let past = history_of built start journal in
+    let steps = stepped built start journal h in
+    let kept = lawful_kept below built start s journal h in
+    let transit = in_transit below built start journal s h in
+    let given = lawful_given below built start s journal h in
+    let order = in_order built start journal steps in
+    record {
+      rise = waiting_rises built start journal steps;
+      below = waits_below built start journal order.below;
+      apart = lives_apart below built start journal s h;
+      reached = λ sent p. live_by built start past sent.endpoint (transit.reached sent p);
+      once = many_apart (λ sent. handles_of sent.sending) (waiting past) (λ one p. carry_apart built start journal h one (waits_of_sent past one p)) (handle_once below built start journal s h) (waiting_rises built start journal steps);
+      unbound = λ n c. let one = from_many endpoints_in n (waiting past) c in sym (bound_is built start past n) ∙ transit.unbound one.0 n (one.1, one.2);
+      carried = λ n c. handle_kind below built start journal s h n c;
+      tokens = given.rise;
+      numbered = All-weaker (Contains (all_given past)) (λ (one : Given). (first_token ≤ one.token) × (one.token < first_token + length (all_given past)))
+          (λ one p. (kept.sound.tokens one p, All-contains (λ (g : Given). g.token < first_token + length (all_given past)) (all_given past) one given.below p)) (all_given past) (All-contains_itself (all_given past));
+      held = All-filter (λ (one : Given). not (was_carried past one.token)) (Contains (all_given past)) (all_given past) (All-contains_itself (all_given past));
+      heads = λ sent e. serves_fit below built start journal s h sent e;
+    }
+
+-- ---- what is reached
+
+fit_by : Below → (view : View) → IsReached view → IsFit view
+fit_by below view r = subst IsFit r.seen (views_fit below r.built r.start r.journal r.sound r.lawful)
+
+reached_on : Below → (view : View) → IsReached view → (sent : Sent) → head_in view sent.endpoint ≡ Some sent → IsReached (then_in view sent)
+reached_on below view r sent e =
+    let first : head r.start (history_of r.built r.start r.journal) sent.endpoint ≡ Some sent =
+    head_is_in r.built r.start (history_of r.built r.start r.journal) sent.endpoint ∙ ap (λ (v : View). head_in v sent.endpoint) r.seen ∙ e in
+    record {
+      built = r.built;
+      start = r.start;
+      journal = after_serving r.built r.start r.journal sent;
+      sound = r.sound;
+      lawful = lawful.served r.journal sent r.lawful first;
+      seen = served_behind_viewed below r.built r.start r.journal sent r.sound r.lawful first ∙ ap (λ (v : View). then_in v sent) r.seen;
+    }
+
+pub reached_go_on : Below → (view : View) → IsReached view → IsFit view × ((sent : Sent) → head_in view sent.endpoint ≡ Some sent → IsReached (then_in view sent))
+reached_go_on below view r = (fit_by below view r, λ sent e. reached_on below view r sent e)

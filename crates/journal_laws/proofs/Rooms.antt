@@ -1,0 +1,252 @@
+-- No server has more connections than it may: what binds found fewer.
+use Rattle.std.proofs.Common.{◌≡◌, ℕ, ◌+◌, ◌≤◌, ◌==◌, ◌||◌, Bool, true, false, not, cond, nat_le, List, [], ◌∷◌, ◌++◌, filter, count_by, option_to_list, Option, Some, None, Ok, Err, refl, sym, ap, ◌∙◌, subst, append-nil, arith}
+use Rattle.std.proofs.lemmas.Bool.{eqb-true, leb-false, or_parts}
+use Rattle.std.proofs.lemmas.List.Filters.{sum_by-filter_both}
+use Rattle.std.proofs.lemmas.List.Sums.{sum_by-append}
+use Rattle.fidl_names.specs.declared.statuses.Status.{Status}
+use Rattle.fidl_names.specs.declared.statuses.Status.TheVariants as status
+use Rattle.endpoint_link.specs.Numbering.{among}
+use Rattle.io_messages.specs.Asked.{Asked, method_of}
+use Rattle.io_messages.specs.Asked as asks
+use Rattle.io_messages.specs.declared.protocols.Protocol.{Protocol}
+use Rattle.io_messages.specs.declared.protocols.Protocol.TheVariants as protocol
+use Rattle.io_messages.specs.declared.requests.RequestFault.TheVariants.{Malformed, UnknownStrict, UnknownOneWay, UnknownTwoWay}
+use Rattle.node_graph.specs.Tree.{Tree}
+use Rattle.conn_rules.specs.declared.births.Room.{Room}
+use Rattle.conn_rules.specs.Acts.{act_of, method_refusals, row_act}
+use Rattle.conn_rules.specs.Answers.{Act, Answer, replies, closes, binds, watches, forwards, refuses, ends, hangs_up, silent}
+use Rattle.conn_rules.specs.Births.{Birth, Position}
+use Rattle.conn_rules.specs.Built.{Built}
+use Rattle.conn_rules.specs.NameRows.{most_watchers, watch_refusals}
+use Rattle.conn_rules.specs.Nodes.{kind_here}
+use Rattle.conn_rules.specs.Opens.{arrival_refusals, by_walk, entry_refusals, is_full, making_refusals}
+use Rattle.conn_rules.specs.Refusals.{first_of, most_connections, refused_if}
+use Rattle.conn_rules.specs.Walks.{Walk, arrives, missing, crosses, stops, walk}
+use Rattle.path_walk.specs.Paths.{names_of}
+use Rattle.vfs_journal.specs.Entries.{Sending, Sent, Journal, message, hang_up, sends, serves}
+use Rattle.vfs_journal.specs.History.{History, bound_at, connections_at, is_dead, living}
+use Rattle.vfs_journal.specs.Lawful.{Lawful}
+use Rattle.vfs_journal.specs.Lawful as lawful
+use Rattle.vfs_journal.specs.Outcomes.{Asker, Forwarded, Outcome, bound_of}
+use Rattle.vfs_journal.specs.Past.{behind, event_of, history_of}
+use Rattle.vfs_journal.specs.Serving.{Moment, Read, asker_of, moment_of, object_of, outcome_at, outcome_of, outcome_of_message, outcome_of_read, outcome_of_sending, read_by, request_act, token_of as asked_token}
+use Rattle.vfs_journal.specs.Session.{sent_behind, with_forward}
+use Rattle.vfs_journal.specs.Starts.{Bound, Start}
+use Rattle.journal_laws.specs.Laws.{but_for, newly_living}
+use Rattle.journal_laws.specs.Rooms.{HasRoom}
+use Rattle.journal_laws.proofs.Acts.{IsClose, IsReply, IsToken, act_answers, unless_holds}
+use Rattle.journal_laws.proofs.Steps.{refusals_change_nothing, sendings_wait_last, servings_take_effect}
+
+-- ---- what binds has room
+
+abbrev RoomFor : Room → Answer → Type 0
+RoomFor room (binds birth announced) = is_full room ≡ false
+RoomFor room (watches mask) = is_full room ≡ false
+RoomFor room _ = Unit {0}
+
+reply_room : (room : Room) (answer : Answer) → IsReply answer → RoomFor room answer
+reply_room room (replies a) h = tt
+reply_room room closes h = absurd h
+reply_room room (binds birth announced) h = absurd h
+reply_room room (watches mask) h = absurd h
+reply_room room (forwards mount flags rest) h = absurd h
+reply_room room (refuses status) h = absurd h
+reply_room room (ends status) h = absurd h
+reply_room room hangs_up h = absurd h
+reply_room room silent h = absurd h
+
+close_room : (room : Room) (answer : Answer) → IsClose answer → RoomFor room answer
+close_room room closes h = tt
+close_room room (replies a) h = tt
+close_room room (binds birth announced) h = absurd h
+close_room room (watches mask) h = absurd h
+close_room room (forwards mount flags rest) h = absurd h
+close_room room (refuses status) h = absurd h
+close_room room (ends status) h = absurd h
+close_room room hangs_up h = absurd h
+close_room room silent h = absurd h
+
+token_room : (room : Room) (next : Option ℕ) (answer : Answer) → IsToken next answer → RoomFor room answer
+token_room room next (replies a) h = tt
+token_room room next closes h = absurd h
+token_room room next (binds birth announced) h = absurd h
+token_room room next (watches mask) h = absurd h
+token_room room next (forwards mount flags rest) h = absurd h
+token_room room next (refuses status) h = absurd h
+token_room room next (ends status) h = absurd h
+token_room room next hangs_up h = absurd h
+token_room room next silent h = absurd h
+
+-- where no cause holds, the last one doesn't
+abbrev last_cause : List (Option Status) → Option Status
+last_cause [] = None
+last_cause (o ∷ []) = o
+last_cause (o ∷ p ∷ os) = last_cause (p ∷ os)
+
+last_none : (os : List (Option Status)) → first_of os ≡ None → last_cause os ≡ None
+last_none [] e = refl
+last_none (None ∷ []) e = refl
+last_none (Some s ∷ []) e = absurd (cc)
+last_none (None ∷ p ∷ os) e = last_none (p ∷ os) e
+last_none (Some s ∷ p ∷ os) e = absurd (cc)
+
+not_told : (b : Bool) (s : Status) → refused_if b s ≡ None → b ≡ false
+not_told true s e = absurd (cc)
+not_told false s e = refl
+
+abbrev HasRoomFor : Room → Act → Type 0
+HasRoomFor room act = RoomFor room act.answer
+
+walk_room : (built : Built) (birth : Birth) (position : Position) (room : Room) (tree : Tree) (path : List ℕ) (word : ℕ) (given : Option ℕ) (object : ℕ) (w : Walk) → HasRoomFor room (by_walk built birth position room tree (asks.open_path path word given object) word w)
+walk_room built birth position room tree path word given object (arrives node masks) =
+    unless_holds (HasRoomFor room) (first_of (arrival_refusals built room word (kind_here tree node))) position (asks.open_path path word given object) _ (λ s. tt)
+    (λ e. not_told (is_full room) status.NoResources (last_none (arrival_refusals built room word (kind_here tree node)) e))
+walk_room built birth position room tree path word given object (missing directory name masks) =
+    unless_holds (HasRoomFor room) (first_of (making_refusals tree room word directory)) position (asks.open_path path word given object) _ (λ s. tt)
+    (λ e. not_told (is_full room) status.NoResources (last_none (making_refusals tree room word directory) e))
+walk_room built birth position room tree path word given object (crosses mount rest masks) = tt
+walk_room built birth position room tree path word given object (stops status) = tt
+
+binding_room : (built : Built) (birth : Birth) (position : Position) (room : Room) (tree : Tree) (target : Option ℕ) (request : Asked) → HasRoomFor room (act_of built birth position room tree target request)
+unfolding act_of
+binding_room built birth position room tree target (asks.clone endpoint) =
+    unless_holds (HasRoomFor room) (first_of (method_refusals built birth (method_of (asks.clone endpoint)))) position (asks.clone endpoint) (row_act built birth position room tree target (asks.clone endpoint)) (λ s. tt)
+    (λ e. unless_holds (HasRoomFor room) (first_of (refused_if (is_full room) status.NoResources ∷ [])) position (asks.clone endpoint) _ (λ s. tt) (λ f. not_told (is_full room) status.NoResources (last_none (refused_if (is_full room) status.NoResources ∷ []) f)))
+binding_room built birth position room tree target (asks.open_path path word given object) =
+    unless_holds (HasRoomFor room) (first_of (method_refusals built birth (method_of (asks.open_path path word given object)))) position (asks.open_path path word given object) (row_act built birth position room tree target (asks.open_path path word given object)) (λ s. tt)
+    (λ e. unless_holds (HasRoomFor room) (first_of (entry_refusals built birth word path)) position (asks.open_path path word given object) _ (λ s. tt)
+    (λ f. walk_room built birth position room tree path word given object (walk tree word (names_of path) birth.node)))
+binding_room built birth position room tree target (asks.watch mask options watcher) =
+    unless_holds (HasRoomFor room) (first_of (method_refusals built birth (method_of (asks.watch mask options watcher)))) position (asks.watch mask options watcher) (row_act built birth position room tree target (asks.watch mask options watcher)) (λ s. tt)
+    (λ e. unless_holds (HasRoomFor room) (first_of (watch_refusals room mask options)) position (asks.watch mask options watcher) _ (λ s. tt)
+    (λ f. (or_parts (nat_le most_watchers room.watchers) (is_full room) (not_told (nat_le most_watchers room.watchers || is_full room) status.NoResources (last_none (watch_refusals room mask options) f))).1))
+binding_room built birth position room tree target asks.close = close_room room _ (act_answers built birth position room tree target asks.close).0
+binding_room built birth position room tree target asks.get_token = token_room room room.token _ (act_answers built birth position room tree target asks.get_token).0
+binding_room built birth position room tree target asks.query = reply_room room _ (act_answers built birth position room tree target asks.query).0
+binding_room built birth position room tree target (asks.get_attributes bits) = reply_room room _ (act_answers built birth position room tree target (asks.get_attributes bits)).0
+binding_room built birth position room tree target asks.sync = reply_room room _ (act_answers built birth position room tree target asks.sync).0
+binding_room built birth position room tree target (asks.read_dirents most) = reply_room room _ (act_answers built birth position room tree target (asks.read_dirents most)).0
+binding_room built birth position room tree target asks.rewind = reply_room room _ (act_answers built birth position room tree target asks.rewind).0
+binding_room built birth position room tree target (asks.rename src token dst) = reply_room room _ (act_answers built birth position room tree target (asks.rename src token dst)).0
+binding_room built birth position room tree target (asks.link src token dst) = reply_room room _ (act_answers built birth position room tree target (asks.link src token dst)).0
+binding_room built birth position room tree target (asks.unlink name flags) = reply_room room _ (act_answers built birth position room tree target (asks.unlink name flags)).0
+binding_room built birth position room tree target (asks.read count) = reply_room room _ (act_answers built birth position room tree target (asks.read count)).0
+binding_room built birth position room tree target (asks.read_at count offset) = reply_room room _ (act_answers built birth position room tree target (asks.read_at count offset)).0
+binding_room built birth position room tree target (asks.write bytes) = reply_room room _ (act_answers built birth position room tree target (asks.write bytes)).0
+binding_room built birth position room tree target (asks.write_at bytes offset) = reply_room room _ (act_answers built birth position room tree target (asks.write_at bytes offset)).0
+binding_room built birth position room tree target (asks.seek origin offset) = reply_room room _ (act_answers built birth position room tree target (asks.seek origin offset)).0
+binding_room built birth position room tree target (asks.resize size) = reply_room room _ (act_answers built birth position room tree target (asks.resize size)).0
+binding_room built birth position room tree target (asks.echo_string value) = reply_room room _ (act_answers built birth position room tree target (asks.echo_string value)).0
+
+-- ---- what a serving binds
+
+-- it is at the server of the served endpoint, where there is room
+abbrev IsRoomy : Moment → Outcome → Type 0
+IsRoomy moment outcome = (new : Bound) → outcome.bound ≡ Some new → (new.server ≡ moment.bound.server) × (is_full moment.room ≡ false)
+
+bound_room : (room : Room) (asker : Asker) (answer : Answer) → RoomFor room answer → (new : Bound) → bound_of asker answer ≡ Some new → (new.server ≡ asker.server) × (is_full room ≡ false)
+bound_room room asker (binds birth announced) h new e = (ap server_of (sym e), h) where
+  server_of : Option Bound → ℕ
+  server_of (Some b) = b.server
+  server_of None = 0
+bound_room room asker (watches mask) h new e = (ap server_of (sym e), h) where
+  server_of : Option Bound → ℕ
+  server_of (Some b) = b.server
+  server_of None = 0
+bound_room room asker (replies a) h new e = absurd (cc)
+bound_room room asker closes h new e = absurd (cc)
+bound_room room asker (forwards mount flags rest) h new e = absurd (cc)
+bound_room room asker (refuses status) h new e = absurd (cc)
+bound_room room asker (ends status) h new e = absurd (cc)
+bound_room room asker hangs_up h new e = absurd (cc)
+bound_room room asker silent h new e = absurd (cc)
+
+read_room : (built : Built) (moment : Moment) (r : Read) → IsRoomy moment (outcome_of_read built moment r)
+read_room built moment (Ok (txid, a)) = λ new e. bound_room moment.room (asker_of moment.bound txid (object_of a)) (request_act built moment a).answer (binding_room built moment.bound.birth moment.position moment.room moment.tree (moment.directory (asked_token a)) a) new e
+read_room built moment (Err (Malformed fault)) = λ new e. absurd (cc)
+read_room built moment (Err UnknownStrict) = λ new e. absurd (cc)
+read_room built moment (Err UnknownOneWay) = λ new e. absurd (cc)
+read_room built moment (Err (UnknownTwoWay txid ordinal)) = λ new e. absurd (cc)
+
+message_room : (built : Built) (moment : Moment) (bytes handles : List ℕ) (p : Protocol) → IsRoomy moment (outcome_of_message built moment p bytes handles)
+message_room built moment bytes handles protocol.Watcher = λ new e. absurd (cc)
+message_room built moment bytes handles protocol.Directory = read_room built moment (read_by protocol.Directory bytes handles)
+message_room built moment bytes handles protocol.File = read_room built moment (read_by protocol.File bytes handles)
+message_room built moment bytes handles protocol.Node = read_room built moment (read_by protocol.Node bytes handles)
+message_room built moment bytes handles protocol.Echo = read_room built moment (read_by protocol.Echo bytes handles)
+
+sending_room : (built : Built) (moment : Moment) (sending : Sending) → IsRoomy moment (outcome_of_sending built moment sending)
+unfolding outcome_of_sending
+sending_room built moment (message bytes handles) = message_room built moment bytes handles moment.bound.birth.protocol
+sending_room built moment hang_up = λ new e. absurd (cc)
+
+-- ---- counts
+
+count_kept : (server : ℕ) (p : Bound → Bool) (bounds : List Bound) → count_by (λ bound. bound.server == server) (filter p bounds) ≤ count_by (λ bound. bound.server == server) bounds
+count_kept server p bounds =
+    let both = sum_by-filter_both p (λ bound. not (p bound)) (λ bound. refl) (λ (bound : Bound). cond (bound.server == server) 1 0) bounds in
+    omega (arith, both)
+
+count_more : (server : ℕ) (xs ys : List Bound) → count_by (λ bound. bound.server == server) (xs ++ ys) ≡ count_by (λ bound. bound.server == server) xs + count_by (λ bound. bound.server == server) ys
+count_more server xs ys = sum_by-append (λ (bound : Bound). cond (bound.server == server) 1 0) xs ys
+
+-- one more is counted where it is at this server
+count_new : (server : ℕ) (o : Option Bound) (count : ℕ) → count ≤ most_connections → ((new : Bound) → o ≡ Some new → new.server ≡ server → count + 1 ≤ most_connections) →
+    count + count_by (λ bound. bound.server == server) (option_to_list o) ≤ most_connections
+count_new server None count few room = omega (arith, few)
+count_new server (Some new) count few room = by_test (new.server == server) refl where
+  by_test : (b : Bool) → (new.server == server) ≡ b → count + (0 + cond b 1 0) ≤ most_connections
+  by_test true e = let less = room new refl (eqb-true new.server server e) in omega (arith, less)
+  by_test false e = omega (arith, few)
+
+fewer : (connections : ℕ) → nat_le most_connections connections ≡ false → connections + 1 ≤ most_connections
+fewer connections e = let low = leb-false most_connections connections e in omega (arith, low)
+
+-- ---- lawful journals
+
+outcome_room : (built : Built) (start : Start) (past : History) (sent : Sent) (o : Option Bound) (new : Bound) → (outcome_at built start past sent o).bound ≡ Some new → nat_le most_connections (connections_at start past new.server) ≡ false
+outcome_room built start past sent None new e = absurd (cc)
+outcome_room built start past sent (Some bound) new e =
+    let is = sending_room built (moment_of start past bound) sent.sending new e in
+    ap (λ (server : ℕ). nat_le most_connections (connections_at start past server)) is.0 ∙ is.1
+
+served_few : (built : Built) (start : Start) (past : History) (sent : Sent) (server : ℕ) → connections_at start past server ≤ most_connections → connections_at start (behind built start (serves sent) past) server ≤ most_connections
+unfolding event_of
+served_few built start past sent server few =
+    let event = event_of built start past (serves sent) in
+    let now = behind built start (serves sent) past in
+    let alive = ap (count_by (λ (bound : Bound). bound.server == server)) (servings_take_effect built start past sent).alive in
+    let both = count_more server (but_for event.deaths (living start past)) (newly_living now event.outcome.bound) in
+    let old = count_kept server (λ bound. not (among bound.endpoint event.deaths)) (living start past) in
+    let new = count_kept server (λ bound. not (is_dead now bound.endpoint)) (option_to_list event.outcome.bound) in
+    let room = count_new server event.outcome.bound (connections_at start past server) few
+    (λ bound e at. fewer (connections_at start past server) (ap (λ (s : ℕ). nat_le most_connections (connections_at start past s)) (sym at) ∙ outcome_room built start past sent (bound_at start past sent.endpoint) bound e)) in
+    omega (arith, alive, both, old, new, room)
+
+sent_few : (built : Built) (start : Start) (past : History) (sent : Sent) (server : ℕ) → connections_at start past server ≤ most_connections → connections_at start (behind built start (sends sent) past) server ≤ most_connections
+sent_few built start past sent server few =
+    subst (λ (bounds : List Bound). count_by (λ bound. bound.server == server) bounds ≤ most_connections) (sym (sendings_wait_last built start past sent).same.alive) few
+
+onward_few : (built : Built) (start : Start) (journal : Journal) (origin : ℕ) (o : Option Forwarded) (server : ℕ) → connections_at start (history_of built start journal) server ≤ most_connections →
+    connections_at start (history_of built start (with_forward origin journal o)) server ≤ most_connections
+unfolding history_of
+onward_few built start journal origin None server few = few
+onward_few built start journal origin (Some f) server few =
+    sent_few built start (history_of built start journal) (sent_behind journal f.endpoint (message f.bytes (f.object ∷ [])) (Some origin)) server few
+
+pub lawful_few : (built : Built) (start : Start) (journal : Journal) (server : ℕ) → HasRoom start → Lawful built start journal → connections_at start (history_of built start journal) server ≤ most_connections
+unfolding history_of
+lawful_few built start journal server room lawful.begun =
+    let all = ap (count_by (λ (bound : Bound). bound.server == server)) (append-nil (start.firsts ++ start.mounts)) in
+    let less = count_kept server (λ bound. not (is_dead [] bound.endpoint)) ((start.firsts ++ start.mounts) ++ []) in
+    let few = room server in
+    omega (arith, all, less, few)
+lawful_few built start journal server room (lawful.refused earlier frame why h is admits) =
+    subst (λ (bounds : List Bound). count_by (λ bound. bound.server == server) bounds ≤ most_connections) (sym (refusals_change_nothing built start (history_of built start earlier) frame.endpoint why).same.alive) (lawful_few built start earlier server room h)
+lawful_few built start journal server room (lawful.sent earlier frame h is at admits) =
+    sent_few built start (history_of built start earlier) (sent_behind earlier frame.endpoint (message frame.bytes frame.handles) None) server (lawful_few built start earlier server room h)
+lawful_few built start journal server room (lawful.closed earlier frame h is at admits) =
+    sent_few built start (history_of built start earlier) (sent_behind earlier frame.endpoint hang_up None) server (lawful_few built start earlier server room h)
+lawful_few built start journal server room (lawful.served earlier entry h is) =
+    onward_few built start (serves entry ∷ earlier) entry.place (outcome_of built start (history_of built start earlier) entry).forward server
+    (served_few built start (history_of built start earlier) entry server (lawful_few built start earlier server room h))

@@ -1,0 +1,59 @@
+-- What is looked up in the view behind a serving: each endpoint by itself, whatever else there is.
+use Rattle.std.specs.Prelude.{◌≡◌, ◌+◌, ◌*◌, ◌≤◌, ◌==◌, ℕ, false, if◌then◌else◌, List, [], ◌∷◌, ◌++◌, Option, Some, None}
+use Rattle.std.specs.Option.{option_map, option_map_or}
+use Rattle.endpoint_link.specs.Numbering.{among}
+use Rattle.conn_rules.specs.Births.{Position, fresh}
+use Rattle.vfs_journal.specs.Entries.{Sent}
+use Rattle.vfs_journal.specs.Fit.{IsFit}
+use Rattle.vfs_journal.specs.Starts.{Bound}
+use Rattle.vfs_journal.specs.View.{View, at_in, deaths_in, head_in, moved, onward_sent, outcome_in, queue_in, sending_in, then_in, weight_in}
+use Rattle.journal_laws.specs.Viewing.{IsReached}
+
+-- a dead endpoint isn't bound; what the outcome binds is at its beginning, and the served endpoint where the outcome leaves it
+abbrev pub at_behind : View → Sent → ℕ → Option (Bound × Position)
+at_behind view sent endpoint =
+    if among endpoint (deaths_in view sent) then None
+    else if option_map_or (λ bound. bound.endpoint == endpoint) (outcome_in view sent).bound false
+    then option_map (λ bound. (bound, fresh)) (outcome_in view sent).bound
+    else option_map (moved sent.endpoint (outcome_in view sent).position) (at_in view endpoint)
+
+-- all but the first
+abbrev pub later_of : List Sent → List Sent
+later_of [] = []
+later_of (sent ∷ later) = later
+
+-- nothing waits on a dead endpoint, on the served one all but the first, and on any other what waited
+abbrev pub queue_behind : View → Sent → ℕ → List Sent
+queue_behind view sent endpoint =
+    if among endpoint (deaths_in view sent) then []
+    else if sent.endpoint == endpoint then later_of (queue_in view endpoint)
+    else queue_in view endpoint
+
+-- what goes on to this endpoint
+abbrev pub onward_to : View → Sent → ℕ → List Sent
+onward_to view sent endpoint =
+    option_map_or
+    (λ forward. if forward.endpoint == endpoint then onward_sent (view.places + 1) sent forward ∷ [] else [])
+    (outcome_in view sent).forward
+    []
+
+-- what is bound, and what waits, endpoint by endpoint
+pub record IsBehind (view : View) (sent : Sent) : Type 0 where
+  pub at : (endpoint : ℕ) → at_in (then_in view sent) endpoint ≡ at_behind view sent endpoint
+  pub queue : (endpoint : ℕ) → queue_in (then_in view sent) endpoint ≡ queue_behind view sent endpoint ++ onward_to view sent endpoint
+
+abbrev pub ServingsAreLookedUp : Type 0
+ServingsAreLookedUp = (view : View) (sent : Sent) → IsFit view → head_in view sent.endpoint ≡ Some sent → IsBehind view sent
+
+-- behind a sending its endpoint's queue alone is longer, and the same endpoints are bound
+abbrev pub SendingsAreLookedUp : Type 0
+SendingsAreLookedUp =
+    (view : View) (sent : Sent) (endpoint : ℕ) →
+    (at_in (sending_in view sent) endpoint ≡ at_in view endpoint)
+    × (queue_in (sending_in view sent) endpoint ≡ queue_in view endpoint ++ (if sent.endpoint == endpoint then sent ∷ [] else []))
+
+-- the places that are taken, with those that what waits can still take, are never more behind a serving
+abbrev pub ServingsTakeCountedPlaces : Type 0
+ServingsTakeCountedPlaces =
+    (view : View) (sent : Sent) → IsReached view → head_in view sent.endpoint ≡ Some sent →
+    (then_in view sent).places + 2 * weight_in (then_in view sent) ≤ view.places + 2 * weight_in view

@@ -1,0 +1,93 @@
+//! Laws of the view of a past. They compute nothing: what they say is in their clauses.
+
+ghost use Rattle.fidl_wire.specs.Names.{AreDistinct};
+ghost use Rattle.journal_laws.specs.Behind.{SendingsAreLookedUp, ServingsAreLookedUp, ServingsTakeCountedPlaces};
+ghost use Rattle.journal_laws.specs.Rooms.{ConnectionsAreFew};
+ghost use Rattle.journal_laws.specs.Viewing.{ReachedViewsGoOn, RefusalsAreViewed, SendingsAreViewed, ServingsAreInView, ServingsAreViewed, ServingsWriteTheirFrames, TurnsAreViewed, ViewsAreFit};
+
+use fidl_wire::body_is_read_where_spelled;
+use io_messages::written_request_is_read;
+use path_walk::path_laws;
+
+/// Who is bound, what is served next, what that answers, who dies of it and what is written for it can be told from the view of a past.
+pub fn servings_are_in_view()
+    ensures { ServingsAreInView }
+{}
+
+/// Behind a refusal the view is as it was, but for the place that the refused frame has.
+pub fn refusals_are_viewed()
+    ensures { RefusalsAreViewed }
+{}
+
+/// Behind an admitted message or hang-up, what was sent waits last, and tokens that it carries are held no more.
+pub fn sendings_are_viewed()
+    ensures { SendingsAreViewed }
+{}
+
+/// Behind a serving the view is what its outcome and its deaths make of the view before; where no two names have equal ordinals.
+pub fn servings_are_viewed()
+    ensures { AreDistinct → ServingsAreViewed }
+{
+    body_is_read_where_spelled();
+    written_request_is_read();
+    path_laws();
+}
+
+/// A serving writes the frames that can be told from the view, behind all that was written.
+pub fn servings_write_their_frames()
+    ensures { ServingsWriteTheirFrames }
+{}
+
+/// Behind the servings of a Turn, a Pick or a drain the view is what the same servings make of the view before; where no two names have
+/// equal ordinals.
+pub fn turns_are_viewed()
+    ensures { AreDistinct → TurnsAreViewed }
+{
+    body_is_read_where_spelled();
+    written_request_is_read();
+    path_laws();
+}
+
+/// The view of each lawful journal is fit; where no two names have equal ordinals.
+pub fn views_are_fit()
+    ensures { AreDistinct → ViewsAreFit }
+{
+    body_is_read_where_spelled();
+    written_request_is_read();
+    path_laws();
+}
+
+/// A view that a lawful journal reached is fit, and each serving leads to another; where no two names have equal ordinals.
+pub fn reached_views_go_on()
+    ensures { AreDistinct → ReachedViewsGoOn }
+{
+    body_is_read_where_spelled();
+    written_request_is_read();
+    path_laws();
+}
+
+/// Behind a serving of a fit view each endpoint is bound, and has what waits on it, as its deaths and its outcome say: nothing waits on a
+/// dead one, all but the first on the served one, and on the others what waited; what goes on is last on its mount's end.
+pub fn servings_are_looked_up()
+    ensures { ServingsAreLookedUp }
+{}
+
+/// Behind a sending its endpoint's queue alone is longer, and the same endpoints are bound.
+pub fn sendings_are_looked_up()
+    ensures { SendingsAreLookedUp }
+{}
+
+/// Behind a serving the places that are taken, with two for each part of the weight of what waits, are no more than before; where no two
+/// names have equal ordinals.
+pub fn servings_take_counted_places()
+    ensures { AreDistinct → ServingsTakeCountedPlaces }
+{
+    body_is_read_where_spelled();
+    written_request_is_read();
+    path_laws();
+}
+
+/// In a lawful journal no server has more connections than it may have, where none has more at the start: what binds found fewer.
+pub fn connections_are_few()
+    ensures { ConnectionsAreFew }
+{}
