@@ -3,6 +3,8 @@ use Rattle.std.proofs.Common.{◌≡◌, ℕ, ◌+◌, ◌≤◌, ◌==◌, ◌|
 use Rattle.std.proofs.lemmas.Bool.{eqb-true, leb-false, or_parts}
 use Rattle.std.proofs.lemmas.List.Filters.{sum_by-filter_both}
 use Rattle.std.proofs.lemmas.List.Sums.{sum_by-append}
+use Rattle.fidl_names.specs.First.{cause_if, first_of}
+use Rattle.fidl_names.specs.declared.limits.TheConstants as limit
 use Rattle.fidl_names.specs.declared.statuses.Status.{Status}
 use Rattle.fidl_names.specs.declared.statuses.Status.TheVariants as status
 use Rattle.endpoint_link.specs.Numbering.{among}
@@ -17,10 +19,9 @@ use Rattle.conn_rules.specs.Acts.{act_of, method_refusals, row_act}
 use Rattle.conn_rules.specs.Answers.{Act, Answer, replies, closes, binds, watches, forwards, refuses, ends, hangs_up, silent}
 use Rattle.conn_rules.specs.Births.{Birth, Position}
 use Rattle.conn_rules.specs.Built.{Built}
-use Rattle.conn_rules.specs.NameRows.{most_watchers, watch_refusals}
+use Rattle.conn_rules.specs.NameRows.{watch_refusals}
 use Rattle.conn_rules.specs.Nodes.{kind_here}
 use Rattle.conn_rules.specs.Opens.{arrival_refusals, by_walk, entry_refusals, is_full, making_refusals}
-use Rattle.conn_rules.specs.Refusals.{first_of, most_connections, refused_if}
 use Rattle.conn_rules.specs.Walks.{Walk, arrives, missing, crosses, stops, walk}
 use Rattle.path_walk.specs.Paths.{names_of}
 use Rattle.vfs_journal.specs.Entries.{Sending, Sent, Journal, message, hang_up, sends, serves}
@@ -90,7 +91,7 @@ last_none (Some s ∷ []) e = absurd (cc)
 last_none (None ∷ p ∷ os) e = last_none (p ∷ os) e
 last_none (Some s ∷ p ∷ os) e = absurd (cc)
 
-not_told : (b : Bool) (s : Status) → refused_if b s ≡ None → b ≡ false
+not_told : (b : Bool) (s : Status) → cause_if b s ≡ None → b ≡ false
 not_told true s e = absurd (cc)
 not_told false s e = refl
 
@@ -111,7 +112,7 @@ binding_room : (built : Built) (birth : Birth) (position : Position) (room : Roo
 unfolding act_of
 binding_room built birth position room tree target (asks.clone endpoint) =
     unless_holds (HasRoomFor room) (first_of (method_refusals built birth (method_of (asks.clone endpoint)))) position (asks.clone endpoint) (row_act built birth position room tree target (asks.clone endpoint)) (λ s. tt)
-    (λ e. unless_holds (HasRoomFor room) (first_of (refused_if (is_full room) status.NoResources ∷ [])) position (asks.clone endpoint) _ (λ s. tt) (λ f. not_told (is_full room) status.NoResources (last_none (refused_if (is_full room) status.NoResources ∷ []) f)))
+    (λ e. unless_holds (HasRoomFor room) (first_of (cause_if (is_full room) status.NoResources ∷ [])) position (asks.clone endpoint) _ (λ s. tt) (λ f. not_told (is_full room) status.NoResources (last_none (cause_if (is_full room) status.NoResources ∷ []) f)))
 binding_room built birth position room tree target (asks.open_path path word given object) =
     unless_holds (HasRoomFor room) (first_of (method_refusals built birth (method_of (asks.open_path path word given object)))) position (asks.open_path path word given object) (row_act built birth position room tree target (asks.open_path path word given object)) (λ s. tt)
     (λ e. unless_holds (HasRoomFor room) (first_of (entry_refusals built birth word path)) position (asks.open_path path word given object) _ (λ s. tt)
@@ -119,7 +120,7 @@ binding_room built birth position room tree target (asks.open_path path word giv
 binding_room built birth position room tree target (asks.watch mask options watcher) =
     unless_holds (HasRoomFor room) (first_of (method_refusals built birth (method_of (asks.watch mask options watcher)))) position (asks.watch mask options watcher) (row_act built birth position room tree target (asks.watch mask options watcher)) (λ s. tt)
     (λ e. unless_holds (HasRoomFor room) (first_of (watch_refusals room mask options)) position (asks.watch mask options watcher) _ (λ s. tt)
-    (λ f. (or_parts (nat_le most_watchers room.watchers) (is_full room) (not_told (nat_le most_watchers room.watchers || is_full room) status.NoResources (last_none (watch_refusals room mask options) f))).1))
+    (λ f. (or_parts (nat_le limit.MAX_WATCHERS room.watchers) (is_full room) (not_told (nat_le limit.MAX_WATCHERS room.watchers || is_full room) status.NoResources (last_none (watch_refusals room mask options) f))).1))
 binding_room built birth position room tree target asks.close = close_room room _ (act_answers built birth position room tree target asks.close).0
 binding_room built birth position room tree target asks.get_token = token_room room room.token _ (act_answers built birth position room tree target asks.get_token).0
 binding_room built birth position room tree target asks.query = reply_room room _ (act_answers built birth position room tree target asks.query).0
@@ -191,26 +192,26 @@ count_more : (server : ℕ) (xs ys : List Bound) → count_by (λ bound. bound.s
 count_more server xs ys = sum_by-append (λ (bound : Bound). cond (bound.server == server) 1 0) xs ys
 
 -- one more is counted where it is at this server
-count_new : (server : ℕ) (o : Option Bound) (count : ℕ) → count ≤ most_connections → ((new : Bound) → o ≡ Some new → new.server ≡ server → count + 1 ≤ most_connections) →
-    count + count_by (λ bound. bound.server == server) (option_to_list o) ≤ most_connections
+count_new : (server : ℕ) (o : Option Bound) (count : ℕ) → count ≤ limit.MAX_CONNECTIONS → ((new : Bound) → o ≡ Some new → new.server ≡ server → count + 1 ≤ limit.MAX_CONNECTIONS) →
+    count + count_by (λ bound. bound.server == server) (option_to_list o) ≤ limit.MAX_CONNECTIONS
 count_new server None count few room = omega (arith, few)
 count_new server (Some new) count few room = by_test (new.server == server) refl where
-  by_test : (b : Bool) → (new.server == server) ≡ b → count + (0 + cond b 1 0) ≤ most_connections
+  by_test : (b : Bool) → (new.server == server) ≡ b → count + (0 + cond b 1 0) ≤ limit.MAX_CONNECTIONS
   by_test true e = let less = room new refl (eqb-true new.server server e) in omega (arith, less)
   by_test false e = omega (arith, few)
 
-fewer : (connections : ℕ) → nat_le most_connections connections ≡ false → connections + 1 ≤ most_connections
-fewer connections e = let low = leb-false most_connections connections e in omega (arith, low)
+fewer : (connections : ℕ) → nat_le limit.MAX_CONNECTIONS connections ≡ false → connections + 1 ≤ limit.MAX_CONNECTIONS
+fewer connections e = let low = leb-false limit.MAX_CONNECTIONS connections e in omega (arith, low)
 
 -- ---- lawful journals
 
-outcome_room : (built : Built) (start : Start) (past : History) (sent : Sent) (o : Option Bound) (new : Bound) → (outcome_at built start past sent o).bound ≡ Some new → nat_le most_connections (connections_at start past new.server) ≡ false
+outcome_room : (built : Built) (start : Start) (past : History) (sent : Sent) (o : Option Bound) (new : Bound) → (outcome_at built start past sent o).bound ≡ Some new → nat_le limit.MAX_CONNECTIONS (connections_at start past new.server) ≡ false
 outcome_room built start past sent None new e = absurd (cc)
 outcome_room built start past sent (Some bound) new e =
     let is = sending_room built (moment_of start past bound) sent.sending new e in
-    ap (λ (server : ℕ). nat_le most_connections (connections_at start past server)) is.0 ∙ is.1
+    ap (λ (server : ℕ). nat_le limit.MAX_CONNECTIONS (connections_at start past server)) is.0 ∙ is.1
 
-served_few : (built : Built) (start : Start) (past : History) (sent : Sent) (server : ℕ) → connections_at start past server ≤ most_connections → connections_at start (behind built start (serves sent) past) server ≤ most_connections
+served_few : (built : Built) (start : Start) (past : History) (sent : Sent) (server : ℕ) → connections_at start past server ≤ limit.MAX_CONNECTIONS → connections_at start (behind built start (serves sent) past) server ≤ limit.MAX_CONNECTIONS
 unfolding event_of
 served_few built start past sent server few =
     let event = event_of built start past (serves sent) in
@@ -220,21 +221,21 @@ served_few built start past sent server few =
     let old = count_kept server (λ bound. not (among bound.endpoint event.deaths)) (living start past) in
     let new = count_kept server (λ bound. not (is_dead now bound.endpoint)) (option_to_list event.outcome.bound) in
     let room = count_new server event.outcome.bound (connections_at start past server) few
-    (λ bound e at. fewer (connections_at start past server) (ap (λ (s : ℕ). nat_le most_connections (connections_at start past s)) (sym at) ∙ outcome_room built start past sent (bound_at start past sent.endpoint) bound e)) in
+    (λ bound e at. fewer (connections_at start past server) (ap (λ (s : ℕ). nat_le limit.MAX_CONNECTIONS (connections_at start past s)) (sym at) ∙ outcome_room built start past sent (bound_at start past sent.endpoint) bound e)) in
     omega (arith, alive, both, old, new, room)
 
-sent_few : (built : Built) (start : Start) (past : History) (sent : Sent) (server : ℕ) → connections_at start past server ≤ most_connections → connections_at start (behind built start (sends sent) past) server ≤ most_connections
+sent_few : (built : Built) (start : Start) (past : History) (sent : Sent) (server : ℕ) → connections_at start past server ≤ limit.MAX_CONNECTIONS → connections_at start (behind built start (sends sent) past) server ≤ limit.MAX_CONNECTIONS
 sent_few built start past sent server few =
-    subst (λ (bounds : List Bound). count_by (λ bound. bound.server == server) bounds ≤ most_connections) (sym (sendings_wait_last built start past sent).same.alive) few
+    subst (λ (bounds : List Bound). count_by (λ bound. bound.server == server) bounds ≤ limit.MAX_CONNECTIONS) (sym (sendings_wait_last built start past sent).same.alive) few
 
-onward_few : (built : Built) (start : Start) (journal : Journal) (origin : ℕ) (o : Option Forwarded) (server : ℕ) → connections_at start (history_of built start journal) server ≤ most_connections →
-    connections_at start (history_of built start (with_forward origin journal o)) server ≤ most_connections
+onward_few : (built : Built) (start : Start) (journal : Journal) (origin : ℕ) (o : Option Forwarded) (server : ℕ) → connections_at start (history_of built start journal) server ≤ limit.MAX_CONNECTIONS →
+    connections_at start (history_of built start (with_forward origin journal o)) server ≤ limit.MAX_CONNECTIONS
 unfolding history_of
 onward_few built start journal origin None server few = few
 onward_few built start journal origin (Some f) server few =
     sent_few built start (history_of built start journal) (sent_behind journal f.endpoint (message f.bytes (f.object ∷ [])) (Some origin)) server few
 
-pub lawful_few : (built : Built) (start : Start) (journal : Journal) (server : ℕ) → HasRoom start → Lawful built start journal → connections_at start (history_of built start journal) server ≤ most_connections
+pub lawful_few : (built : Built) (start : Start) (journal : Journal) (server : ℕ) → HasRoom start → Lawful built start journal → connections_at start (history_of built start journal) server ≤ limit.MAX_CONNECTIONS
 unfolding history_of
 lawful_few built start journal server room lawful.begun =
     let all = ap (count_by (λ (bound : Bound). bound.server == server)) (append-nil (start.firsts ++ start.mounts)) in
@@ -242,7 +243,7 @@ lawful_few built start journal server room lawful.begun =
     let few = room server in
     omega (arith, all, less, few)
 lawful_few built start journal server room (lawful.refused earlier frame why h is admits) =
-    subst (λ (bounds : List Bound). count_by (λ bound. bound.server == server) bounds ≤ most_connections) (sym (refusals_change_nothing built start (history_of built start earlier) frame.endpoint why).same.alive) (lawful_few built start earlier server room h)
+    subst (λ (bounds : List Bound). count_by (λ bound. bound.server == server) bounds ≤ limit.MAX_CONNECTIONS) (sym (refusals_change_nothing built start (history_of built start earlier) frame.endpoint why).same.alive) (lawful_few built start earlier server room h)
 lawful_few built start journal server room (lawful.sent earlier frame h is at admits) =
     sent_few built start (history_of built start earlier) (sent_behind earlier frame.endpoint (message frame.bytes frame.handles) None) server (lawful_few built start earlier server room h)
 lawful_few built start journal server room (lawful.closed earlier frame h is at admits) =

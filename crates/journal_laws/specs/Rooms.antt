@@ -1,7 +1,7 @@
 -- How many connections a server has.
 use Rattle.std.specs.Prelude.{◌≤◌, ◌==◌, ◌++◌, ℕ, count_by}
+use Rattle.fidl_names.specs.declared.limits.TheConstants as limit
 use Rattle.conn_rules.specs.Built.{Built}
-use Rattle.conn_rules.specs.Refusals.{most_connections}
 use Rattle.vfs_journal.specs.Entries.{Journal}
 use Rattle.vfs_journal.specs.History.{connections_at}
 use Rattle.vfs_journal.specs.Lawful.{Lawful}
@@ -10,10 +10,10 @@ use Rattle.vfs_journal.specs.Starts.{Start}
 
 -- the first connections and the ends of mounts at each server are no more than a server may have
 abbrev pub HasRoom : Start → Type 0
-HasRoom start = (server : ℕ) → count_by (λ bound. bound.server == server) (start.firsts ++ start.mounts) ≤ most_connections
+HasRoom start = (server : ℕ) → count_by (λ bound. bound.server == server) (start.firsts ++ start.mounts) ≤ limit.MAX_CONNECTIONS
 
 -- and so are those that live at any later time
 abbrev pub ConnectionsAreFew : Type 0
 ConnectionsAreFew =
     (built : Built) (start : Start) (journal : Journal) (server : ℕ) → HasRoom start → Lawful built start journal →
-    connections_at start (history_of built start journal) server ≤ most_connections
+    connections_at start (history_of built start journal) server ≤ limit.MAX_CONNECTIONS
