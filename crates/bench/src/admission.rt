@@ -1,10 +1,9 @@
 ghost use Rattle.std.specs.Prelude.{◌≤◌, ◌<◌};
+ghost use Rattle.fidl_names.specs.declared.limits.TheConstants as limit;
 
 use crate::passes::Pass;
-use endpoint_link::{
-    Endpoints, FrameKind, MAX_HANDLES, Outbox, Reading, Side, Standing, frame_at, write_frame,
-};
-use fidl_wire::NoMemory;
+use endpoint_link::{Endpoints, FrameKind, Outbox, Reading, Side, Standing, frame_at, write_frame};
+use fidl_names::{MAX_HANDLES, MAX_LIVE, NoMemory};
 use std::alloc::Global;
 
 /// Messages that carry endpoints of new numbers: each is written, read where it stands, admitted
@@ -16,14 +15,14 @@ pub struct Admissions {
     numbers: [u32; MAX_HANDLES],
     handles: usize,
     next: u32,
-    ghost few: { handles ≤ 64 },
+    ghost few: { handles ≤ limit.MAX_HANDLES },
 }
 
 impl Admissions {
     /// Beside endpoint 1 so many others are live. Each message carries so many handles.
     pub fn new(alloc: Global, others: u32, handles: usize) -> Result<Admissions, NoMemory>
-        requires live { others < 65536 }
-        requires few { handles ≤ 64 }
+        requires live { others < MAX_LIVE }
+        requires few { handles ≤ MAX_HANDLES }
     {
         Ok(Admissions {
             endpoints: Endpoints::new(alloc, &[1], others, 1)?,
