@@ -4,6 +4,7 @@ use Rattle.std.specs.List.{list_any}
 use Rattle.std.proofs.lemmas.Bool.{or_cases, true≢false}
 use Rattle.std.proofs.lemmas.List.Elements.{All-weaker, All-filter, All-contains, All-contains_itself}
 use Rattle.std.proofs.lemmas.List.Kept.{AllPairs-filter}
+use Rattle.fidl_names.specs.declared.limits.TheConstants as limit
 use Rattle.endpoint_link.specs.Numbering.{among}
 use Rattle.fidl_names.specs.HandleNumber.{is_client}
 use Rattle.conn_rules.specs.Births.{Position}
@@ -19,7 +20,7 @@ use Rattle.vfs_journal.specs.Past.{history_of}
 use Rattle.vfs_journal.specs.Serving.{outcome_of}
 use Rattle.vfs_journal.specs.Session.{after_serving, head, sent_behind}
 use Rattle.vfs_journal.specs.Starts.{Bound, Start}
-use Rattle.vfs_journal.specs.Tokens.{all_given, first_token, is_held, was_given}
+use Rattle.vfs_journal.specs.Tokens.{all_given, is_held, was_given}
 use Rattle.vfs_journal.specs.View.{View, deaths_in, head_in, is_bound_in, is_held_in, then_in, view_of, with_position}
 use Rattle.journal_laws.specs.Soundness.{IsStart, OtherEndpoint}
 use Rattle.journal_laws.specs.Viewing.{IsReached, view_behind}
@@ -97,7 +98,7 @@ handle_once below built start journal s h one other n p q c d =
     by_kind ((kept.sound.right one (waits_of_sent past one p)).handles n c) kept.transit.once given.once where
       by_kind : (is_client n ≡ true) ⊎ (0x80000000 ≤ n) →
           ((x y : Sent) (m : ℕ) → Contains (waiting (history_of built start journal)) x → Contains (waiting (history_of built start journal)) y → among m (endpoints_in x) ≡ true → among m (endpoints_in y) ≡ true → x ≡ y) →
-          ((x y : Sent) (m : ℕ) → first_token ≤ m → Contains (all_sent (history_of built start journal)) x → Contains (all_sent (history_of built start journal)) y → among m (handles_of x.sending) ≡ true → among m (handles_of y.sending) ≡ true → x ≡ y) → one ≡ other
+          ((x y : Sent) (m : ℕ) → limit.FIRST_TOKEN ≤ m → Contains (all_sent (history_of built start journal)) x → Contains (all_sent (history_of built start journal)) y → among m (handles_of x.sending) ≡ true → among m (handles_of y.sending) ≡ true → x ≡ y) → one ≡ other
       by_kind (inl client) endpoints tokens = endpoints one other n p q (carried_from one n client c) (carried_from other n client d)
       by_kind (inr high) endpoints tokens =
           tokens one other n high (waits_of_sent (history_of built start journal) one p) (waits_of_sent (history_of built start journal) other q) c d
@@ -118,7 +119,7 @@ handle_kind below built start journal s h n c =
     let one = from_many (λ sent. handles_of sent.sending) n (waiting past) c in
     let carried : was_carried past n ≡ true = passes_any (λ (x : Sent). among n (handles_of x.sending)) (all_sent past) one.0 (waits_of_sent past one.0 one.1) one.2 in
     by_kind carried (given.given n) ((kept.sound.right one.0 (waits_of_sent past one.0 one.1)).handles n one.2) where
-      by_kind : was_carried (history_of built start journal) n ≡ true → (first_token ≤ n → was_carried (history_of built start journal) n ≡ true → was_given (history_of built start journal) n ≡ true) → (is_client n ≡ true) ⊎ (0x80000000 ≤ n) →
+      by_kind : was_carried (history_of built start journal) n ≡ true → (limit.FIRST_TOKEN ≤ n → was_carried (history_of built start journal) n ≡ true → was_given (history_of built start journal) n ≡ true) → (is_client n ≡ true) ⊎ (0x80000000 ≤ n) →
           (is_client n ≡ true) ⊎ ((list_any (λ (given : Given). given.token == n) (view_behind built start journal).given ≡ true) × (is_held_in (view_behind built start journal) n ≡ false))
       by_kind carried given (inl client) = inl client
       by_kind carried given (inr high) = inr (given high carried, sym (held_is built start (history_of built start journal) n) ∙ not_held (history_of built start journal) n carried)
@@ -185,8 +186,8 @@ views_fit below built start journal s h =
       unbound = λ n c. let one = from_many endpoints_in n (waiting past) c in sym (bound_is built start past n) ∙ transit.unbound one.0 n (one.1, one.2);
       carried = λ n c. handle_kind below built start journal s h n c;
       tokens = given.rise;
-      numbered = All-weaker (Contains (all_given past)) (λ (one : Given). (first_token ≤ one.token) × (one.token < first_token + length (all_given past)))
-          (λ one p. (kept.sound.tokens one p, All-contains (λ (g : Given). g.token < first_token + length (all_given past)) (all_given past) one given.below p)) (all_given past) (All-contains_itself (all_given past));
+      numbered = All-weaker (Contains (all_given past)) (λ (one : Given). (limit.FIRST_TOKEN ≤ one.token) × (one.token < limit.FIRST_TOKEN + length (all_given past)))
+          (λ one p. (kept.sound.tokens one p, All-contains (λ (g : Given). g.token < limit.FIRST_TOKEN + length (all_given past)) (all_given past) one given.below p)) (all_given past) (All-contains_itself (all_given past));
       held = All-filter (λ (one : Given). not (was_carried past one.token)) (Contains (all_given past)) (all_given past) (All-contains_itself (all_given past));
       heads = λ sent e. serves_fit below built start journal s h sent e;
     }

@@ -10,6 +10,7 @@ use Rattle.std.specs.FinMap as map
 use Rattle.std.specs.FinMap.{get-insert}
 use Rattle.std.proofs.lemmas.Cmp.{nat_cmp_total}
 use Rattle.std.proofs.lemmas.Bool.Decides.{nat_tests}
+use Rattle.fidl_names.specs.declared.limits.TheConstants as limit
 use Rattle.endpoint_link.specs.declared.kinds.FrameKind.{FrameKind}
 use Rattle.endpoint_link.specs.declared.kinds.FrameKind.TheVariants as kind
 use Rattle.endpoint_link.specs.declared.kinds.Standing.{Standing}
@@ -30,7 +31,7 @@ use Rattle.vfs_journal.specs.Past.{behind, history_of}
 use Rattle.vfs_journal.specs.Session.{look_ups, sent_behind}
 use Rattle.journal_laws.specs.Soundness.{IsStart}
 use Rattle.vfs_journal.specs.Starts.{Start}
-use Rattle.vfs_journal.specs.Tokens.{all_given, is_held, was_given, waits_with, next_token, most_tokens, first_token}
+use Rattle.vfs_journal.specs.Tokens.{all_given, is_held, was_given, waits_with, next_token}
 use Rattle.journal_laws.proofs.Among.{carried_is, carried_from, one_passes, passes_any}
 use Rattle.journal_laws.proofs.Below.{Below}
 use Rattle.journal_laws.proofs.Kept.{lawful_kept, client_low}
@@ -115,7 +116,7 @@ next_same start past now new h held =
     ∙ ap (λ (ones : List Given). token_by (length ones) (length (all_given past)))
     (filter_on (λ one. is_held now one.token || waits_with now one.token) (λ one. is_held past one.token || waits_with past one.token) (all_given past) (λ one there. agree one.token (is_given one there))) where
       token_by : ℕ → ℕ → Option ℕ
-      token_by out given = if nat_le most_tokens out || nat_le 0x80000000 given then None else Some (first_token + given)
+      token_by out given = if nat_le limit.MAX_TOKENS out || nat_le 0x80000000 given then None else Some (limit.FIRST_TOKEN + given)
 
       is_given : (one : Given) → Contains (all_given past) one → was_given past one.token ≡ true
       is_given one there = passes_any (λ (g : Given). g.token == one.token) (all_given past) one there (eq-eqb one.token one.token refl)

@@ -6,6 +6,7 @@ use Rattle.std.proofs.lemmas.List.{length-map, map-append}
 use Rattle.std.specs.Ordering.{nat_cmp}
 use Rattle.std.specs.FinMap as finite
 use Rattle.std.specs.FinMap.{get-empty}
+use Rattle.fidl_names.specs.declared.limits.TheConstants as limit
 use Rattle.endpoint_link.specs.declared.kinds.Standing.{Standing}
 use Rattle.endpoint_link.specs.declared.kinds.Standing.TheVariants as standing
 use Rattle.fidl_names.specs.HandleNumber.{is_mount_end}
@@ -22,7 +23,7 @@ use Rattle.vfs_journal.specs.Serving.{outcome_of}
 use Rattle.vfs_journal.specs.Session.{head, sent_behind, with_forward, after_serving}
 use Rattle.journal_laws.specs.Soundness.{IsStart}
 use Rattle.vfs_journal.specs.Starts.{Bound, Start}
-use Rattle.vfs_journal.specs.Tokens.{all_given, is_held, waits_with, next_token, most_tokens, first_token}
+use Rattle.vfs_journal.specs.Tokens.{all_given, is_held, waits_with, next_token}
 use Rattle.journal_laws.proofs.Below.{Below}
 use Rattle.journal_laws.proofs.Kept.{lawful_kept}
 use Rattle.journal_laws.proofs.KnowingCount.{named_is_bound, mounts_among, deaths_apart, fewer_live}
@@ -123,12 +124,12 @@ none_before built start journal sent (Some f) h =
 none_held : (history : History) (n : ℕ) → all_given history ≡ [] → is_held history n ≡ false
 none_held history n none = ap (λ (ones : List Given). list_any (λ g. g.token == n) ones && not (was_carried history n)) none
 
-first_next : (history : History) → all_given history ≡ [] → next_token history ≡ Some first_token
+first_next : (history : History) → all_given history ≡ [] → next_token history ≡ Some limit.FIRST_TOKEN
 first_next history none =
     ap
     (λ (ones : List Given).
-    if nat_le most_tokens (length (filter (λ one. is_held history one.token || waits_with history one.token) ones)) || nat_le 0x80000000 (length ones) then None
-    else Some (first_token + length ones))
+    if nat_le limit.MAX_TOKENS (length (filter (λ one. is_held history one.token || waits_with history one.token) ones)) || nat_le 0x80000000 (length ones) then None
+    else Some (limit.FIRST_TOKEN + length ones))
     none
 
 pub servings_known : Below → (built : Built) (start : Start) (journal : Journal) (sent : Sent) (known : Known) → IsStart start → IsNumbered start → Lawful built start journal → head start (history_of built start journal) sent.endpoint ≡ Some sent →

@@ -1,6 +1,7 @@
 -- What the outcome of a serving has: what it ends, binds, forwards and gives.
 use Rattle.std.proofs.Common.{◌≡◌, ℕ, ◌+◌, ◌≤◌, ◌==◌, ◌||◌, ◌⊎◌, Bool, true, false, if◌then◌else◌, List, [], ◌∷◌, length, nat_le, Option, Some, None, Ok, Err, refl, sym, ap, ◌∙◌, subst, inl, inr, arith}
 use Rattle.std.proofs.lemmas.Bool.{eqb-true}
+use Rattle.fidl_names.specs.declared.limits.TheConstants as limit
 use Rattle.endpoint_link.specs.Numbering.{among}
 use Rattle.io_messages.specs.declared.protocols.Protocol.{Protocol}
 use Rattle.io_messages.specs.declared.protocols.Protocol.TheVariants as protocol
@@ -19,7 +20,7 @@ use Rattle.vfs_journal.specs.History.{History, bound_at, trees_of, tree_at}
 use Rattle.vfs_journal.specs.Outcomes.{Asker, Forwarded, Given, Outcome, bound_of, forward_of, ends_of, token_of, onward_bytes}
 use Rattle.vfs_journal.specs.Serving.{Read, Moment, moment_of, read_by, object_of, asker_of, request_act, outcome_of_read, outcome_of_message, outcome_of_sending, outcome_at, outcome_of, token_of as asked_token}
 use Rattle.vfs_journal.specs.Starts.{Bound, Start}
-use Rattle.vfs_journal.specs.Tokens.{next_token, first_token, most_tokens, tokens_out, all_given}
+use Rattle.vfs_journal.specs.Tokens.{next_token, tokens_out, all_given}
 use Rattle.journal_laws.proofs.Acts.{IsAnswer, IsReply, IsNoToken, IsClone, IsWatch, IsToken, IsClose, IsOpenAnswer, GoesOn, KeepsMounts, act_answers}
 use Rattle.journal_laws.proofs.Below.{Below}
 use Rattle.journal_laws.proofs.Requests.{Carries, IsCarried, carries}
@@ -286,10 +287,10 @@ sending_outcome below built moment hang_up = (own_ended moment.room.token moment
 
 -- the next token is a token's number
 pub token_is_high : (past : History) (n : ℕ) → next_token past ≡ Some n → 0x80000000 ≤ n
-token_is_high past n e = by_test (nat_le most_tokens (length (tokens_out past)) || nat_le 0x80000000 (length (all_given past))) e where
-  by_test : (b : Bool) → (if b then None else Some (first_token + length (all_given past))) ≡ Some n → 0x80000000 ≤ n
+token_is_high past n e = by_test (nat_le limit.MAX_TOKENS (length (tokens_out past)) || nat_le 0x80000000 (length (all_given past))) e where
+  by_test : (b : Bool) → (if b then None else Some (limit.FIRST_TOKEN + length (all_given past))) ≡ Some n → 0x80000000 ≤ n
   by_test true e = absurd (cc)
-  by_test false e = let same : first_token + length (all_given past) ≡ n = cc in omega arith
+  by_test false e = let same : limit.FIRST_TOKEN + length (all_given past) ≡ n = cc in omega arith
 
 pub outcome_is : Below → (built : Built) (start : Start) (past : History) (one : Sent) (bound : Bound) → bound_at start past one.endpoint ≡ Some bound →
     IsOutcome (next_token past) (tree_at (trees_of start past) bound.server) bound one.sending (outcome_of built start past one)

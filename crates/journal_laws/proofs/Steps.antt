@@ -6,6 +6,7 @@ use Rattle.std.proofs.lemmas.List.{set-get_or}
 use Rattle.std.proofs.lemmas.List.Concat.{flat_map-append}
 use Rattle.std.proofs.lemmas.List.Elements.{filter-append, filter_agree}
 use Rattle.std.proofs.lemmas.List.Folds.{list_any-append}
+use Rattle.fidl_names.specs.declared.limits.TheConstants as limit
 use Rattle.endpoint_link.specs.declared.kinds.Refusal.{Refusal}
 use Rattle.endpoint_link.specs.declared.kinds.Standing.TheVariants as standing
 use Rattle.endpoint_link.specs.Admission.{LookUps}
@@ -22,7 +23,7 @@ use Rattle.vfs_journal.specs.Session.{look_ups}
 use Rattle.vfs_journal.specs.Serving.{Moment, moment_of}
 use Rattle.vfs_journal.specs.Starts.{Bound, Start}
 use Rattle.vfs_journal.specs.Outcomes.{Given}
-use Rattle.vfs_journal.specs.Tokens.{all_given, first_token, most_tokens}
+use Rattle.vfs_journal.specs.Tokens.{all_given}
 use Rattle.journal_laws.proofs.Lists.{filter_map-more, filter-filter, eqb_sym}
 
 -- ---- what is read in order
@@ -131,14 +132,14 @@ seen_by bound position tree living sent waiting given =
       room = record {
         connections = count_by (λ one. one.server == bound.server) living;
         watchers = length (filter (watches_node bound.server bound.birth.node) living);
-        token = (if nat_le most_tokens
+        token = (if nat_le limit.MAX_TOKENS
             (length
             (filter
             (λ one. (list_any (λ other. other.token == one.token) given && not (list_any (λ other. among one.token (handles_of other.sending)) sent))
             || list_any (λ other. among one.token (handles_of other.sending)) waiting)
             given))
             || nat_le 0x80000000 (length given)
-            then None else Some (first_token + length given));
+            then None else Some (limit.FIRST_TOKEN + length given));
       };
       tree = tree;
       directory = λ token. option_map_or (λ one. if one.server == bound.server then Some one.node else None) (find (λ one. one.token == token) given) None;

@@ -5,6 +5,7 @@ use Rattle.std.proofs.lemmas.Bool.{and_parts, or_cases, or_left, not-true, true�
 use Rattle.std.proofs.lemmas.List.Elements.{All-nil, All-push, All-weaker, Contains-append_cases}
 use Rattle.std.proofs.lemmas.List.Folds.{list_any-append}
 use Rattle.std.proofs.lemmas.List.Quantifiers.{all_pairs_push}
+use Rattle.fidl_names.specs.declared.limits.TheConstants as limit
 use Rattle.endpoint_link.specs.Admission.{may_travel}
 use Rattle.endpoint_link.specs.declared.kinds.FrameKind.TheVariants as kind
 use Rattle.endpoint_link.specs.Numbering.{among}
@@ -18,7 +19,7 @@ use Rattle.vfs_journal.specs.Past.{behind, event_of, history_of}
 use Rattle.vfs_journal.specs.Serving.{outcome_of}
 use Rattle.vfs_journal.specs.Session.{head, look_ups, sent_behind, with_forward}
 use Rattle.vfs_journal.specs.Starts.{Start}
-use Rattle.vfs_journal.specs.Tokens.{all_given, first_token, is_held, most_tokens, next_token, tokens_out, was_given}
+use Rattle.vfs_journal.specs.Tokens.{all_given, is_held, next_token, tokens_out, was_given}
 use Rattle.journal_laws.specs.Soundness.{IsStart}
 use Rattle.journal_laws.proofs.Among.{passes_any, carried_is}
 use Rattle.journal_laws.proofs.Below.{Below}
@@ -33,15 +34,15 @@ Precedes one later = one.token < later.token
 -- the tokens that were given rise and lie below the next; a number from the first token on that was carried was given, and is carried by
 -- one sending
 pub record AreGiven (history : History) : Type 0 where
-  pub below : All (λ given. given.token < first_token + length (all_given history)) (all_given history)
+  pub below : All (λ given. given.token < limit.FIRST_TOKEN + length (all_given history)) (all_given history)
   pub rise : AllPairs (λ one later. one.token < later.token) (all_given history)
-  pub given : (n : ℕ) → first_token ≤ n → was_carried history n ≡ true → was_given history n ≡ true
-  pub once : (one other : Sent) (n : ℕ) → first_token ≤ n → Contains (all_sent history) one → Contains (all_sent history) other →
+  pub given : (n : ℕ) → limit.FIRST_TOKEN ≤ n → was_carried history n ≡ true → was_given history n ≡ true
+  pub once : (one other : Sent) (n : ℕ) → limit.FIRST_TOKEN ≤ n → Contains (all_sent history) one → Contains (all_sent history) other →
       among n (handles_of one.sending) ≡ true → among n (handles_of other.sending) ≡ true → one ≡ other
 
 begun_given : AreGiven []
 begun_given = record {
-  below = All-nil (λ given. given.token < first_token + 0);
+  below = All-nil (λ given. given.token < limit.FIRST_TOKEN + 0);
   rise = λ i j d l m. absurd (omega arith);
   given = λ n high h. absurd (true≢false (sym h));
   once = λ one other n high p q h k. absurd (contains_none one p);
@@ -49,10 +50,10 @@ begun_given = record {
 
 -- what is known of the lists alone
 record Lists (given : List Given) (sent : List Sent) : Type 0 where
-  below : All (λ (one : Given). one.token < first_token + length given) given
+  below : All (λ (one : Given). one.token < limit.FIRST_TOKEN + length given) given
   rise : AllPairs Precedes given
-  given' : (n : ℕ) → first_token ≤ n → list_any (λ (one : Sent). among n (handles_of one.sending)) sent ≡ true → list_any (λ (one : Given). one.token == n) given ≡ true
-  once : (one other : Sent) (n : ℕ) → first_token ≤ n → Contains sent one → Contains sent other → among n (handles_of one.sending) ≡ true → among n (handles_of other.sending) ≡ true → one ≡ other
+  given' : (n : ℕ) → limit.FIRST_TOKEN ≤ n → list_any (λ (one : Sent). among n (handles_of one.sending)) sent ≡ true → list_any (λ (one : Given). one.token == n) given ≡ true
+  once : (one other : Sent) (n : ℕ) → limit.FIRST_TOKEN ≤ n → Contains sent one → Contains sent other → among n (handles_of one.sending) ≡ true → among n (handles_of other.sending) ≡ true → one ≡ other
 
 lists_of : (history : History) → AreGiven history → Lists (all_given history) (all_sent history)
 lists_of history h = record { below = h.below; rise = h.rise; given' = h.given; once = h.once }
@@ -82,7 +83,7 @@ or-false : (b : Bool) → (b || false) ≡ b
 or-false true = refl
 or-false false = refl
 
-more_sent : (given : List Given) (ones : List Sent) (new : Sent) → ((n : ℕ) → first_token ≤ n → among n (handles_of new.sending) ≡ true → IsHeldIn given ones n) → Lists given ones → Lists given (ones ++ new ∷ [])
+more_sent : (given : List Given) (ones : List Sent) (new : Sent) → ((n : ℕ) → limit.FIRST_TOKEN ≤ n → among n (handles_of new.sending) ≡ true → IsHeldIn given ones n) → Lists given ones → Lists given (ones ++ new ∷ [])
 more_sent given ones new held past = record {
   below = past.below;
   rise = past.rise;
@@ -92,43 +93,43 @@ more_sent given ones new held past = record {
       (sym (list_any-append (λ (one : Sent). among n (handles_of one.sending)) ones (new ∷ []) ∙ ap (λ b. list_any (λ (one : Sent). among n (handles_of one.sending)) ones || b) (or-false (among n (handles_of new.sending)))) ∙ h));
   once = λ one other n high p q h k. by_place one other n high (last_of ones new one p) (last_of ones new other q) h k;
 } where
-  by_side : (n : ℕ) → first_token ≤ n → (list_any (λ (one : Sent). among n (handles_of one.sending)) ones ≡ true) ⊎ (among n (handles_of new.sending) ≡ true) → list_any (λ (one : Given). one.token == n) given ≡ true
+  by_side : (n : ℕ) → limit.FIRST_TOKEN ≤ n → (list_any (λ (one : Sent). among n (handles_of one.sending)) ones ≡ true) ⊎ (among n (handles_of new.sending) ≡ true) → list_any (λ (one : Given). one.token == n) given ≡ true
   by_side n high (inl h) = past.given' n high h
   by_side n high (inr h) = (held n high h).was
 
-  clash : (one : Sent) (n : ℕ) → first_token ≤ n → Contains ones one → among n (handles_of one.sending) ≡ true → among n (handles_of new.sending) ≡ true → ⊥
+  clash : (one : Sent) (n : ℕ) → limit.FIRST_TOKEN ≤ n → Contains ones one → among n (handles_of one.sending) ≡ true → among n (handles_of new.sending) ≡ true → ⊥
   clash one n high p h k = true≢false (sym (passes_any (λ (x : Sent). among n (handles_of x.sending)) ones one p h) ∙ (held n high k).uncarried)
 
-  by_place : (one other : Sent) (n : ℕ) → first_token ≤ n → Contains ones one ⊎ (new ≡ one) → Contains ones other ⊎ (new ≡ other) → among n (handles_of one.sending) ≡ true → among n (handles_of other.sending) ≡ true → one ≡ other
+  by_place : (one other : Sent) (n : ℕ) → limit.FIRST_TOKEN ≤ n → Contains ones one ⊎ (new ≡ one) → Contains ones other ⊎ (new ≡ other) → among n (handles_of one.sending) ≡ true → among n (handles_of other.sending) ≡ true → one ≡ other
   by_place one other n high (inl p) (inl q) h k = past.once one other n high p q h k
   by_place one other n high (inl p) (inr e) h k = absurd (clash one n high p h (ap (λ (x : Sent). among n (handles_of x.sending)) e ∙ k))
   by_place one other n high (inr e) (inl q) h k = absurd (clash other n high q k (ap (λ (x : Sent). among n (handles_of x.sending)) e ∙ h))
   by_place one other n high (inr e) (inr f) h k = sym e ∙ f
 
 -- one more is given: it is the next
-more_given : (given : List Given) (ones : List Sent) (o : Option Given) → ((new : Given) → o ≡ Some new → new.token ≡ first_token + length given) → Lists given ones → Lists (given ++ option_to_list o) ones
+more_given : (given : List Given) (ones : List Sent) (o : Option Given) → ((new : Given) → o ≡ Some new → new.token ≡ limit.FIRST_TOKEN + length given) → Lists given ones → Lists (given ++ option_to_list o) ones
 more_given given ones None next past = same_lists given (given ++ []) ones ones (append-nil given) refl past
 more_given given ones (Some new) next past =
     let at = next new refl in
     let longer : length (given ++ new ∷ []) ≡ length given + 1 = length-append given (new ∷ []) in
     record {
-      below = All-push (λ (one : Given). one.token < first_token + length (given ++ new ∷ [])) given new
-          (All-weaker (λ (one : Given). one.token < first_token + length given) (λ (one : Given). one.token < first_token + length (given ++ new ∷ [])) (λ one l. omega (arith, l, longer)) given past.below)
+      below = All-push (λ (one : Given). one.token < limit.FIRST_TOKEN + length (given ++ new ∷ [])) given new
+          (All-weaker (λ (one : Given). one.token < limit.FIRST_TOKEN + length given) (λ (one : Given). one.token < limit.FIRST_TOKEN + length (given ++ new ∷ [])) (λ one l. omega (arith, l, longer)) given past.below)
           (omega (arith, at, longer));
-      rise = all_pairs_push Precedes given new past.rise (λ k d l. let low : (slice_index_or given k d).token < first_token + length given = past.below k d l in omega (arith, low, at));
+      rise = all_pairs_push Precedes given new past.rise (λ k d l. let low : (slice_index_or given k d).token < limit.FIRST_TOKEN + length given = past.below k d l in omega (arith, low, at));
       given' = λ n high h. list_any-append (λ (one : Given). one.token == n) given (new ∷ []) ∙ or_left _ (list_any (λ (one : Given). one.token == n) (new ∷ [])) (past.given' n high h);
       once = past.once;
     }
 
 -- the next token
-pub next_is_length : (past : History) (n : ℕ) → next_token past ≡ Some n → n ≡ first_token + length (all_given past)
-next_is_length past n e = by_test (nat_le most_tokens (length (tokens_out past)) || nat_le 0x80000000 (length (all_given past))) e where
-  by_test : (b : Bool) → (if b then None else Some (first_token + length (all_given past))) ≡ Some n → n ≡ first_token + length (all_given past)
+pub next_is_length : (past : History) (n : ℕ) → next_token past ≡ Some n → n ≡ limit.FIRST_TOKEN + length (all_given past)
+next_is_length past n e = by_test (nat_le limit.MAX_TOKENS (length (tokens_out past)) || nat_le 0x80000000 (length (all_given past))) e where
+  by_test : (b : Bool) → (if b then None else Some (limit.FIRST_TOKEN + length (all_given past))) ≡ Some n → n ≡ limit.FIRST_TOKEN + length (all_given past)
   by_test true e = absurd (cc)
-  by_test false e = let same : first_token + length (all_given past) ≡ n = cc in sym same
+  by_test false e = let same : limit.FIRST_TOKEN + length (all_given past) ≡ n = cc in sym same
 
 -- what may travel and is no client's was held
-held_by : (start : Start) (history : History) (n : ℕ) → first_token ≤ n → may_travel (look_ups start history) n ≡ true → IsHeldIn (all_given history) (all_sent history) n
+held_by : (start : Start) (history : History) (n : ℕ) → limit.FIRST_TOKEN ≤ n → may_travel (look_ups start history) n ≡ true → IsHeldIn (all_given history) (all_sent history) n
 held_by start history n high may = by_side (or_cases (is_client n && not (is_used start history n)) (is_held history n) may) where
   by_side : ((is_client n && not (is_used start history n)) ≡ true) ⊎ (is_held history n ≡ true) → IsHeldIn (all_given history) (all_sent history) n
   by_side (inl h) = let low = client_low n (and_parts (is_client n) (not (is_used start history n)) h).0 in absurd (omega (arith, low, high))

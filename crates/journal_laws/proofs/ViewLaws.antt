@@ -4,6 +4,7 @@ use Rattle.std.specs.Option.{option_map_or}
 use Rattle.std.proofs.lemmas.Bool.{eq-eqb, eqb-true, false_from_ne_true, true≢false}
 use Rattle.std.proofs.lemmas.List.Concat.{flat_map-append}
 use Rattle.std.proofs.lemmas.List.Elements.{All-contains}
+use Rattle.fidl_names.specs.declared.limits.TheConstants as limit
 use Rattle.endpoint_link.specs.Admission.{admission}
 use Rattle.endpoint_link.specs.declared.kinds.FrameKind.TheVariants as kind
 use Rattle.endpoint_link.specs.Frames.{Frame, spelling, spellings}
@@ -18,7 +19,7 @@ use Rattle.vfs_journal.specs.Past.{event_of, history_of}
 use Rattle.vfs_journal.specs.Serving.{outcome_of}
 use Rattle.vfs_journal.specs.Session.{after_serving, head, look_ups, next, oldest, sent_behind, serving, serving_one, weight, with_forward}
 use Rattle.vfs_journal.specs.Starts.{Start}
-use Rattle.vfs_journal.specs.Tokens.{all_given, first_token}
+use Rattle.vfs_journal.specs.Tokens.{all_given}
 use Rattle.vfs_journal.specs.View.{View, view_of, event_in, frames_in, head_in, next_in, oldest_in, servings_in, onward_in, sending_in, serving_in, then_in}
 use Rattle.journal_laws.specs.Soundness.{IsStart}
 use Rattle.journal_laws.specs.Viewing.{AreViewed, view_behind}
@@ -55,10 +56,10 @@ hang_up_viewed built start journal frame h admits is =
 -- ---- what is served
 
 -- the next token was never carried
-next_uncarried : (past : History) (n : ℕ) → AreGiven past → n ≡ first_token + length (all_given past) → was_carried past n ≡ false
+next_uncarried : (past : History) (n : ℕ) → AreGiven past → n ≡ limit.FIRST_TOKEN + length (all_given past) → was_carried past n ≡ false
 next_uncarried past n given e = false_from_ne_true (was_carried past n) (λ carried.
     let one = one_passes (λ (g : Given). g.token == n) (all_given past) (given.given n (omega (arith, e)) carried) in
-    let low : one.0.token < first_token + length (all_given past) = All-contains (λ g. g.token < first_token + length (all_given past)) (all_given past) one.0 given.below one.1 in
+    let low : one.0.token < limit.FIRST_TOKEN + length (all_given past) = All-contains (λ g. g.token < limit.FIRST_TOKEN + length (all_given past)) (all_given past) one.0 given.below one.1 in
     let at = eqb-true one.0.token n one.2 in
     omega (arith, low, at, e))
 

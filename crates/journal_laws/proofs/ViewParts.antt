@@ -4,6 +4,7 @@ use Rattle.std.specs.List.{list_any}
 use Rattle.std.specs.Option.{option_map, option_map_or}
 use Rattle.std.proofs.lemmas.Bool.{eqb-true, true≢false}
 use Rattle.std.proofs.lemmas.List.Elements.{filter_agree}
+use Rattle.fidl_names.specs.declared.limits.TheConstants as limit
 use Rattle.conn_rules.specs.Births.{Position}
 use Rattle.conn_rules.specs.Built.{Built}
 use Rattle.conn_rules.specs.declared.births.Room.{Room}
@@ -16,7 +17,7 @@ use Rattle.vfs_journal.specs.Past.{event_of}
 use Rattle.vfs_journal.specs.Serving.{Moment, moment_of, room_of, outcome_at, outcome_of, outcome_of_sending}
 use Rattle.vfs_journal.specs.Session.{head, is_bound_at, next, oldest}
 use Rattle.vfs_journal.specs.Starts.{Bound, Start}
-use Rattle.vfs_journal.specs.Tokens.{all_given, directory_of, first_token, is_held, most_tokens, next_token, waits_with}
+use Rattle.vfs_journal.specs.Tokens.{all_given, directory_of, is_held, next_token, waits_with}
 use Rattle.journal_laws.specs.Viewing.{IsInView}
 use Rattle.vfs_journal.specs.View.{view_of, with_position, at_in, is_bound_in, head_in, oldest_in, next_in, bounds_in, is_held_in, is_out_in, next_token_in, room_in, moment_in, outcome_in, deaths_in, event_in, frames_in}
 
@@ -109,7 +110,7 @@ out_is built start history token = ap (λ (b : Bool). b || waits_with history to
 
 pub token_is : (built : Built) (start : Start) (history : History) → next_token history ≡ next_token_in (view_of built start history)
 token_is built start history =
-    ap (λ (out : List Given). if nat_le most_tokens (length out) || nat_le 0x80000000 (length (all_given history)) then None else Some (first_token + length (all_given history)))
+    ap (λ (out : List Given). if nat_le limit.MAX_TOKENS (length out) || nat_le 0x80000000 (length (all_given history)) then None else Some (limit.FIRST_TOKEN + length (all_given history)))
     (filter_agree (λ given. is_held history given.token || waits_with history given.token) (λ given. is_out_in (view_of built start history) given.token)
     (λ given. out_is built start history given.token) (all_given history))
 

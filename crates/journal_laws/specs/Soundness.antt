@@ -1,5 +1,6 @@
 -- What holds of each lawful journal from a start whose endpoints are apart.
 use Rattle.std.specs.Prelude.{◌≡◌, ◌≢◌, ◌++◌, AllPairs, ◌<◌, ◌≤◌, ◌⊎◌, ℕ, true, false, List, [], ◌∷◌, All, Contains, map, Some}
+use Rattle.fidl_names.specs.declared.limits.TheConstants as limit
 use Rattle.io_messages.specs.declared.protocols.Protocol.TheVariants as protocol
 use Rattle.node_graph.specs.declared.nodes.NodeKind.TheVariants.{Mount}
 use Rattle.node_graph.specs.Tree.{NodeRow, Tree}
@@ -21,7 +22,7 @@ use Rattle.vfs_journal.specs.Past.{history_of}
 use Rattle.vfs_journal.specs.Serving.{outcome_of}
 use Rattle.vfs_journal.specs.Session.{head, sent_behind, after_serving, weight, drained, session, ended}
 use Rattle.vfs_journal.specs.Starts.{Bound, Start, start_of}
-use Rattle.vfs_journal.specs.Tokens.{all_given, first_token}
+use Rattle.vfs_journal.specs.Tokens.{all_given}
 
 -- ---- starts
 
@@ -71,7 +72,7 @@ pub record AreKnown (start : Start) (history : History) : Type 0 where
       Contains (mount_ends start) endpoint ⊎ ((is_client endpoint ≡ true) × (is_used start history endpoint ≡ true))
   pub ends : (endpoint : ℕ) → Contains (mount_ends start) endpoint → (is_dead history endpoint ≡ false) × (is_bound start history endpoint ≡ true)
   pub apart : AllPairs OtherEndpoint (births start history)
-  pub tokens : (given : Given) → Contains (all_given history) given → first_token ≤ given.token
+  pub tokens : (given : Given) → Contains (all_given history) given → limit.FIRST_TOKEN ≤ given.token
 
 -- ---- deaths
 

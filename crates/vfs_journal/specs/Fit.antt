@@ -1,12 +1,12 @@
 -- What holds of the view of each session, so that whoever is told of any view can count on it.
 use Rattle.std.specs.Prelude.{◌≡◌, ◌≢◌, ◌+◌, ◌<◌, ◌≤◌, ◌==◌, ◌⊎◌, ℕ, true, false, All, AllPairs, Contains, List, flat_map, length, Some}
 use Rattle.std.specs.List.{list_any}
+use Rattle.fidl_names.specs.declared.limits.TheConstants as limit
 use Rattle.endpoint_link.specs.Numbering.{among}
 use Rattle.fidl_names.specs.HandleNumber.{is_client}
 use Rattle.vfs_journal.specs.Entries.{Sent, endpoints_in, handles_of}
 use Rattle.vfs_journal.specs.Outcomes.{Forwarded, Given}
 use Rattle.vfs_journal.specs.Starts.{Bound}
-use Rattle.vfs_journal.specs.Tokens.{first_token}
 use Rattle.vfs_journal.specs.View.{View, deaths_in, head_in, is_bound_in, is_held_in, next_token_in, others_in, outcome_in}
 
 -- the handles that waiting messages carry, and the endpoints among them
@@ -47,7 +47,7 @@ pub record IsFit (view : View) : Type 0 where
       (is_client number ≡ true) ⊎ ((list_any (λ given. given.token == number) view.given ≡ true) × (is_held_in view number ≡ false))
   -- tokens rise, from the first on, and lie below the next; those that are held were given
   pub tokens : AllPairs (λ given later. given.token < later.token) view.given
-  pub numbered : All (λ given. (first_token ≤ given.token) × (given.token < first_token + length view.given)) view.given
+  pub numbered : All (λ given. (limit.FIRST_TOKEN ≤ given.token) × (given.token < limit.FIRST_TOKEN + length view.given)) view.given
   pub held : All (Contains view.given) view.held
   -- whatever can be served next on an endpoint serves so
   pub heads : (sent : Sent) → head_in view sent.endpoint ≡ Some sent → ServesFit view sent

@@ -2,6 +2,7 @@
 use Rattle.std.specs.Prelude.{ℕ, ◌+◌, ◌==◌, ◌&&◌, ◌||◌, Bool, not, nat_le, if◌then◌else◌, List, length, filter, filter_map, find, reverse, Option, Some, None}
 use Rattle.std.specs.List.{list_any}
 use Rattle.std.specs.Option.{option_map_or}
+use Rattle.fidl_names.specs.declared.limits.TheConstants as limit
 use Rattle.endpoint_link.specs.Numbering.{among}
 use Rattle.vfs_journal.specs.Entries.{handles_of}
 use Rattle.vfs_journal.specs.Outcomes.{Given}
@@ -26,22 +27,20 @@ waits_with history token = list_any (λ sent. among token (handles_of sent.sendi
 abbrev pub tokens_out : History → List Given
 tokens_out history = filter (λ given. is_held history given.token || waits_with history given.token) (all_given history)
 
-abbrev pub first_token : ℕ
-first_token = 0x80000000
+-- the number of a new token behind so many that were given: none where as many are out as may be, or the last number was given
+abbrev pub token_behind : ℕ → ℕ → Option ℕ
+token_behind out given = if nat_le limit.MAX_TOKENS out || nat_le 0x80000000 given then None else Some (limit.FIRST_TOKEN + given)
 
-abbrev pub most_tokens : ℕ
-most_tokens = 4096
-
--- the number that the next token gets: none where so many are out, or the last number was given
 abbrev pub next_token : History → Option ℕ
-next_token history =
-    if nat_le most_tokens (length (tokens_out history)) || nat_le 0x80000000 (length (all_given history)) then None
-    else Some (first_token + length (all_given history))
+next_token history = token_behind (length (tokens_out history)) (length (all_given history))
 
--- the directory that a token names, where it is of this server
-abbrev pub directory_of : History → ℕ → ℕ → Option ℕ
-directory_of history server token =
+-- the directory that a token of these names, where it is of this server
+abbrev pub directory_among : List Given → ℕ → ℕ → Option ℕ
+directory_among tokens server token =
     option_map_or
     (λ given. if given.server == server then Some given.node else None)
-    (find (λ given. given.token == token) (all_given history))
+    (find (λ given. given.token == token) tokens)
     None
+
+abbrev pub directory_of : History → ℕ → ℕ → Option ℕ
+directory_of history server token = directory_among (all_given history) server token

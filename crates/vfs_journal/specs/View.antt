@@ -1,5 +1,5 @@
 -- A session as it is seen now. What is served next, and all that a serving does, is a function of this view, whatever past led to it.
-use Rattle.std.specs.Prelude.{ℕ, zero, suc, ◌+◌, ◌==◌, ◌||◌, Bool, false, not, is_some, nat_le, if◌then◌else◌, List, [], ◌∷◌, ◌++◌, length, map, filter, find, count_by, sum_by, option_to_list, Option, Some, None}
+use Rattle.std.specs.Prelude.{ℕ, zero, suc, ◌+◌, ◌==◌, ◌||◌, Bool, false, not, is_some, if◌then◌else◌, List, [], ◌∷◌, ◌++◌, length, map, filter, find, count_by, sum_by, option_to_list, Option, Some, None}
 use Rattle.std.specs.List.{list_any}
 use Rattle.std.specs.Option.{option_map_or}
 use Rattle.endpoint_link.specs.Frames.{Frame}
@@ -16,7 +16,7 @@ use Rattle.vfs_journal.specs.Output.{frames_of_serving}
 use Rattle.vfs_journal.specs.Serving.{Moment, outcome_of_sending}
 use Rattle.vfs_journal.specs.Session.{weight_of}
 use Rattle.vfs_journal.specs.Starts.{Bound, Start}
-use Rattle.vfs_journal.specs.Tokens.{all_given, first_token, most_tokens}
+use Rattle.vfs_journal.specs.Tokens.{all_given, directory_among, token_behind}
 
 -- who lives, in order of birth, each with its position; what waits, in order of sending; the trees, by server; the tokens that were given,
 -- in order of giving, and those of them that no message carried yet; the place that the next entry gets; and what is built
@@ -85,19 +85,11 @@ is_held_in view token = list_any (λ given. given.token == token) view.held
 abbrev pub is_out_in : View → ℕ → Bool
 is_out_in view token = is_held_in view token || list_any (λ sent. among token (handles_of sent.sending)) view.waiting
 
--- the number that the next token gets: none where so many are out, or the last number was given
 abbrev pub next_token_in : View → Option ℕ
-next_token_in view =
-    if nat_le most_tokens (length (filter (λ given. is_out_in view given.token) view.given)) || nat_le 0x80000000 (length view.given) then None
-    else Some (first_token + length view.given)
+next_token_in view = token_behind (length (filter (λ given. is_out_in view given.token) view.given)) (length view.given)
 
--- the directory that a token names, where it is of this server
 abbrev pub directory_in : View → ℕ → ℕ → Option ℕ
-directory_in view server token =
-    option_map_or
-    (λ given. if given.server == server then Some given.node else None)
-    (find (λ given. given.token == token) view.given)
-    None
+directory_in view server token = directory_among view.given server token
 
 -- what is in use at a server, and at a directory there
 abbrev pub room_in : View → ℕ → ℕ → Room

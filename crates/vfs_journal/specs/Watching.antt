@@ -2,6 +2,7 @@
 use Rattle.std.specs.Prelude.{ℕ, ◌+◌, ◌==◌, Bool, nat_le, if◌then◌else◌, List, [], ◌∷◌, ◌++◌, length, map, filter, Option}
 use Rattle.std.specs.Int.{bit_at}
 use Rattle.std.specs.Option.{option_map_or}
+use Rattle.fidl_names.specs.declared.limits.TheConstants as limit
 use Rattle.endpoint_link.specs.Frames.{Frame, frame_with}
 use Rattle.endpoint_link.specs.declared.kinds.FrameKind.TheVariants as kind
 use Rattle.node_graph.specs.Tree.{Tree, EdgeKey, names_in}
@@ -38,15 +39,11 @@ watch_frame endpoint bytes = frame_with endpoint kind.Message [] bytes
 
 -- ---- a new watcher
 
--- the most bytes of one message
-abbrev pub most_bytes : ℕ
-most_bytes = 8192
-
 -- pieces gathered into messages, each as long as it can be, behind a message that was begun
 abbrev pub gathered : List ℕ → List (List ℕ) → List (List ℕ)
 gathered begun [] = begun ∷ []
 gathered begun (piece ∷ pieces) =
-    if nat_le (length begun + length piece) most_bytes then gathered (begun ++ piece) pieces else begun ∷ gathered piece pieces
+    if nat_le (length begun + length piece) limit.MAX_CHUNK then gathered (begun ++ piece) pieces else begun ∷ gathered piece pieces
 
 -- `.`, and then the names of the directory in the order of their bytes
 abbrev pub snapshot : Tree → ℕ → List (List ℕ)

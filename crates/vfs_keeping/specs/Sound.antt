@@ -1,6 +1,7 @@
 -- What holds of every keeper.
 use Rattle.std.specs.Prelude.{◌≡◌, ℕ, ◌<◌, ◌≤◌, ◌-◌, ◌^◌, ◌==◌, List, All, length, count_by}
 use Rattle.std.specs.List.{AllPairs}
+use Rattle.fidl_names.specs.declared.limits.TheConstants as limit
 use Rattle.endpoint_link.specs.declared.kinds.AdmitFault.{AdmitFault}
 use Rattle.endpoint_link.specs.declared.kinds.AdmitFault.TheVariants as fault
 use Rattle.endpoint_link.specs.Standings.{Known}
@@ -31,7 +32,7 @@ pub record IsSound (graph : Kept) (bindings : List Binding) (waiting : List Sent
   pub countable : length bindings < 2 ^ 32 - 1
   pub order : AreInOrder waiting places
   pub counted : known.waiting ≡ length waiting
-  pub few : length waiting ≤ 4096
+  pub few : length waiting ≤ limit.MAX_WAITING
 
 -- how many places of the journal a frame takes that isn't admitted: one where it is refused
 abbrev pub places_taken : AdmitFault → ℕ

@@ -2,6 +2,7 @@
 
 ghost use Rattle.std.specs.Prelude.{◌≡◌, ◌<◌, ◌≤◌, ◌-◌, ◌^◌, ◌++◌, ℕ, true, not, All, filter, length, OnOk, OnErr};
 ghost use Rattle.std.specs.List.{remove};
+ghost use Rattle.fidl_names.specs.declared.limits.TheConstants as limit;
 ghost use Rattle.endpoint_link.specs.Numbering.{among};
 ghost use Rattle.node_graph.specs.Graph.{StandsFor, holds_at, is_kept, number_of};
 ghost use Rattle.node_graph.specs.Tree.{Tree};
@@ -24,7 +25,7 @@ pub(crate) fn hold_all(graph: &mut Graph, slots: &[Slot])
     requires unheld { (number : ℕ) → holds_at graph.old number ≡ 0 }
     requires bound { All (λ binding. CanBeBound graph.old binding.birth) slots.now }
     requires kept { All (λ binding. is_kept graph.old (number_of binding.birth.node) ≡ true) slots.now }
-    requires few { length slots.now ≤ 65536 }
+    requires few { length slots.now ≤ limit.MAX_LIVE }
     ensures held { AreHeld graph.new slots.now }
     ensures tree { (tree : Tree) → StandsFor graph.old tree → StandsFor graph.new tree }
 {

@@ -1,6 +1,7 @@
 //! The keeper of one server's endpoints and of what waits on them.
 
 ghost use Rattle.std.specs.Prelude.{◌≡◌, ◌<◌, ◌≤◌, ◌-◌, ◌^◌, ◌+◌, ◌⊎◌, ℕ, true, false, List, [], All, Option, Some, None, IsTrue, IfOk, OnOk, OnErr, Ok, Err, MatchOption, length, slice_get, IfSome, IsNone, take, ◌++◌};
+ghost use Rattle.fidl_names.specs.declared.limits.TheConstants as limit;
 ghost use Rattle.fidl_wire.specs.Names.{AreDistinct};
 ghost use Rattle.endpoint_link.specs.Admission.{admission, look_ups};
 ghost use Rattle.endpoint_link.specs.Frames.{goes_to, spellings};
@@ -90,7 +91,7 @@ impl Keeper {
         requires unheld { (number : ℕ) → holds_at graph number ≡ 0 }
         requires bound { All (λ binding. CanBeBound graph binding.birth) slots.items }
         requires kept { All (λ binding. is_kept graph (number_of binding.birth.node) ≡ true) slots.items }
-        requires few { length slots.items ≤ 65536 }
+        requires few { length slots.items ≤ limit.MAX_LIVE }
         requires empty { endpoints.waiting ≡ 0 }
         ensures bindings { IfOk result (λ keeper. keeper.bindings ≡ slots.items) }
         ensures waiting { IfOk result (λ keeper. keeper.waiting ≡ []) }

@@ -1,6 +1,7 @@
 //! What is left where endpoints were bound, ended or died.
 
 ghost use Rattle.std.specs.Prelude.{◌≡◌, ◌≤◌, ◌++◌, not, filter, fold, length, take, IfOk, OnErr};
+ghost use Rattle.fidl_names.specs.declared.limits.TheConstants as limit;
 ghost use Rattle.endpoint_link.specs.Frames.{spellings};
 ghost use Rattle.endpoint_link.specs.Numbering.{among};
 ghost use Rattle.node_graph.specs.Graph.{StandsFor};
@@ -85,7 +86,7 @@ pub(crate) fn bury(
 )
     requires held { AreHeld graph.old slots.old.items }
     requires counted { endpoints.old.waiting ≡ length waiting.old.items }
-    requires few { length waiting.old.items ≤ 4096 }
+    requires few { length waiting.old.items ≤ limit.MAX_WAITING }
     ensures unbound { slots.new.items ≡ filter (λ binding. not (among binding.endpoint deaths.now)) slots.old.items }
     ensures dropped { waiting.new.items ≡ filter (λ sent. not (among sent.endpoint deaths.now)) waiting.old.items }
     ensures known { endpoints.new ≡ record (fold died endpoints.old deaths.now) { waiting = length waiting.new.items } }

@@ -1,14 +1,11 @@
 -- What one file answers to a Read.
 use Rattle.std.specs.Prelude.{ℕ, ◌+◌, ◌-◌, ◌^◌, List, [], ◌∷◌, ◌++◌, length, take, drop, nat_lt, if◌then◌else◌, false}
+use Rattle.fidl_names.specs.declared.limits.TheConstants as limit
 use Rattle.fidl_wire.specs.Headers.{header_bytes}
 use Rattle.fidl_names.specs.Numbers.{number_bytes}
 use Rattle.fidl_wire.specs.Numbers.{padded}
 use Rattle.fidl_wire.specs.Written.{padded_bytes}
 use Rattle.vfs_program.specs.Reads.{Asked, read_ordinal}
-
--- the most bytes that one Read gives
-abbrev pub most_read : ℕ
-most_read = 8192
 
 -- the header of a Read's reply
 abbrev pub reply_header : ℕ → List ℕ
@@ -31,11 +28,11 @@ given file position count = take count (drop position file)
 -- the reply to a Read
 unfoldable pub reply_to : List ℕ → ℕ → Asked → List ℕ
 reply_to file position read =
-    if nat_lt most_read read.count then out_of_range read.txid
+    if nat_lt limit.MAX_CHUNK read.count then out_of_range read.txid
     else success read.txid (given file position read.count)
 
 -- the position that a Read leaves: behind the bytes that it gave
 abbrev pub position_after : List ℕ → ℕ → Asked → ℕ
 position_after file position read =
-    if nat_lt most_read read.count then position
+    if nat_lt limit.MAX_CHUNK read.count then position
     else position + length (given file position read.count)

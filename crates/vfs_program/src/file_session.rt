@@ -65,7 +65,7 @@ impl FileSession {
     fn new(alloc: Global, file: Vec<u8>) -> Result<FileSession, NoMemory>
         ensures file { IfOk result (λ s. s.file ≡ file) }
         ensures connection { IfOk result (λ s. (s.connection.live ≡ true) × (s.connection.position ≡ 0)) }
-        ensures room { IfOk result (λ s. (s.room.bytes ≡ []) × (s.room.size ≡ 73788)) }
+        ensures room { IfOk result (λ s. (s.room.bytes ≡ []) × (s.room.size ≡ ROOM)) }
     {
         let connection = Connection::new(alloc)?;
         let room = FrameRoom::new(alloc, ROOM)?;
@@ -78,6 +78,7 @@ impl FileSession {
 }
 
 impl Session for FileSession {
+    ghost use Rattle.vfs_program.specs.declared.file_session.TheConstants.{ROOM};
     ghost use Rattle.std.specs.Prelude.{◌≡◌, ◌≤◌, length};
     ghost use Rattle.vfs_program.specs.OneFile.{file_course, IsBehind};
 
@@ -88,7 +89,7 @@ impl Session for FileSession {
 
     ghost heard = { λ s. 0 };
 
-    ghost ready = { λ s. (s.connection.position ≤ length s.file.items) × (s.room.size ≡ 73788) };
+    ghost ready = { λ s. (s.connection.position ≤ length s.file.items) × (s.room.size ≡ ROOM) };
 
     fn hear(&mut self, frame: FrameView<'_>) -> Result<(), NoMemory> {
         self.connection.hear(&self.file, frame, &mut self.room);

@@ -17,13 +17,15 @@ pub struct Input {
 }
 
 impl Model for Input {
-    ghost use Rattle.std.specs.Prelude.{◌≡◌, ◌≤◌, ℕ, List, take, vec_len};
+    ghost use Rattle.std.specs.Prelude.{◌≡◌, ◌≤◌, ◌+◌, ℕ, List, take, vec_len};
+    ghost use Rattle.fidl_names.specs.declared.limits.TheConstants as limit;
+    ghost use Rattle.endpoint_link.specs.declared.fixed.TheConstants.{MAX_FRAME_LEN};
 
     ghost Value = { List ℕ };
 
     ghost view = { λ i. take i.kept i.buffer.items };
 
-    ghost invariant = { λ i. (vec_len i.buffer ≡ 131340) × (i.kept ≤ 131340) };
+    ghost invariant = { λ i. (vec_len i.buffer ≡ MAX_FRAME_LEN + limit.MAX_PIECE) × (i.kept ≤ MAX_FRAME_LEN + limit.MAX_PIECE) };
 }
 
 impl Input {
@@ -46,9 +48,9 @@ impl Input {
 
     /// Reads a piece of at most so many bytes, behind those that are kept, and answers its length.
     pub fn read<S: Source>(&mut self, source: &mut S, most: usize) -> Result<usize, Failed>
-        requires room { length self.old < 65804 }
+        requires room { length self.old < MAX_FRAME_LEN }
         requires some { 0 < most }
-        requires piece { most ≤ 65536 }
+        requires piece { most ≤ MAX_PIECE }
         ensures piece { IfOk result (λ n. TakesPiece (S.left source.old) (S.left source.new) self.old self.new n) }
         ensures bound { IfOk result (λ n. n ≤ most) }
         ensures err { OnErr result ((self.new ≡ self.old) × Keeps (S.left source.old) (S.left source.new)) }

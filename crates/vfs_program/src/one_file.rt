@@ -13,7 +13,8 @@ ghost use Rattle.vfs_program.specs.OneFile.{look_ups, outcome, answered};
 
 use crate::reads::{Meaning, READ_NAME, meaning_of};
 use crate::replies::put_reply;
-use endpoint_link::{FrameKind, FrameRoom, FrameView, Refusal};
+use endpoint_link::{FIXED_LEN, FrameKind, FrameRoom, FrameView, Refusal};
+use fidl_names::MAX_CHUNK;
 use fidl_wire::{NoMemory, Out, Status as Answer, epitaph, ordinal};
 use std::alloc::Global;
 
@@ -21,7 +22,7 @@ use std::alloc::Global;
 const ENDPOINT: u32 = 1;
 
 /// The most bytes that are written for one frame: the frame of the longest reply.
-pub const MOST_ANSWER: usize = 8252;
+pub const MOST_ANSWER: usize = FIXED_LEN + 48 + MAX_CHUNK as usize;
 
 /// The session of one file: whether its endpoint is live, from where it reads, and room for a message.
 #[derive(Drop)]
@@ -49,7 +50,7 @@ impl Connection {
     /// Serves one frame.
     pub fn hear(&mut self, file: &[u8], frame: FrameView<'_>, room: &mut FrameRoom)
         requires within { self.old.position ≤ length file.now }
-        requires room { length room.old.bytes + 8252 ≤ room.old.size }
+        requires room { length room.old.bytes + MOST_ANSWER ≤ room.old.size }
         ensures frames { room.new.bytes ≡ room.old.bytes ++
             spellings (outcome file.now (record { live = self.old.live; position = self.old.position }) (frame_of frame.entry)).frames }
         ensures next { record { live = self.new.live; position = self.new.position } ≡
@@ -71,7 +72,7 @@ impl Connection {
     /// Answers a message: a Read by its reply, any other by an epitaph and the endpoint's end.
     fn answer(&mut self, file: &[u8], message: &[u8], room: &mut FrameRoom)
         requires within { self.old.position ≤ length file.now }
-        requires room { length room.old.bytes + 8252 ≤ room.old.size }
+        requires room { length room.old.bytes + MOST_ANSWER ≤ room.old.size }
         ensures frames { room.new.bytes ≡ room.old.bytes ++
             spellings (answered file.now (record { live = self.old.live; position = self.old.position }) (told message.now)).frames }
         ensures next { record { live = self.new.live; position = self.new.position } ≡
@@ -94,7 +95,7 @@ impl Connection {
 
 /// Puts the frames by which a message ends the endpoint: an epitaph, and a Close.
 fn put_end(out: &mut Out, status: Answer, room: &mut FrameRoom)
-    requires { length room.old.bytes + 8252 ≤ room.old.size }
+    requires { length room.old.bytes + MOST_ANSWER ≤ room.old.size }
     ensures frames { room.new.bytes ≡ room.old.bytes ++ spellings
         (frame_with 1 kind.Message [] (epitaph_bytes (number_of status)) ∷ frame_with 1 kind.Close [] [] ∷ []) }
     ensures size { room.new.size ≡ room.old.size }
@@ -107,7 +108,7 @@ fn put_end(out: &mut Out, status: Answer, room: &mut FrameRoom)
 
 /// Puts the frame that refuses one with this number.
 fn put_refusal(out: &mut Out, number: u32, why: Refusal, room: &mut FrameRoom)
-    requires { length room.old.bytes + 8252 ≤ room.old.size }
+    requires { length room.old.bytes + MOST_ANSWER ≤ room.old.size }
     ensures frames { room.new.bytes ≡ room.old.bytes ++ spellings (refused_frame number why ∷ []) }
     ensures size { room.new.size ≡ room.old.size }
 {

@@ -5,10 +5,8 @@ ghost use Rattle.vfs_program.specs.Reads.{read_ordinal};
 ghost use Rattle.vfs_program.specs.Replies.{reply_header, success, out_of_range, reply_to, position_after};
 
 use crate::reads::Read;
+use fidl_names::MAX_CHUNK;
 use fidl_wire::{Header, Out};
-
-/// The most bytes that one Read gives.
-pub const MOST_READ: u64 = 8192;
 
 /// OUT_OF_RANGE, inlined in its envelope.
 const OUT_OF_RANGE: u64 = 0x0001_0000_ffff_fff2;
@@ -19,11 +17,11 @@ pub fn put_reply(out: &mut Out, file: &[u8], position: usize, read: Read, ordina
     requires within { position ≤ length file.now }
     requires named { ordinal ≡ read_ordinal }
     ensures reply { out.new.bytes ≡ reply_to file.now position (asked read) }
-    ensures len { length out.new.bytes ≤ 8240 }
+    ensures len { length out.new.bytes ≤ 48 + MAX_CHUNK }
     ensures position { result ≡ position_after file.now position (asked read) }
     ensures within { result ≤ length file.now }
 {
-    if read.count > MOST_READ {
+    if read.count > MAX_CHUNK {
         put_out_of_range(out, read.txid, ordinal);
         return position;
     }
@@ -49,7 +47,7 @@ fn begin_reply(out: &mut Out, txid: u32, ordinal: u64)
 
 #[tactic(auto, unfolding(fidl_wire::specs::Numbers::padding_after))]
 fn put_success(out: &mut Out, txid: u32, part: &[u8], ordinal: u64)
-    requires small { length part.now ≤ 8192 }
+    requires small { length part.now ≤ MAX_CHUNK }
     requires named { ordinal ≡ read_ordinal }
     ensures bytes { out.new.bytes ≡ success txid part.now }
     ensures len { length out.new.bytes ≡ 48 + padded (length part.now) }
