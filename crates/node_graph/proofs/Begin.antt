@@ -1,5 +1,5 @@
 -- The tree that a server begins with, and its root.
-use Rattle.std.proofs.Common.{◌≡◌, ◌≢◌, ℕ, zero, suc, ◌+◌, ◌≤◌, List, [], ◌∷◌, length, map, Option, Some, None, refl, ap, sym, ◌∙◌, subst, arith, Bool, true, false}
+use Rattle.std.proofs.Common.{◌≡◌, ℕ, ◌≤◌, List, [], length, map, Option, Some, None, refl, ap, sym, ◌∙◌, subst, arith, true}
 use Rattle.std.specs.Prelude.{filter, ◌==◌}
 use Rattle.std.specs.Option.{option_map, option_map_or}
 use Rattle.std.specs.FinMap as finite
@@ -9,13 +9,13 @@ use Rattle.node_graph.specs.declared.edges.Target.{Target}
 use Rattle.node_graph.specs.Cell.{Cell}
 use Rattle.node_graph.specs.Tree.{EdgeKey, EdgeTo, Edges, edge_cmp, link_count, row_of, bare_tree}
 use Rattle.node_graph.specs.Graph.{Seat, Kept, seat_of, kind_at, holds_at, StandsFor}
-use Rattle.node_graph.specs.Ends.{Ends, edges_of}
+use Rattle.node_graph.specs.Ends.{Ends}
 use Rattle.node_graph.specs.Rows.{seat_from, kept_of, is_needed, AreRows}
 use Rattle.node_graph.proofs.RowLists.{same_some}
-use Rattle.node_graph.proofs.States.{Cases, cases, same, other}
+use Rattle.node_graph.proofs.States.{cases, same, other}
 use Rattle.node_graph.proofs.Ordered.{entries-map_of}
 use Rattle.node_graph.proofs.Linked.{edges_of-empty}
-use Rattle.node_graph.proofs.Seats.{IsSeat, seat_came, seat_at}
+use Rattle.node_graph.proofs.Seats.{seat_came, seat_at}
 
 abbrev pub root_cell : Cell
 root_cell = record { number = 1; kind = Directory; bytes = []; holds = 0; links = 0; parent = record { place = 0; number = 1 } }

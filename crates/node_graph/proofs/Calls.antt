@@ -1,23 +1,21 @@
 -- What a call finds at a node that is named, and what stands after it wrote there.
-use Rattle.std.proofs.Common.{◌≡◌, ◌≢◌, ℕ, ◌+◌, ◌-◌, ◌<◌, ◌≤◌, List, Option, Some, None, refl, ap, sym, ◌∙◌, subst, arith, Bool, true, false, nat_lt, suc, cond, not, nat_eq, ◌^◌}
-use Rattle.std.specs.Prelude.{◌==◌, ◌||◌, ◌&&◌, is_some, IsSome}
+use Rattle.std.proofs.Common.{◌≡◌, ◌≢◌, ℕ, ◌+◌, ◌-◌, ◌<◌, List, Option, Some, refl, ap, sym, ◌∙◌, arith, true, false, nat_lt, cond, not, nat_eq, ◌^◌}
+use Rattle.std.specs.Prelude.{◌==◌, ◌||◌, ◌&&◌}
 use Rattle.std.specs.Option.{option_map, option_map_or}
 use Rattle.std.specs.FinMap as finite
 use Rattle.std.proofs.lemmas.Bool.Decides.{nat_tests}
 use Rattle.slab.specs.Slab.{Slab, get, Updates, with_value}
 use Rattle.slab.proofs.SlabLemmas.{Updates-with_value}
-use Rattle.node_graph.specs.declared.nodes.NodeKind.TheVariants.{Directory}
 use Rattle.node_graph.specs.declared.nodes.NodeRef.{NodeRef}
 use Rattle.node_graph.specs.declared.edges.Target.{Target}
 use Rattle.node_graph.specs.Cell.{Cell}
-use Rattle.node_graph.specs.Tree.{Tree, Edges, EdgeKey, link_count, is_linked, is_removed, stay}
-use Rattle.node_graph.specs.Graph.{Seat, Kept, seat_of, Names, kind_at, holds_at, is_kept, StandsFor, Leads, SameHolds, HoldsNow, KeepsNames}
+use Rattle.node_graph.specs.Tree.{Edges, EdgeKey, link_count, is_linked, is_removed, stay}
+use Rattle.node_graph.specs.Graph.{Seat, Kept, seat_of, Names, kind_at, holds_at, Leads, HoldsNow, KeepsNames}
 use Rattle.node_graph.specs.Ends.{Ends, end_of, edges_of}
 use Rattle.node_graph.specs.Rows.{seat_from, kept_of, is_needed, AreAlmost, AreRows, Forgets}
-use Rattle.node_graph.proofs.RowLists.{same_some}
 use Rattle.node_graph.proofs.States.{Replaces, holds_now, keeps_names, leads_stay}
 use Rattle.node_graph.proofs.Linked.{linked_counted, get-edges_of}
-use Rattle.node_graph.proofs.Seats.{IsSeat, seat_came, seat_at, here, present, seat_here, number_here, replaced_here}
+use Rattle.node_graph.proofs.Seats.{seat_at, here, present, seat_here, number_here, replaced_here}
 use Rattle.node_graph.proofs.Steps.{cell_changes, settle, forgotten, or_true}
 use Rattle.node_graph.proofs.Sheds.{Sheds, shed, sheds_holds, sheds_stands, shed_names}
 
@@ -86,7 +84,7 @@ module _ (nodes : Slab Cell) (ends : Ends) (made : ℕ) (graph : Kept) (node : N
 
 -- what a name leads to is named, and is of the kind that is kept with the name
 module _ (nodes : Slab Cell) (ends : Ends) (made : ℕ) (graph : Kept) (view : kept_of nodes ends made ≡ graph) (rows : AreRows nodes ends made) where
-  child_seat : (key : EdgeKey) (to : Target) (there : finite.get ends key ≡ Some to) → seat_of graph to.node.number ≡ Some (seat_from to.node.place (rows.children key to there).0)
+  pub child_seat : (key : EdgeKey) (to : Target) (there : finite.get ends key ≡ Some to) → seat_of graph to.node.number ≡ Some (seat_from to.node.place (rows.children key to there).0)
   child_seat key to there =
       let child = rows.children key to there in
       ap (λ (g : Kept). seat_of g to.node.number) (sym view) ∙ ap (seat_of (kept_of nodes ends made)) (sym child.2) ∙ seat_at nodes rows.apart to.node.place child.0 child.1

@@ -1,5 +1,5 @@
 -- A node is made: what a graph keeps then.
-use Rattle.std.proofs.Common.{◌≡◌, ◌≢◌, ℕ, ◌+◌, ◌<◌, ◌≤◌, ◌^◌, List, [], Option, Some, None, refl, ap, sym, ◌∙◌, subst, arith, Bool, true, false, not, nat_lt, nat_le}
+use Rattle.std.proofs.Common.{◌≡◌, ◌≢◌, ℕ, ◌+◌, ◌<◌, ◌^◌, List, [], Option, Some, None, refl, ap, sym, ◌∙◌, subst, arith, Bool, true, false, not, nat_lt, nat_le}
 use Rattle.std.specs.Prelude.{◌==◌, ◌||◌, ◌&&◌, is_some, slice_index_or}
 use Rattle.std.specs.Option.{option_map}
 use Rattle.std.specs.FinMap as finite
@@ -12,21 +12,21 @@ use Rattle.node_graph.specs.declared.nodes.NodeKind.TheVariants.{Directory}
 use Rattle.node_graph.specs.declared.nodes.NodeRef.{NodeRef}
 use Rattle.node_graph.specs.declared.edges.Target.{Target}
 use Rattle.node_graph.specs.Cell.{Cell}
-use Rattle.node_graph.specs.Tree.{Edges, EdgeKey, EdgeTo, is_linked, is_removed, link_count}
+use Rattle.node_graph.specs.Tree.{Edges, EdgeKey, is_linked, is_removed, link_count}
 use Rattle.node_graph.specs.Graph.{Seat, Kept, seat_of, Names, kind_at, create_refusal}
 use Rattle.node_graph.specs.Ends.{Ends, end_of, edges_of, name_in}
 use Rattle.node_graph.specs.Rows.{seat_from, seat_map, kept_of, is_reached, Sits, AreRows}
 use Rattle.node_graph.proofs.RowLists.{same_some}
-use Rattle.node_graph.proofs.States.{Adds, Cases, cases, same, other, IsFree, unrefused, refusal_of}
+use Rattle.node_graph.proofs.States.{Adds, cases, same, other, unrefused, refusal_of}
 use Rattle.node_graph.proofs.Linked.{get-edges_of, edges_of-insert, len-edges_of, linked_counted}
-use Rattle.node_graph.proofs.Seats.{IsSeat, AreApart, seat_came, seat_found, seat_at, seat_here, number_here, here, same_seat}
+use Rattle.node_graph.proofs.Seats.{seat_came, seat_at, here, same_seat}
 use Rattle.node_graph.proofs.Steps.{Made, made_rows}
 
-unmapped : (o : Option Target) → option_map end_of o ≡ None → o ≡ None
+pub unmapped : (o : Option Target) → option_map end_of o ≡ None → o ≡ None
 unmapped None e = refl
 unmapped (Some to) e = absurd (let wrong : Some (end_of to) ≡ None = e in cc)
 
-not_removed : (edges : Edges) (key : EdgeKey) → create_refusal edges key ≡ None → is_removed edges key.directory ≡ false
+pub not_removed : (edges : Edges) (key : EdgeKey) → create_refusal edges key ≡ None → is_removed edges key.directory ≡ false
 not_removed edges key none = by_cases (is_removed edges key.directory) refl
   where
     by_cases : (b : Bool) → is_removed edges key.directory ≡ b → is_removed edges key.directory ≡ false

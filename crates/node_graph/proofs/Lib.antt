@@ -1,14 +1,21 @@
 mod Begin
 mod Bytes
 mod Calls
+mod Climbs
 mod Creates
+mod Gains
 mod Linked
 mod Listed
+mod Losses
 mod Needed
 mod Ordered
+mod Readings
 mod RowLists
 mod Seats
 mod Sheds
+mod Shifts
+pub mod SoundNames
 pub mod Soundness
 mod States
 mod Steps
+mod Ways

@@ -1,6 +1,6 @@
 -- How many names lead to a node before and after one is put in or taken out, and the edges that kept names are.
-use Rattle.std.proofs.Common.{◌≡◌, ℕ, zero, suc, ◌+◌, ◌<◌, ◌≤◌, List, [], ◌∷◌, length, map, Option, Some, None, refl, ap, sym, ◌∙◌, subst, arith, cond, Bool, true, false, T, nat_lt, eqb-true}
-use Rattle.std.specs.Prelude.{◌==◌, ◌||◌, filter, is_some}
+use Rattle.std.proofs.Common.{◌≡◌, ℕ, suc, ◌+◌, ◌≤◌, List, [], ◌∷◌, length, map, Option, Some, None, refl, ap, sym, ◌∙◌, arith, cond, Bool, true, false, T, nat_lt, eqb-true}
+use Rattle.std.specs.Prelude.{◌==◌, ◌||◌, filter}
 use Rattle.std.specs.List.{list_any}
 use Rattle.std.specs.Option.{option_map}
 use Rattle.std.specs.declared.cmp.Ordering.TheVariants.{Less}
@@ -11,8 +11,7 @@ use Rattle.std.proofs.lemmas.Bool.Decides.{nat_tests}
 use Rattle.node_graph.specs.declared.edges.Target.{Target}
 use Rattle.node_graph.specs.Tree.{EdgeKey, EdgeTo, Edges, edge_cmp, link_count, is_linked}
 use Rattle.node_graph.specs.Ends.{Ends, end_of, edge_of, edges_of}
-use Rattle.node_graph.proofs.RowLists.{same_some}
-use Rattle.node_graph.proofs.Ordered.{edges_total, exact_edges, same_edges, standing, earlier, alike, later, map_of, same_or_other, same, other, get-put_here, get-put_other, get-cut_here, get-cut_other, entries-map_of, both_true, less}
+use Rattle.node_graph.proofs.Ordered.{edges_total, same_edges, standing, earlier, alike, later, same_or_other, same, other, get-put_here, get-put_other, get-cut_here, get-cut_other, entries-map_of, both_true, less}
 
 -- ---- the edges of kept names
 

@@ -1,10 +1,11 @@
 -- The names of a directory behind a place are those between two keys.
-use Rattle.std.proofs.Common.{◌≡◌, ℕ, zero, suc, ◌+◌, ◌<◌, ◌≤◌, List, [], ◌∷◌, length, map, Option, Some, None, refl, ap, sym, ◌∙◌, subst, arith, cond, Bool, true, false, not, eqb-true, nat_lt, T}
-use Rattle.std.specs.Prelude.{◌==◌, filter, take, ◌&&◌, All}
-use Rattle.std.specs.declared.cmp.Ordering.{Ordering}
+use Rattle.std.proofs.Common.{◌≡◌, ℕ, zero, suc, ◌+◌, ◌<◌, ◌≤◌, List, [], ◌∷◌, length, map, Option, Some, None, refl, ap, sym, ◌∙◌, arith, cond, Bool, true, false, not, eqb-true, nat_lt, T}
+use Rattle.std.specs.Prelude.{◌==◌, filter, take, ◌&&◌, ◌||◌, All, is_some}
+use Rattle.std.specs.List.{list_any}
+use Rattle.std.specs.Map.Iter.{TakesFirst}
 use Rattle.std.specs.declared.cmp.Ordering.TheVariants.{Less, Equal, Greater}
 use Rattle.std.specs.declared.ops.Bound.TheVariants.{Excluded}
-use Rattle.std.specs.Ordering.{nat_cmp, is_lt, is_le, is_gt, is_eq, ordering_then}
+use Rattle.std.specs.Ordering.{nat_cmp, is_lt, is_le, is_eq, ordering_then}
 use Rattle.std.specs.Cmp.Lexicographic.{slice_cmp}
 use Rattle.std.specs.BTreeMap.Range.{range_contains, entries_between}
 use Rattle.std.specs.FinMap as finite
@@ -14,9 +15,9 @@ use Rattle.fidl_names.specs.declared.limits.TheConstants as limit
 use Rattle.node_graph.specs.declared.edges.Target.{Target}
 use Rattle.node_graph.specs.Tree.{EdgeKey, EdgeTo, edge_cmp}
 use Rattle.node_graph.specs.Graph.{Listed, comes_after, listed_after}
+use Rattle.node_graph.specs.Refusals.{has_names}
 use Rattle.node_graph.specs.Ends.{Ends, IsNamed, edge_of, edges_of, ends_after, listed_of, name_in, start_of}
-use Rattle.node_graph.proofs.RowLists.{same_some}
-use Rattle.node_graph.proofs.Ordered.{both_true, map_of, entries-map_of, same_or_other, same, other, get-map_of}
+use Rattle.node_graph.proofs.Ordered.{both_true, map_of, entries-map_of, same_or_other, same, other}
 use Rattle.node_graph.proofs.Linked.{below_found, entries-edges_of}
 
 -- how numbers compare
@@ -202,3 +203,29 @@ listed_few ends directory place few =
     let fewer = fewer_filtered (λ e. (e.0.directory == directory) && comes_after place e.0.name) (finite.entries ends) in
     let len = finite.len-entries ends in
     omega (arith, few, fewer, len)
+
+-- ---- whether there are names
+
+-- some name is left
+abbrev pub is_any : List (EdgeKey × Target) → Bool
+is_any [] = false
+is_any (e ∷ es) = true
+
+pub first_is_any : {A : Type 0} (shows : A → EdgeKey × Target) (s : List (EdgeKey × Target)) (r : Option A) (t : List (EdgeKey × Target)) → TakesFirst shows s r t → is_some r ≡ is_any s
+first_is_any shows s None t gives = sym (ap is_any gives.0)
+first_is_any shows s (Some x) t gives = sym (ap is_any gives)
+
+any_mapped : (directory : ℕ) (es : List (EdgeKey × Target))
+    → is_any (filter (λ (e : EdgeKey × Target). (e.0.directory == directory) && comes_after None e.0.name) es) ≡ list_any (λ (k : EdgeKey). k.directory == directory) (map (λ (e : EdgeKey × EdgeTo). e.0) (map edge_of es))
+any_mapped directory [] = refl
+any_mapped directory (e ∷ es) =
+    elim (e.0.directory == directory) as (λ b.
+    is_any (cond (b && true) (e ∷ filter (λ (e : EdgeKey × Target). (e.0.directory == directory) && comes_after None e.0.name) es) (filter (λ (e : EdgeKey × Target). (e.0.directory == directory) && comes_after None e.0.name) es))
+    ≡ (b || list_any (λ (k : EdgeKey). k.directory == directory) (map (λ (e : EdgeKey × EdgeTo). e.0) (map edge_of es)))) [
+      | true ↦ refl
+      | false ↦ any_mapped directory es
+    ]
+
+pub some_listed : (ends : Ends) (directory : ℕ) → is_any (ends_after ends directory None) ≡ has_names (edges_of ends) directory
+some_listed ends directory =
+    any_mapped directory (finite.entries ends) ∙ ap (λ (es : List (EdgeKey × EdgeTo)). list_any (λ (k : EdgeKey). k.directory == directory) (map (λ (e : EdgeKey × EdgeTo). e.0) es)) (sym (entries-edges_of ends))

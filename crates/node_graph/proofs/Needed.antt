@@ -1,23 +1,21 @@
 -- Which nodes have to be kept, and how many: just those that are.
-use Rattle.std.proofs.Common.{◌≡◌, ◌≢◌, ℕ, zero, suc, ◌+◌, ◌<◌, ◌≤◌, List, [], ◌∷◌, length, map, Option, Some, None, refl, ap, sym, ◌∙◌, subst, arith, cond, Bool, true, false, add-one, eqb-true, nat_lt}
+use Rattle.std.proofs.Common.{◌≡◌, ◌≢◌, ℕ, zero, suc, ◌+◌, ◌<◌, ◌≤◌, List, [], ◌∷◌, map, Option, Some, None, refl, ap, sym, ◌∙◌, arith, cond, Bool, true, false, eqb-true, nat_lt}
 use Rattle.std.specs.Prelude.{slice_index_or, ◌==◌, ◌||◌, count_by, is_some}
-use Rattle.std.specs.Option.{option_map, option_map_or}
+use Rattle.std.specs.Option.{option_map_or}
 use Rattle.std.specs.FinMap as finite
 use Rattle.std.specs.FinMap.Entries as entry
-use Rattle.std.specs.Ordering.{nat_cmp, is_eq, eq_by_cmp}
-use Rattle.std.proofs.lemmas.Bool.Decides.{nat_tests}
+use Rattle.std.specs.Ordering.{nat_cmp, eq_by_cmp}
 use Rattle.std.proofs.lemmas.List.Sums.{sum_by-append, sum_by-cons}
 use Rattle.slab.specs.Slab.{Slab, get, slab_len, entries_from}
-use Rattle.node_graph.specs.declared.edges.Target.{Target}
 use Rattle.node_graph.specs.Cell.{Cell}
 use Rattle.node_graph.specs.Tree.{EdgeTo, is_linked, link_count}
 use Rattle.node_graph.specs.Graph.{Seat, Kept, seat_of, holds_at, is_kept, numbers_to}
 use Rattle.node_graph.specs.Ends.{Ends, end_of, edges_of}
-use Rattle.node_graph.specs.Rows.{seat_from, seat_entry, seat_map, kept_of, is_needed, AreRows}
-use Rattle.node_graph.proofs.RowLists.{same_some, mapped}
-use Rattle.node_graph.proofs.States.{Cases, cases, same, other}
+use Rattle.node_graph.specs.Rows.{seat_from, seat_entry, kept_of, AreRows}
+use Rattle.node_graph.proofs.RowLists.{mapped}
+use Rattle.node_graph.proofs.States.{cases, same, other}
 use Rattle.node_graph.proofs.Linked.{get-edges_of, linked_by, linked_counted}
-use Rattle.node_graph.proofs.Seats.{IsSeat, seat_came, seat_at, seats_from, came_from, some_from, get-seat_map, equal}
+use Rattle.node_graph.proofs.Seats.{seat_came, seat_at, came_from, some_from, get-seat_map, equal}
 
 -- one more number is counted where it passes
 count_next : (p : ℕ → Bool) (n : ℕ) → count_by p (numbers_to (suc n)) ≡ count_by p (numbers_to n) + cond (p (n + 1)) 1 0

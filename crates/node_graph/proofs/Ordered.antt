@@ -1,5 +1,5 @@
 -- How keys of edges stand to each other, and maps by them.
-use Rattle.std.proofs.Common.{◌≡◌, ℕ, List, [], ◌∷◌, Option, Some, None, refl, ap, sym, ◌∙◌, subst, cond, Bool, true, false, T}
+use Rattle.std.proofs.Common.{◌≡◌, ℕ, List, [], ◌∷◌, Some, None, refl, ap, sym, ◌∙◌, subst, cond, Bool, true, false, T}
 use Rattle.std.specs.Prelude.{◌&&◌, length, ◌≤◌}
 use Rattle.std.specs.BTreeMap.{BTreeMap, is_at, UpdatesBy}
 use Rattle.std.specs.Map.{lookup, keys_of}

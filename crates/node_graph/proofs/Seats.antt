@@ -1,7 +1,7 @@
 -- What a graph keeps, over a slab of nodes.
-use Rattle.std.proofs.Common.{◌≡◌, ◌≢◌, ℕ, zero, suc, ◌+◌, ◌<◌, ◌≤◌, List, [], ◌∷◌, length, map, Option, Some, None, refl, ap, sym, ◌∙◌, subst, arith, cond, Bool, true, false}
-use Rattle.std.specs.Prelude.{◌==◌, is_some, slice_index_or, IsSome}
-use Rattle.std.specs.Option.{option_map, option_map_or}
+use Rattle.std.proofs.Common.{◌≡◌, ◌≢◌, ℕ, zero, suc, ◌+◌, List, [], ◌∷◌, map, Option, Some, None, refl, ap, sym, ◌∙◌, subst, arith, cond, true, false}
+use Rattle.std.specs.Prelude.{is_some, slice_index_or, IsSome}
+use Rattle.std.specs.Option.{option_map}
 use Rattle.std.specs.declared.cmp.Ordering.{Ordering}
 use Rattle.std.specs.declared.cmp.Ordering.TheVariants.{Less, Equal, Greater}
 use Rattle.std.specs.Ordering.{nat_cmp, is_eq, eq_by_cmp}
@@ -11,11 +11,11 @@ use Rattle.std.specs.FinMap.Entries as entry
 use Rattle.slab.specs.Slab.{Slab, get, entries_from, Updates}
 use Rattle.node_graph.specs.declared.nodes.NodeRef.{NodeRef}
 use Rattle.node_graph.specs.Cell.{Cell}
-use Rattle.node_graph.specs.Graph.{Seat, Kept, seat_of, Names, kind_at, bytes_at, holds_at}
+use Rattle.node_graph.specs.Graph.{Seat, Kept, seat_of, Names}
 use Rattle.node_graph.specs.Ends.{Ends}
 use Rattle.node_graph.specs.Rows.{seat_from, seat_entry, seat_map, kept_of}
 use Rattle.node_graph.proofs.RowLists.{same_some}
-use Rattle.node_graph.proofs.States.{Replaces, Cases, cases, same, other}
+use Rattle.node_graph.proofs.States.{Replaces, cases, same, other}
 
 pub equal : (o : Ordering) → is_eq o ≡ true → o ≡ Equal
 equal Less h = absurd (cc)

@@ -1,21 +1,20 @@
 -- A node that isn't needed is kept no more: what a graph keeps then, and what a call on a node finds.
-use Rattle.std.proofs.Common.{◌≡◌, ◌≢◌, ℕ, ◌+◌, ◌<◌, ◌≤◌, List, [], Option, Some, None, refl, ap, sym, ◌∙◌, subst, arith, Bool, true, false, nat_lt, ◌⊎◌, inl, inr}
-use Rattle.std.specs.Prelude.{◌==◌, ◌||◌, is_some}
+use Rattle.std.proofs.Common.{◌≡◌, ◌≢◌, ℕ, Option, Some, None, refl, ap, sym, ◌∙◌, subst, arith, true, false, nat_lt, ◌⊎◌, inl, inr}
+use Rattle.std.specs.Prelude.{◌==◌, ◌||◌}
 use Rattle.std.specs.Option.{option_map, option_map_or}
-use Rattle.std.specs.FinMap as finite
 use Rattle.std.proofs.lemmas.Bool.Decides.{nat_tests}
-use Rattle.slab.specs.Slab.{Slab, get, Updates}
+use Rattle.slab.specs.Slab.{Slab, get}
 use Rattle.node_graph.specs.declared.nodes.NodeRef.{NodeRef}
 use Rattle.node_graph.specs.Cell.{Cell}
-use Rattle.node_graph.specs.Tree.{Tree, Edges, row_of, is_linked, link_count, stay}
-use Rattle.node_graph.specs.Graph.{Seat, Kept, seat_of, Names, kind_at, bytes_at, holds_at, is_kept, StandsFor, Leads, SameHolds, HoldsNow, KeepsNames}
+use Rattle.node_graph.specs.Tree.{Tree, Edges, is_linked, link_count}
+use Rattle.node_graph.specs.Graph.{Seat, Kept, seat_of, Names, kind_at, holds_at, is_kept, StandsFor, SameHolds, KeepsNames}
 use Rattle.node_graph.specs.Ends.{Ends, edges_of}
-use Rattle.node_graph.specs.Rows.{seat_from, seat_map, kept_of, is_needed, AreAlmost, AreRows, Forgets, keeps, drops}
+use Rattle.node_graph.specs.Rows.{kept_of, AreAlmost, Forgets, keeps, drops}
 use Rattle.node_graph.proofs.RowLists.{same_some}
-use Rattle.node_graph.proofs.States.{Replaces, Cases, cases, same, other}
+use Rattle.node_graph.proofs.States.{cases, same, other}
 use Rattle.node_graph.proofs.Linked.{linked_counted}
-use Rattle.node_graph.proofs.Seats.{IsSeat, AreApart, seat_came, seat_found}
-use Rattle.node_graph.proofs.Steps.{Unneeded, unneeded, forgotten}
+use Rattle.node_graph.proofs.Seats.{AreApart, seat_came, seat_found}
+use Rattle.node_graph.proofs.Steps.{Unneeded, unneeded}
 
 -- each seat was there, and each one that was there is, but for one that need not be kept
 pub record Sheds (old new : Kept) : Type 0 where

@@ -1,5 +1,5 @@
 -- What two kinds of step do to what a graph keeps: one seat is another, or one seat is new.
-use Rattle.std.proofs.Common.{◌≡◌, ◌≢◌, ℕ, ◌+◌, ◌-◌, ◌<◌, ◌≤◌, List, [], ◌∷◌, ◌++◌, length, Option, Some, None, refl, ap, sym, ◌∙◌, subst, arith, Bool, true, false, eqb-true, length-append, nat_le}
+use Rattle.std.proofs.Common.{◌≡◌, ◌≢◌, ℕ, ◌+◌, ◌-◌, ◌<◌, List, [], ◌∷◌, ◌++◌, length, Option, Some, None, refl, ap, sym, ◌∙◌, subst, arith, Bool, true, false, eqb-true, length-append, nat_le}
 use Rattle.std.specs.FinMap as finite
 use Rattle.fidl_names.specs.First.{cause_if, first_of}
 use Rattle.fidl_names.specs.declared.limits.TheConstants as limit
@@ -7,11 +7,11 @@ use Rattle.node_graph.specs.declared.faults.GraphFault.{GraphFault}
 use Rattle.node_graph.specs.declared.faults.GraphFault.TheVariants as fault
 use Rattle.node_graph.specs.declared.nodes.NodeKind.{NodeKind}
 use Rattle.node_graph.specs.declared.nodes.NodeRef.{NodeRef}
-use Rattle.std.specs.Prelude.{is_some, slice_set, ◌==◌, if◌then◌else◌}
+use Rattle.std.specs.Prelude.{is_some, slice_set, ◌==◌}
 use Rattle.std.specs.Option.{option_map, option_map_or}
 use Rattle.std.proofs.lemmas.Bool.Decides.{nat_tests}
 use Rattle.node_graph.specs.Tree.{NodeRow, Tree, Edges, EdgeKey, EdgeTo, row_of, make, new_row, fill, stay, filled, is_removed}
-use Rattle.node_graph.specs.Graph.{Seat, Kept, seat_of, Names, kind_at, bytes_at, holds_at, is_kept, StandsFor, Leads, SameHolds, HoldsNow, KeepsNames, create_refusal}
+use Rattle.node_graph.specs.Graph.{Seat, Kept, seat_of, Names, kind_at, bytes_at, StandsFor, Leads, SameHolds, HoldsNow, KeepsNames, create_refusal}
 use Rattle.node_graph.proofs.RowLists.{same_some, row_within, row_of-set_same, row_of-set_other, length-set_row, row_of-push_same, row_of-push_other}
 
 -- the seat of one number, which was there, is another for the same node
@@ -40,8 +40,9 @@ pub filled_rows : (rows : List NodeRow) (number : ℕ) (row : NodeRow) (bytes : 
 filled_rows rows number row bytes there = ap (λ o. option_map_or (λ (r : NodeRow). slice_set rows (number - 1) (record { kind = r.kind; bytes = bytes })) o rows) there
 
 module _ {old new : Kept} {number : ℕ} {was is : Seat} where
-  pub keeps_names : Replaces old new number was is → KeepsNames old new
-  keeps_names r node names kept =
+  -- each reference that named a node names it still
+  pub named_still : Replaces old new number was is → (node : NodeRef) → Names old node → Names new node × (kind_at new node.number ≡ kind_at old node.number)
+  named_still r node names =
       elim (cases node.number number) [
         | same e b ↦
             let node_is : was.node ≡ node = same_some _ _ (sym (ap (option_map (λ (s : Seat). s.node)) (ap (seat_of old) e ∙ r.before)) ∙ names) in (
@@ -53,6 +54,9 @@ module _ {old new : Kept} {number : ℕ} {was is : Seat} where
           ap (option_map (λ (s : Seat). s.kind)) (r.others node.number e),
         )
       ]
+
+  pub keeps_names : Replaces old new number was is → KeepsNames old new
+  keeps_names r node names kept = named_still r node names
 
   pub holds_now : Replaces old new number was is → HoldsNow old new number is.holds
   holds_now r n =

@@ -1,24 +1,23 @@
 -- What nodes and names always are stays so in each step.
-use Rattle.std.proofs.Common.{◌≡◌, ◌≢◌, ℕ, zero, suc, ◌+◌, ◌-◌, ◌<◌, ◌≤◌, List, Option, Some, None, refl, ap, sym, ◌∙◌, subst, arith, cond, Bool, true, false, nat_lt, eqb-true, ◌^◌, ◌⊎◌, inl, inr}
+use Rattle.std.proofs.Common.{◌≡◌, ◌≢◌, ℕ, ◌+◌, ◌<◌, ◌≤◌, Option, Some, None, refl, ap, sym, ◌∙◌, subst, arith, cond, Bool, true, false, nat_lt, eqb-true, ◌^◌, ◌⊎◌, inl, inr}
 use Rattle.std.specs.Prelude.{◌==◌, ◌||◌, is_some}
 use Rattle.std.specs.Option.{option_map}
 use Rattle.std.specs.FinMap as finite
 use Rattle.std.proofs.lemmas.Bool.Decides.{nat_tests}
 use Rattle.slab.specs.Slab.{Slab, get, Updates}
 use Rattle.fidl_names.specs.declared.limits.TheConstants as limit
-use Rattle.node_graph.specs.declared.nodes.NodeKind.{NodeKind}
 use Rattle.node_graph.specs.declared.nodes.NodeKind.TheVariants.{Directory}
 use Rattle.node_graph.specs.declared.nodes.NodeRef.{NodeRef}
 use Rattle.node_graph.specs.declared.edges.Target.{Target}
 use Rattle.node_graph.specs.Cell.{Cell}
-use Rattle.node_graph.specs.Tree.{EdgeKey, EdgeTo, Edges, link_count, is_linked, has_one_name}
+use Rattle.node_graph.specs.Tree.{EdgeKey, EdgeTo, Edges, link_count, has_one_name}
 use Rattle.node_graph.specs.Ends.{Ends, end_of, edges_of}
-use Rattle.node_graph.specs.Rows.{is_needed, is_reached, Sits, AreAlmost, AreRows, nowhere, Forgets, keeps, drops}
+use Rattle.node_graph.specs.Rows.{is_needed, is_reached, Sits, AreAlmost, AreRows, Forgets, keeps, drops}
 use Rattle.node_graph.proofs.RowLists.{same_some, mapped}
-use Rattle.node_graph.proofs.States.{Cases, cases, same, other}
-use Rattle.node_graph.proofs.Ordered.{edges_total, comes, Comes, fresh, known, stays}
-use Rattle.node_graph.proofs.Linked.{get-edges_of, edges_of-insert, edges_of-remove, link_count-put, link_count-cut, one_if, count_some, linked_by, linked_counted}
-use Rattle.node_graph.proofs.Seats.{AreApart, changed, kept, at_new, apart_still}
+use Rattle.node_graph.proofs.States.{cases, same, other}
+use Rattle.node_graph.proofs.Ordered.{edges_total, comes, fresh, known}
+use Rattle.node_graph.proofs.Linked.{get-edges_of, edges_of-insert, link_count-put, one_if, count_some, linked_by, linked_counted}
+use Rattle.node_graph.proofs.Seats.{changed, kept, at_new, apart_still}
 
 pub weaken : (nodes : Slab Cell) (ends : Ends) (made : ℕ) (spare : ℕ → Type 0) → AreRows nodes ends made → AreAlmost nodes ends made spare
 weaken nodes ends made spare rows = record {
@@ -115,7 +114,7 @@ pub record Unneeded (cell : Cell) : Type 0 where
 no_more : (n : ℕ) → nat_lt 0 n ≡ false → n ≡ 0
 no_more n e = grind (arith, nat_tests)
 
-neither : (a b : Bool) → (a || b) ≡ false → (a ≡ false) × (b ≡ false)
+pub neither : (a b : Bool) → (a || b) ≡ false → (a ≡ false) × (b ≡ false)
 neither true b e = absurd (cc)
 neither false b e = (refl, e)
 

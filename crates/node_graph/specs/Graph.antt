@@ -1,5 +1,5 @@
 -- What a graph keeps of a tree, the trees that it stands for, and what its calls answer.
-use Rattle.std.specs.Prelude.{◌≡◌, ℕ, zero, suc, ◌+◌, ◌-◌, ◌==◌, Bool, true, ◌&&◌, ◌||◌, if◌then◌else◌, nat_lt, nat_le, is_some, List, [], ◌∷◌, ◌++◌, length, map, filter, take, drop, replicate, Option, Some, None, Result, Err, IfErr}
+use Rattle.std.specs.Prelude.{◌≡◌, ℕ, zero, suc, ◌+◌, ◌-◌, ◌==◌, Bool, true, ◌&&◌, ◌||◌, if◌then◌else◌, nat_lt, List, [], ◌∷◌, ◌++◌, length, map, filter, take, drop, replicate, Option, Some, None, Result, Err, IfErr, IsOk}
 use Rattle.std.specs.Option.{option_map, option_map_or}
 use Rattle.std.specs.Ordering.{nat_cmp, is_lt}
 use Rattle.std.specs.Cmp.Lexicographic.{slice_cmp}
@@ -8,8 +8,8 @@ use Rattle.node_graph.specs.declared.nodes.NodeKind.{NodeKind}
 use Rattle.node_graph.specs.declared.nodes.NodeRef.{NodeRef}
 use Rattle.node_graph.specs.declared.faults.GraphFault.{GraphFault}
 use Rattle.node_graph.specs.declared.faults.GraphFault.TheVariants as fault
-use Rattle.node_graph.specs.Tree.{EdgeKey, EdgeTo, edge_cmp, Edges, Tree, Change, fill, stay, row_of, is_linked, after}
-pub use Rattle.node_graph.specs.Refusals.{create_refusal, resize_refusal, write_refusal}
+use Rattle.node_graph.specs.Tree.{EdgeTo, edge_cmp, Edges, Tree, Change, fill, stay, row_of, is_linked, after}
+pub use Rattle.node_graph.specs.Refusals.{create_refusal, unlink_refusal, link_refusal, rename_refusal, resize_refusal, write_refusal, link_change, rename_change}
 
 -- the number of the node that a reference names
 abbrev pub number_of : NodeRef → ℕ
@@ -59,6 +59,10 @@ pub record StandsFor (graph : Kept) (tree : Tree) : Type 0 where
 abbrev pub Leads : Kept → Kept → Change → Type 0
 Leads old new change = (tree : Tree) → StandsFor old tree → StandsFor new (after tree change)
 
+-- the same of a change that depends on the tree
+abbrev pub LeadsBy : Kept → Kept → (Tree → Change) → Type 0
+LeadsBy old new change = (tree : Tree) → StandsFor old tree → StandsFor new (after tree (change tree))
+
 abbrev pub SameHolds : Kept → Kept → Type 0
 SameHolds old new = (number : ℕ) → holds_at new number ≡ holds_at old number
 
@@ -74,6 +78,11 @@ KeepsNames old new = (node : NodeRef) → Names old node → is_kept new (number
 abbrev pub Answers : {T : Type 0} → Result T GraphFault → Option GraphFault → Type 0
 Answers result None = IfErr result (λ found. found ≡ fault.NoMemory)
 Answers result (Some refusal) = result ≡ Err refusal
+
+-- the refusal is the answer; without one the call is done, since it takes no memory
+abbrev pub Settles : {T : Type 0} → Result T GraphFault → Option GraphFault → Type 0
+Settles result None = IsOk result
+Settles result (Some refusal) = result ≡ Err refusal
 
 -- the bytes cut at a length, or filled up to it with zeros
 abbrev pub resized : List ℕ → ℕ → List ℕ

@@ -1,6 +1,6 @@
 -- Why a name is made, taken out or moved or isn't: each refusal is the first of its causes that holds. And what a change that
 -- isn't refused does.
-use Rattle.std.specs.Prelude.{ℕ, zero, suc, ◌+◌, ◌==◌, ◌&&◌, ◌||◌, Bool, true, false, not, nat_lt, nat_le, is_some, is_none, if◌then◌else◌, List, [], ◌∷◌, length, map, filter, Option, Some, None}
+use Rattle.std.specs.Prelude.{ℕ, zero, suc, ◌+◌, ◌==◌, ◌&&◌, ◌||◌, Bool, true, false, not, nat_lt, nat_le, is_some, is_none, if◌then◌else◌, List, [], ◌∷◌, length, map, filter, Option, None}
 use Rattle.std.specs.FinMap as finite
 use Rattle.std.specs.List.{list_any}
 use Rattle.std.specs.Option.{option_map, option_map_or}
@@ -8,10 +8,10 @@ use Rattle.std.specs.Ordering.{is_eq}
 use Rattle.fidl_names.specs.First.{cause_if, first_of}
 use Rattle.fidl_names.specs.declared.limits.TheConstants as limit
 use Rattle.node_graph.specs.declared.nodes.NodeKind.{NodeKind}
-use Rattle.node_graph.specs.declared.nodes.NodeKind.TheVariants.{Directory, File, Service, Mount}
+use Rattle.node_graph.specs.declared.nodes.NodeKind.TheVariants.{Directory, Mount}
 use Rattle.node_graph.specs.declared.faults.GraphFault.{GraphFault}
 use Rattle.node_graph.specs.declared.faults.GraphFault.TheVariants as fault
-use Rattle.node_graph.specs.Tree.{Tree, Edges, EdgeKey, EdgeTo, edge_cmp, kind_of, is_removed, Change, cut, add, move, stay}
+use Rattle.node_graph.specs.Tree.{Tree, Edges, EdgeKey, EdgeTo, edge_cmp, kind_of, is_removed, Change, add, move, stay}
 
 -- ---- what a name leads to
 

@@ -1,6 +1,5 @@
 -- How a slab of nodes and a map of names are seen as what a graph keeps.
-use Rattle.std.specs.Prelude.{◌≡◌, ℕ, ◌^◌, ◌≤◌, ◌==◌, ◌||◌, Bool, true, false, nat_lt, List, map, Option, Some, None, ◌+◌}
-use Rattle.std.specs.Option.{option_map}
+use Rattle.std.specs.Prelude.{◌≡◌, ℕ, ◌^◌, ◌≤◌, ◌==◌, ◌||◌, Bool, true, false, nat_lt, List, map, Option, Some, None, ◌+◌, ◌-◌}
 use Rattle.std.specs.Ordering.{nat_cmp}
 use Rattle.std.specs.FinMap as finite
 use Rattle.slab.specs.Slab.{Slab, get, entries_from, Updates, slab_len}
@@ -66,3 +65,11 @@ AreRows nodes ends made = AreAlmost nodes ends made nowhere
 pub data Forgets (old new : Slab Cell) (place : ℕ) : Type 0 where
   keeps : (cell : Cell) → get old place ≡ Some cell → is_needed cell ≡ true → new ≡ old → Forgets old new place
   drops : (cell : Cell) → get old place ≡ Some cell → is_needed cell ≡ false → Updates old new place None → slab_len new + 1 ≡ slab_len old → Forgets old new place
+
+-- one name less leads to a node, which is then taken out where it isn't needed
+pub record LosesName (old new : Slab Cell) (place : ℕ) : Type 0 where
+  pub cell : Cell
+  pub at : get old place ≡ Some cell
+  pub between : Slab Cell
+  pub updates : Updates old between place (Some (record cell { links = cell.links - 1 }))
+  pub forgets : Forgets between new place

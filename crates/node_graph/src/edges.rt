@@ -1,7 +1,8 @@
-ghost use Rattle.std.specs.Prelude.{◌≡◌, ◌≤◌, ◌<◌, ◌-◌, ◌^◌, take, length, OnOk, OnErr};
+ghost use Rattle.std.specs.Prelude.{◌≡◌, ◌≤◌, ◌<◌, ◌-◌, ◌^◌, take, length, OnOk, OnErr, OnSome};
 ghost use Rattle.std.specs.Option.{option_map};
 ghost use Rattle.std.specs.FinMap as finite;
-ghost use Rattle.node_graph.specs.Ends.{ends_after, name_in, start_of};
+ghost use Rattle.node_graph.specs.Ends.{edges_of, ends_after, name_in, start_of};
+ghost use Rattle.node_graph.specs.Refusals.{has_names};
 
 use crate::keys::EdgeName;
 use crate::nodes::{NodeKind, NodeRef};
@@ -58,7 +59,8 @@ impl Edges {
 
     // No name is longer than a name may be.
     pub fn find(&self, directory: u64, name: &[u8]) -> Option<Target>
-        ensures { result ≡ finite.get self.now (name_in directory name.now) }
+        ensures found { result ≡ finite.get self.now (name_in directory name.now) }
+        ensures few { OnSome result (length name.now ≤ MAX_NAME) }
     {
         let names = &self.names;
         if name.len() > MAX_NAME {
@@ -85,6 +87,35 @@ impl Edges {
     {
         let key = EdgeName::new(directory, name);
         self.names.remove(&key);
+    }
+
+    // A name leads where another one led, which is taken out. Room is made before anything changes.
+    pub fn shift(
+        &mut self,
+        directory: u64,
+        src: &[u8],
+        into: u64,
+        dst: &[u8],
+        to: Target,
+    ) -> Result<(), NoMemory>
+        requires source { length src.now ≤ MAX_NAME }
+        requires some { 1 ≤ length dst.now }
+        requires few { length dst.now ≤ MAX_NAME }
+        ensures shifted { OnOk result (self.new ≡ finite.remove (finite.insert self.old (name_in into dst.now) to) (name_in directory src.now)) }
+        ensures unchanged { OnErr result (self.new ≡ self.old) }
+    {
+        self.put(into, dst, to)?;
+        self.cut(directory, src);
+        Ok(())
+    }
+
+    // Whether a node has names in it.
+    pub fn has_names(&self, directory: u64) -> bool
+        requires { directory < 2 ^ 64 - 1 }
+        ensures { result ≡ has_names (edges_of self.now) directory }
+    {
+        let mut names = self.after(directory, None);
+        names.next().is_some()
     }
 
     // The names of a directory behind a place in its listing, and where they lead. A longer place than

@@ -2,23 +2,29 @@
 #![tactic(auto)]
 
 mod changes;
+mod cuts;
 mod edges;
 mod faults;
 mod graph;
 mod keys;
 mod laws;
+mod links;
 mod listing;
 mod makes;
+mod moves;
 mod names;
 mod nodes;
 mod rows;
 
 pub use faults::GraphFault;
 pub use graph::Graph;
-pub use laws::changes_keep_trees_sound;
+pub use laws::{changes_keep_trees_sound, climbing_finds_what_is_above};
 pub use listing::{NameView, Names};
+pub use moves::Moved;
 pub use names::NameBuf;
 pub use nodes::{Entry, NodeKind, NodeRef};
 
+#[cfg(test)]
+mod name_tests;
 #[cfg(test)]
 mod tests;

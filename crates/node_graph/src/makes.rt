@@ -61,7 +61,7 @@ impl Graph {
     }
 
     // Why no node is made at this name.
-    fn create_fault(&self, dir: NodeRef, name: &[u8]) -> Option<GraphFault>
+    pub(crate) fn create_fault(&self, dir: NodeRef, name: &[u8]) -> Option<GraphFault>
         requires { Names self.now dir }
         ensures { result ≡ create_refusal self.now.edges (record { directory = number_of dir; name = name.now }) }
     {

@@ -1,3 +1,6 @@
+ghost use Rattle.std.specs.Prelude.{◌≡◌};
+ghost use Rattle.node_graph.specs.Refusals.{is_directory, is_mount};
+
 use io_rights::Rights;
 
 /// What a node is.
@@ -8,6 +11,20 @@ pub enum NodeKind {
     Service,
     /// A mount, by its index over the mounts of all servers: behind it the tree of its target goes on.
     Mount(u32),
+}
+
+impl NodeKind {
+    pub(crate) fn is_directory(self) -> bool
+        ensures { result ≡ is_directory self }
+    {
+        matches!(self, NodeKind::Directory)
+    }
+
+    pub(crate) fn is_mount(self) -> bool
+        ensures { result ≡ is_mount self }
+    {
+        matches!(self, NodeKind::Mount(_))
+    }
 }
 
 /// The name of a node that a graph keeps. Numbers rise in the order of making and are never used

@@ -2,7 +2,10 @@ ghost use Rattle.std.specs.Prelude.{◌≡◌, ◌≤◌, ◌<◌, ◌^◌, ℕ,
 ghost use Rattle.node_graph.specs.declared.nodes.NodeKind.TheVariants.{Directory, File};
 ghost use Rattle.node_graph.specs.Graph.{number_of, Names, kind_at, holds_at, SameHolds};
 
-use crate::{Graph, GraphFault, NameBuf, NodeKind, NodeRef, changes_keep_trees_sound};
+use crate::{
+    Graph, GraphFault, NameBuf, NodeKind, NodeRef, changes_keep_trees_sound,
+    climbing_finds_what_is_above,
+};
 use fidl_names::{MAX_FILE, MAX_NAME};
 use io_rights::{Operation, Rights};
 use std::process::Abort;
@@ -52,6 +55,38 @@ fn nodes_are_counted_and_numbered(rt: HostRuntime) -> Result<(), Fail> {
     assert_eq!(rt; (graph.kept(), graph.links(first)), (2, 1));
     let second = make(&rt, &mut graph, b"g", NodeKind::File)?;
     assert_eq!(rt; (graph.number(second), graph.kept()), (3, 3));
+    Ok(())
+}
+
+// One name is made in a graph that nobody holds anything of, held, taken out and released.
+fn round(rt: &impl Abort, graph: &mut Graph, counts: &mut [usize; 3]) -> Result<u64, GraphFault>
+    requires { (number : ℕ) → holds_at graph.old number ≡ 0 }
+    ensures { OnOk result ((number : ℕ) → holds_at graph.new number ≡ 0) }
+{
+    let node = make(rt, graph, b"f", NodeKind::File)?;
+    let number = graph.number(node);
+    counts[0] = graph.kept();
+    graph.hold(node);
+    let root = graph.root();
+    graph.unlink(root, b"f", false)?;
+    counts[1] = graph.kept();
+    graph.release(node);
+    counts[2] = graph.kept();
+    Ok(number)
+}
+
+#[test]
+fn a_node_is_kept_while_it_is_held(rt: HostRuntime) -> Result<(), Fail> {
+    let mut graph = Graph::new(rt.alloc())?;
+    let mut counts = [0; 3];
+    assert_eq!(rt; graph.kept(), 1);
+    assert_eq!(rt; round(&rt, &mut graph, &mut counts)?, 2);
+    assert_eq!(rt; counts, [2, 2, 1]);
+    assert_eq!(rt; round(&rt, &mut graph, &mut counts)?, 3);
+    for times in 0..20_000u64 {
+        assert_eq!(rt; round(&rt, &mut graph, &mut counts)?, times + 4);
+        assert_eq!(rt; counts, [2, 2, 1]);
+    }
     Ok(())
 }
 
@@ -126,6 +161,7 @@ fn a_walk_ends_with_a_create(rt: HostRuntime) -> Result<(), Fail> {
     let again = make(&rt, &mut graph, b"d", NodeKind::File);
     assert_eq!(rt; again, Err(GraphFault::Exists));
     changes_keep_trees_sound();
+    climbing_finds_what_is_above();
     Ok(())
 }
 
@@ -138,6 +174,37 @@ fn there_is_room_for_so_many_names(rt: HostRuntime) -> Result<(), Fail> {
     let more = make(&rt, &mut graph, b"more", NodeKind::File);
     assert_eq!(rt; more, Err(GraphFault::NoSpace));
     assert_eq!(rt; (graph.names(), graph.made()), (4096, 4097));
+    Ok(())
+}
+
+// Whether the calls that look for a name in the root know it, or find none.
+fn is_looked_for(graph: &mut Graph, name: &[u8], known: bool) -> bool {
+    let root = graph.root();
+    let found = graph.lookup(root, name).is_some();
+    let behind = graph.names_after(root, Some(name)).next().is_some();
+    let unlinked = graph.unlink(root, name, true);
+    let root = graph.root();
+    let linked = graph.link(root, name, root, b"o2").is_ok();
+    let root = graph.root();
+    let moved = graph.rename(root, name, root, b"o1").is_ok();
+    let fault = if known {
+        GraphFault::NotDir
+    } else {
+        GraphFault::NotFound
+    };
+    found == known && unlinked == Err(fault) && linked == known && moved == known && behind != known
+}
+
+#[test]
+fn names_of_any_length_are_looked_for(rt: HostRuntime) -> Result<(), Fail> {
+    let mut graph = Graph::new(rt.alloc())?;
+    let longest = [b'n'; MAX_NAME];
+    let longer = [b'n'; MAX_NAME + 1];
+    make(&rt, &mut graph, &longest, NodeKind::File)?;
+    assert!(rt; is_looked_for(&mut graph, &longest, true));
+    assert!(rt; is_looked_for(&mut graph, &longer, false));
+    assert!(rt; is_looked_for(&mut graph, b"n", false));
+    assert!(rt; is_looked_for(&mut graph, b"", false));
     Ok(())
 }
 

@@ -1,10 +1,10 @@
-use Rattle.std.proofs.Common.{List, ap, sym, ◌∙◌, ◌+◌, ℕ, Option, [], ◌≡◌}
+use Rattle.std.proofs.Common.{List, ap, ◌∙◌, ℕ, Option}
 use Rattle.std.specs.Option.{option_map}
 use Rattle.std.specs.declared.ops.Bound.{Bound}
 use Rattle.std.specs.declared.ops.Bound.TheVariants.{Excluded}
 use Rattle.std.specs.BTreeMap.Range.{entries_between}
 use Rattle.node_graph.specs.Tree.{EdgeKey, edge_cmp}
-use Rattle.node_graph.specs.Ends.{Ends, ends_after, start_of, name_in}
+use Rattle.node_graph.specs.Ends.{Ends, ends_after, start_of}
 use Rattle.node_graph.proofs.Listed.{listed_between}
 use Rattle.node_graph.proofs.edges.Edges.after.Goals as goal
 

@@ -1,6 +1,5 @@
-use Rattle.std.proofs.Common.{sym, ap, ◌∙◌}
+use Rattle.std.proofs.Common.{ap, ◌∙◌}
 use Rattle.std.specs.FinMap as finite
-use Rattle.node_graph.specs.Tree.{EdgeKey}
 use Rattle.node_graph.specs.Ends.{Ends, name_in}
 use Rattle.node_graph.proofs.Ordered.{map_of, map_cut, named_cut}
 use Rattle.node_graph.proofs.edges.Edges.cut.Goals as goal

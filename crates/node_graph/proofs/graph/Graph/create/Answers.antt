@@ -1,4 +1,4 @@
-use Rattle.std.proofs.Common.{◌≡◌, ℕ, Some, ap, sym, ◌∙◌, refl, subst}
+use Rattle.std.proofs.Common.{ℕ, Some, ap, sym, ◌∙◌, refl, subst}
 use Rattle.slab.specs.Slab.{Slab, Updates}
 use Rattle.node_graph.specs.Cell.{Cell}
 use Rattle.node_graph.proofs.Creates.{rows_made, adds, child_named, child_kind}

@@ -17,13 +17,13 @@ some_mapped f (Some x) = refl
 
 pub returns-then-is_some : goal.returns-then-is_some
 returns-then-is_some c =
-    let found = edge_found _ _ _ c.args.self.now c.self.view_is c.self.invariant (name_in c.args.dir.number c.args.name.now) c.find.result c.find.ensures in
+    let found = edge_found _ _ _ c.args.self.now c.self.view_is c.self.invariant (name_in c.args.dir.number c.args.name.now) c.find.result c.find.ensures.found in
     sym (refusal_of c.args.self.now.edges (name_in c.args.dir.number c.args.name.now) false true (nat_le limit.MAX_NAMES (finite.len c.args.self.now.edges)) (sym c.removed.ensures ∙ c.if-removed.false)
     (ap is_some (sym found) ∙ some_mapped _ _ ∙ sym c.is_some.ensures ∙ c.if-is_some.true) refl)
 
 pub returns-then-len-ge-MAX_NAMES : goal.returns-then-len-ge-MAX_NAMES
 returns-then-len-ge-MAX_NAMES c =
-    let found = edge_found _ _ _ c.args.self.now c.self.view_is c.self.invariant (name_in c.args.dir.number c.args.name.now) c.find.result c.find.ensures in
+    let found = edge_found _ _ _ c.args.self.now c.self.view_is c.self.invariant (name_in c.args.dir.number c.args.name.now) c.find.result c.find.ensures.found in
     let count = c.len.ensures ∙ sym (len-edges_of c.self.inside.edges) ∙ ap (λ (g : Kept). finite.len g.edges) c.self.view_is in
     let full : nat_le limit.MAX_NAMES (finite.len c.args.self.now.edges) ≡ true = rw (← count) (grind (arith, nat_tests)) in
     sym (refusal_of c.args.self.now.edges (name_in c.args.dir.number c.args.name.now) false false true (sym c.removed.ensures ∙ c.if-removed.false)
@@ -31,7 +31,7 @@ returns-then-len-ge-MAX_NAMES c =
 
 pub returns : goal.returns
 returns c =
-    let found = edge_found _ _ _ c.args.self.now c.self.view_is c.self.invariant (name_in c.args.dir.number c.args.name.now) c.find.result c.find.ensures in
+    let found = edge_found _ _ _ c.args.self.now c.self.view_is c.self.invariant (name_in c.args.dir.number c.args.name.now) c.find.result c.find.ensures.found in
     let count = c.len.ensures ∙ sym (len-edges_of c.self.inside.edges) ∙ ap (λ (g : Kept). finite.len g.edges) c.self.view_is in
     let room : nat_le limit.MAX_NAMES (finite.len c.args.self.now.edges) ≡ false = rw (← count) (grind (arith, nat_tests)) in
     sym (refusal_of c.args.self.now.edges (name_in c.args.dir.number c.args.name.now) false false false (sym c.removed.ensures ∙ c.if-removed.false)

@@ -7,7 +7,7 @@ use Rattle.node_graph.specs.Graph.{StandsFor, holds_at}
 use Rattle.node_graph.specs.Ends.{Ends, edges_of}
 use Rattle.node_graph.specs.Rows.{kept_of, AreRows}
 use Rattle.node_graph.proofs.Linked.{edges_of-empty}
-use Rattle.node_graph.proofs.Begin.{root_cell, bare_rows, bare_stands, bare_holds}
+use Rattle.node_graph.proofs.Begin.{bare_rows, bare_stands, bare_holds}
 use Rattle.node_graph.proofs.graph.Graph.new.Goals as goal
 
 pub invariant_of-result : goal.invariant_of-result

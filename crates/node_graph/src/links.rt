@@ -1,0 +1,66 @@
+ghost use Rattle.std.specs.Prelude.{◌≡◌, ◌∷◌, [], ◌≤◌, length, OnOk, OnErr, Some};
+ghost use Rattle.fidl_names.specs.First.{cause_if, first_of};
+ghost use Rattle.node_graph.specs.declared.nodes.NodeKind.TheVariants.{Directory};
+ghost use Rattle.node_graph.specs.declared.faults.GraphFault.TheVariants as fault;
+ghost use Rattle.node_graph.specs.Tree.{Tree};
+ghost use Rattle.node_graph.specs.Refusals.{is_directory, is_mount};
+ghost use Rattle.node_graph.specs.Graph.{number_of, Names, kind_at, StandsFor, LeadsBy, SameHolds, KeepsNames, Answers, link_refusal, link_change};
+
+use crate::faults::GraphFault;
+use crate::graph::Graph;
+use crate::nodes::{NodeKind, NodeRef};
+use fidl_names::MAX_NAME;
+
+impl Graph {
+    /// Gives the node that a name leads to a second name in a directory, with the mask of the first.
+    /// The first of these that holds is answered: `NotFound` where there is no such name,
+    /// `Unsupported` where it leads to a mount and `NotFile` where it leads to a directory; then, of
+    /// the second name, `Removed` where no name leads to its directory any more, `Exists` where it is
+    /// there, `NoSpace` where there are 4,096 names. After these and `NoMemory` nothing has changed.
+    pub fn link(
+        &mut self,
+        dir: NodeRef,
+        src: &[u8],
+        into: NodeRef,
+        dst: &[u8],
+    ) -> Result<(), GraphFault>
+        requires named { Names self.old dir }
+        requires directory { kind_at self.old (number_of dir) ≡ Some Directory }
+        requires named_into { Names self.old into }
+        requires directory_into { kind_at self.old (number_of into) ≡ Some Directory }
+        requires some { 1 ≤ length dst.now }
+        requires few { length dst.now ≤ MAX_NAME }
+        ensures answer { (tree : Tree) → StandsFor self.old tree → Answers result (link_refusal tree (record { directory = number_of dir; name = src.now }) (record { directory = number_of into; name = dst.now })) }
+        ensures unchanged { OnErr result (self.new ≡ self.old) }
+        ensures linked { OnOk result (LeadsBy self.old self.new (λ tree. link_change tree (record { directory = number_of dir; name = src.now }) (record { directory = number_of into; name = dst.now }))) }
+        ensures made { self.new.made ≡ self.old.made }
+        ensures holds { SameHolds self.old self.new }
+        ensures names { KeepsNames self.old self.new }
+    {
+        let Some(from) = self.edges.find(dir.number, src) else {
+            return Err(GraphFault::NotFound);
+        };
+        let node = from.node;
+        if let Some(fault) = link_fault(from.kind) {
+            return Err(fault);
+        }
+        if let Some(fault) = self.create_fault(into, dst) {
+            return Err(fault);
+        }
+        self.edges.put(into.number, dst, from)?;
+        let row = &mut self.nodes[node.place];
+        row.link();
+        Ok(())
+    }
+}
+
+// Why a node of this kind gets no second name.
+fn link_fault(kind: NodeKind) -> Option<GraphFault>
+    ensures { result ≡ first_of (cause_if (is_mount kind) fault.Unsupported ∷ cause_if (is_directory kind) fault.NotFile ∷ []) }
+{
+    match kind {
+        NodeKind::Mount(_) => Some(GraphFault::Unsupported),
+        NodeKind::Directory => Some(GraphFault::NotFile),
+        _ => None,
+    }
+}

@@ -1,0 +1,181 @@
+ghost use Rattle.std.specs.Prelude.{◌≡◌, ◌∷◌, [], ◌&&◌, ◌≤◌, ◌<◌, ◌-◌, ◌^◌, not, length, OnOk, OnErr, IfOk, IfSome, Some};
+ghost use Rattle.std.specs.Option.{option_map, option_to_list};
+ghost use Rattle.std.specs.FinMap as finite;
+ghost use Rattle.fidl_names.specs.First.{cause_if, first_of};
+ghost use Rattle.node_graph.specs.declared.nodes.NodeKind.TheVariants.{Directory};
+ghost use Rattle.node_graph.specs.declared.faults.GraphFault.TheVariants as fault;
+ghost use Rattle.node_graph.specs.Tree.{Tree, is_removed};
+ghost use Rattle.node_graph.specs.Refusals.{is_directory, is_mount, is_no_directory, has_names, parents_of, lies_within, is_same_name, replaced_directory};
+ghost use Rattle.node_graph.specs.Ends.{edges_of};
+ghost use Rattle.node_graph.specs.Graph.{number_of, Names, kind_at, StandsFor, Leads, SameHolds, KeepsNames, Answers, rename_refusal, rename_change};
+
+use crate::cuts::{directory_of, lose_name};
+use crate::edges::Edges;
+use crate::faults::GraphFault;
+use crate::graph::Graph;
+use crate::nodes::{NodeKind, NodeRef};
+use fidl_names::MAX_NAME;
+
+/// What a rename did.
+#[derive(Clone, Copy, Debug, PartialEq, Eq)]
+pub struct Moved {
+    /// Whether anything changed. Nothing does where a name is to be what it is.
+    pub changed: bool,
+    /// The number of the directory that was replaced, if one was.
+    pub replaced: Option<u64>,
+}
+
+impl Graph {
+    /// Moves a name with its mask. What the new name led to before is replaced, which may be a further
+    /// name of the same file; a name that is to be what it is stays. The first of these that holds is
+    /// answered: `NotFound` where there is no such name, `Unsupported` where it leads to a mount,
+    /// `Removed` where no name leads to the new directory any more, `Loop` where a directory would come
+    /// to lie in itself; then, where the new name is another one and is there, `Unsupported` where it
+    /// leads to a mount, `NotDir` where a directory would replace something else, `NotFile` where
+    /// something else would replace a directory, `NotEmpty` where it leads to a directory with names.
+    /// After these and `NoMemory` nothing has changed.
+    pub fn rename(
+        &mut self,
+        dir: NodeRef,
+        src: &[u8],
+        into: NodeRef,
+        dst: &[u8],
+    ) -> Result<Moved, GraphFault>
+        requires named { Names self.old dir }
+        requires directory { kind_at self.old (number_of dir) ≡ Some Directory }
+        requires named_into { Names self.old into }
+        requires directory_into { kind_at self.old (number_of into) ≡ Some Directory }
+        requires some { 1 ≤ length dst.now }
+        requires few { length dst.now ≤ MAX_NAME }
+        ensures answer { (tree : Tree) → StandsFor self.old tree → Answers result (rename_refusal tree (record { directory = number_of dir; name = src.now }) (record { directory = number_of into; name = dst.now })) }
+        ensures unchanged { OnErr result (self.new ≡ self.old) }
+        ensures renamed { OnOk result (Leads self.old self.new (rename_change (record { directory = number_of dir; name = src.now }) (record { directory = number_of into; name = dst.now }))) }
+        ensures changed { IfOk result (λ moved. moved.changed ≡ not (is_same_name (record { directory = number_of dir; name = src.now }) (record { directory = number_of into; name = dst.now }))) }
+        ensures replaced { IfOk result (λ moved. (tree : Tree) → StandsFor self.old tree → moved.replaced ≡ replaced_directory tree (record { directory = number_of dir; name = src.now }) (record { directory = number_of into; name = dst.now })) }
+        ensures made { self.new.made ≡ self.old.made }
+        ensures holds { SameHolds self.old self.new }
+        ensures names { KeepsNames self.old self.new }
+    {
+        let Some(from) = self.edges.find(dir.number, src) else {
+            return Err(GraphFault::NotFound);
+        };
+        let node = from.node;
+        let kind = from.kind;
+        if let Some(fault) = self.move_fault(node, kind, into) {
+            return Err(fault);
+        }
+        if is_same_name(dir, src, into, dst) {
+            return Ok(Moved {
+                changed: false,
+                replaced: None,
+            });
+        }
+        let Some(to) = self.edges.find(into.number, dst) else {
+            self.edges.shift(dir.number, src, into.number, dst, from)?;
+            let row = &mut self.nodes[node.place];
+            row.set_parent(into);
+            return Ok(Moved {
+                changed: true,
+                replaced: None,
+            });
+        };
+        let gone = to.node;
+        let gone_kind = to.kind;
+        if let Some(fault) = replace_fault(&self.edges, kind, gone, gone_kind) {
+            return Err(fault);
+        }
+        self.edges.shift(dir.number, src, into.number, dst, from)?;
+        lose_name(&mut self.nodes, gone.place);
+        let row = &mut self.nodes[node.place];
+        row.set_parent(into);
+        Ok(Moved {
+            changed: true,
+            replaced: directory_of(gone, gone_kind),
+        })
+    }
+
+    // Why a node isn't moved into a directory, whatever its name there.
+    fn move_fault(&self, node: NodeRef, kind: NodeKind, into: NodeRef) -> Option<GraphFault>
+        requires named { Names self.now into }
+        requires directory { kind_at self.now (number_of into) ≡ Some Directory }
+        ensures { result ≡ first_of (cause_if (is_mount kind) fault.Unsupported ∷ cause_if (is_removed self.now.edges into.number) fault.Removed ∷ cause_if (is_directory kind && lies_within (finite.len self.now.edges) self.now.edges into.number node.number) fault.Loop ∷ []) }
+    {
+        if kind.is_mount() {
+            return Some(GraphFault::Unsupported);
+        }
+        if self.removed(into) {
+            return Some(GraphFault::Removed);
+        }
+        if kind.is_directory() && self.lies_within(into, node.number) {
+            return Some(GraphFault::Loop);
+        }
+        None
+    }
+
+    // Whether a directory is another one or below it.
+    fn lies_within(&self, dir: NodeRef, above: u64) -> bool
+        requires named { Names self.now dir }
+        requires directory { kind_at self.now (number_of dir) ≡ Some Directory }
+        ensures { result ≡ lies_within (finite.len self.now.edges) self.now.edges dir.number above }
+    {
+        let mut at = dir;
+        for _ in 0..self.names() {
+            if at.number == above {
+                return true;
+            }
+            match self.parent(at) {
+                Some(parent) => at = parent,
+                None => return false,
+            }
+        }
+        at.number == above
+    }
+
+    // The directory in which a directory has its name.
+    fn parent(&self, dir: NodeRef) -> Option<NodeRef>
+        requires named { Names self.now dir }
+        requires directory { kind_at self.now (number_of dir) ≡ Some Directory }
+        ensures up { parents_of self.now.edges dir.number ≡ option_to_list (option_map number_of result) }
+        ensures named { IfSome result (λ up. Names self.now up) }
+        ensures directory { IfSome result (λ up. kind_at self.now (number_of up) ≡ Some Directory) }
+    {
+        let row = &self.nodes[dir.place];
+        if row.links() == 0 {
+            None
+        } else {
+            Some(row.parent())
+        }
+    }
+}
+
+// Whether two names are one.
+fn is_same_name(dir: NodeRef, src: &[u8], into: NodeRef, dst: &[u8]) -> bool
+    ensures { result ≡ is_same_name (record { directory = number_of dir; name = src.now }) (record { directory = number_of into; name = dst.now }) }
+{
+    dir.number == into.number && src == dst
+}
+
+// Why a node of this kind doesn't take the place of that one.
+fn replace_fault(
+    edges: &Edges,
+    kind: NodeKind,
+    gone: NodeRef,
+    gone_kind: NodeKind,
+) -> Option<GraphFault>
+    requires { gone.number < 2 ^ 64 - 1 }
+    ensures { result ≡ first_of (cause_if (is_mount gone_kind) fault.Unsupported ∷ cause_if (is_directory kind && is_no_directory gone_kind) fault.NotDir ∷ cause_if (is_no_directory kind && is_directory gone_kind) fault.NotFile ∷ cause_if (has_names (edges_of edges.now) gone.number) fault.NotEmpty ∷ []) }
+{
+    if gone_kind.is_mount() {
+        return Some(GraphFault::Unsupported);
+    }
+    if kind.is_directory() && !gone_kind.is_directory() {
+        return Some(GraphFault::NotDir);
+    }
+    if !kind.is_directory() && gone_kind.is_directory() {
+        return Some(GraphFault::NotFile);
+    }
+    if edges.has_names(gone.number) {
+        return Some(GraphFault::NotEmpty);
+    }
+    None
+}
