@@ -111,19 +111,19 @@ pub unless_holds : (P : Act → Type 0) (o : Option Status) (position : Position
 unless_holds P None position request act refused passes = passes refl
 unless_holds P (Some s) position request act refused passes = refused s
 
-first_none : (o : Option Status) (rest : List (Option Status)) → first_of (o ∷ rest) ≡ None → first_of rest ≡ None
+pub first_none : (o : Option Status) (rest : List (Option Status)) → first_of (o ∷ rest) ≡ None → first_of rest ≡ None
 first_none None rest e = e
 first_none (Some s) rest e = absurd (cc)
 
-not_refused : (b : Bool) (s : Status) (rest : List (Option Status)) → first_of (cause_if b s ∷ rest) ≡ None → b ≡ false
+pub not_refused : (b : Bool) (s : Status) (rest : List (Option Status)) → first_of (cause_if b s ∷ rest) ≡ None → b ≡ false
 not_refused true s rest e = absurd (cc)
 not_refused false s rest e = refl
 
-none_there : {X : Type 0} (o : Option X) → is_some o ≡ false → o ≡ None
+pub none_there : {X : Type 0} (o : Option X) → is_some o ≡ false → o ≡ None
 none_there None e = refl
 none_there (Some x) e = absurd (cc)
 
-path_passes : (built : Built) (birth : Birth) (word : ℕ) (path : List ℕ) → first_of (entry_refusals built birth word path) ≡ None → path_fault path ≡ None
+pub path_passes : (built : Built) (birth : Birth) (word : ℕ) (path : List ℕ) → first_of (entry_refusals built birth word path) ≡ None → path_fault path ≡ None
 path_passes built birth word path e =
     none_there (path_fault path)
     (not_refused (is_some (path_fault path)) _ _ (first_none (cause_if (not (built.words word)) _) _ (first_none (option_map status_of (flag_fault word)) _ e)))

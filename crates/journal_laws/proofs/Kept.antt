@@ -27,7 +27,7 @@ use Rattle.vfs_journal.specs.Outcomes.{Forwarded, onward_bytes}
 use Rattle.vfs_journal.specs.Past.{behind, history_of}
 use Rattle.vfs_journal.specs.Serving.{Read, read_by, outcome_of}
 use Rattle.vfs_journal.specs.Session.{head, look_ups, sent_behind, with_forward}
-use Rattle.journal_laws.specs.Soundness.{IsStart, mount_ends}
+use Rattle.journal_laws.specs.Soundness.{IsOnDirectory, IsStart, mount_ends}
 use Rattle.vfs_journal.specs.Starts.{Bound, Start}
 use Rattle.vfs_journal.specs.Tokens.{all_given, is_held, next_token, was_given}
 use Rattle.journal_laws.proofs.Acts.{KeepsMounts}
@@ -68,7 +68,7 @@ pub record IsServing (built : Built) (start : Start) (history : History) (k : Se
 forwarded_to : (start : Start) (history : History) (b : Bound) (k : Sent) → IsStart start → Sound start (view start history) → Contains (births start history) b → b.endpoint ≡ k.endpoint → IsForwarded start k → b.birth.protocol ≡ protocol.Directory
 forwarded_to start history b k s past born at f = by_birth (past.born b born) where
   by_birth : Contains start.mounts b ⊎ IsKnown start (all_sent history) b.endpoint → b.birth.protocol ≡ protocol.Directory
-  by_birth (inl h) = All-contains (λ (bound : Bound). bound.birth.protocol ≡ protocol.Directory) start.mounts b s.directories h
+  by_birth (inl h) = (All-contains (IsOnDirectory start.trees) (start.firsts ++ start.mounts) b s.placed (Contains-append_right start.firsts start.mounts b h)).protocol
   by_birth (inr h) = absurd (true≢false (sym h.0 ∙ ap is_client at ∙ end_apart start k.endpoint s f.end))
 
 -- it reads as the Open that went on

@@ -1,7 +1,9 @@
 -- Whoever keeps what is known of endpoints and tokens knows at each point what looking back says.
-use Rattle.std.proofs.Common.{◌≡◌, ℕ, ◌+◌, ◌&&◌, ◌||◌, ◌⊎◌, Bool, true, false, not, nat_le, nat_lt, List, [], ◌∷◌, count_by, Option, Contains, refl, sym, ap, ◌∙◌, inl, inr, if◌then◌else◌}
+use Rattle.std.proofs.Common.{◌≡◌, ℕ, ◌+◌, ◌&&◌, ◌||◌, ◌⊎◌, Bool, true, false, not, nat_le, nat_lt, List, [], ◌∷◌, length, count_by, Option, Contains, refl, sym, ap, ◌∙◌, inl, inr, if◌then◌else◌}
+use Rattle.std.specs.List.{list_any}
 use Rattle.std.proofs.lemmas.Bool.{or_cases, or_left, or_right, true≢false}
 use Rattle.std.proofs.lemmas.List.Elements.{All-contains}
+use Rattle.fidl_names.specs.declared.limits.TheConstants as limit
 use Rattle.endpoint_link.specs.declared.kinds.FrameKind.{FrameKind}
 use Rattle.endpoint_link.specs.declared.kinds.FrameKind.TheVariants as kind
 use Rattle.endpoint_link.specs.declared.kinds.Refusal.{Refusal}
@@ -16,20 +18,22 @@ use Rattle.endpoint_link.specs.Numbering.{among}
 use Rattle.endpoint_link.specs.Standings.{Known, holds, is_used as is_used_standing, standing_of as known_standing}
 use Rattle.io_rights.specs.Operations.{none}
 use Rattle.conn_rules.specs.Built.{Built}
-use Rattle.vfs_journal.specs.Entries.{Journal, refuses}
+use Rattle.vfs_journal.specs.Entries.{Sent, Journal, handles_of, refuses}
 use Rattle.vfs_journal.specs.History.{all_sent, waiting, is_dead, is_live, is_used, hung_up}
 use Rattle.journal_laws.specs.Knowing.{Knows}
 use Rattle.vfs_journal.specs.Lawful.{Lawful}
-use Rattle.vfs_journal.specs.Past.{history_of}
+use Rattle.vfs_journal.specs.Outcomes.{Given}
+use Rattle.vfs_journal.specs.Past.{behind, history_of}
 use Rattle.vfs_journal.specs.Serving.{Moment}
 use Rattle.vfs_journal.specs.Session.{look_ups}
 use Rattle.journal_laws.specs.Soundness.{IsStart}
 use Rattle.vfs_journal.specs.Starts.{Bound, Start, directory_birth}
-use Rattle.vfs_journal.specs.Tokens.{is_held}
+use Rattle.vfs_journal.specs.Tokens.{is_held, waits_with}
 use Rattle.journal_laws.proofs.Among.{carried_is}
 use Rattle.journal_laws.proofs.Below.{Below}
 use Rattle.journal_laws.proofs.Kept.{lawful_kept}
 use Rattle.journal_laws.proofs.KnowingCount.{same_bool, lawful_accounted}
+use Rattle.journal_laws.proofs.KnowingTokens.{outs_same, token_same}
 use Rattle.journal_laws.proofs.KnowingServed.{Lives, by_binding, by_carrier, how_it_lives}
 use Rattle.journal_laws.proofs.Sound.{View, view, IsView, Sound, IsKnown, used, carried_used}
 use Rattle.journal_laws.proofs.Stepping.{stepped}
@@ -46,6 +50,10 @@ pub refusals_known : (built : Built) (start : Start) (journal : Journal) (endpoi
 unfolding history_of
 refusals_known built start journal endpoint why known k =
     let h = refusals_change_nothing built start (history_of built start journal) endpoint why in
+    let past = history_of built start journal in
+    let now = behind built start (refuses endpoint why) past in
+    let carried = λ (n : ℕ). ap (list_any (λ (sent : Sent). among n (handles_of sent.sending))) h.sent in
+    let waits = λ (n : ℕ). ap (list_any (λ (sent : Sent). among n (handles_of sent.sending))) h.queue in
     record {
       standing = λ n. k.standing n ∙ sym (ap (λ (l : LookUps). l.standing n) h.looked_up);
       live = k.live ∙ sym (ap (λ (l : LookUps). l.live) h.looked_up);
@@ -53,6 +61,9 @@ refusals_known built start journal endpoint why known k =
       servers = k.servers;
       holds = λ n. k.holds n ∙ sym (ap (λ (l : LookUps). l.holds n) h.looked_up);
       next = k.next ∙ sym (ap (λ (moment : Moment). moment.room.token) (h.seen some_bound));
+      tokens = λ n. k.tokens n ∙ sym (token_same now past n h.same.tokens (carried n) (waits n));
+      out = k.out ∙ sym (ap length (outs_same now past h.same.tokens (λ n there. ap (λ (b : Bool). b || waits_with now n) (ap (λ (l : LookUps). l.holds n) h.looked_up) ∙ ap (λ (b : Bool). is_held past n || b) (waits n))));
+      given = k.given ∙ sym (ap (λ (ones : List Given). limit.FIRST_TOKEN + length ones) h.same.tokens);
     }
 
 -- ---- admission

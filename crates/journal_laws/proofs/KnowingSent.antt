@@ -24,14 +24,14 @@ use Rattle.endpoint_link.proofs.Travelling.{travel_each, unused_by, held_by as h
 use Rattle.conn_rules.specs.Built.{Built}
 use Rattle.vfs_journal.specs.Entries.{Sent, Sending, Journal, message, hang_up, handles_of, endpoints_in, is_hang_up, sends}
 use Rattle.vfs_journal.specs.History.{History, all_sent, waiting, travelling, waits, was_served, was_carried, is_dead, is_live, is_used, hung_up, live_count}
-use Rattle.journal_laws.specs.Knowing.{Knows}
+use Rattle.journal_laws.specs.Knowing.{Knows, token_out}
 use Rattle.vfs_journal.specs.Lawful.{Lawful}
 use Rattle.vfs_journal.specs.Outcomes.{Given}
 use Rattle.vfs_journal.specs.Past.{behind, history_of}
 use Rattle.vfs_journal.specs.Session.{look_ups, sent_behind}
 use Rattle.journal_laws.specs.Soundness.{IsStart}
 use Rattle.vfs_journal.specs.Starts.{Start}
-use Rattle.vfs_journal.specs.Tokens.{all_given, is_held, was_given, waits_with, next_token}
+use Rattle.vfs_journal.specs.Tokens.{all_given, is_held, was_given, waits_with, tokens_out}
 use Rattle.journal_laws.proofs.Among.{carried_is, carried_from, one_passes, passes_any}
 use Rattle.journal_laws.proofs.Below.{Below}
 use Rattle.journal_laws.proofs.Kept.{lawful_kept, client_low}
@@ -39,6 +39,7 @@ use Rattle.journal_laws.proofs.KnowingAdmits.{used_where}
 use Rattle.journal_laws.proofs.KnowingCount.{message_let_in, close_let_in, same_bool}
 use Rattle.journal_laws.proofs.KnowingLists.{or-none}
 use Rattle.journal_laws.proofs.KnowingServed.{sent_lives}
+use Rattle.journal_laws.proofs.KnowingTokens.{holds_from, next_from, out_of, outs_same, token_same, token_sent}
 use Rattle.journal_laws.proofs.Lists.{eqb_sym}
 use Rattle.journal_laws.proofs.Members.{contains_here, contains_later}
 use Rattle.journal_laws.proofs.Sound.{view, Sound, endpoint_known}
@@ -94,11 +95,20 @@ is_behind built start journal endpoint sending' lawful alive =
 
 -- ---- tokens
 
-filter_on : {X : Type 0} (p q : X → Bool) (xs : List X) → ((x : X) → Contains xs x → p x ≡ q x) → filter p xs ≡ filter q xs
-filter_on p q [] same = refl
-filter_on p q (x ∷ xs) same =
-    ap (λ b. cond b (x ∷ filter p xs) (filter p xs)) (same x (contains_here x xs))
-    ∙ ap (λ ys. cond (q x) (x ∷ ys) ys) (filter_on p q xs (λ y there. same y (contains_later y x xs there)))
+waits_too : (start : Start) (past now : History) (new : Sent) → IsBehind start now past new → (n : ℕ) → waits_with now n ≡ (waits_with past n || among n (handles_of new.sending))
+waits_too start past now new h n =
+    ap (list_any (λ (one : Sent). among n (handles_of one.sending))) h.queue
+    ∙ list_any-append (λ (one : Sent). among n (handles_of one.sending)) (waiting past) (new ∷ [])
+    ∙ ap (λ (b : Bool). waits_with past n || b) (or-none (among n (handles_of new.sending)))
+
+-- where a token that is out stands, where what is carried of what was given was held, and no client's number was given
+token_then : (start : Start) (past now : History) (new : Sent) → IsBehind start now past new → (n : ℕ) → (among n (handles_of new.sending) ≡ true → is_client n ≡ false → is_held past n ≡ true) → (is_client n ≡ true → was_given past n ≡ false) →
+    (if not (is_client n) && among n (handles_of new.sending) then Some false else token_out past n) ≡ token_out now n
+token_then start past now new h n held none =
+    token_sent (is_client n) (among n (handles_of new.sending)) (was_given past n) (was_carried past n) (waits_with past n) held none
+    ∙ ap (λ (c : Bool). out_of (was_given past n) c (waits_with past n || among n (handles_of new.sending))) (sym (h.carried n))
+    ∙ ap (λ (w : Bool). out_of (was_given past n) (was_carried now n) w) (sym (waits_too start past now new h n))
+    ∙ ap (λ (ones : List Given). out_of (list_any (λ g. g.token == n) ones) (was_carried now n) (waits_with now n)) (sym h.given)
 
 -- a token that was held and is carried waits, and any other one is where it was
 out_by : (g c w m : Bool) → (m ≡ true → (g && not c) ≡ true) → ((g && not (c || m)) || (w || m)) ≡ ((g && not c) || w)
@@ -108,34 +118,19 @@ out_by true false true true h = refl
 out_by true false false true h = refl
 out_by false c w true h = absurd (true≢false (sym (h refl)))
 
--- the next token is the same, where what is carried of what was given was held
-next_same : (start : Start) (past now : History) (new : Sent) → IsBehind start now past new →
-    ((n : ℕ) → was_given past n ≡ true → among n (handles_of new.sending) ≡ true → is_held past n ≡ true) → next_token now ≡ next_token past
-next_same start past now new h held =
-    ap (λ (ones : List Given). token_by (length (filter (λ one. is_held now one.token || waits_with now one.token) ones)) (length ones)) h.given
-    ∙ ap (λ (ones : List Given). token_by (length ones) (length (all_given past)))
-    (filter_on (λ one. is_held now one.token || waits_with now one.token) (λ one. is_held past one.token || waits_with past one.token) (all_given past) (λ one there. agree one.token (is_given one there))) where
-      token_by : ℕ → ℕ → Option ℕ
-      token_by out given = if nat_le limit.MAX_TOKENS out || nat_le 0x80000000 given then None else Some (limit.FIRST_TOKEN + given)
-
-      is_given : (one : Given) → Contains (all_given past) one → was_given past one.token ≡ true
-      is_given one there = passes_any (λ (g : Given). g.token == one.token) (all_given past) one there (eq-eqb one.token one.token refl)
-
-      with_new : (n : ℕ) → waits_with now n ≡ (waits_with past n || among n (handles_of new.sending))
-      with_new n =
-          ap (list_any (λ (one : Sent). among n (handles_of one.sending))) h.queue
-          ∙ list_any-append (λ (one : Sent). among n (handles_of one.sending)) (waiting past) (new ∷ [])
-          ∙ ap (λ (b : Bool). waits_with past n || b) (or-none (among n (handles_of new.sending)))
-
-      agree : (n : ℕ) → was_given past n ≡ true → (is_held now n || waits_with now n) ≡ (is_held past n || waits_with past n)
-      agree n there =
-          ap (λ (ones : List Given). (list_any (λ g. g.token == n) ones && not (was_carried now n)) || waits_with now n) h.given
-          ∙ ap (λ (b : Bool). (was_given past n && not b) || waits_with now n) (h.carried n)
-          ∙ ap (λ (b : Bool). (was_given past n && not (was_carried past n || among n (handles_of new.sending))) || b) (with_new n)
-          ∙ out_by (was_given past n) (was_carried past n) (waits_with past n) (among n (handles_of new.sending)) (held n there)
+-- the same tokens are out, where what is carried of what was given was held
+same_out : (start : Start) (past now : History) (new : Sent) → IsBehind start now past new →
+    ((n : ℕ) → was_given past n ≡ true → among n (handles_of new.sending) ≡ true → is_held past n ≡ true) → tokens_out now ≡ tokens_out past
+same_out start past now new h held = outs_same now past h.given agree where
+  agree : (n : ℕ) → was_given past n ≡ true → (is_held now n || waits_with now n) ≡ (is_held past n || waits_with past n)
+  agree n there =
+      ap (λ (ones : List Given). (list_any (λ g. g.token == n) ones && not (was_carried now n)) || waits_with now n) h.given
+      ∙ ap (λ (b : Bool). (was_given past n && not b) || waits_with now n) (h.carried n)
+      ∙ ap (λ (b : Bool). (was_given past n && not (was_carried past n || among n (handles_of new.sending))) || b) (waits_too start past now new h n)
+      ∙ out_by (was_given past n) (was_carried past n) (waits_with past n) (among n (handles_of new.sending)) (held n there)
 
 -- no client's number is a token's
-no_token : (start : Start) (history : History) (n : ℕ) → Sound start (view start history) → is_client n ≡ true → was_given history n ≡ false
+pub no_token : (start : Start) (history : History) (n : ℕ) → Sound start (view start history) → is_client n ≡ true → was_given history n ≡ false
 no_token start history n past client = false_from_ne_true (was_given history n)
     (λ h.
     let given = one_passes (λ (given : Given). given.token == n) (all_given history) h in
@@ -164,22 +159,6 @@ message_stands d l c true x h = let at = h refl in rw (at.0, at.1, live_either l
   live_either : (l : Bool) → (l || true) ≡ true
   live_either true = refl
   live_either false = refl
-
-held_by : (client m g c k h : Bool) → h ≡ (g && not c) → k ≡ h → (client ≡ true → g ≡ false) → unwrap_or (if not client && m then Some false else Some k) false ≡ (g && not (c || m))
-held_by client false g c k h is same none = by_client client ∙ same ∙ is ∙ ap (λ (b : Bool). g && not b) (sym (or-none c)) where
-  by_client : (b : Bool) → unwrap_or (if not b && false then Some false else Some k) false ≡ k
-  by_client true = refl
-  by_client false = refl
-held_by false true g c k h is same none = sym (never g c) where
-  never : (g c : Bool) → (g && not (c || true)) ≡ false
-  never true true = refl
-  never true false = refl
-  never false c = refl
-held_by true true g c k h is same none = same ∙ is ∙ ap (λ (b : Bool). b && not c) (none refl) ∙ ap (λ (b : Bool). b && not (c || true)) (sym (none refl))
-
-token_stands : (b : Bool) (o : Option Bool) → unwrap_or (if b then Some false else o) false ≡ unwrap_or (if b then Some false else Some (unwrap_or o false)) false
-token_stands true o = refl
-token_stands false o = refl
 
 -- what a message carries of clients' numbers is new
 new_numbers : Below → (built : Built) (start : Start) (journal : Journal) (handles : List ℕ) (n : ℕ) → IsStart start → Lawful built start journal → all_may_travel (look_ups start (history_of built start journal)) handles ≡ true →
@@ -213,6 +192,13 @@ messages_known below built start journal frame known new s lawful is admits k be
     let sent' : Sends known frame.handles new = subst (λ (x : FrameKind). AdmitsKind x known frame.endpoint frame.handles new) is became in
     let admitted = message_let_in start past frame is admits in
     let h = is_behind built start journal frame.endpoint (message frame.bytes frame.handles) lawful admitted.0.alive in
+    let travels = λ (n : ℕ) (carried : among n frame.handles ≡ true). travel_each (look_ups start past) frame.handles admitted.1 n carried in
+    let tokens : (n : ℕ) → map.get new.tokens n ≡ token_out now n = λ n.
+    sent'.tokens n
+    ∙ ap (λ (o : Option Bool). if not (is_client n) && among n frame.handles then Some false else o) (k.tokens n)
+    ∙ token_then start past now one h n (λ carried other. held_when (look_ups start past) n (travels n carried) other) (no_token start past n sound) in
+    let out : new.out ≡ length (tokens_out now) = sent'.same_out ∙ k.out ∙ sym (ap length (same_out start past now one h (λ n given carried. held_is n given (travels n carried)))) in
+    let given : new.next ≡ limit.FIRST_TOKEN + length (all_given now) = sent'.same_next ∙ k.given ∙ sym (ap (λ (ones : List Given). limit.FIRST_TOKEN + length ones) h.given) in
     record {
       standing = λ n.
           let m = is_client n && among n frame.handles in
@@ -227,18 +213,11 @@ messages_known below built start journal frame known new s lawful is admits k be
       live = let a = sent'.live in let b = h.count in let c = length-filter is_client frame.handles in let d = k.live in omega arith;
       waiting = let a = sent'.waiting in let b = ap length h.queue in let c = length-append (waiting past) (one ∷ []) in let d = k.waiting in omega arith;
       servers = sent'.same_servers ∙ k.servers;
-      holds = λ n.
-          ap (λ (o : Option Bool). unwrap_or o false) (sent'.tokens n)
-          ∙ token_stands (not (is_client n) && among n frame.handles) (map.get known.tokens n)
-          ∙ held_by (is_client n) (among n frame.handles) (was_given past n) (was_carried past n) (holds known n) (is_held past n) refl (k.holds n) (no_token start past n sound)
-          ∙ ap (λ (b : Bool). was_given past n && not b) (sym (h.carried n))
-          ∙ ap (λ (ones : List Given). list_any (λ g. g.token == n) ones && not (was_carried now n)) (sym h.given);
-      next =
-          ap (λ (out : ℕ). if nat_le 4096 out || nat_le 0x100000000 new.next then None else Some new.next) sent'.same_out
-          ∙ ap (λ (next : ℕ). if nat_le 4096 known.out || nat_le 0x100000000 next then None else Some next) sent'.same_next
-          ∙ k.next
-          ∙ sym (next_same start past now one h
-          (λ n given carried. held_is n given (travel_each (look_ups start past) frame.handles admitted.1 n carried)));
+      holds = λ n. holds_from now new n (tokens n);
+      next = next_from now new out given;
+      tokens = tokens;
+      out = out;
+      given = given;
     } where
       held_is : (n : ℕ) → was_given (history_of built start journal) n ≡ true → may_travel (look_ups start (history_of built start journal)) n ≡ true → is_held (history_of built start journal) n ≡ true
       held_is n given may = held_when (look_ups start (history_of built start journal)) n may
@@ -264,6 +243,11 @@ hang_ups_known below built start journal frame known new s lawful is admits k be
     let is_new : new ≡ hung_up_in known e = subst (λ (x : FrameKind). AdmitsKind x known e frame.handles new) is became in
     let admitted = close_let_in start past frame is admits in
     let h = is_behind built start journal e hang_up lawful admitted.alive in
+    let carries_none = λ (n : ℕ) (carried : among n [] ≡ true). true≢false (sym carried) in
+    let tokens : (n : ℕ) → map.get known.tokens n ≡ token_out now n = λ n.
+    k.tokens n ∙ token_same past now n (sym h.given) (sym (h.carried n ∙ or-none (was_carried past n))) (sym (waits_too start past now one h n ∙ or-none (waits_with past n))) in
+    let out : known.out ≡ length (tokens_out now) = k.out ∙ sym (ap length (same_out start past now one h (λ n given carried. absurd (carries_none n carried)))) in
+    let given : known.next ≡ limit.FIRST_TOKEN + length (all_given now) = k.given ∙ sym (ap (λ (ones : List Given). limit.FIRST_TOKEN + length ones) h.given) in
     subst (Knows start now) (sym is_new)
     (record {
       standing = λ n.
@@ -277,9 +261,9 @@ hang_ups_known below built start journal frame known new s lawful is admits k be
       live = let b = h.count in let d = k.live in omega arith;
       waiting = let b = ap length h.queue in let c = length-append (waiting past) (one ∷ []) in let d = k.waiting in omega arith;
       servers = k.servers;
-      holds = λ n.
-          k.holds n
-          ∙ ap (λ (b : Bool). was_given past n && not b) (sym (h.carried n ∙ or-none (was_carried past n)))
-          ∙ ap (λ (ones : List Given). list_any (λ g. g.token == n) ones && not (was_carried now n)) (sym h.given);
-      next = k.next ∙ sym (next_same start past now one h (λ n given carried. absurd (true≢false (sym carried))));
+      holds = λ n. holds_from now (hung_up_in known e) n (tokens n);
+      next = next_from now (hung_up_in known e) out given;
+      tokens = tokens;
+      out = out;
+      given = given;
     })

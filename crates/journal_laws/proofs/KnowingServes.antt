@@ -29,6 +29,7 @@ use Rattle.journal_laws.proofs.Kept.{lawful_kept}
 use Rattle.journal_laws.proofs.KnowingCount.{named_is_bound, mounts_among, deaths_apart, fewer_live}
 use Rattle.journal_laws.proofs.KnowingLists.{or-none, apart_pairs, ends_of}
 use Rattle.journal_laws.proofs.KnowingSent.{stands, stands_then}
+use Rattle.journal_laws.proofs.KnowingTokens.{none_out, outs_none}
 use Rattle.journal_laws.proofs.KnowingServed.{after_served, lives_undead}
 use Rattle.journal_laws.proofs.Sound.{view, bound_in}
 use Rattle.journal_laws.proofs.Spreading.{among-append}
@@ -72,7 +73,7 @@ servings_end below built start journal sent s numbered lawful h =
 
 -- ---- what is known behind deaths
 
-ended_standing : (deaths : List ℕ) (known : Known) (n : ℕ) → known_standing (fold ended_in known deaths) n ≡ (if among n deaths then standing.Dead else known_standing known n)
+pub ended_standing : (deaths : List ℕ) (known : Known) (n : ℕ) → known_standing (fold ended_in known deaths) n ≡ (if among n deaths then standing.Dead else known_standing known n)
 ended_standing [] known n = refl
 ended_standing (e ∷ deaths) known n =
     ended_standing deaths (ended_in known e) n
@@ -84,18 +85,18 @@ ended_standing (e ∷ deaths) known n =
       either false true = refl
       either false false = refl
 
-ended_live : (deaths : List ℕ) (known : Known) → (fold ended_in known deaths).live ≡ known.live - length deaths
+pub ended_live : (deaths : List ℕ) (known : Known) → (fold ended_in known deaths).live ≡ known.live - length deaths
 ended_live [] known = omega arith
 ended_live (e ∷ deaths) known = let rest = ended_live deaths (ended_in known e) in omega arith
 
 -- the tokens, and the servers, are as they were
-record IsSame (old new : Known) : Type 0 where
-  tokens : new.tokens ≡ old.tokens
-  out : new.out ≡ old.out
-  next : new.next ≡ old.next
-  servers : new.servers ≡ old.servers
+pub record IsSame (old new : Known) : Type 0 where
+  pub tokens : new.tokens ≡ old.tokens
+  pub out : new.out ≡ old.out
+  pub next : new.next ≡ old.next
+  pub servers : new.servers ≡ old.servers
 
-ended_same : (deaths : List ℕ) (known : Known) → IsSame known (fold ended_in known deaths)
+pub ended_same : (deaths : List ℕ) (known : Known) → IsSame known (fold ended_in known deaths)
 ended_same [] known = record { tokens = refl; out = refl; next = refl; servers = refl }
 ended_same (e ∷ deaths) known =
     let rest = ended_same deaths (ended_in known e) in
@@ -160,6 +161,9 @@ servings_known below built start journal sent known s numbered lawful h none k =
           ∙ k.next
           ∙ first_next past none_past
           ∙ sym (first_next now none);
+      tokens = λ n. ap (λ (tokens : finite.FinMap nat_cmp Bool). finite.get tokens n) same.tokens ∙ k.tokens n ∙ none_out past n none_past ∙ sym (none_out now n none);
+      out = same.out ∙ k.out ∙ ap length (outs_none past none_past) ∙ sym (ap length (outs_none now none));
+      given = same.next ∙ k.given ∙ ap (λ (ones : List Given). limit.FIRST_TOKEN + length ones) (none_past ∙ sym none);
     }
 
 -- ---- at the start
@@ -197,4 +201,7 @@ starts_known start known numbered h = record {
   next =
       ap (λ (out : ℕ). if nat_le 4096 out || nat_le 0x100000000 known.next then None else Some known.next) h.out
       ∙ ap (λ (next : ℕ). if nat_le 4096 0 || nat_le 0x100000000 next then None else Some next) h.next;
+  tokens = λ n. ap (λ (tokens : finite.FinMap nat_cmp Bool). finite.get tokens n) h.tokens ∙ get-empty nat_cmp n;
+  out = h.out;
+  given = h.next;
 }

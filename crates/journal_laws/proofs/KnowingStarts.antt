@@ -28,7 +28,7 @@ firsts_differ lists (x ∷ xs) h =
     AllPairs-cons DifferBounds (first_of_client lists x) (map (first_of_client lists) xs) (each_differs lists x xs (pairs-head DifferClients x xs h))
     (firsts_differ lists xs (pairs-tail DifferClients x xs h))
 
-mounts_in_order : (lists : Lists) (a : ℕ) (mounts : List MountItem) →
+pub mounts_in_order : (lists : Lists) (a : ℕ) (mounts : List MountItem) →
     ends_of (map (end_of lists) (enumerate_from a mounts)) ≡ map end_of_mount (range_with_len a (length (map (end_of lists) (enumerate_from a mounts))))
 mounts_in_order lists a [] = refl
 mounts_in_order lists a (mount ∷ mounts) = ap (λ (ns : List ℕ). end_of_mount a ∷ ns) (mounts_in_order lists (a + 1) mounts)

@@ -44,7 +44,7 @@ find_kept_by n x m keeps b false rest kept e f h r name at is = by_test (cases_B
       is ∙ h ∙ ap (λ (k : Bool). cond k kept None) gone ∙ sym (ap (λ (k : Bool). cond k (cond b (Some x) kept) None) gone)
   by_test (inr apart) = is ∙ h ∙ sym (ap (λ (t : Bool). cond (keeps n) (cond t (Some x) kept) None) (sym e ∙ apart))
 
-find_kept : {X : Type 0} (n : ℕ) (keeps : ℕ → Bool) (name : X → ℕ) (xs : List X) → find (λ y. name y == n) (filter (λ y. keeps (name y)) xs) ≡ cond (keeps n) (find (λ y. name y == n) xs) None
+pub find_kept : {X : Type 0} (n : ℕ) (keeps : ℕ → Bool) (name : X → ℕ) (xs : List X) → find (λ y. name y == n) (filter (λ y. keeps (name y)) xs) ≡ cond (keeps n) (find (λ y. name y == n) xs) None
 find_kept n keeps name [] = by_test (keeps n) where
   by_test : {Y : Type 0} (b : Bool) → ◌≡◌ {A = Option Y} None (cond b None None)
   by_test true = refl
@@ -65,7 +65,7 @@ filter_cond : {X : Type 0} (p : X → Bool) (x : X) (c : Bool) (r : List X) → 
 filter_cond p x true r = refl
 filter_cond p x false r = refl
 
-filter_kept : {X : Type 0} (n : ℕ) (keeps : ℕ → Bool) (name : X → ℕ) (xs : List X) → filter (λ y. name y == n) (filter (λ y. keeps (name y)) xs) ≡ cond (keeps n) (filter (λ y. name y == n) xs) []
+pub filter_kept : {X : Type 0} (n : ℕ) (keeps : ℕ → Bool) (name : X → ℕ) (xs : List X) → filter (λ y. name y == n) (filter (λ y. keeps (name y)) xs) ≡ cond (keeps n) (filter (λ y. name y == n) xs) []
 filter_kept {X} n keeps name [] = by_test (keeps n) where
   by_test : (b : Bool) → ◌≡◌ {A = List X} [] (cond b [] [])
   by_test true = refl
@@ -135,7 +135,7 @@ at_onward view sent (Some forward) n = refl
 
 -- ---- what waits
 
-filter_members : {X : Type 0} (p q : X → Bool) (xs : List X) → ((x : X) → Contains xs x → p x ≡ true → q x ≡ true) → filter p (filter q xs) ≡ filter p xs
+pub filter_members : {X : Type 0} (p q : X → Bool) (xs : List X) → ((x : X) → Contains xs x → p x ≡ true → q x ≡ true) → filter p (filter q xs) ≡ filter p xs
 filter_members p q [] same = refl
 filter_members {X} p q (x ∷ xs) same =
     filter_cond p x (q x) (filter q xs) ∙ by_tests (p x) (q x) (same x (contains_here x xs)) (filter_members p q xs (λ y c. same y (contains_later y x xs c))) where
@@ -149,7 +149,7 @@ not_eq : (a b : ℕ) → a ≢ b → not (a == b) ≡ true
 not_eq a b apart = ap not (ne_eqb a b apart)
 
 -- without its first entry
-own_queue : (n : ℕ) (sent : Sent) (ones : List Sent) → AllPairs (λ one later. one.place < later.place) ones → find (λ one. one.endpoint == n) ones ≡ Some sent →
+pub own_queue : (n : ℕ) (sent : Sent) (ones : List Sent) → AllPairs (λ one later. one.place < later.place) ones → find (λ one. one.endpoint == n) ones ≡ Some sent →
     filter (λ one. one.endpoint == n) (filter (λ one. not (one.place == sent.place)) ones) ≡ later_of (filter (λ one. one.endpoint == n) ones)
 own_queue n sent [] rises h = absurd (cc)
 own_queue n sent (one ∷ ones) rises h =
@@ -176,7 +176,7 @@ own_queue n sent (one ∷ ones) rises h =
       by_test false false e f g rest = rest g
 
 -- an endpoint that isn't the served one
-other_queue : (n : ℕ) (sent : Sent) (ones : List Sent) → AllPairs (λ one later. one.place < later.place) ones → Contains ones sent → (sent.endpoint == n) ≡ false →
+pub other_queue : (n : ℕ) (sent : Sent) (ones : List Sent) → AllPairs (λ one later. one.place < later.place) ones → Contains ones sent → (sent.endpoint == n) ≡ false →
     filter (λ one. one.endpoint == n) (filter (λ one. not (one.place == sent.place)) ones) ≡ filter (λ one. one.endpoint == n) ones
 other_queue n sent ones rises waits apart =
     filter_members (λ one. one.endpoint == n) (λ one. not (one.place == sent.place)) ones

@@ -34,7 +34,7 @@ use Rattle.vfs_journal.specs.Serving.{Moment, Read, asker_of, moment_of, object_
 use Rattle.vfs_journal.specs.Session.{sent_behind, with_forward}
 use Rattle.vfs_journal.specs.Starts.{Bound, Start}
 use Rattle.journal_laws.specs.Laws.{but_for, newly_living}
-use Rattle.journal_laws.specs.Rooms.{HasRoom}
+use Rattle.journal_laws.specs.Soundness.{HasRoom}
 use Rattle.journal_laws.proofs.Acts.{IsClose, IsReply, IsToken, act_answers, unless_holds}
 use Rattle.journal_laws.proofs.Steps.{refusals_change_nothing, sendings_wait_last, servings_take_effect}
 

@@ -78,7 +78,7 @@ brings_new below built start journal sent s h first =
       uncarried = λ given e. next_uncarried past given.token (lawful_given below built start s journal h) (next_is_length past given.token (serving'.parts.token_next given e));
     }
 
-same_length : (built : Built) (start : Start) (journal : Journal) → length (history_of built start journal) ≡ length journal
+pub same_length : (built : Built) (start : Start) (journal : Journal) → length (history_of built start journal) ≡ length journal
 unfolding history_of
 same_length built start [] = refl
 same_length built start (entry ∷ journal) = let rest = same_length built start journal in omega (arith, rest)

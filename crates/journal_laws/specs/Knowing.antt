@@ -1,6 +1,9 @@
 -- That a server which keeps what it knows of endpoints and tokens knows at each point what looking back says.
-use Rattle.std.specs.Prelude.{◌≡◌, ◌≢◌, ◌+◌, ℕ, true, if◌then◌else◌, List, [], ◌∷◌, length, map, AllPairs, fold, Some, None}
+use Rattle.std.specs.Prelude.{◌≡◌, ◌≢◌, ◌+◌, ◌≤◌, ◌&&◌, ℕ, Bool, true, false, not, is_some, if◌then◌else◌, List, [], ◌∷◌, ◌++◌, length, map, filter, flat_map, option_to_list, AllPairs, fold, Option, Some, None}
+use Rattle.std.specs.FinMap as finite
 use Rattle.std.specs.List.{range_with_len}
+use Rattle.fidl_names.specs.HandleNumber.{is_client}
+use Rattle.fidl_names.specs.declared.limits.TheConstants as limit
 use Rattle.tree_file.specs.Items.{Lists}
 use Rattle.tree_file.specs.Numbering.{end_of_mount}
 use Rattle.endpoint_link.specs.declared.kinds.FrameKind.TheVariants as kind
@@ -9,22 +12,33 @@ use Rattle.endpoint_link.specs.declared.kinds.Refusal.{Refusal}
 use Rattle.endpoint_link.specs.Admission.{admission, Admits, look_ups as known_look_ups}
 use Rattle.endpoint_link.specs.Frames.{Frame}
 use Rattle.endpoint_link.specs.Numbering.{among}
-use Rattle.endpoint_link.specs.Standings.{Known, Starts, holds, is_live, next_token_of, standing_of as known_standing, ended as ended_in}
+use Rattle.endpoint_link.specs.Standings.{Known, Starts, holds, is_live, next_token_of, standing_of as known_standing, ended as ended_in, given, gone}
 use Rattle.conn_rules.specs.Built.{Built}
 use Rattle.vfs_journal.specs.Deaths.{deaths_of}
-use Rattle.vfs_journal.specs.Entries.{Sent, Journal, message, hang_up, sends, refuses}
+use Rattle.vfs_journal.specs.Entries.{Sent, Journal, message, hang_up, handles_of, sends, refuses}
+use Rattle.vfs_journal.specs.Fit.{IsFit}
 use Rattle.vfs_journal.specs.History.{History, waiting, standing_of, live_count}
 use Rattle.vfs_journal.specs.Lawful.{Lawful}
+use Rattle.vfs_journal.specs.Outcomes.{Given}
 use Rattle.vfs_journal.specs.Past.{history_of}
 use Rattle.vfs_journal.specs.Serving.{outcome_of}
 use Rattle.vfs_journal.specs.Session.{head, look_ups, sent_behind, after_serving}
 use Rattle.journal_laws.specs.Soundness.{IsStart, mount_ends}
 use Rattle.vfs_journal.specs.Starts.{Start, start_of}
-use Rattle.vfs_journal.specs.Tokens.{all_given, is_held, next_token}
+use Rattle.vfs_journal.specs.Tokens.{all_given, is_held, next_token, tokens_out, waits_with, was_given}
+use Rattle.vfs_journal.specs.View.{View, deaths_in, head_in, others_in, outcome_in, then_in}
+use Rattle.journal_laws.specs.Choosing.{IsListOf}
+use Rattle.journal_laws.specs.Viewing.{view_behind}
 
 -- ---- what a server knows
 
--- what is known is what looking back says
+-- a token is out where the clients hold it, or a waiting message carries it: whether they hold it
+abbrev pub token_out : History → ℕ → Option Bool
+token_out history token =
+    if is_held history token then Some true else if was_given history token && waits_with history token then Some false else None
+
+-- what is known is what looking back says: of endpoints and of what waits, which tokens are held and which is the next, and of each that
+-- is out whether it is held, how many those are, and the number behind all that were given
 pub record Knows (start : Start) (history : History) (known : Known) : Type 0 where
   pub standing : (number : ℕ) → known_standing known number ≡ standing_of start history number
   pub live : known.live ≡ live_count start history
@@ -32,6 +46,9 @@ pub record Knows (start : Start) (history : History) (known : Known) : Type 0 wh
   pub servers : known.servers ≡ length start.trees
   pub holds : (number : ℕ) → holds known number ≡ is_held history number
   pub next : next_token_of known ≡ next_token history
+  pub tokens : (number : ℕ) → finite.get known.tokens number ≡ token_out history number
+  pub out : known.out ≡ length (tokens_out history)
+  pub given : known.next ≡ limit.FIRST_TOKEN + length (all_given history)
 
 -- first connections are on endpoints of their own, and the ends of mounts have their numbers in order
 pub record IsNumbered (start : Start) : Type 0 where
@@ -47,9 +64,29 @@ pub record AreDeaths (start : Start) (past now : History) (deaths : List ℕ) : 
   pub stand : (endpoint : ℕ) → standing_of start now endpoint ≡ (if among endpoint deaths then standing.Dead else standing_of start past endpoint)
   pub count : live_count start now + length deaths ≡ live_count start past
 
--- what is known behind deaths, where so many entries wait
+-- what is known behind deaths, where so many entries wait and no token was given
 abbrev pub known_behind : Known → List ℕ → ℕ → Known
 known_behind known deaths waiting = record (fold ended_in known deaths) { waiting = waiting }
+
+-- ---- tokens
+
+-- the tokens that an entry carries
+abbrev pub tokens_in : Sent → List ℕ
+tokens_in sent = filter (λ number. not (is_client number)) (handles_of sent.sending)
+
+-- what waits on endpoints that die of a serving
+abbrev pub dropped_in : View → Sent → List Sent
+dropped_in view sent = filter (λ other. among other.endpoint (deaths_in view sent)) (others_in view sent)
+
+-- the tokens that are gone behind it: those of what is served, and of what is dropped
+abbrev pub spent_in : View → Sent → List ℕ
+spent_in view sent = tokens_in sent ++ flat_map tokens_in (dropped_in view sent)
+
+-- what is known behind a serving: these endpoints are dead, these tokens gone, one is held if one is given, and so many entries wait
+abbrev pub known_served : Known → List ℕ → List ℕ → Option Given → ℕ → Known
+known_served known deaths spent token waiting =
+    let gone' = fold gone (fold ended_in known deaths) spent in
+    record (if is_some token then given gone' else gone') { waiting = waiting }
 
 -- ---- laws
 
@@ -106,3 +143,31 @@ ServingsAreKnown =
     all_given (history_of built start (after_serving built start journal sent)) ≡ [] → Knows start (history_of built start journal) known →
     Knows start (history_of built start (after_serving built start journal sent))
     (known_behind known (deaths_at built start journal sent) (length (waiting (history_of built start (after_serving built start journal sent)))))
+
+-- behind a serving its deaths, each once in any order, the tokens that are gone, so too, the one that is given, and the count of what waits
+-- make what is known
+abbrev pub ServingsKeepWhatIsKnown : Type 0
+ServingsKeepWhatIsKnown =
+    (built : Built) (start : Start) (journal : Journal) (sent : Sent) (known : Known) (deaths spent : List ℕ) → IsStart start → Lawful built start journal →
+    head start (history_of built start journal) sent.endpoint ≡ Some sent → Knows start (history_of built start journal) known →
+    let view = view_behind built start journal in
+    IsListOf (deaths_in view sent) deaths → IsListOf (spent_in view sent) spent →
+    Knows start (history_of built start (after_serving built start journal sent))
+    (known_served known deaths spent (outcome_in view sent).token (length (then_in view sent).waiting))
+
+-- what was served waits no more, nor what was dropped, and what goes on waits
+abbrev pub ServingsCountWhatWaits : Type 0
+ServingsCountWhatWaits =
+    (view : View) (sent : Sent) → IsFit view → head_in view sent.endpoint ≡ Some sent →
+    length (then_in view sent).waiting + (1 + length (dropped_in view sent)) ≡ length view.waiting + length (option_to_list (outcome_in view sent).forward)
+
+-- each token that is gone behind a serving is known to be out, and not held
+abbrev pub SpentTokensAreOut : Type 0
+SpentTokensAreOut =
+    (built : Built) (start : Start) (journal : Journal) (sent : Sent) (known : Known) (token : ℕ) → IsStart start → Lawful built start journal →
+    head start (history_of built start journal) sent.endpoint ≡ Some sent → Knows start (history_of built start journal) known →
+    among token (spent_in (view_behind built start journal) sent) ≡ true → finite.get known.tokens token ≡ Some false
+
+-- no more entries wait than may
+abbrev pub FewWait : Type 0
+FewWait = (built : Built) (start : Start) (journal : Journal) → Lawful built start journal → length (waiting (history_of built start journal)) ≤ limit.MAX_WAITING

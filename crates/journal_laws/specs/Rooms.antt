@@ -1,5 +1,5 @@
 -- How many connections a server has.
-use Rattle.std.specs.Prelude.{◌≤◌, ◌==◌, ◌++◌, ℕ, count_by}
+use Rattle.std.specs.Prelude.{◌≤◌, ℕ}
 use Rattle.fidl_names.specs.declared.limits.TheConstants as limit
 use Rattle.conn_rules.specs.Built.{Built}
 use Rattle.vfs_journal.specs.Entries.{Journal}
@@ -7,12 +7,10 @@ use Rattle.vfs_journal.specs.History.{connections_at}
 use Rattle.vfs_journal.specs.Lawful.{Lawful}
 use Rattle.vfs_journal.specs.Past.{history_of}
 use Rattle.vfs_journal.specs.Starts.{Start}
+use Rattle.journal_laws.specs.Soundness.{HasRoom}
 
--- the first connections and the ends of mounts at each server are no more than a server may have
-abbrev pub HasRoom : Start → Type 0
-HasRoom start = (server : ℕ) → count_by (λ bound. bound.server == server) (start.firsts ++ start.mounts) ≤ limit.MAX_CONNECTIONS
-
--- and so are those that live at any later time
+-- where the first connections and the ends of mounts at each server are no more than a server may have, those that live at any later time
+-- aren't either
 abbrev pub ConnectionsAreFew : Type 0
 ConnectionsAreFew =
     (built : Built) (start : Start) (journal : Journal) (server : ℕ) → HasRoom start → Lawful built start journal →

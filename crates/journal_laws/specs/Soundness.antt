@@ -1,12 +1,14 @@
 -- What holds of each lawful journal from a start whose endpoints are apart.
-use Rattle.std.specs.Prelude.{◌≡◌, ◌≢◌, ◌++◌, AllPairs, ◌<◌, ◌≤◌, ◌⊎◌, ℕ, true, false, List, [], ◌∷◌, All, Contains, map, Some}
+use Rattle.std.specs.Prelude.{◌≡◌, ◌≢◌, ◌++◌, AllPairs, ◌<◌, ◌≤◌, ◌==◌, ◌⊎◌, ℕ, true, false, List, [], ◌∷◌, All, Contains, count_by, length, map, slice_get, Some}
+use Rattle.std.specs.List.{range_with_len}
 use Rattle.fidl_names.specs.declared.limits.TheConstants as limit
 use Rattle.io_messages.specs.declared.protocols.Protocol.TheVariants as protocol
-use Rattle.node_graph.specs.declared.nodes.NodeKind.TheVariants.{Mount}
-use Rattle.node_graph.specs.Tree.{NodeRow, Tree}
+use Rattle.node_graph.specs.declared.nodes.NodeKind.TheVariants.{Directory, Mount}
+use Rattle.node_graph.specs.Tree.{IsSound, NodeRow, Tree, kind_of}
 use Rattle.tree_file.specs.Accepted.{AreAccepted}
 use Rattle.tree_file.specs.Items.{Lists}
 use Rattle.tree_file.specs.Numbering.{end_of_mount}
+use Rattle.tree_file.specs.Sound.{HasOneEdge}
 use Rattle.endpoint_link.specs.declared.kinds.Mode.{Mode}
 use Rattle.endpoint_link.specs.declared.kinds.Side.TheVariants.{ToServers}
 use Rattle.endpoint_link.specs.Frames.{Frame, IsFrame}
@@ -15,7 +17,7 @@ use Rattle.endpoint_link.specs.Numbering.{among}
 use Rattle.conn_rules.specs.Built.{Built}
 use Rattle.vfs_journal.specs.Deaths.{deaths_of, others}
 use Rattle.vfs_journal.specs.Entries.{Sent, Journal, message, serves, endpoints_in}
-use Rattle.vfs_journal.specs.History.{History, births, all_sent, was_served, waiting, travelling, is_bound, is_dead, is_used}
+use Rattle.vfs_journal.specs.History.{History, births, all_sent, was_served, waiting, travelling, tree_at, is_bound, is_dead, is_used}
 use Rattle.vfs_journal.specs.Lawful.{Lawful}
 use Rattle.vfs_journal.specs.Outcomes.{Forwarded, Given}
 use Rattle.vfs_journal.specs.Past.{history_of}
@@ -39,14 +41,39 @@ AreMounted start tree = All (HasEnd start) tree.nodes
 abbrev pub OtherEndpoint : Bound → Bound → Type 0
 OtherEndpoint one other = one.endpoint ≢ other.endpoint
 
--- first connections are on clients' endpoints, and the ends of mounts on others, as directories; no endpoint stands twice, and each mount
--- has its end
+-- it is a connection to a directory of one of these trees, and no watcher
+pub record IsOnDirectory (trees : List Tree) (bound : Bound) : Type 0 where
+  pub server : bound.server < length trees
+  pub node : kind_of (tree_at trees bound.server) bound.birth.node ≡ Some Directory
+  pub protocol : bound.birth.protocol ≡ protocol.Directory
+  pub mask : bound.mask ≡ 0
+
+-- the mount of an index is in one tree; one edge leads to it, with the rights of its end
+pub record IsMountedOnce (trees : List Tree) (index : ℕ) (end : Bound) : Type 0 where
+  pub host : ℕ
+  pub edge : HasOneEdge (tree_at trees host) index end.birth.rights
+  pub alone : (server node : ℕ) → kind_of (tree_at trees server) node ≡ Some (Mount index) → server ≡ host
+
+abbrev pub AreMountedOnce : Start → List Tree → Type 0
+AreMountedOnce start trees = (index : ℕ) (end : Bound) → slice_get start.mounts index ≡ Some end → IsMountedOnce trees index end
+
+-- the first connections and the ends of mounts at each server are no more than a server may have
+abbrev pub HasRoom : Start → Type 0
+HasRoom start = (server : ℕ) → count_by (λ bound. bound.server == server) (start.firsts ++ start.mounts) ≤ limit.MAX_CONNECTIONS
+
+-- the trees are sound, and few; first connections are on clients' endpoints, and the ends of mounts on others, in the order of their
+-- numbers; no endpoint stands twice, and each is bound to a directory; each mount has its end, and one edge
 pub record IsStart (start : Start) : Type 0 where
+  pub few : length start.trees ≤ limit.MAX_SERVERS
+  pub trees : All IsSound start.trees
   pub firsts : All (λ bound. is_client bound.endpoint ≡ true) start.firsts
   pub ends : All (λ bound. is_client bound.endpoint ≡ false) start.mounts
-  pub directories : All (λ bound. bound.birth.protocol ≡ protocol.Directory) start.mounts
+  pub numbered : mount_ends start ≡ map end_of_mount (range_with_len 0 (length start.mounts))
   pub apart : AllPairs OtherEndpoint (start.firsts ++ start.mounts)
+  pub placed : All (IsOnDirectory start.trees) (start.firsts ++ start.mounts)
   pub mounted : All (AreMounted start) start.trees
+  pub edges : AreMountedOnce start start.trees
+  pub room : HasRoom start
 
 -- ---- endpoints in transit
 

@@ -1,7 +1,7 @@
 //! Laws of a server that keeps what it knows of endpoints and tokens. They compute nothing: what they say is in their clauses.
 
 ghost use Rattle.fidl_wire.specs.Names.{AreDistinct};
-ghost use Rattle.journal_laws.specs.Knowing.{KnowersAdmit, StartsAreKnown, RefusalsAreKnown, MessagesAreKnown, HangUpsAreKnown, ServingsEndTheirDeaths, ServingsAreKnown, StartsOfFilesAreNumbered};
+ghost use Rattle.journal_laws.specs.Knowing.{FewWait, KnowersAdmit, StartsAreKnown, RefusalsAreKnown, MessagesAreKnown, HangUpsAreKnown, ServingsEndTheirDeaths, ServingsAreKnown, ServingsCountWhatWaits, ServingsKeepWhatIsKnown, SpentTokensAreOut, StartsOfFilesAreNumbered};
 
 use fidl_wire::body_is_read_where_spelled;
 use io_messages::written_request_is_read;
@@ -69,3 +69,32 @@ pub fn servings_are_known()
     written_request_is_read();
     path_laws();
 }
+
+/// Behind a serving, to end its deaths, to let go of the tokens of what was served and dropped, to give the token that is given and to
+/// count what waits leaves what looking back says; where no two names have equal ordinals.
+pub fn servings_keep_what_is_known()
+    ensures { AreDistinct → ServingsKeepWhatIsKnown }
+{
+    body_is_read_where_spelled();
+    written_request_is_read();
+    path_laws();
+}
+
+/// Each token that a serving lets go of is known to be out, and not held; where no two names have equal ordinals.
+pub fn spent_tokens_are_out()
+    ensures { AreDistinct → SpentTokensAreOut }
+{
+    body_is_read_where_spelled();
+    written_request_is_read();
+    path_laws();
+}
+
+/// Behind a serving of a fit view fewer wait by what was served and dropped, and one more where an Open goes on.
+pub fn servings_count_what_waits()
+    ensures { ServingsCountWhatWaits }
+{}
+
+/// In a lawful journal no more entries wait than may.
+pub fn few_wait()
+    ensures { FewWait }
+{}

@@ -1,13 +1,21 @@
 //! Laws of the journal: what holds of every start, history and lawful journal, and of a server that keeps what it knows of endpoints.
 #![tactic(auto)]
 
+mod choosing;
 mod knowing;
 mod laws;
+mod today;
 mod viewing;
 
+pub use choosing::{
+    deaths_are_the_least, least_places_are_served, members_tell_deaths, queues_count_what_waits,
+    rising_numbers_are_sorted,
+};
 pub use knowing::{
-    hang_ups_are_known, knowers_admit, messages_are_known, refusals_are_known, servings_are_known,
-    servings_end_their_deaths, starts_are_known, starts_of_files_are_numbered,
+    few_wait, hang_ups_are_known, knowers_admit, messages_are_known, refusals_are_known,
+    servings_are_known, servings_count_what_waits, servings_end_their_deaths,
+    servings_keep_what_is_known, spent_tokens_are_out, starts_are_known,
+    starts_of_files_are_numbered,
 };
 pub use laws::{
     deaths_reach_all, drains_serve_all, endpoints_are_in_transit, endpoints_are_known, places_rise,
@@ -15,8 +23,10 @@ pub use laws::{
     servings_lower_the_weight, servings_take_effect, sessions_are_lawful, sessions_serve_all,
     starts_are_sound, what_goes_on_waits, what_is_sent_waits,
 };
+pub use today::{outcomes_of_today, sessions_of_today};
 pub use viewing::{
-    connections_are_few, reached_views_go_on, refusals_are_viewed, sendings_are_looked_up,
-    sendings_are_viewed, servings_are_in_view, servings_are_looked_up, servings_are_viewed,
-    servings_take_counted_places, servings_write_their_frames, turns_are_viewed, views_are_fit,
+    connections_are_few, reached_views_go_on, reached_views_hear, refusals_are_viewed,
+    sendings_are_looked_up, sendings_are_viewed, servings_are_in_view, servings_are_looked_up,
+    servings_are_viewed, servings_take_counted_places, servings_write_their_frames,
+    trees_stay_sound, turns_are_viewed, views_are_fit, who_lives_stands_on_trees,
 };

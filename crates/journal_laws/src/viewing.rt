@@ -2,7 +2,9 @@
 
 ghost use Rattle.fidl_wire.specs.Names.{AreDistinct};
 ghost use Rattle.journal_laws.specs.Behind.{SendingsAreLookedUp, ServingsAreLookedUp, ServingsTakeCountedPlaces};
+ghost use Rattle.journal_laws.specs.Hearing.{ReachedViewsHear};
 ghost use Rattle.journal_laws.specs.Rooms.{ConnectionsAreFew};
+ghost use Rattle.journal_laws.specs.Trees.{TreesStaySound, WhoLivesStandsOnTrees};
 ghost use Rattle.journal_laws.specs.Viewing.{ReachedViewsGoOn, RefusalsAreViewed, SendingsAreViewed, ServingsAreInView, ServingsAreViewed, ServingsWriteTheirFrames, TurnsAreViewed, ViewsAreFit};
 
 use fidl_wire::body_is_read_where_spelled;
@@ -91,3 +93,28 @@ pub fn servings_take_counted_places()
 pub fn connections_are_few()
     ensures { ConnectionsAreFew }
 {}
+
+/// A view that a lawful journal reached leads to another by each frame: by a refusal, and by an admitted message or hang-up.
+pub fn reached_views_hear()
+    ensures { ReachedViewsHear }
+{}
+
+/// In a lawful journal mounts have their one edge, who lives stands on a node of its server's tree, of a kind that its protocol is for, and
+/// tokens name directories; where no two names have equal ordinals.
+pub fn who_lives_stands_on_trees()
+    ensures { AreDistinct → WhoLivesStandsOnTrees }
+{
+    body_is_read_where_spelled();
+    written_request_is_read();
+    path_laws();
+}
+
+/// As long as names are neither taken out, nor linked, nor renamed, the trees of each lawful journal are sound; where no two names have
+/// equal ordinals.
+pub fn trees_stay_sound()
+    ensures { AreDistinct → TreesStaySound }
+{
+    body_is_read_where_spelled();
+    written_request_is_read();
+    path_laws();
+}

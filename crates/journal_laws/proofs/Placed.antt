@@ -1,0 +1,420 @@
+-- What acts bind stands on a node, and the changes that they make are orderly.
+use Rattle.std.proofs.Common.{◌≡◌, ℕ, ◌+◌, ◌&&◌, ◌||◌, Bool, true, false, cond, not, nat_lt, nat_le, is_some, is_none, unwrap_or, if◌then◌else◌, List, [], ◌∷◌, ◌++◌, length, map, Option, Some, None, Ok, Err, refl, sym, ap, ◌∙◌, subst}
+use Rattle.std.specs.FinMap as finite
+use Rattle.std.specs.Option.{option_map, option_map_or}
+use Rattle.std.proofs.lemmas.Bool.{true≢false}
+use Rattle.fidl_names.specs.First.{cause_if, first_of}
+use Rattle.fidl_names.specs.declared.limits.TheConstants as limit
+use Rattle.fidl_names.specs.declared.methods.Method.{Method}
+use Rattle.fidl_names.specs.declared.methods.Method.TheVariants as method
+use Rattle.fidl_names.specs.declared.statuses.Status.{Status}
+use Rattle.fidl_names.specs.declared.statuses.Status.TheVariants as status
+use Rattle.fidl_names.specs.HandleNumber.{handle_with}
+use Rattle.fidl_wire.specs.Laws.{SpelledWhereRead}
+use Rattle.fidl_wire.specs.Layout.{Item}
+use Rattle.io_flags.specs.Grants.{asked_rights, explicit_rights}
+use Rattle.io_flags.specs.Words.{has}
+use Rattle.io_flags.specs.declared.names.Flag.TheVariants as flag
+use Rattle.io_messages.specs.Asked.{Asked, method_of}
+use Rattle.io_messages.specs.Asked as asks
+use Rattle.io_messages.specs.Protocols.{has_method, home_of, has as has_home}
+use Rattle.io_messages.specs.Replies.{Answered, done, fails, settled}
+use Rattle.io_messages.specs.Replies as answered
+use Rattle.io_messages.specs.Requests.{asked_from}
+use Rattle.io_messages.specs.Shapes.{is_one_way}
+use Rattle.io_messages.specs.declared.protocols.Home.{Home}
+use Rattle.io_messages.specs.declared.protocols.Home.TheVariants as homes
+use Rattle.io_messages.specs.declared.protocols.Protocol.{Protocol}
+use Rattle.io_messages.specs.declared.protocols.Protocol.TheVariants as protocol
+use Rattle.io_messages.specs.declared.requests.RequestFault.TheVariants.{Malformed, UnknownStrict, UnknownOneWay, UnknownTwoWay}
+use Rattle.io_rights.specs.Operations.{OperationSet, is_within, all}
+use Rattle.node_graph.specs.Graph.{write_change}
+use Rattle.node_graph.specs.Tree.{Tree, EdgeKey, EdgeTo, Change, after, fill, is_removed, kind_of, make, move, new_row, stay}
+use Rattle.node_graph.specs.declared.nodes.NodeKind.{NodeKind}
+use Rattle.node_graph.specs.declared.nodes.NodeKind.TheVariants.{Directory, File, Service, Mount}
+use Rattle.path_walk.specs.Paths.{names_of}
+use Rattle.conn_rules.specs.declared.births.Room.{Room}
+use Rattle.conn_rules.specs.Acts.{act_of, is_beyond, is_of_every_node, method_refusals, row_act}
+use Rattle.conn_rules.specs.Answers.{Answer, replies, closes, binds, watches, forwards, refuses, ends, hangs_up, silent, Act, only, failure_of, nothing_told}
+use Rattle.conn_rules.specs.Births.{Birth, Position}
+use Rattle.conn_rules.specs.Built.{Built}
+use Rattle.conn_rules.specs.FileRows.{is_no_position, is_too_much, reading_refusal, seek_sum, write_start, writing_refusal}
+use Rattle.conn_rules.specs.Listings.{fits_none, listing}
+use Rattle.conn_rules.specs.NameRows.{is_bad_name, is_same_name, leads_elsewhere, leads_to_names, link_into, link_refusals, linked, move_refusals, moving, name_in, rename_into, replacing, replacing_refusals, token_act, two_names_refusal, unlink_refusals, watch_refusals}
+use Rattle.conn_rules.specs.Nodes.{bytes_of, edge_at, is_directory, is_mount, kind_behind, kind_here, leads_to}
+use Rattle.conn_rules.specs.Opens.{arrival, arrival_refusals, by_walk, entry_refusals, is_full, kind_made, making, making_refusals, protocol_of, truncation}
+use Rattle.conn_rules.specs.Refusals.{unless}
+use Rattle.conn_rules.specs.Walks.{Walk, arrives, missing, crosses, stops, behind, passing, last_by_kind, last_step, inner_rights, inner_by_kind, inner_step, walk, limit_of}
+use Rattle.vfs_journal.specs.Entries.{Sending, message, hang_up}
+use Rattle.vfs_journal.specs.Outcomes.{Asker, Given, Outcome, bound_of, outcome_with, token_of, watcher_birth}
+use Rattle.vfs_journal.specs.Serving.{Moment, Read, asker_of, object_of, outcome_of_message, outcome_of_read, outcome_of_sending, read_by, request_act, token_of as asked_token}
+use Rattle.vfs_journal.specs.Starts.{Bound}
+use Rattle.journal_laws.specs.Trees.{suits}
+use Rattle.journal_laws.proofs.Acts.{IsMade, first_none, none_there, not_refused, unless_holds}
+use Rattle.journal_laws.proofs.Edges.{row_of-push_same}
+use Rattle.journal_laws.proofs.Orderly.{HasChildren, IsOrderly, NoMountAt, kind_stays}
+use Rattle.journal_laws.proofs.Requests.{what_is_read}
+
+-- ---- where a walk leads
+
+-- a number that is a node's
+abbrev pub IsNode : Tree → ℕ → Type 0
+IsNode tree n = (kind : NodeKind) × (kind_of tree n ≡ Some kind)
+
+-- a walk that arrives at a node, or misses a name
+abbrev pub LeadsToNode : Tree → Walk → Type 0
+LeadsToNode tree (arrives node masks) = IsNode tree node
+LeadsToNode tree (missing directory name masks) = edge_at tree (record { directory = directory; name = name }) ≡ None
+LeadsToNode tree (crosses mount rest masks) = Unit {0}
+LeadsToNode tree (stops status) = Unit {0}
+
+leads_behind : (tree : Tree) (mask : OperationSet) (w : Walk) → LeadsToNode tree w → LeadsToNode tree (behind mask w)
+leads_behind tree mask (arrives node masks) h = h
+leads_behind tree mask (missing directory name masks) h = h
+leads_behind tree mask (crosses mount rest masks) h = tt
+leads_behind tree mask (stops status) h = tt
+
+leads_passing : (tree : Tree) (wanted mask : OperationSet) (w : Walk) → LeadsToNode tree w → LeadsToNode tree (passing wanted mask w)
+leads_passing tree wanted mask w h = by_test (is_within wanted mask) where
+  by_test : (b : Bool) → LeadsToNode tree (if b then behind mask w else stops status.AccessDenied)
+  by_test true = leads_behind tree mask w h
+  by_test false = tt
+
+last_leads : (tree : Tree) (word : ℕ) (edge : EdgeTo) (k : NodeKind) → IsNode tree edge.child → LeadsToNode tree (last_by_kind word edge k)
+last_leads tree word edge (Mount index) h = leads_passing tree (asked_rights word) edge.mask (crosses index [] []) tt
+last_leads tree word edge Directory h = leads_passing tree (explicit_rights word) edge.mask (arrives edge.child []) h
+last_leads tree word edge File h = leads_passing tree (explicit_rights word) edge.mask (arrives edge.child []) h
+last_leads tree word edge Service h = leads_passing tree (explicit_rights word) edge.mask (arrives edge.child []) h
+
+inner_leads : (tree : Tree) (word : ℕ) (names : List (List ℕ)) (edge : EdgeTo) (k : NodeKind) (w : Walk) → LeadsToNode tree w → LeadsToNode tree (inner_by_kind word names edge k w)
+inner_leads tree word names edge Directory w h = leads_passing tree (inner_rights word) edge.mask w h
+inner_leads tree word names edge File w h = tt
+inner_leads tree word names edge Service w h = tt
+inner_leads tree word names edge (Mount index) w h = leads_passing tree (inner_rights word) edge.mask (crosses index names []) tt
+
+last_edge : (tree : Tree) (word directory : ℕ) (name : List ℕ) → HasChildren tree → (o : Option EdgeTo) → edge_at tree (record { directory = directory; name = name }) ≡ o → LeadsToNode tree (last_step tree word directory name o)
+last_edge tree word directory name children None e = e
+last_edge tree word directory name children (Some edge) e = last_leads tree word edge (kind_behind tree edge) (children (record { directory = directory; name = name }) edge e)
+
+inner_edge : (tree : Tree) (word : ℕ) (names : List (List ℕ)) (key : EdgeKey) (on : ℕ → Walk) → HasChildren tree → ((n : ℕ) → IsNode tree n → LeadsToNode tree (on n)) → (o : Option EdgeTo) → edge_at tree key ≡ o → LeadsToNode tree (inner_step tree word names o on)
+inner_edge tree word names key on children later None e = tt
+inner_edge tree word names key on children later (Some edge) e = inner_leads tree word names edge (kind_behind tree edge) (on edge.child) (later edge.child (children key edge e))
+
+pub leads_to_node : (tree : Tree) (word : ℕ) (names : List (List ℕ)) (directory : ℕ) → HasChildren tree → IsNode tree directory → LeadsToNode tree (walk tree word names directory)
+unfolding walk
+leads_to_node tree word [] directory children here = here
+leads_to_node tree word (name ∷ []) directory children here = last_edge tree word directory name children (edge_at tree (record { directory = directory; name = name })) refl
+leads_to_node tree word (name ∷ next ∷ names) directory children here =
+    inner_edge tree word (next ∷ names) (record { directory = directory; name = name }) (walk tree word (next ∷ names)) children (λ n there. leads_to_node tree word (next ∷ names) n children there)
+    (edge_at tree (record { directory = directory; name = name })) refl
+
+-- ---- what an act binds and changes
+
+abbrev IsPlacedReply : Tree → Birth → Answered → Type 0
+IsPlacedReply tree birth (answered.token number) = kind_of tree birth.node ≡ Some Directory
+IsPlacedReply tree birth _ = Unit {0}
+
+abbrev IsPlacedAnswer : Tree → Tree → Birth → Answer → Type 0
+IsPlacedAnswer tree new birth (binds b announced) = (kind : NodeKind) × (kind_of new b.node ≡ Some kind) × (suits b.protocol kind ≡ true)
+IsPlacedAnswer tree new birth (watches mask) = kind_of tree birth.node ≡ Some Directory
+IsPlacedAnswer tree new birth (replies a) = IsPlacedReply tree birth a
+IsPlacedAnswer tree new birth _ = Unit {0}
+
+record IsPlaced (tree : Tree) (birth : Birth) (act : Act) : Type 0 where
+  orderly : IsOrderly tree act.change
+  answer : IsPlacedAnswer tree (after tree act.change) birth act.answer
+
+placed : (tree : Tree) (birth : Birth) (position : Position) (answer : Answer) → IsPlacedAnswer tree tree birth answer → IsPlaced tree birth (only position answer)
+placed tree birth position answer h = record { orderly = tt; answer = h }
+
+refused_placed : (tree : Tree) (birth : Birth) (position : Position) (request : Asked) (s : Status) → IsPlaced tree birth (only position (failure_of request s))
+refused_placed tree birth position request s = placed tree birth position (failure_of request s) (by_way (is_one_way (method_of request))) where
+  by_way : (b : Bool) → IsPlacedAnswer tree tree birth (if b then refuses s else replies (fails (method_of request) s))
+  by_way true = tt
+  by_way false = tt
+
+-- ---- Open
+
+pub kind_there : (tree : Tree) (node : ℕ) → IsNode tree node → kind_of tree node ≡ Some (kind_here tree node)
+kind_there tree node h = h.1 ∙ ap Some (sym (ap (λ (o : Option NodeKind). unwrap_or o Directory) h.1))
+
+suited : (word : ℕ) (kind : NodeKind) → suits (protocol_of word kind) kind ≡ true
+suited word Directory = by_test (has word flag.ProtocolNode) where
+  by_test : (b : Bool) → suits (if b then protocol.Node else protocol.Directory) Directory ≡ true
+  by_test true = refl
+  by_test false = refl
+suited word File = by_test (has word flag.ProtocolNode) where
+  by_test : (b : Bool) → suits (if b then protocol.Node else protocol.File) File ≡ true
+  by_test true = refl
+  by_test false = refl
+suited word Service = by_test (has word flag.ProtocolNode) where
+  by_test : (b : Bool) → suits (if b then protocol.Node else protocol.Echo) Service ≡ true
+  by_test true = refl
+  by_test false = refl
+suited word (Mount index) = refl
+
+truncated : (b : Bool) (tree : Tree) (node : ℕ) → IsOrderly tree (if b then fill node [] else stay)
+truncated true tree node = tt
+truncated false tree node = tt
+
+made_kind : (word : ℕ) → IsMade (kind_made word)
+made_kind word = by_test (has word flag.ProtocolDirectory) where
+  by_test : (b : Bool) → IsMade (if b then Directory else File)
+  by_test true = tt
+  by_test false = tt
+
+walk_placed : (built : Built) (birth : Birth) (position : Position) (room : Room) (tree : Tree) (path : List ℕ) (word : ℕ) (given : Option ℕ) (object : ℕ) (w : Walk) → LeadsToNode tree w →
+    IsPlaced tree birth (by_walk built birth position room tree (asks.open_path path word given object) word w)
+walk_placed built birth position room tree path word given object (arrives node masks) there =
+    unless_holds (IsPlaced tree birth) (first_of (arrival_refusals built room word (kind_here tree node))) position (asks.open_path path word given object) (arrival position word (limit_of birth.rights masks) node (kind_here tree node)) (refused_placed tree birth position (asks.open_path path word given object))
+    (λ e. record {
+      orderly = truncated (has word flag.FileTruncate) tree node;
+      answer = (kind_here tree node, kind_stays tree (truncation word node) node (kind_here tree node) (kind_there tree node there), suited word (kind_here tree node));
+    })
+walk_placed built birth position room tree path word given object (missing directory name masks) there =
+    unless_holds (IsPlaced tree birth) (first_of (making_refusals tree room word directory)) position (asks.open_path path word given object) (making position tree word (limit_of birth.rights masks) (record { directory = directory; name = name })) (refused_placed tree birth position (asks.open_path path word given object))
+    (λ e. record {
+      orderly = (there, made_kind word);
+      answer = (kind_made word, ap (option_map (λ row. row.kind)) (row_of-push_same tree.nodes (new_row (kind_made word))), suited word (kind_made word));
+    })
+walk_placed built birth position room tree path word given object (crosses mount rest masks) there = record { orderly = tt; answer = tt }
+walk_placed built birth position room tree path word given object (stops status) there = refused_placed tree birth position (asks.open_path path word given object) status
+
+-- ---- names
+
+no_mount_at : (tree : Tree) (key : EdgeKey) → leads_to is_mount tree key ≡ false → NoMountAt tree key
+no_mount_at tree key h to e = sym (ap (λ (o : Option EdgeTo). option_map_or (λ edge. is_mount (kind_behind tree edge)) o false) e) ∙ h
+
+unlink_placed : (birth : Birth) (position : Position) (tree : Tree) (name : List ℕ) (flags : ℕ) → first_of (unlink_refusals tree (name_in birth.node name) flags) ≡ None → NoMountAt tree (name_in birth.node name)
+unlink_placed birth position tree name flags e =
+    let key = name_in birth.node name in
+    no_mount_at tree key
+    (not_refused (leads_to is_mount tree key) status.NotSupported _
+    (first_none (cause_if (is_none (edge_at tree key)) status.NotFound) _ (first_none (cause_if (is_bad_name key.name || nat_lt 1 flags) status.InvalidArgs) _ e)))
+
+linked_placed : (birth : Birth) (position : Position) (tree : Tree) (request : Asked) (from to : EdgeKey) → HasChildren tree → NoMountAt tree from → edge_at tree to ≡ None → (o : Option EdgeTo) → edge_at tree from ≡ o → IsPlaced tree birth (linked position request to o)
+linked_placed birth position tree request from to children none free None e = refused_placed tree birth position request status.NotFound
+linked_placed birth position tree request from to children none free (Some edge) e = record { orderly = (free, children from edge e, none edge e); answer = tt }
+
+link_placed : (birth : Birth) (position : Position) (tree : Tree) (request : Asked) (src dst : List ℕ) → HasChildren tree → (target : Option ℕ) → IsPlaced tree birth (link_into birth position tree request src dst target)
+link_placed birth position tree request src dst children None = refused_placed tree birth position request status.NotFound
+link_placed birth position tree request src dst children (Some target) =
+    let from = name_in birth.node src in
+    let to = name_in target dst in
+    unless_holds (IsPlaced tree birth) (first_of (link_refusals tree from to)) position request (linked position request to (edge_at tree from)) (refused_placed tree birth position request)
+    (λ e.
+    let second = first_none (cause_if (is_none (edge_at tree from)) status.NotFound) _ e in
+    let third = first_none (cause_if (leads_to is_mount tree from) status.NotSupported) _ second in
+    let fourth = first_none (cause_if (leads_to is_directory tree from) status.NotFile) _ third in
+    let fifth = first_none (cause_if (is_removed tree.edges to.directory) status.BadState) _ fourth in
+    linked_placed birth position tree request from to children (no_mount_at tree from (not_refused (leads_to is_mount tree from) status.NotSupported _ second))
+    (none_there (edge_at tree to) (not_refused (is_some (edge_at tree to)) status.AlreadyExists _ fifth)) (edge_at tree from) refl)
+
+replacing_placed : (birth : Birth) (position : Position) (tree : Tree) (request : Asked) (from to : EdgeKey) → NoMountAt tree from → IsPlaced tree birth (replacing position tree request from to)
+replacing_placed birth position tree request from to none = by_same (is_same_name from to) where
+  by_same : (b : Bool) → IsPlaced tree birth (if b then only position (replies (done method.Rename)) else unless (first_of (replacing_refusals tree from to)) position request (moving position tree from to))
+  by_same true = placed tree birth position (replies (done method.Rename)) tt
+  by_same false =
+      unless_holds (IsPlaced tree birth) (first_of (replacing_refusals tree from to)) position request (moving position tree from to) (refused_placed tree birth position request)
+      (λ e. record { orderly = (none, no_mount_at tree to (not_refused (leads_to is_mount tree to) status.NotSupported _ e)); answer = tt })
+
+rename_placed : (birth : Birth) (position : Position) (tree : Tree) (request : Asked) (src dst : List ℕ) (target : Option ℕ) → IsPlaced tree birth (rename_into birth position tree request src dst target)
+rename_placed birth position tree request src dst None = refused_placed tree birth position request status.NotFound
+rename_placed birth position tree request src dst (Some target) =
+    let from = name_in birth.node src in
+    let to = name_in target dst in
+    unless_holds (IsPlaced tree birth) (first_of (move_refusals tree from to)) position request (replacing position tree request from to) (refused_placed tree birth position request)
+    (λ e. replacing_placed birth position tree request from to
+    (no_mount_at tree from (not_refused (leads_to is_mount tree from) status.NotSupported _ (first_none (cause_if (is_none (edge_at tree from)) status.NotFound) _ e))))
+
+-- ---- protocols
+
+directory_protocol : (p : Protocol) (m : Method) → home_of m ≡ homes.Directories → has_method p m ≡ true → is_beyond p m ≡ false → p ≡ protocol.Directory
+directory_protocol protocol.Directory m home has beyond = refl
+directory_protocol protocol.File m home has beyond = absurd (true≢false (sym has ∙ ap (has_home protocol.File) home))
+directory_protocol protocol.Echo m home has beyond = absurd (true≢false (sym has ∙ ap (has_home protocol.Echo) home))
+directory_protocol protocol.Watcher m home has beyond = absurd (true≢false (sym has ∙ ap (has_home protocol.Watcher) home))
+directory_protocol protocol.Node m home has beyond = absurd (true≢false (ap (λ (h : Home). not (is_of_every_node h)) (sym home) ∙ beyond))
+
+is_dir : (kind : NodeKind) → is_directory kind ≡ true → kind ≡ Directory
+is_dir Directory e = refl
+is_dir File e = absurd (true≢false (sym e))
+is_dir Service e = absurd (true≢false (sym e))
+is_dir (Mount index) e = absurd (true≢false (sym e))
+
+on_directory : (tree : Tree) (birth : Birth) (kind : NodeKind) (m : Method) → kind_of tree birth.node ≡ Some kind → suits birth.protocol kind ≡ true → home_of m ≡ homes.Directories → has_method birth.protocol m ≡ true → is_beyond birth.protocol m ≡ false →
+    kind_of tree birth.node ≡ Some Directory
+on_directory tree birth kind m at suited' home has beyond =
+    at ∙ ap Some (is_dir kind (ap (λ (p : Protocol). suits p kind) (sym (directory_protocol birth.protocol m home has beyond)) ∙ suited'))
+
+-- ---- all rows
+
+module _ (built : Built) (birth : Birth) (position : Position) (room : Room) (tree : Tree) (target : Option ℕ) (kind : NodeKind) (children : HasChildren tree) (at : kind_of tree birth.node ≡ Some kind) (suited' : suits birth.protocol kind ≡ true) where
+  written_orderly : (node : ℕ) (bytes : List ℕ) (offset : ℕ) (more : List ℕ) → IsOrderly tree (write_change node bytes offset more)
+  written_orderly node bytes offset [] = tt
+  written_orderly node bytes offset (byte ∷ more) = tt
+
+  token_placed : kind_of tree birth.node ≡ Some Directory → (o : Option ℕ) → IsPlaced tree birth (token_act position asks.get_token o)
+  token_placed dir None = refused_placed tree birth position asks.get_token status.NoResources
+  token_placed dir (Some number) = record { orderly = tt; answer = dir }
+
+  row_placed : (request : Asked) → has_method birth.protocol (method_of request) ≡ true → is_beyond birth.protocol (method_of request) ≡ false → IsPlaced tree birth (row_act built birth position room tree target request)
+  row_placed (asks.clone endpoint) has beyond =
+      unless_holds (IsPlaced tree birth) (first_of (cause_if (is_full room) status.NoResources ∷ [])) position (asks.clone endpoint) _ (refused_placed tree birth position (asks.clone endpoint)) (λ e. record { orderly = tt; answer = (kind, at, suited') })
+  row_placed asks.close has beyond = record { orderly = tt; answer = tt }
+  row_placed asks.query has beyond = record { orderly = tt; answer = tt }
+  row_placed (asks.get_attributes bits) has beyond = record { orderly = tt; answer = tt }
+  row_placed asks.sync has beyond = record { orderly = tt; answer = tt }
+  row_placed (asks.open_path path flags given object) has beyond =
+      unless_holds (IsPlaced tree birth) (first_of (entry_refusals built birth flags path)) position (asks.open_path path flags given object) _ (refused_placed tree birth position (asks.open_path path flags given object))
+      (λ e. walk_placed built birth position room tree path flags given object (walk tree flags (names_of path) birth.node) (leads_to_node tree flags (names_of path) birth.node children (kind, at)))
+  row_placed (asks.read_dirents most) has beyond =
+      unless_holds (IsPlaced tree birth) (first_of (cause_if (is_too_much most) status.InvalidArgs ∷ cause_if (fits_none (listing tree birth.node position.place) most) status.BufferTooSmall ∷ [])) position (asks.read_dirents most) _ (refused_placed tree birth position (asks.read_dirents most)) (λ e. record { orderly = tt; answer = tt })
+  row_placed asks.rewind has beyond = record { orderly = tt; answer = tt }
+  row_placed asks.get_token has beyond = token_placed (on_directory tree birth kind method.GetToken at suited' refl has beyond) room.token
+  row_placed (asks.rename src token dst) has beyond =
+      unless_holds (IsPlaced tree birth) (two_names_refusal src dst target) position (asks.rename src token dst) _ (refused_placed tree birth position (asks.rename src token dst)) (λ e. rename_placed birth position tree (asks.rename src token dst) src dst target)
+  row_placed (asks.link src token dst) has beyond =
+      unless_holds (IsPlaced tree birth) (two_names_refusal src dst target) position (asks.link src token dst) _ (refused_placed tree birth position (asks.link src token dst)) (λ e. link_placed birth position tree (asks.link src token dst) src dst children target)
+  row_placed (asks.unlink name flags) has beyond =
+      unless_holds (IsPlaced tree birth) (first_of (unlink_refusals tree (name_in birth.node name) flags)) position (asks.unlink name flags) _ (refused_placed tree birth position (asks.unlink name flags)) (λ e. record { orderly = unlink_placed birth position tree name flags e; answer = tt })
+  row_placed (asks.watch mask options watcher) has beyond =
+      unless_holds (IsPlaced tree birth) (first_of (watch_refusals room mask options)) position (asks.watch mask options watcher) _ (refused_placed tree birth position (asks.watch mask options watcher))
+      (λ e. record { orderly = tt; answer = on_directory tree birth kind method.Watch at suited' refl has beyond })
+  row_placed (asks.read count) has beyond = unless_holds (IsPlaced tree birth) (reading_refusal count) position (asks.read count) _ (refused_placed tree birth position (asks.read count)) (λ e. record { orderly = tt; answer = tt })
+  row_placed (asks.read_at count offset) has beyond = unless_holds (IsPlaced tree birth) (reading_refusal count) position (asks.read_at count offset) _ (refused_placed tree birth position (asks.read_at count offset)) (λ e. record { orderly = tt; answer = tt })
+  row_placed (asks.write bytes) has beyond =
+      unless_holds (IsPlaced tree birth) (writing_refusal (write_start birth position tree) bytes) position (asks.write bytes) _ (refused_placed tree birth position (asks.write bytes))
+      (λ e. record { orderly = written_orderly birth.node (bytes_of tree birth.node) (write_start birth position tree) bytes; answer = tt })
+  row_placed (asks.write_at bytes offset) has beyond =
+      unless_holds (IsPlaced tree birth) (writing_refusal offset bytes) position (asks.write_at bytes offset) _ (refused_placed tree birth position (asks.write_at bytes offset))
+      (λ e. record { orderly = written_orderly birth.node (bytes_of tree birth.node) offset bytes; answer = tt })
+  row_placed (asks.seek origin offset) has beyond =
+      unless_holds (IsPlaced tree birth) (first_of (cause_if (nat_lt 2 origin) status.InvalidArgs ∷ cause_if (is_no_position (seek_sum birth position tree origin offset)) status.OutOfRange ∷ [])) position (asks.seek origin offset) _ (refused_placed tree birth position (asks.seek origin offset)) (λ e. record { orderly = tt; answer = tt })
+  row_placed (asks.resize size) has beyond =
+      unless_holds (IsPlaced tree birth) (first_of (cause_if (nat_lt limit.MAX_FILE size) status.FileBig ∷ [])) position (asks.resize size) _ (refused_placed tree birth position (asks.resize size)) (λ e. record { orderly = tt; answer = tt })
+  row_placed (asks.echo_string value) has beyond = record { orderly = tt; answer = tt }
+
+  act_placed : (request : Asked) → has_method birth.protocol (method_of request) ≡ true → IsPlaced tree birth (act_of built birth position room tree target request)
+  unfolding act_of
+  act_placed request has =
+      unless_holds (IsPlaced tree birth) (first_of (method_refusals built birth (method_of request))) position request (row_act built birth position room tree target request) (refused_placed tree birth position request)
+      (λ e. row_placed request has (not_refused (is_beyond birth.protocol (method_of request)) status.BadHandle _ e))
+
+-- ---- what outcomes have
+
+-- an outcome leaves names of mounts alone, binds on a node, and gives a token of a directory
+pub record IsPlacedOutcome (tree : Tree) (bound : Bound) (outcome : Outcome) : Type 0 where
+  pub server : outcome.server ≡ bound.server
+  pub orderly : IsOrderly tree outcome.change
+  pub new : (b : Bound) → outcome.bound ≡ Some b → (b.server ≡ bound.server) × ((kind : NodeKind) × (kind_of (after tree outcome.change) b.birth.node ≡ Some kind) × (suits b.birth.protocol kind ≡ true))
+  pub token : (g : Given) → outcome.token ≡ Some g → (g.server ≡ bound.server) × (kind_of tree g.node ≡ Some Directory)
+
+abbrev NewIsPlaced : Tree → Bound → Bound → Type 0
+NewIsPlaced new bound b = (b.server ≡ bound.server) × ((kind : NodeKind) × (kind_of new b.birth.node ≡ Some kind) × (suits b.birth.protocol kind ≡ true))
+
+new_placed : (tree : Tree) (change : Change) (bound : Bound) (txid object : ℕ) (answer : Answer) → IsPlacedAnswer tree (after tree change) bound.birth answer → (b : Bound) → bound_of (asker_of bound txid object) answer ≡ Some b → NewIsPlaced (after tree change) bound b
+new_placed tree change bound txid object (binds birth announced) h b e =
+    let is : record { endpoint = object; server = bound.server; birth = birth; mask = 0 } ≡ b = cc in
+    subst (NewIsPlaced (after tree change) bound) is (refl, h)
+new_placed tree change bound txid object (watches mask) h b e =
+    let is : record { endpoint = object; server = bound.server; birth = watcher_birth bound.birth.node; mask = mask } ≡ b = cc in
+    subst (NewIsPlaced (after tree change) bound) is (refl, (Directory, kind_stays tree change bound.birth.node Directory h, refl))
+new_placed tree change bound txid object (replies a) h b e = absurd (cc)
+new_placed tree change bound txid object closes h b e = absurd (cc)
+new_placed tree change bound txid object (forwards mount flags rest) h b e = absurd (cc)
+new_placed tree change bound txid object (refuses s) h b e = absurd (cc)
+new_placed tree change bound txid object (ends s) h b e = absurd (cc)
+new_placed tree change bound txid object hangs_up h b e = absurd (cc)
+new_placed tree change bound txid object silent h b e = absurd (cc)
+
+abbrev TokenIsPlaced : Tree → Bound → Given → Type 0
+TokenIsPlaced tree bound g = (g.server ≡ bound.server) × (kind_of tree g.node ≡ Some Directory)
+
+reply_token : (tree : Tree) (bound : Bound) (txid object : ℕ) (a : Answered) → IsPlacedReply tree bound.birth a → (g : Given) → token_of (asker_of bound txid object) (replies a) ≡ Some g → TokenIsPlaced tree bound g
+reply_token tree bound txid object (answered.token n) h g e =
+    let is : record { token = n; endpoint = bound.endpoint; server = bound.server; node = bound.birth.node } ≡ g = cc in
+    subst (TokenIsPlaced tree bound) is (refl, h)
+reply_token tree bound txid object (answered.done m) h g e = absurd (cc)
+reply_token tree bound txid object (answered.fails m s) h g e = absurd (cc)
+reply_token tree bound txid object (answered.counted m x) h g e = absurd (cc)
+reply_token tree bound txid object (answered.payload m bytes) h g e = absurd (cc)
+reply_token tree bound txid object (answered.settled m) h g e = absurd (cc)
+reply_token tree bound txid object (answered.attributes a) h g e = absurd (cc)
+reply_token tree bound txid object (answered.unknown ordinal) h g e = absurd (cc)
+
+token_placed_in : (tree new : Tree) (bound : Bound) (txid object : ℕ) (answer : Answer) → IsPlacedAnswer tree new bound.birth answer → (g : Given) → token_of (asker_of bound txid object) answer ≡ Some g → TokenIsPlaced tree bound g
+token_placed_in tree new bound txid object (replies a) h g e = reply_token tree bound txid object a h g e
+token_placed_in tree new bound txid object (binds birth announced) h g e = absurd (cc)
+token_placed_in tree new bound txid object (watches mask) h g e = absurd (cc)
+token_placed_in tree new bound txid object closes h g e = absurd (cc)
+token_placed_in tree new bound txid object (forwards mount flags rest) h g e = absurd (cc)
+token_placed_in tree new bound txid object (refuses s) h g e = absurd (cc)
+token_placed_in tree new bound txid object (ends s) h g e = absurd (cc)
+token_placed_in tree new bound txid object hangs_up h g e = absurd (cc)
+token_placed_in tree new bound txid object silent h g e = absurd (cc)
+
+placed_outcome : (tree : Tree) (bound : Bound) (txid object : ℕ) (act : Act) → IsPlaced tree bound.birth act → IsPlacedOutcome tree bound (outcome_with (asker_of bound txid object) act)
+placed_outcome tree bound txid object act h = record {
+  server = refl;
+  orderly = h.orderly;
+  new = new_placed tree act.change bound txid object act.answer h.answer;
+  token = token_placed_in tree (after tree act.change) bound txid object act.answer h.answer;
+}
+
+-- a request is of a method that its protocol has
+method_read : (m : Method) (items : List Item) → method_of (asked_from m items) ≡ m
+method_read method.Clone items = refl
+method_read method.Close items = refl
+method_read method.Query items = refl
+method_read method.GetAttributes items = refl
+method_read method.Sync items = refl
+method_read method.OpenPath items = refl
+method_read method.ReadDirents items = refl
+method_read method.Rewind items = refl
+method_read method.GetToken items = refl
+method_read method.Rename items = refl
+method_read method.Link items = refl
+method_read method.Unlink items = refl
+method_read method.Watch items = refl
+method_read method.Read items = refl
+method_read method.ReadAt items = refl
+method_read method.Write items = refl
+method_read method.WriteAt items = refl
+method_read method.Seek items = refl
+method_read method.Resize items = refl
+method_read method.EchoString items = refl
+
+pub has_read : SpelledWhereRead → (p : Protocol) (bytes handles : List ℕ) (txid : ℕ) (a : Asked) → read_by p bytes handles ≡ Ok (txid, a) → has_method p (method_of a) ≡ true
+has_read law p bytes handles txid a read =
+    let r = what_is_read law p bytes (map handle_with handles) txid a read in
+    ap (has_method p) (ap method_of (sym r.fields_are) ∙ method_read r.method r.items) ∙ r.known
+
+-- what a served connection stands on
+pub record IsServedOn (tree : Tree) (bound : Bound) : Type 0 where
+  pub children : HasChildren tree
+  pub kind : NodeKind
+  pub node : kind_of tree bound.birth.node ≡ Some kind
+  pub suited : suits bound.birth.protocol kind ≡ true
+
+read_placed : SpelledWhereRead → (built : Built) (moment : Moment) (bytes handles : List ℕ) → IsServedOn moment.tree moment.bound → (r : Read) → read_by moment.bound.birth.protocol bytes handles ≡ r → IsPlacedOutcome moment.tree moment.bound (outcome_of_read built moment r)
+read_placed law built moment bytes handles h (Ok (txid, a)) read =
+    placed_outcome moment.tree moment.bound txid (object_of a) (request_act built moment a)
+    (act_placed built moment.bound.birth moment.position moment.room moment.tree (moment.directory (asked_token a)) h.kind h.children h.node h.suited a (has_read law moment.bound.birth.protocol bytes handles txid a read))
+read_placed law built moment bytes handles h (Err (Malformed fault)) read = placed_outcome moment.tree moment.bound 0 0 (only moment.position (ends status.InvalidArgs)) (placed moment.tree moment.bound.birth moment.position (ends status.InvalidArgs) tt)
+read_placed law built moment bytes handles h (Err UnknownStrict) read = placed_outcome moment.tree moment.bound 0 0 (only moment.position (ends status.NotSupported)) (placed moment.tree moment.bound.birth moment.position (ends status.NotSupported) tt)
+read_placed law built moment bytes handles h (Err UnknownOneWay) read = placed_outcome moment.tree moment.bound 0 0 (only moment.position silent) (placed moment.tree moment.bound.birth moment.position silent tt)
+read_placed law built moment bytes handles h (Err (UnknownTwoWay txid ordinal)) read =
+    placed_outcome moment.tree moment.bound txid 0 (only moment.position (replies (answered.unknown ordinal))) (placed moment.tree moment.bound.birth moment.position (replies (answered.unknown ordinal)) tt)
+
+message_placed : SpelledWhereRead → (built : Built) (moment : Moment) (bytes handles : List ℕ) → IsServedOn moment.tree moment.bound → (p : Protocol) → moment.bound.birth.protocol ≡ p → IsPlacedOutcome moment.tree moment.bound (outcome_of_message built moment p bytes handles)
+message_placed law built moment bytes handles h protocol.Watcher is = placed_outcome moment.tree moment.bound 0 0 (only moment.position silent) (placed moment.tree moment.bound.birth moment.position silent tt)
+message_placed law built moment bytes handles h protocol.Directory is = read_placed law built moment bytes handles h (read_by protocol.Directory bytes handles) (ap (λ (p : Protocol). read_by p bytes handles) is)
+message_placed law built moment bytes handles h protocol.File is = read_placed law built moment bytes handles h (read_by protocol.File bytes handles) (ap (λ (p : Protocol). read_by p bytes handles) is)
+message_placed law built moment bytes handles h protocol.Node is = read_placed law built moment bytes handles h (read_by protocol.Node bytes handles) (ap (λ (p : Protocol). read_by p bytes handles) is)
+message_placed law built moment bytes handles h protocol.Echo is = read_placed law built moment bytes handles h (read_by protocol.Echo bytes handles) (ap (λ (p : Protocol). read_by p bytes handles) is)
+
+pub sending_placed : SpelledWhereRead → (built : Built) (moment : Moment) (sending : Sending) → IsServedOn moment.tree moment.bound → IsPlacedOutcome moment.tree moment.bound (outcome_of_sending built moment sending)
+unfolding outcome_of_sending
+sending_placed law built moment (message bytes handles) h = message_placed law built moment bytes handles h moment.bound.birth.protocol refl
+sending_placed law built moment hang_up h = placed_outcome moment.tree moment.bound 0 0 (only moment.position hangs_up) (placed moment.tree moment.bound.birth moment.position hangs_up tt)

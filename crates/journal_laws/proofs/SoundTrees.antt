@@ -1,0 +1,352 @@
+-- What is made, written, resized and cut leaves a tree sound.
+use Rattle.std.proofs.Common.{◌≡◌, ℕ, zero, suc, ◌+◌, ◌<◌, ◌≤◌, ◌==◌, ◌&&◌, ◌||◌, Bool, true, false, not, nat_lt, nat_le, is_some, unwrap_or, if◌then◌else◌, List, [], ◌∷◌, ◌++◌, length, Option, Some, None, Ok, Err, All, Contains, refl, sym, ap, ◌∙◌, subst, arith}
+use Rattle.std.specs.FinMap as finite
+use Rattle.std.specs.Option.{option_map, option_map_or}
+use Rattle.std.proofs.lemmas.Bool.{ne_eqb, or_right, true≢false}
+use Rattle.std.proofs.lemmas.List.Elements.{All-contains, All-head, All-set, All-tail}
+use Rattle.fidl_names.specs.First.{cause_if, first_of}
+use Rattle.fidl_names.specs.declared.limits.TheConstants as limit
+use Rattle.fidl_names.specs.declared.methods.Method.{Method}
+use Rattle.fidl_names.specs.declared.methods.Method.TheVariants as method
+use Rattle.fidl_names.specs.declared.statuses.Status.{Status}
+use Rattle.fidl_names.specs.declared.statuses.Status.TheVariants as status
+use Rattle.io_flags.specs.Grants.{asked_rights, explicit_rights}
+use Rattle.io_flags.specs.Words.{creates, has}
+use Rattle.io_flags.specs.declared.names.Flag.TheVariants as flag
+use Rattle.io_messages.specs.Asked.{Asked, method_of}
+use Rattle.io_messages.specs.Asked as asks
+use Rattle.io_messages.specs.Protocols.{has_method, home_of, has as has_home}
+use Rattle.io_messages.specs.declared.protocols.Home.{Home}
+use Rattle.io_messages.specs.declared.protocols.Home.TheVariants as homes
+use Rattle.io_messages.specs.declared.protocols.Protocol.{Protocol}
+use Rattle.io_messages.specs.declared.protocols.Protocol.TheVariants as protocol
+use Rattle.io_messages.specs.declared.requests.RequestFault.TheVariants.{Malformed, UnknownStrict, UnknownOneWay, UnknownTwoWay}
+use Rattle.io_rights.specs.Operations.{OperationSet, all, is_within}
+use Rattle.node_graph.specs.Graph.{create_refusal, resize_refusal, resized, write_change, write_refusal}
+use Rattle.node_graph.specs.Tree.{IsSound, NodeRow, Tree, Edges, EdgeKey, EdgeTo, Change, after, bare_tree, fill, is_removed, kind_of, make, new_row, row_of, stay}
+use Rattle.node_graph.specs.declared.faults.GraphFault.TheVariants as fault
+use Rattle.node_graph.specs.declared.nodes.NodeKind.{NodeKind}
+use Rattle.node_graph.specs.declared.nodes.NodeKind.TheVariants.{Directory, File, Service, Mount}
+use Rattle.node_graph.proofs.Soundness.{bare_sound, filled_sound, made_sound, resized_sound, written_sound}
+use Rattle.path_walk.specs.Names.{IsName}
+use Rattle.path_walk.specs.Paths.{names_of}
+use Rattle.path_walk.proofs.PartLemmas.{name_short}
+use Rattle.conn_rules.specs.declared.births.Room.{Room}
+use Rattle.conn_rules.specs.Acts.{act_of, is_beyond, is_of_every_node, lacks_right, method_refusals, row_act}
+use Rattle.conn_rules.specs.Answers.{Act, only, failure_of}
+use Rattle.conn_rules.specs.Births.{Birth, Position}
+use Rattle.conn_rules.specs.Built.{Built}
+use Rattle.conn_rules.specs.FileRows.{is_no_position, is_too_far, is_too_much, reading_refusal, seek_sum, write_start, writing_refusal}
+use Rattle.conn_rules.specs.Listings.{fits_none, listing}
+use Rattle.conn_rules.specs.NameRows.{token_act, watch_refusals}
+use Rattle.conn_rules.specs.Nodes.{bytes_of, edge_at, is_file, kind_behind, kind_here}
+use Rattle.conn_rules.specs.Opens.{arrival, arrival_refusals, by_walk, entry_refusals, is_full, is_other_kind, kind_made, making, making_refusals, marks_file, other_kind_status}
+use Rattle.conn_rules.specs.Walks.{Walk, arrives, missing, crosses, stops, behind, passing, last_by_kind, last_step, inner_rights, inner_by_kind, inner_step, walk, limit_of}
+use Rattle.vfs_journal.specs.Entries.{Journal, Sending, Sent, message, hang_up, serves}
+use Rattle.vfs_journal.specs.History.{History, bound_at, changed, living, tree_at, trees_of}
+use Rattle.vfs_journal.specs.Lawful.{Lawful}
+use Rattle.vfs_journal.specs.Lawful as lawful
+use Rattle.vfs_journal.specs.Outcomes.{Forwarded, Outcome}
+use Rattle.vfs_journal.specs.Past.{behind as behind_entry, event_of, history_of}
+use Rattle.vfs_journal.specs.Serving.{Moment, Read, moment_of, outcome_at, outcome_of, outcome_of_message, outcome_of_read, outcome_of_sending, read_by, token_of as asked_token}
+use Rattle.vfs_journal.specs.Session.{head, sent_behind, with_forward}
+use Rattle.vfs_journal.specs.Starts.{Bound, Start}
+use Rattle.journal_laws.specs.Soundness.{IsStart}
+use Rattle.journal_laws.specs.Trees.{IsOnNode, KeepsNames, suits}
+use Rattle.journal_laws.proofs.Acts.{first_none, not_refused, path_passes, unless_holds}
+use Rattle.journal_laws.proofs.Below.{Below}
+use Rattle.journal_laws.proofs.Edges.{mapped}
+use Rattle.journal_laws.proofs.Kept.{is_serving, lawful_kept}
+use Rattle.journal_laws.proofs.Members.{found}
+use Rattle.journal_laws.proofs.OnTrees.{StandAt, lawful_stand, sound_children}
+use Rattle.journal_laws.proofs.Orderly.{HasChildren}
+use Rattle.journal_laws.proofs.Placed.{IsNode, LeadsToNode, has_read, kind_there, leads_to_node}
+use Rattle.journal_laws.proofs.Stepping.{stepped}
+use Rattle.journal_laws.proofs.Steps.{refusals_change_nothing, sendings_wait_last, servings_take_effect}
+
+-- ---- a name that a walk misses
+
+-- it is a name, in a directory
+abbrev MissesName : Tree → Walk → Type 0
+MissesName tree (missing directory name masks) = (kind_of tree directory ≡ Some Directory) × IsName name
+MissesName tree _ = Unit {0}
+
+misses_behind : (tree : Tree) (mask : OperationSet) (w : Walk) → MissesName tree w → MissesName tree (behind mask w)
+misses_behind tree mask (arrives node masks) h = tt
+misses_behind tree mask (missing directory name masks) h = h
+misses_behind tree mask (crosses mount rest masks) h = tt
+misses_behind tree mask (stops status) h = tt
+
+misses_passing : (tree : Tree) (wanted mask : OperationSet) (w : Walk) → MissesName tree w → MissesName tree (passing wanted mask w)
+misses_passing tree wanted mask w h = by_test (is_within wanted mask) where
+  by_test : (b : Bool) → MissesName tree (if b then behind mask w else stops status.AccessDenied)
+  by_test true = misses_behind tree mask w h
+  by_test false = tt
+
+last_misses : (tree : Tree) (word : ℕ) (edge : EdgeTo) (k : NodeKind) → MissesName tree (last_by_kind word edge k)
+last_misses tree word edge (Mount index) = misses_passing tree (asked_rights word) edge.mask (crosses index [] []) tt
+last_misses tree word edge Directory = misses_passing tree (explicit_rights word) edge.mask (arrives edge.child []) tt
+last_misses tree word edge File = misses_passing tree (explicit_rights word) edge.mask (arrives edge.child []) tt
+last_misses tree word edge Service = misses_passing tree (explicit_rights word) edge.mask (arrives edge.child []) tt
+
+last_edge : (tree : Tree) (word directory : ℕ) (name : List ℕ) → kind_of tree directory ≡ Some Directory → IsName name → (o : Option EdgeTo) → MissesName tree (last_step tree word directory name o)
+last_edge tree word directory name here valid None = (here, valid)
+last_edge tree word directory name here valid (Some edge) = last_misses tree word edge (kind_behind tree edge)
+
+inner_misses : (tree : Tree) (word : ℕ) (names : List (List ℕ)) (edge : EdgeTo) (w : Walk) → IsNode tree edge.child → (kind_of tree edge.child ≡ Some Directory → MissesName tree w) → (k : NodeKind) → kind_behind tree edge ≡ k → MissesName tree (inner_by_kind word names edge k w)
+inner_misses tree word names edge w there later Directory is = misses_passing tree (inner_rights word) edge.mask w (later (kind_there tree edge.child there ∙ ap Some is))
+inner_misses tree word names edge w there later File is = tt
+inner_misses tree word names edge w there later Service is = tt
+inner_misses tree word names edge w there later (Mount index) is = misses_passing tree (inner_rights word) edge.mask (crosses index names []) tt
+
+inner_edge : (tree : Tree) (word : ℕ) (names : List (List ℕ)) (key : EdgeKey) (on : ℕ → Walk) → HasChildren tree → ((n : ℕ) → kind_of tree n ≡ Some Directory → MissesName tree (on n)) → (o : Option EdgeTo) → edge_at tree key ≡ o → MissesName tree (inner_step tree word names o on)
+inner_edge tree word names key on children later None e = tt
+inner_edge tree word names key on children later (Some edge) e = inner_misses tree word names edge (on edge.child) (children key edge e) (later edge.child) (kind_behind tree edge) refl
+
+misses_name : (tree : Tree) (word : ℕ) (names : List (List ℕ)) (directory : ℕ) → HasChildren tree → kind_of tree directory ≡ Some Directory → All IsName names → MissesName tree (walk tree word names directory)
+unfolding walk
+misses_name tree word [] directory children here valid = tt
+misses_name tree word (name ∷ []) directory children here valid = last_edge tree word directory name here (All-head IsName name [] valid) (edge_at tree (record { directory = directory; name = name }))
+misses_name tree word (name ∷ next ∷ names) directory children here valid =
+    inner_edge tree word (next ∷ names) (record { directory = directory; name = name }) (walk tree word (next ∷ names)) children
+    (λ n there. misses_name tree word (next ∷ names) n children there (All-tail IsName name (next ∷ names) valid)) (edge_at tree (record { directory = directory; name = name })) refl
+
+-- ---- what acts leave
+
+abbrev IsLeftSound : Tree → Act → Type 0
+IsLeftSound tree act = IsSound (after tree act.change)
+
+-- a node that is a file has its bytes
+file_row : (tree : Tree) (node : ℕ) → kind_of tree node ≡ Some File → row_of tree.nodes node ≡ Some (record { kind = File; bytes = bytes_of tree node })
+file_row tree node at =
+    let found = mapped (λ (row : NodeRow). row.kind) (row_of tree.nodes node) File at in
+    found.1 ∙ ap Some (ap (λ (k : NodeKind). let row : NodeRow = record { kind = k; bytes = found.0.bytes } in row) found.2)
+    ∙ ap (λ (bs : List ℕ). Some (let row : NodeRow = record { kind = File; bytes = bs } in row)) (sym (ap (λ (o : Option NodeRow). option_map_or (λ (row : NodeRow). row.bytes) o []) found.1))
+
+is_file_kind : (kind : NodeKind) → is_file kind ≡ true → kind ≡ File
+is_file_kind File e = refl
+is_file_kind Directory e = absurd (true≢false (sym e))
+is_file_kind Service e = absurd (true≢false (sym e))
+is_file_kind (Mount index) e = absurd (true≢false (sym e))
+
+cut_by : (tree : Tree) (node : ℕ) (b : Bool) → (b ≡ true → kind_of tree node ≡ Some File) → IsSound tree → IsSound (after tree (if b then fill node [] else stay))
+cut_by tree node true file sound = filled_sound tree node (bytes_of tree node) [] sound (file_row tree node (file refl)) (omega arith)
+cut_by tree node false file sound = sound
+
+both_false : (a b : Bool) → (a && not b) ≡ false → a ≡ true → b ≡ true
+both_false true true e f = refl
+both_false true false e f = absurd (true≢false e)
+both_false false b e f = absurd (true≢false (sym f))
+
+create_passes : (edges : Edges) (key : EdgeKey) → is_removed edges key.directory ≡ false → finite.get edges key ≡ None → nat_le limit.MAX_NAMES (finite.len edges) ≡ false → create_refusal edges key ≡ None
+create_passes edges key removed free few = by_parts (is_removed edges key.directory) (is_some (finite.get edges key)) (nat_le limit.MAX_NAMES (finite.len edges)) removed (ap is_some free) few where
+  by_parts : (a b c : Bool) → a ≡ false → b ≡ false → c ≡ false → first_of (cause_if a fault.Removed ∷ cause_if b fault.Exists ∷ cause_if c fault.NoSpace ∷ []) ≡ None
+  by_parts false false false p q r = refl
+  by_parts true b c p q r = absurd (true≢false p)
+  by_parts false true c p q r = absurd (true≢false q)
+  by_parts false false true p q r = absurd (true≢false r)
+
+walk_sound : (built : Built) (birth : Birth) (position : Position) (room : Room) (tree : Tree) (path : List ℕ) (word : ℕ) (given : Option ℕ) (object : ℕ) → IsSound tree → (w : Walk) → LeadsToNode tree w → MissesName tree w →
+    IsLeftSound tree (by_walk built birth position room tree (asks.open_path path word given object) word w)
+walk_sound built birth position room tree path word given object sound (arrives node masks) there misses =
+    unless_holds (IsLeftSound tree) (first_of (arrival_refusals built room word (kind_here tree node))) position (asks.open_path path word given object) (arrival position word (limit_of birth.rights masks) node (kind_here tree node)) (λ s. sound)
+    (λ e. cut_by tree node (has word flag.FileTruncate)
+    (λ cuts. kind_there tree node there ∙ ap Some (is_file_kind (kind_here tree node)
+    (both_false (marks_file word) (is_file (kind_here tree node))
+    (not_refused (marks_file word && not (is_file (kind_here tree node))) status.NotFile _ (first_none (cause_if (is_other_kind word (kind_here tree node)) (other_kind_status word)) _ (first_none (cause_if (has word flag.MustCreate) status.AlreadyExists) _ e)))
+    (or_right (has word flag.FileAppend) (has word flag.FileTruncate) cuts))))
+    sound)
+walk_sound built birth position room tree path word given object sound (missing directory name masks) free misses =
+    unless_holds (IsLeftSound tree) (first_of (making_refusals tree room word directory)) position (asks.open_path path word given object) (making position tree word (limit_of birth.rights masks) (record { directory = directory; name = name })) (λ s. sound)
+    (λ e.
+    let second = first_none (cause_if (not (creates word)) status.NotFound) _ e in
+    let third = first_none (cause_if (is_removed tree.edges directory) status.BadState) _ second in
+    let short = name_short name misses.1 in
+    made_sound tree (record { directory = directory; name = name }) (kind_made word) all sound
+    (create_passes tree.edges (record { directory = directory; name = name }) (not_refused (is_removed tree.edges directory) status.BadState _ second) free (not_refused (nat_le limit.MAX_NAMES (finite.len tree.edges)) status.NoSpace _ third))
+    misses.0 short.0 short.1)
+walk_sound built birth position room tree path word given object sound (crosses mount rest masks) there misses = sound
+walk_sound built birth position room tree path word given object sound (stops status) there misses = sound
+
+-- ---- what is written
+
+write_passes : (offset : ℕ) (bytes : List ℕ) → writing_refusal offset bytes ≡ None → write_refusal offset bytes ≡ None
+write_passes offset [] e = refl
+write_passes offset (byte ∷ bytes) e = by_far (nat_lt limit.MAX_FILE (offset + length (byte ∷ bytes))) (not_refused (is_too_far offset (byte ∷ bytes)) status.FileBig _ (first_none (cause_if (is_too_much (length (byte ∷ bytes))) status.OutOfRange) _ e)) where
+  by_far : (b : Bool) → (not (length (byte ∷ bytes) == 0) && b) ≡ false → cause_if b fault.FileBig ≡ None
+  by_far false h = refl
+  by_far true h = absurd (true≢false (sym (some (length bytes)) ∙ h)) where
+    some : (n : ℕ) → (not (suc n == 0) && true) ≡ true
+    some n = ap (λ (b : Bool). not b && true) (ne_eqb (suc n) 0 (λ e. omega arith))
+
+module _ (below : Below) (built : Built) (names : KeepsNames built) (birth : Birth) (position : Position) (room : Room) (tree : Tree) (target : Option ℕ) (kind : NodeKind) (sound : IsSound tree) (at : kind_of tree birth.node ≡ Some kind) (suited : suits birth.protocol kind ≡ true) where
+  file_protocol : (p : Protocol) (m : Method) → home_of m ≡ homes.Files → has_method p m ≡ true → is_beyond p m ≡ false → p ≡ protocol.File
+  file_protocol protocol.File m home has' beyond = refl
+  file_protocol protocol.Directory m home has' beyond = absurd (true≢false (sym has' ∙ ap (has_home protocol.Directory) home))
+  file_protocol protocol.Echo m home has' beyond = absurd (true≢false (sym has' ∙ ap (has_home protocol.Echo) home))
+  file_protocol protocol.Watcher m home has' beyond = absurd (true≢false (sym has' ∙ ap (has_home protocol.Watcher) home))
+  file_protocol protocol.Node m home has' beyond = absurd (true≢false (ap (λ (h : Home). not (is_of_every_node h)) (sym home) ∙ beyond))
+
+  directory_protocol : (p : Protocol) (m : Method) → home_of m ≡ homes.Directories → has_method p m ≡ true → is_beyond p m ≡ false → p ≡ protocol.Directory
+  directory_protocol protocol.Directory m home has' beyond = refl
+  directory_protocol protocol.File m home has' beyond = absurd (true≢false (sym has' ∙ ap (has_home protocol.File) home))
+  directory_protocol protocol.Echo m home has' beyond = absurd (true≢false (sym has' ∙ ap (has_home protocol.Echo) home))
+  directory_protocol protocol.Watcher m home has' beyond = absurd (true≢false (sym has' ∙ ap (has_home protocol.Watcher) home))
+  directory_protocol protocol.Node m home has' beyond = absurd (true≢false (ap (λ (h : Home). not (is_of_every_node h)) (sym home) ∙ beyond))
+
+  a_directory : (k : NodeKind) → suits protocol.Directory k ≡ true → k ≡ Directory
+  a_directory Directory e = refl
+  a_directory File e = absurd (true≢false (sym e))
+  a_directory Service e = absurd (true≢false (sym e))
+  a_directory (Mount index) e = absurd (true≢false (sym e))
+
+  on_file : (m : Method) → home_of m ≡ homes.Files → has_method birth.protocol m ≡ true → is_beyond birth.protocol m ≡ false → kind_of tree birth.node ≡ Some File
+  on_file m home has' beyond = at ∙ ap Some (is_file_kind kind (ap (λ (p : Protocol). suits p kind) (sym (file_protocol birth.protocol m home has' beyond)) ∙ suited))
+
+  on_directory : (m : Method) → home_of m ≡ homes.Directories → has_method birth.protocol m ≡ true → is_beyond birth.protocol m ≡ false → kind_of tree birth.node ≡ Some Directory
+  on_directory m home has' beyond = at ∙ ap Some (a_directory kind (ap (λ (p : Protocol). suits p kind) (sym (directory_protocol birth.protocol m home has' beyond)) ∙ suited))
+
+  token_sound : (o : Option ℕ) → IsLeftSound tree (token_act position asks.get_token o)
+  token_sound None = sound
+  token_sound (Some number) = sound
+
+  row_sound : (request : Asked) → has_method birth.protocol (method_of request) ≡ true → is_beyond birth.protocol (method_of request) ≡ false → built.methods (method_of request) ≡ true → IsLeftSound tree (row_act built birth position room tree target request)
+  row_sound (asks.clone endpoint) has' beyond made = unless_holds (IsLeftSound tree) (first_of (cause_if (is_full room) status.NoResources ∷ [])) position (asks.clone endpoint) _ (λ s. sound) (λ e. sound)
+  row_sound asks.close has' beyond made = sound
+  row_sound asks.query has' beyond made = sound
+  row_sound (asks.get_attributes bits) has' beyond made = sound
+  row_sound asks.sync has' beyond made = sound
+  row_sound (asks.open_path path flags given object) has' beyond made =
+      unless_holds (IsLeftSound tree) (first_of (entry_refusals built birth flags path)) position (asks.open_path path flags given object) _ (λ s. sound)
+      (λ e.
+      let here = on_directory method.OpenPath refl has' beyond in
+      let valid = (below.sound path (path_passes built birth flags path e)).valid in
+      walk_sound built birth position room tree path flags given object sound (walk tree flags (names_of path) birth.node)
+      (leads_to_node tree flags (names_of path) birth.node (sound_children tree sound) (Directory, here)) (misses_name tree flags (names_of path) birth.node (sound_children tree sound) here valid))
+  row_sound (asks.read_dirents most) has' beyond made =
+      unless_holds (IsLeftSound tree) (first_of (cause_if (is_too_much most) status.InvalidArgs ∷ cause_if (fits_none (listing tree birth.node position.place) most) status.BufferTooSmall ∷ [])) position (asks.read_dirents most) _ (λ s. sound) (λ e. sound)
+  row_sound asks.rewind has' beyond made = sound
+  row_sound asks.get_token has' beyond made = token_sound room.token
+  row_sound (asks.rename src token dst) has' beyond made = absurd (true≢false (sym made ∙ names.rename))
+  row_sound (asks.link src token dst) has' beyond made = absurd (true≢false (sym made ∙ names.link))
+  row_sound (asks.unlink name flags) has' beyond made = absurd (true≢false (sym made ∙ names.unlink))
+  row_sound (asks.watch mask options watcher) has' beyond made = unless_holds (IsLeftSound tree) (first_of (watch_refusals room mask options)) position (asks.watch mask options watcher) _ (λ s. sound) (λ e. sound)
+  row_sound (asks.read count) has' beyond made = unless_holds (IsLeftSound tree) (reading_refusal count) position (asks.read count) _ (λ s. sound) (λ e. sound)
+  row_sound (asks.read_at count offset) has' beyond made = unless_holds (IsLeftSound tree) (reading_refusal count) position (asks.read_at count offset) _ (λ s. sound) (λ e. sound)
+  row_sound (asks.write bytes) has' beyond made =
+      unless_holds (IsLeftSound tree) (writing_refusal (write_start birth position tree) bytes) position (asks.write bytes) _ (λ s. sound)
+      (λ e. written_sound tree birth.node (bytes_of tree birth.node) (write_start birth position tree) bytes sound (file_row tree birth.node (on_file method.Write refl has' beyond)) (write_passes (write_start birth position tree) bytes e))
+  row_sound (asks.write_at bytes offset) has' beyond made =
+      unless_holds (IsLeftSound tree) (writing_refusal offset bytes) position (asks.write_at bytes offset) _ (λ s. sound)
+      (λ e. written_sound tree birth.node (bytes_of tree birth.node) offset bytes sound (file_row tree birth.node (on_file method.WriteAt refl has' beyond)) (write_passes offset bytes e))
+  row_sound (asks.seek origin offset) has' beyond made =
+      unless_holds (IsLeftSound tree) (first_of (cause_if (nat_lt 2 origin) status.InvalidArgs ∷ cause_if (is_no_position (seek_sum birth position tree origin offset)) status.OutOfRange ∷ [])) position (asks.seek origin offset) _ (λ s. sound) (λ e. sound)
+  row_sound (asks.resize size) has' beyond made =
+      unless_holds (IsLeftSound tree) (first_of (cause_if (nat_lt limit.MAX_FILE size) status.FileBig ∷ [])) position (asks.resize size) _ (λ s. sound)
+      (λ e. resized_sound tree birth.node (bytes_of tree birth.node) size sound (file_row tree birth.node (on_file method.Resize refl has' beyond)) (ap (λ (b : Bool). cause_if b fault.FileBig) (not_refused (nat_lt limit.MAX_FILE size) status.FileBig _ e)))
+  row_sound (asks.echo_string value) has' beyond made = sound
+
+  not_not : (b : Bool) → not b ≡ false → b ≡ true
+  not_not true e = refl
+  not_not false e = absurd (true≢false e)
+
+  act_sound : (request : Asked) → has_method birth.protocol (method_of request) ≡ true → IsLeftSound tree (act_of built birth position room tree target request)
+  unfolding act_of
+  act_sound request has' =
+      unless_holds (IsLeftSound tree) (first_of (method_refusals built birth (method_of request))) position request (row_act built birth position room tree target request) (λ s. sound)
+      (λ e.
+      row_sound request has' (not_refused (is_beyond birth.protocol (method_of request)) status.BadHandle _ e)
+      (not_not (built.methods (method_of request))
+      (not_refused (not (built.methods (method_of request))) status.NotSupported _
+      (first_none (cause_if (lacks_right birth (method_of request)) status.BadHandle) _ (first_none (cause_if (is_beyond birth.protocol (method_of request)) status.BadHandle) _ e)))))
+
+-- ---- what servings leave
+
+read_sound : Below → (built : Built) → KeepsNames built → (moment : Moment) (bytes handles : List ℕ) (kind : NodeKind) → IsSound moment.tree → kind_of moment.tree moment.bound.birth.node ≡ Some kind → suits moment.bound.birth.protocol kind ≡ true → (r : Read) → read_by moment.bound.birth.protocol bytes handles ≡ r →
+    IsSound (after moment.tree (outcome_of_read built moment r).change)
+read_sound below built names moment bytes handles kind sound at suited (Ok (txid, a)) read =
+    act_sound below built names moment.bound.birth moment.position moment.room moment.tree (moment.directory (asked_token a)) kind sound at suited a (has_read below.spelled moment.bound.birth.protocol bytes handles txid a read)
+read_sound below built names moment bytes handles kind sound at suited (Err (Malformed fault)) read = sound
+read_sound below built names moment bytes handles kind sound at suited (Err UnknownStrict) read = sound
+read_sound below built names moment bytes handles kind sound at suited (Err UnknownOneWay) read = sound
+read_sound below built names moment bytes handles kind sound at suited (Err (UnknownTwoWay txid ordinal)) read = sound
+
+message_sound : Below → (built : Built) → KeepsNames built → (moment : Moment) (bytes handles : List ℕ) (kind : NodeKind) → IsSound moment.tree → kind_of moment.tree moment.bound.birth.node ≡ Some kind → suits moment.bound.birth.protocol kind ≡ true → (p : Protocol) → moment.bound.birth.protocol ≡ p →
+    IsSound (after moment.tree (outcome_of_message built moment p bytes handles).change)
+message_sound below built names moment bytes handles kind sound at suited protocol.Watcher is = sound
+message_sound below built names moment bytes handles kind sound at suited protocol.Directory is = read_sound below built names moment bytes handles kind sound at suited (read_by protocol.Directory bytes handles) (ap (λ (p : Protocol). read_by p bytes handles) is)
+message_sound below built names moment bytes handles kind sound at suited protocol.File is = read_sound below built names moment bytes handles kind sound at suited (read_by protocol.File bytes handles) (ap (λ (p : Protocol). read_by p bytes handles) is)
+message_sound below built names moment bytes handles kind sound at suited protocol.Node is = read_sound below built names moment bytes handles kind sound at suited (read_by protocol.Node bytes handles) (ap (λ (p : Protocol). read_by p bytes handles) is)
+message_sound below built names moment bytes handles kind sound at suited protocol.Echo is = read_sound below built names moment bytes handles kind sound at suited (read_by protocol.Echo bytes handles) (ap (λ (p : Protocol). read_by p bytes handles) is)
+
+sending_sound : Below → (built : Built) → KeepsNames built → (moment : Moment) (sending : Sending) (kind : NodeKind) → IsSound moment.tree → kind_of moment.tree moment.bound.birth.node ≡ Some kind → suits moment.bound.birth.protocol kind ≡ true → IsSound (after moment.tree (outcome_of_sending built moment sending).change)
+unfolding outcome_of_sending
+sending_sound below built names moment (message bytes handles) kind sound at suited = message_sound below built names moment bytes handles kind sound at suited moment.bound.birth.protocol refl
+sending_sound below built names moment hang_up kind sound at suited = sound
+
+-- the change is of the server's own tree
+read_server : (built : Built) (moment : Moment) (r : Read) → (outcome_of_read built moment r).server ≡ moment.bound.server
+read_server built moment (Ok (txid, a)) = refl
+read_server built moment (Err (Malformed fault)) = refl
+read_server built moment (Err UnknownStrict) = refl
+read_server built moment (Err UnknownOneWay) = refl
+read_server built moment (Err (UnknownTwoWay txid ordinal)) = refl
+
+message_server : (built : Built) (moment : Moment) (bytes handles : List ℕ) (p : Protocol) → (outcome_of_message built moment p bytes handles).server ≡ moment.bound.server
+message_server built moment bytes handles protocol.Watcher = refl
+message_server built moment bytes handles protocol.Directory = read_server built moment (read_by protocol.Directory bytes handles)
+message_server built moment bytes handles protocol.File = read_server built moment (read_by protocol.File bytes handles)
+message_server built moment bytes handles protocol.Node = read_server built moment (read_by protocol.Node bytes handles)
+message_server built moment bytes handles protocol.Echo = read_server built moment (read_by protocol.Echo bytes handles)
+
+server_is : (built : Built) (moment : Moment) (sending : Sending) → (outcome_of_sending built moment sending).server ≡ moment.bound.server
+unfolding outcome_of_sending
+server_is built moment (message bytes handles) = message_server built moment bytes handles moment.bound.birth.protocol
+server_is built moment hang_up = refl
+
+-- ---- lawful journals
+
+tree_sound : (trees : List Tree) (server : ℕ) → All IsSound trees → IsSound (tree_at trees server)
+tree_sound [] server h = bare_sound
+tree_sound (tree ∷ trees) zero h = All-head IsSound tree trees h
+tree_sound (tree ∷ trees) (suc server) h = tree_sound trees server (All-tail IsSound tree trees h)
+
+served_sound : Below → (built : Built) → KeepsNames built → (start : Start) (journal : Journal) (sent : Sent) → IsStart start → Lawful built start journal → head start (history_of built start journal) sent.endpoint ≡ Some sent →
+    All IsSound (trees_of start (history_of built start journal)) → All IsSound (trees_of start (behind_entry built start (serves sent) (history_of built start journal)))
+unfolding event_of
+served_sound below built names start journal sent s h first sound =
+    let past = history_of built start journal in
+    let trees = trees_of start past in
+    let outcome = outcome_of built start past sent in
+    let effect = servings_take_effect built start past sent in
+    let serving' = is_serving below built start journal sent s (stepped built start journal h) (lawful_kept below built start s journal h).sound first in
+    let bound = serving'.at in
+    let stand = lawful_stand below built start journal s h in
+    let lives = (found (λ (b : Bound). b.endpoint == sent.endpoint) (living start past) bound serving'.bound).0 in
+    let on = All-contains (IsOnNode trees) (living start past) bound stand.placed lives in
+    let whole : outcome ≡ outcome_at built start past sent (Some bound) = ap (outcome_at built start past sent) serving'.bound in
+    let one = sending_sound below built names (moment_of start past bound) sent.sending on.kind (tree_sound trees bound.server sound) on.node on.suited in
+    let left : IsSound (after (tree_at trees outcome.server) outcome.change) = subst (λ (o : Outcome). IsSound (after (tree_at trees o.server) o.change)) (sym whole) (same_server built (moment_of start past bound) sent.sending trees one) in
+    subst (All IsSound) (sym effect.trees) (All-set IsSound trees outcome.server (after (tree_at trees outcome.server) outcome.change) left sound) where
+      same_server : (built : Built) (moment : Moment) (sending : Sending) (trees : List Tree) → IsSound (after (tree_at trees moment.bound.server) (outcome_of_sending built moment sending).change) →
+          IsSound (after (tree_at trees (outcome_of_sending built moment sending).server) (outcome_of_sending built moment sending).change)
+      same_server built moment sending trees h = subst (λ (n : ℕ). IsSound (after (tree_at trees n) (outcome_of_sending built moment sending).change)) (sym (server_is built moment sending)) h
+
+onward_sound : (built : Built) (start : Start) (journal : Journal) (origin : ℕ) (o : Option Forwarded) → All IsSound (trees_of start (history_of built start journal)) → All IsSound (trees_of start (history_of built start (with_forward origin journal o)))
+unfolding history_of
+onward_sound built start journal origin None sound = sound
+onward_sound built start journal origin (Some f) sound =
+    subst (All IsSound) (sym (sendings_wait_last built start (history_of built start journal) (sent_behind journal f.endpoint (message f.bytes (f.object ∷ [])) (Some origin))).same.trees) sound
+
+pub trees_sound : Below → (built : Built) (start : Start) (journal : Journal) → KeepsNames built → IsStart start → Lawful built start journal → All IsSound (trees_of start (history_of built start journal))
+unfolding history_of
+trees_sound below built start journal names s lawful.begun = s.trees
+trees_sound below built start journal names s (lawful.refused earlier frame why h is admits) =
+    subst (All IsSound) (sym (refusals_change_nothing built start (history_of built start earlier) frame.endpoint why).same.trees) (trees_sound below built start earlier names s h)
+trees_sound below built start journal names s (lawful.sent earlier frame h is at admits) =
+    subst (All IsSound) (sym (sendings_wait_last built start (history_of built start earlier) (sent_behind earlier frame.endpoint (message frame.bytes frame.handles) None)).same.trees) (trees_sound below built start earlier names s h)
+trees_sound below built start journal names s (lawful.closed earlier frame h is at admits) =
+    subst (All IsSound) (sym (sendings_wait_last built start (history_of built start earlier) (sent_behind earlier frame.endpoint hang_up None)).same.trees) (trees_sound below built start earlier names s h)
+trees_sound below built start journal names s (lawful.served earlier entry h is) =
+    onward_sound built start (serves entry ∷ earlier) entry.place (outcome_of built start (history_of built start earlier) entry).forward
+    (served_sound below built names start earlier entry s h is (trees_sound below built start earlier names s h))

@@ -1,0 +1,59 @@
+-- What stands on the trees of lawful journals.
+use Rattle.std.specs.Prelude.{◌≡◌, ◌<◌, Bool, true, false, List, length, All, Some}
+use Rattle.fidl_names.specs.declared.methods.Method.TheVariants as method
+use Rattle.io_messages.specs.declared.protocols.Protocol.{Protocol}
+use Rattle.io_messages.specs.declared.protocols.Protocol.TheVariants as protocol
+use Rattle.node_graph.specs.declared.nodes.NodeKind.{NodeKind}
+use Rattle.node_graph.specs.declared.nodes.NodeKind.TheVariants.{Directory}
+use Rattle.node_graph.specs.Tree.{IsSound, Tree, kind_of}
+use Rattle.conn_rules.specs.Built.{Built}
+use Rattle.conn_rules.specs.Nodes.{is_directory, is_file, is_service}
+use Rattle.vfs_journal.specs.Entries.{Journal}
+use Rattle.vfs_journal.specs.History.{History, living, tree_at, trees_of}
+use Rattle.vfs_journal.specs.Lawful.{Lawful}
+use Rattle.vfs_journal.specs.Outcomes.{Given}
+use Rattle.vfs_journal.specs.Past.{history_of}
+use Rattle.vfs_journal.specs.Starts.{Bound, Start}
+use Rattle.vfs_journal.specs.Tokens.{all_given}
+use Rattle.journal_laws.specs.Soundness.{AreMountedOnce, IsStart}
+
+-- a protocol is spoken on a node of its kind; a node reference may be on any
+abbrev pub suits : Protocol → NodeKind → Bool
+suits protocol.Directory kind = is_directory kind
+suits protocol.Watcher kind = is_directory kind
+suits protocol.File kind = is_file kind
+suits protocol.Echo kind = is_service kind
+suits protocol.Node kind = true
+
+-- a connection stands on a node of its server's tree, of a kind that its protocol is for
+pub record IsOnNode (trees : List Tree) (bound : Bound) : Type 0 where
+  pub server : bound.server < length trees
+  pub kind : NodeKind
+  pub node : kind_of (tree_at trees bound.server) bound.birth.node ≡ Some kind
+  pub suited : suits bound.birth.protocol kind ≡ true
+
+-- a token names a directory
+pub record NamesDirectory (trees : List Tree) (given : Given) : Type 0 where
+  pub server : given.server < length trees
+  pub node : kind_of (tree_at trees given.server) given.node ≡ Some Directory
+
+-- there are as many trees as at the start, and mounts have their one edge in them; who lives stands on a node, and tokens name directories
+pub record StandOnTrees (start : Start) (history : History) : Type 0 where
+  pub many : length (trees_of start history) ≡ length start.trees
+  pub mounts : AreMountedOnce start (trees_of start history)
+  pub placed : All (IsOnNode (trees_of start history)) (living start history)
+  pub tokens : All (NamesDirectory (trees_of start history)) (all_given history)
+
+abbrev pub WhoLivesStandsOnTrees : Type 0
+WhoLivesStandsOnTrees = (built : Built) (start : Start) (journal : Journal) → IsStart start → Lawful built start journal → StandOnTrees start (history_of built start journal)
+
+-- names are neither taken out, nor linked, nor renamed
+pub record KeepsNames (built : Built) : Type 0 where
+  pub unlink : built.methods method.Unlink ≡ false
+  pub link : built.methods method.Link ≡ false
+  pub rename : built.methods method.Rename ≡ false
+
+-- what is made, written, resized and cut leaves all trees sound
+abbrev pub TreesStaySound : Type 0
+TreesStaySound =
+    (built : Built) (start : Start) (journal : Journal) → KeepsNames built → IsStart start → Lawful built start journal → All IsSound (trees_of start (history_of built start journal))
