@@ -1,0 +1,5 @@
+mod PieceLemmas
+mod NumberLemmas
+mod LineLemmas
+mod ScriptLemmas
+mod PrintLemmas

@@ -1,0 +1,136 @@
+-- Words as numbers.
+use Rattle.std.proofs.Common.{◌≡◌, ℕ, zero, suc, ◌+◌, ◌-◌, ◌<◌, ◌≤◌, ◌^◌, ◌==◌, nat_lt, nat_le, not, Bool, true, false, cond, ◌&&◌, ◌||◌, List, [], ◌∷◌, ◌++◌, length, map, get_or, take, drop, Option, Some, None, Result, Ok, Err, refl, sym, ap, ◌∙◌, subst, arith, inl, inr, append_assoc, append-nil}
+use Rattle.std.specs.Prelude.{MatchResult, is_ok}
+use Rattle.std.specs.List.{list_all}
+use Rattle.std.specs.Char.{digit_value}
+use Rattle.std.specs.Option.{option_map}
+use Rattle.std.specs.Result.{OkIff, result_ok}
+use Rattle.std.specs.Str.{IsUtf8, IsAscii, is_utf8}
+use Rattle.std.specs.Str.Parse.{AllDigits, IsNumeral, ParsesUnsigned, digits_value, without_leading_plus}
+use Rattle.std.proofs.lemmas.Bool.{and_parts, cases_lt, false_from_ne_true, le-ltb, leb-true, lt-ltb, or_cases}
+use Rattle.std.proofs.lemmas.Str.{IsUtf8-from_ascii, IsUtf8-from_is_utf8, is_utf8-from_IsUtf8}
+use Rattle.std.proofs.lemmas.Str.Ascii.{IsAscii-nil, IsAscii-cons}
+use Rattle.std.proofs.lemmas.Str.Parse.{without_leading_plus_none}
+use Rattle.vfs_script.specs.Words.{◌>>=◌, all_given, comma, given, is_decimal, is_decimal_digit, is_digit, is_hexadecimal, is_led, number_in, numbers_of, pieces}
+
+-- a digit is of ASCII and no sign
+digit_low : (radix c : ℕ) → radix ≤ 36 → digit_value c < radix → c < 123
+digit_low radix c high h = grind arith
+
+digit_no_plus : (radix : ℕ) → radix ≤ 36 → digit_value 43 < radix → ⊥
+digit_no_plus radix high h = omega arith
+
+digits_ascii : (radix : ℕ) (word : List ℕ) → radix ≤ 36 → AllDigits radix word → IsAscii word
+digits_ascii radix [] high h = IsAscii-nil
+digits_ascii radix (c ∷ word) high h =
+    let low = digit_low radix c high h.0 in
+    IsAscii-cons c word (omega (arith, low)) (digits_ascii radix word high h.1)
+
+pub numeral_utf8 : (radix : ℕ) (word : List ℕ) → radix ≤ 36 → IsNumeral radix word → IsUtf8 word
+numeral_utf8 radix word high h = IsUtf8-from_ascii word (digits_ascii radix word high h.1)
+
+no_plus : (radix : ℕ) (word : List ℕ) → radix ≤ 36 → IsNumeral radix word → get_or word 0 0 ≡ 43 → ⊥
+no_plus radix [] high h e = absurd (omega (arith, e))
+no_plus radix (c ∷ word) high h e = digit_no_plus radix high (subst (λ x. digit_value x < radix) e h.1.0)
+
+-- what `from_str_radix` answers for a numeral
+parsed_value : {E : Type 0} (v : ℕ) (r : Result ℕ E) (P : Type 0) → P → OkIff r (P × (v < 2 ^ 64)) v → result_ok r ≡ given (nat_lt v (2 ^ 64)) v
+parsed_value v (Ok x) P p h = rw (lt-ltb v (2 ^ 64) h.0.1) (ap Some h.1)
+parsed_value v (Err e) P p h =
+    elim (cases_lt v (2 ^ 64)) [
+      | inl small ↦ absurd (h (p, small))
+      | inr large ↦ rw (le-ltb v (2 ^ 64) large) refl
+    ]
+
+pub numeral_parsed : {E : Type 0} (radix : ℕ) (word : List ℕ) (r : Result ℕ E) → radix ≤ 36 → IsNumeral radix word → ParsesUnsigned 64 radix word r →
+    result_ok r ≡ given (nat_lt (digits_value radix word) (2 ^ 64)) (digits_value radix word)
+numeral_parsed radix word r high h p =
+    let e = without_leading_plus_none word (no_plus radix word high h) in
+    parsed_value (digits_value radix word) r (IsNumeral radix word) h (rw e at p)
+
+-- the tests of digits
+decimal_value : (c : ℕ) → is_decimal_digit c ≡ true → digit_value c < 10
+decimal_value c h = grind arith
+
+letter_bounds : (c : ℕ) → nat_le 97 c && nat_le c 102 ≡ true → (97 ≤ c) × (c ≤ 102)
+letter_bounds c h = let parts = and_parts (nat_le 97 c) (nat_le c 102) h in (leb-true 97 c parts.0, leb-true c 102 parts.1)
+
+letter_value : (c : ℕ) → 97 ≤ c → c ≤ 102 → digit_value c < 16
+letter_value c low high =
+    rw (le-ltb c 48 (omega (arith, low)), le-ltb c 58 (omega (arith, low)), le-ltb c 65 (omega (arith, low)), le-ltb c 91 (omega (arith, low)), le-ltb c 97 low, lt-ltb c 123 (omega (arith, high)))
+    (omega (arith, low, high))
+
+digit_value_16 : (c : ℕ) → is_digit c ≡ true → digit_value c < 16
+digit_value_16 c h =
+    elim (or_cases (is_decimal_digit c) (nat_le 97 c && nat_le c 102) h) [
+      | inl decimal ↦ let v = decimal_value c decimal in omega (arith, v)
+      | inr letter ↦ let bounds = letter_bounds c letter in letter_value c bounds.0 bounds.1
+    ]
+
+all_decimal : (word : List ℕ) → list_all is_decimal_digit word ≡ true → AllDigits 10 word
+all_decimal [] h = tt
+all_decimal (c ∷ word) h =
+    let parts = and_parts (is_decimal_digit c) (list_all is_decimal_digit word) h in
+    (decimal_value c parts.0, all_decimal word parts.1)
+
+all_hexadecimal : (word : List ℕ) → list_all is_digit word ≡ true → AllDigits 16 word
+all_hexadecimal [] h = tt
+all_hexadecimal (c ∷ word) h =
+    let parts = and_parts (is_digit c) (list_all is_digit word) h in
+    (digit_value_16 c parts.0, all_hexadecimal word parts.1)
+
+decimal_some : (word : List ℕ) → is_decimal word ≡ true → 0 < length word
+unfolding is_led
+decimal_some [] h = cc
+decimal_some (c ∷ word) h = omega arith
+
+hexadecimal_some : (word : List ℕ) → is_hexadecimal word ≡ true → 0 < length word
+hexadecimal_some [] h = cc
+hexadecimal_some (c ∷ word) h = omega arith
+
+pub decimal_numeral : (word : List ℕ) → is_decimal word ≡ true → IsNumeral 10 word
+decimal_numeral word h = (decimal_some word h, all_decimal word (and_parts (list_all is_decimal_digit word) _ h).0)
+
+pub hexadecimal_numeral : (word : List ℕ) → is_hexadecimal word ≡ true → IsNumeral 16 word
+hexadecimal_numeral word h = (hexadecimal_some word h, all_hexadecimal word (and_parts (list_all is_digit word) (nat_lt 0 (length word) && nat_le (length word) 16) h).0)
+
+-- an answer on UTF-8 is the test's
+pub text_test : {A E : Type 0} (r : Result A E) (bytes : List ℕ) (P : A → Type 0) (Q : E → Type 0) →
+    MatchResult r (λ s. P s × IsUtf8 bytes) (λ e. (IsUtf8 bytes → ⊥) × Q e) → is_ok r ≡ is_utf8 bytes
+text_test (Ok s) bytes P Q h = sym (is_utf8-from_IsUtf8 bytes h.1)
+text_test (Err e) bytes P Q h = sym (false_from_ne_true (is_utf8 bytes) (λ yes. h.0 (IsUtf8-from_is_utf8 bytes yes)))
+
+-- a numeral is read as a text
+pub numeral_read : {A E : Type 0} (r : Result A E) (word : List ℕ) (P : A → Type 0) (Q : E → Type 0) →
+    MatchResult r (λ s. P s × IsUtf8 word) (λ e. (IsUtf8 word → ⊥) × Q e) → IsUtf8 word → result_ok r ≡ None → ⊥
+numeral_read (Ok s) word P Q h utf8 e = cc
+numeral_read (Err f) word P Q h utf8 e = h.0 utf8
+
+-- ---- numbers joined by commas
+
+-- numbers that were read, and the pieces that are left
+abbrev pub so_far : List ℕ → List (List ℕ) → Option (List ℕ)
+so_far numbers words = option_map (λ more. numbers ++ more) (all_given (map (number_in 32) words))
+
+one_read : (numbers : List ℕ) (number : ℕ) (found : Option (List ℕ)) →
+    option_map (λ more. numbers ++ more) (found >>= (λ values. Some (number ∷ values))) ≡ option_map (λ more. (numbers ++ number ∷ []) ++ more) found
+one_read numbers number None = refl
+one_read numbers number (Some values) = ap Some (sym (append_assoc numbers (number ∷ []) values))
+
+same : (found : Option (List ℕ)) → option_map (λ more. more) found ≡ found
+same None = refl
+same (Some values) = refl
+
+pub so_far-start : (word : List ℕ) → numbers_of word ≡ so_far [] (pieces comma word)
+unfolding numbers_of
+so_far-start word = sym (same (all_given (map (number_in 32) (pieces comma word))))
+
+pub so_far-more : (numbers : List ℕ) (word : List ℕ) (words : List (List ℕ)) (number : ℕ) → number_in 32 word ≡ Some number →
+    so_far numbers (word ∷ words) ≡ so_far (numbers ++ number ∷ []) words
+so_far-more numbers word words number e = rw e (one_read numbers number (all_given (map (number_in 32) words)))
+
+pub so_far-bad : (numbers : List ℕ) (word : List ℕ) (words : List (List ℕ)) → number_in 32 word ≡ None → so_far numbers (word ∷ words) ≡ None
+so_far-bad numbers word words e = rw e refl
+
+pub so_far-end : (numbers : List ℕ) → so_far numbers [] ≡ Some numbers
+so_far-end numbers = ap Some (append-nil numbers)

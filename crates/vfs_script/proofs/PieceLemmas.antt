@@ -1,0 +1,116 @@
+-- What stands between certain bytes of a text, and that it is UTF-8 where the text is.
+use Rattle.std.proofs.Common.{◌≡◌, ℕ, zero, suc, ◌+◌, ◌-◌, ◌<◌, ◌≤◌, ◌==◌, Bool, true, false, List, [], ◌∷◌, length, get_or, take, drop, Option, Some, None, refl, sym, ap, ◌∙◌, subst, arith, inl, inr, cond}
+use Rattle.std.specs.Prelude.{All}
+use Rattle.std.specs.List.{onto_first, slice_split, position_or_len}
+use Rattle.std.specs.Str.{IsUtf8}
+use Rattle.std.proofs.lemmas.Bool.{cases_lt, eqb-true, false_from_ne_true}
+use Rattle.std.proofs.lemmas.List.{length-drop, take_all}
+use Rattle.std.proofs.lemmas.List.Elements.{All-from_get_or}
+use Rattle.std.proofs.lemmas.List.Splits.{slice_split_none, slice_split_first, length-slice_split}
+use Rattle.std.proofs.lemmas.List.Sums.{fails_before_first, passes_at_first, position_or_len_is}
+use Rattle.std.proofs.lemmas.Str.{IsUtf8-take, IsUtf8-drop, IsCharBoundary-before_ascii, IsCharBoundary-after_ascii}
+use Rattle.memchr.specs.Find.{IsFirstByte, is_byte}
+use Rattle.vfs_script.specs.Parsed.{AreTexts}
+use Rattle.vfs_script.specs.Words.{pieces}
+
+abbrev is_by : ℕ → ℕ → Bool
+is_by by byte = byte == by
+
+first_at : (by : ℕ) (text : List ℕ) (at : ℕ) → IsFirstByte (is_byte by) text (Some at) → position_or_len (is_by by) text ≡ at
+first_at by text at h =
+    let within : at < length text = h.0.high in
+    position_or_len_is (is_by by) text at 0 (omega arith)
+    (λ k lt. false_from_ne_true (is_by by (get_or text k 0)) (λ yes. h.0.before k (omega arith) lt yes))
+    (λ lt. h.1)
+
+pub pieces_found : (by : ℕ) (text : List ℕ) (at : ℕ) → IsFirstByte (is_byte by) text (Some at) → pieces by text ≡ take at text ∷ pieces by (drop (at + 1) text)
+pieces_found by text at h =
+    let e = first_at by text at h in
+    let within : position_or_len (is_by by) text < length text = rw e h.0.high in
+    subst (λ k. pieces by text ≡ take k text ∷ pieces by (drop (k + 1) text)) e (slice_split_first (is_by by) text 0 within)
+
+pub pieces_none : (by : ℕ) (text : List ℕ) → IsFirstByte (is_byte by) text None → pieces by text ≡ text ∷ []
+pieces_none by text h =
+    slice_split_none (is_by by) text
+    (All-from_get_or (λ x. is_by by x ≡ false) text 0 (λ k lt. false_from_ne_true (is_by by (get_or text k 0)) (λ yes. h k (omega arith) lt yes)))
+
+more_pieces : (yes : Bool) (byte : ℕ) (parts : List (List ℕ)) (size : ℕ) → length parts ≤ size → 0 < length parts → length (cond yes ([] ∷ parts) (onto_first byte parts)) ≤ size + 1
+more_pieces true byte parts size few some = omega arith
+more_pieces false byte [] size few some = absurd (omega arith)
+more_pieces false byte (part ∷ parts) size few some = omega arith
+
+pub pieces_few : (by : ℕ) (text : List ℕ) → length (pieces by text) ≤ length text + 1
+pieces_few by [] = omega arith
+pieces_few by (byte ∷ text) =
+    let some : 0 < length (pieces by text) = rw (length-slice_split (is_by by) text) (omega arith) in
+    let few : length (cond (is_by by byte) ([] ∷ pieces by text) (onto_first byte (pieces by text))) ≤ (length text + 1) + 1 =
+    more_pieces (is_by by byte) byte (pieces by text) (length text + 1) (pieces_few by text) some in
+    omega (arith, few)
+
+-- a text without such a byte
+texts_none : (by : ℕ) (text : List ℕ) → IsUtf8 text → length text ≤ position_or_len (is_by by) text → AreTexts (pieces by text)
+texts_none by text utf8 far =
+    let whole : pieces by text ≡ text ∷ [] =
+    slice_split_none (is_by by) text
+    (All-from_get_or (λ x. is_by by x ≡ false) text 0 (λ k lt. fails_before_first (is_by by) text k 0 (omega arith))) in
+    subst AreTexts (sym whole) (utf8, tt)
+
+-- the first such byte is of ASCII
+ascii_at_first : (by : ℕ) (text : List ℕ) → by < 128 → position_or_len (is_by by) text < length text → get_or text (position_or_len (is_by by) text) 0 < 128
+ascii_at_first by text low within =
+    let is : get_or text (position_or_len (is_by by) text) 0 ≡ by = eqb-true (get_or text (position_or_len (is_by by) text) 0) by (passes_at_first (is_by by) text 0 within) in
+    rw is low
+
+-- what follows it is UTF-8 and shorter
+behind_utf8 : (by : ℕ) (text : List ℕ) → by < 128 → IsUtf8 text → position_or_len (is_by by) text < length text → IsUtf8 (drop (position_or_len (is_by by) text + 1) text)
+behind_utf8 by text low utf8 within =
+    IsUtf8-drop text (position_or_len (is_by by) text + 1) utf8
+    (IsCharBoundary-after_ascii text (position_or_len (is_by by) text) utf8 within (ascii_at_first by text low within))
+
+behind_less : (size by : ℕ) (text : List ℕ) → length text ≤ suc size → position_or_len (is_by by) text < length text → length (drop (position_or_len (is_by by) text + 1) text) ≤ size
+behind_less size by text few within =
+    let size-drop = length-drop (position_or_len (is_by by) text + 1) text in
+    omega (arith, size-drop, few, within)
+
+-- the text up to the first such byte, and the pieces of what follows it
+texts_first : (by : ℕ) (text : List ℕ) → by < 128 → IsUtf8 text → position_or_len (is_by by) text < length text →
+    AreTexts (pieces by (drop (position_or_len (is_by by) text + 1) text)) → AreTexts (pieces by text)
+texts_first by text low utf8 within rest =
+    subst AreTexts (sym (slice_split_first (is_by by) text 0 within)) (
+      IsUtf8-take text (position_or_len (is_by by) text) utf8
+          (IsCharBoundary-before_ascii text (position_or_len (is_by by) text) within (ascii_at_first by text low within)),
+      rest,
+    )
+
+texts_up_to : (size by : ℕ) (text : List ℕ) → by < 128 → length text ≤ size → IsUtf8 text → AreTexts (pieces by text)
+texts_up_to zero by text low few utf8 = texts_none by text utf8 (omega (arith, few))
+texts_up_to (suc size) by text low few utf8 =
+    elim (cases_lt (position_or_len (is_by by) text) (length text)) [
+      | inl within ↦
+          texts_first by text low utf8 within
+          (texts_up_to size by (drop (position_or_len (is_by by) text + 1) text) low (behind_less size by text few within) (behind_utf8 by text low utf8 within))
+      | inr far ↦ texts_none by text utf8 far
+    ]
+
+-- the pieces of a text between bytes of ASCII are texts
+pub pieces_are_texts : (by : ℕ) (text : List ℕ) → by < 128 → IsUtf8 text → AreTexts (pieces by text)
+pieces_are_texts by text low utf8 = texts_up_to (length text) by text low (omega arith) utf8
+
+pub tail_is : (n : ℕ) (xs : List ℕ) → take (length xs - n) (drop n xs) ≡ drop n xs
+tail_is n xs = take_all (length xs - n) (drop n xs) (let size = length-drop n xs in omega (arith, size))
+
+-- a step over the pieces that are left
+pub pieces_next : (by : ℕ) (text after : List ℕ) (done : Bool) (at : ℕ) (now : List (List ℕ)) → cond done [] (pieces by text) ≡ now → done ≡ false →
+    IsFirstByte (is_byte by) text (Some at) → after ≡ drop (at + 1) text → now ≡ take at text ∷ cond done [] (pieces by after)
+pieces_next by text after true at now view e found same = cc
+pieces_next by text after false at now view e found same = sym view ∙ (pieces_found by text at found ∙ ap (λ rest. take at text ∷ pieces by rest) (sym same))
+
+pub pieces_last : (by : ℕ) (text : List ℕ) (done : Bool) (now : List (List ℕ)) → cond done [] (pieces by text) ≡ now → done ≡ false →
+    IsFirstByte (is_byte by) text None → now ≡ text ∷ []
+pieces_last by text true now view e none = cc
+pieces_last by text false now view e none = sym view ∙ pieces_none by text none
+
+-- the words behind the first one are texts
+pub texts_behind : (words : List (List ℕ)) (first : List ℕ) (others : List (List ℕ)) → words ≡ first ∷ others → AreTexts words → AreTexts others
+texts_behind [] first others e h = cc
+texts_behind (word ∷ words) first others e h = subst AreTexts (ap (drop 1) e) h.1

@@ -1,0 +1,7 @@
+use Rattle.std.proofs.Common.{sym, ◌∙◌, lit<}
+use Rattle.vfs_script.proofs.PieceLemmas.{pieces_are_texts, texts_behind}
+use Rattle.vfs_script.proofs.forms.line_of.Goals as goal
+
+pub form_of-requires : goal.form_of-requires
+form_of-requires c =
+    texts_behind _ _ c.next.new.self (sym c.new-words.ensures ∙ c.in_ok-next.ensures.piece) (pieces_are_texts 32 c.args.line.now (lit< tt) c.requires)

@@ -1,0 +1,23 @@
+use Rattle.std.proofs.Common.{◌≡◌, ◌+◌, ◌≤◌, ◌<◌, length, arith, sym, ap, ◌∙◌}
+use Rattle.vfs_script.specs.Scripts.{lines_of, numbered_from}
+use Rattle.vfs_script.specs.Words.{newline, pieces}
+use Rattle.vfs_script.proofs.PieceLemmas.{pieces_few}
+use Rattle.vfs_script.proofs.ScriptLemmas.{length-numbered}
+use Rattle.vfs_script.proofs.script.Lines.new.Goals as goal
+
+pub invariant_of-result : goal.invariant_of-result
+invariant_of-result c =
+    let few = pieces_few newline c.args.text.now in
+    let size = ap length c.new.ensures in
+    (omega arith, omega (arith, few, size, c.requires))
+
+pub returns-clause-lines : goal.returns-clause-lines
+unfolding lines_of
+returns-clause-lines c = ap (numbered_from 1) c.new.ensures
+
+pub returns-clause-few : goal.returns-clause-few
+returns-clause-few c =
+    let few = pieces_few newline c.args.text.now in
+    let size = ap length c.new.ensures in
+    let numbers = length-numbered 1 c.new.result in
+    omega (arith, few, size, numbers, c.requires)

@@ -1,0 +1,7 @@
+pub mod Words
+pub mod Lines
+pub mod Kept
+pub mod Noting
+pub mod Parsed
+pub mod Scripts
+pub mod Transcripts

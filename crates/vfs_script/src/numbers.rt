@@ -1,0 +1,194 @@
+// The words of a line: numbers, bytes as hexadecimal digits, handles.
+
+ghost use Rattle.std.specs.Prelude.{◌≡◌, ◌^◌, ◌≤◌, length, nat_lt, IfOk, IfSome, IsTrue};
+ghost use Rattle.std.specs.List.{list_all};
+ghost use Rattle.std.specs.Option.{option_map};
+ghost use Rattle.std.specs.Str.{IsUtf8, is_utf8};
+ghost use Rattle.std.specs.Str.Parse.{IsNumeral, digits_value};
+ghost use Rattle.vfs_script.specs.Words.{bytes_of, given, handles_of, has_prefix, is_decimal, is_decimal_digit, is_digit, is_hexadecimal, is_led, negative_of, number_in, numbers_of, signed_of};
+
+use crate::pieces::Pieces;
+use fidl_names::{MAX_HANDLES, NoMemory};
+use hex::FromHexError;
+use std::alloc::Global;
+
+const NONE: &[u8] = b"-";
+
+fn is_decimal_digit(byte: u8) -> bool
+    ensures { result ≡ is_decimal_digit byte }
+{
+    byte >= b'0' && byte <= b'9'
+}
+
+// Whether the byte is one of 0 to 9 and a to f.
+fn is_digit(byte: u8) -> bool
+    ensures { result ≡ is_digit byte }
+{
+    is_decimal_digit(byte) || (byte >= b'a' && byte <= b'f')
+}
+
+/// Whether these bytes are UTF-8.
+pub(crate) fn is_text(bytes: &[u8]) -> bool
+    ensures value { result ≡ is_utf8 bytes.now }
+    ensures text { IsTrue result → IsUtf8 bytes.now }
+{
+    str::from_utf8(bytes).is_ok()
+}
+
+// Whether these are decimal digits, with no zero in front of others.
+fn is_decimal(word: &[u8]) -> bool
+    ensures { result ≡ is_decimal word.now }
+{
+    all_decimal(word) && is_led(word)
+}
+
+fn all_decimal(word: &[u8]) -> bool
+    ensures { result ≡ list_all is_decimal_digit word.now }
+{
+    word.iter().all(|byte| is_decimal_digit(*byte))
+}
+
+// Whether the first digit is no zero in front of others.
+#[tactic(auto, unfolding(crate::specs::Words::is_led))]
+fn is_led(word: &[u8]) -> bool
+    ensures { result ≡ is_led word.now }
+{
+    if word.len() == 1 {
+        return true;
+    }
+    !word.is_empty() && word[0] != b'0'
+}
+
+// Whether these are 1 to 16 hexadecimal digits.
+fn is_hexadecimal(word: &[u8]) -> bool
+    ensures { result ≡ is_hexadecimal word.now }
+{
+    all_digits(word) && word.len() > 0 && word.len() <= 16
+}
+
+fn all_digits(word: &[u8]) -> bool
+    ensures { result ≡ list_all is_digit word.now }
+{
+    word.iter().all(|byte| is_digit(*byte))
+}
+
+// Whether the word begins with `0x`.
+fn has_prefix(word: &[u8]) -> bool
+    ensures { result ≡ has_prefix word.now }
+{
+    word.len() >= 2 && word[0] == b'0' && word[1] == b'x'
+}
+
+// The number that digits write, if it fits 64 bits.
+fn digits(word: &[u8], radix: u32) -> Option<u64>
+    requires low { 2 ≤ radix }
+    requires high { radix ≤ 36 }
+    requires numeral { IsNumeral radix word.now }
+    ensures { result ≡ given (nat_lt (digits_value radix word.now) (2 ^ 64)) (digits_value radix word.now) }
+{
+    u64::from_str_radix(str::from_utf8(word).ok()?, radix).ok()
+}
+
+/// A number of 64 bits: decimal without leading zeros, or `0x` and 1 to 16 of the digits 0 to 9 and a to f.
+#[tactic(auto, unfolding(crate::specs::Words::number_in, crate::specs::Words::number_of))]
+pub(crate) fn long(word: &[u8]) -> Option<u64>
+    ensures { result ≡ number_in 64 word.now }
+{
+    if has_prefix(word) {
+        let behind = &word[2..];
+        if is_hexadecimal(behind) {
+            digits(behind, 16)
+        } else {
+            None
+        }
+    } else if is_decimal(word) {
+        digits(word, 10)
+    } else {
+        None
+    }
+}
+
+/// The same of 32 bits.
+#[tactic(auto, unfolding(crate::specs::Words::number_in))]
+pub(crate) fn short(word: &[u8]) -> Option<u32>
+    ensures { result ≡ number_in 32 word.now }
+{
+    u32::try_from(long(word)?).ok()
+}
+
+// A decimal number behind `-`.
+#[tactic(auto, unfolding(crate::specs::Words::negative_of))]
+fn negative(digits: &[u8]) -> Option<i64>
+    ensures { result ≡ negative_of digits.now }
+{
+    if !is_decimal(digits) {
+        return None;
+    }
+    let size = self::digits(digits, 10)?;
+    if size > 1 << 63 {
+        return None;
+    }
+    Some(0i64.wrapping_sub_unsigned(size))
+}
+
+/// A number of 64 bits with a sign: one as above, or a decimal one behind `-`.
+#[tactic(auto, unfolding(crate::specs::Words::signed_of, crate::specs::Words::number_in))]
+pub(crate) fn signed(word: &[u8]) -> Option<i64>
+    ensures { result ≡ signed_of word.now }
+{
+    match word {
+        [b'-', digits @ ..] => negative(digits),
+        _ => i64::try_from(long(word)?).ok(),
+    }
+}
+
+/// Bytes as pairs of hexadecimal digits, and `-` for none.
+#[tactic(auto, unfolding(crate::specs::Words::bytes_of))]
+pub(crate) fn bytes(alloc: Global, word: &[u8]) -> Result<Option<Vec<u8>>, NoMemory>
+    ensures { IfOk result (λ found. option_map (λ bytes. bytes.items) found ≡ bytes_of word.now) }
+{
+    if word == NONE {
+        return Ok(Some(Vec::new(alloc)));
+    }
+    if !all_digits(word) || word.is_empty() {
+        return Ok(None);
+    }
+    match hex::decode(alloc, word) {
+        Ok(bytes) => Ok(Some(bytes)),
+        Err(FromHexError::OutOfMemory) => Err(NoMemory),
+        Err(_) => Ok(None),
+    }
+}
+
+/// At most 64 numbers of 32 bits, joined by commas, and `-` for none.
+#[tactic(auto, unfolding(crate::specs::Words::handles_of))]
+pub(crate) fn handles(alloc: Global, word: &[u8]) -> Result<Option<Vec<u32>>, NoMemory>
+    ensures handles { IfOk result (λ found. option_map (λ numbers. numbers.items) found ≡ handles_of word.now) }
+    ensures few { IfOk result (λ found. IfSome found (λ numbers. length numbers.items ≤ MAX_HANDLES)) }
+{
+    if word == NONE {
+        return Ok(Some(Vec::new(alloc)));
+    }
+    let Some(numbers) = numbers(alloc, word)? else {
+        return Ok(None);
+    };
+    if numbers.len() > MAX_HANDLES {
+        return Ok(None);
+    }
+    Ok(Some(numbers))
+}
+
+// Numbers of 32 bits, joined by commas.
+fn numbers(alloc: Global, word: &[u8]) -> Result<Option<Vec<u32>>, NoMemory>
+    ensures { IfOk result (λ found. option_map (λ numbers. numbers.items) found ≡ numbers_of word.now) }
+{
+    let mut numbers = Vec::new(alloc);
+    let mut pieces = Pieces::new(b',', word);
+    while let Some(piece) = pieces.next() {
+        let Some(number) = short(piece) else {
+            return Ok(None);
+        };
+        numbers.push(number)?;
+    }
+    Ok(Some(numbers))
+}

@@ -1,0 +1,75 @@
+ghost use Rattle.std.specs.Prelude.{◌≡◌, ◌++◌, ◌↔◌, [], IsTrue, length, take, OnErr, OnOk};
+
+use fidl_names::NoMemory;
+use std::alloc::Global;
+use std::marker::Model;
+
+/// A text that grows.
+#[derive(Drop)]
+pub struct Outtext {
+    bytes: Vec<u8>,
+}
+
+impl Model for Outtext {
+    ghost use Rattle.std.specs.Prelude.{List, ℕ};
+
+    ghost Value = { List ℕ };
+
+    ghost view = { λ text. text.bytes.items };
+}
+
+impl Outtext {
+    /// An empty text.
+    pub fn new(alloc: Global) -> Outtext
+        ensures { result ≡ [] }
+    {
+        Outtext {
+            bytes: Vec::new(alloc),
+        }
+    }
+
+    /// Its bytes.
+    pub fn as_bytes(&self) -> &[u8]
+        ensures { result.now ≡ self.now }
+    {
+        &self.bytes
+    }
+
+    /// How many bytes it has.
+    pub fn len(&self) -> usize
+        ensures { result ≡ length self.now }
+    {
+        self.bytes.len()
+    }
+
+    /// Whether it is empty.
+    pub fn is_empty(&self) -> bool
+        ensures { IsTrue result ↔ (self.now ≡ []) }
+    {
+        self.bytes.is_empty()
+    }
+
+    /// Forgets the text, and keeps its room.
+    pub fn clear(&mut self)
+        ensures { self.new ≡ [] }
+    {
+        self.bytes.clear();
+    }
+
+    /// Cuts back to an earlier length.
+    pub(crate) fn truncate(&mut self, len: usize)
+        ensures { self.new ≡ take len self.old }
+    {
+        self.bytes.truncate(len);
+    }
+
+    /// Appends bytes, or for want of memory nothing.
+    pub(crate) fn put(&mut self, part: &[u8]) -> Result<(), NoMemory>
+        ensures put { OnOk result (self.new ≡ self.old ++ part.now) }
+        ensures no_memory { OnErr result (self.new ≡ self.old) }
+        ensures grows { take (length self.old) self.new ≡ self.old }
+    {
+        self.bytes.extend_from_slice(part)?;
+        Ok(())
+    }
+}

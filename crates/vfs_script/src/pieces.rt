@@ -1,0 +1,100 @@
+// What stands between certain bytes of a text, piece by piece.
+
+ghost use Rattle.std.specs.Prelude.{◌≡◌, ◌≢◌, ◌∷◌, [], length, IfSome, IfNone};
+ghost use Rattle.vfs_script.specs.Words.{pieces};
+
+use memchr::memchr;
+use std::marker::Model;
+
+/// The pieces of a text that are left: what stands between the bytes `by`.
+#[derive(Drop)]
+pub(crate) struct Pieces<'a> {
+    by: u8,
+    rest: &'a [u8],
+    is_done: bool,
+}
+
+impl<'a> Model for Pieces<'a> {
+    ghost use Rattle.std.specs.Prelude.{List, ℕ, [], if◌then◌else◌};
+    ghost use Rattle.vfs_script.specs.Words.{pieces};
+
+    ghost Value = { List (List ℕ) };
+
+    ghost view = { λ p. if p.is_done then [] else pieces p.by p.rest.now };
+}
+
+impl<'a> Pieces<'a> {
+    pub(crate) fn new(by: u8, text: &'a [u8]) -> Pieces<'a>
+        ensures { result ≡ pieces by text.now }
+    {
+        Pieces {
+            by,
+            rest: text,
+            is_done: false,
+        }
+    }
+
+    /// The next piece.
+    pub(crate) fn next(&mut self) -> Option<&'a [u8]>
+        ensures none { IfNone result (self.old ≡ []) }
+        ensures same { IfNone result (self.new ≡ []) }
+        ensures piece { IfSome result (λ piece. self.old ≡ piece.now ∷ self.new) }
+    {
+        if self.is_done {
+            return None;
+        }
+        let rest = self.rest;
+        match memchr(self.by, rest) {
+            Some(place) => {
+                self.rest = &rest[place + 1..];
+                Some(&rest[..place])
+            }
+            None => {
+                self.is_done = true;
+                Some(rest)
+            }
+        }
+    }
+
+    /// The pieces, if there is exactly one.
+    pub(crate) fn one(mut self) -> Option<&'a [u8]>
+        ensures found { IfSome result (λ only. self.entry ≡ only.now ∷ []) }
+        ensures none { IfNone result (length self.entry ≢ 1) }
+    {
+        let only = self.next()?;
+        match self.next() {
+            None => Some(only),
+            Some(_) => None,
+        }
+    }
+
+    /// The pieces, if there are exactly two.
+    pub(crate) fn two(mut self) -> Option<(&'a [u8], &'a [u8])>
+        ensures found { IfSome result (λ both. self.entry ≡ both.0.now ∷ both.1.now ∷ []) }
+        ensures none { IfNone result (length self.entry ≢ 2) }
+    {
+        let first = self.next()?;
+        let second = self.one()?;
+        Some((first, second))
+    }
+
+    /// The pieces, if there are exactly three.
+    pub(crate) fn three(mut self) -> Option<(&'a [u8], &'a [u8], &'a [u8])>
+        ensures found { IfSome result (λ all. self.entry ≡ all.0.now ∷ all.1.now ∷ all.2.now ∷ []) }
+        ensures none { IfNone result (length self.entry ≢ 3) }
+    {
+        let first = self.next()?;
+        let (second, third) = self.two()?;
+        Some((first, second, third))
+    }
+
+    /// The pieces, if there are exactly four.
+    pub(crate) fn four(mut self) -> Option<(&'a [u8], &'a [u8], &'a [u8], &'a [u8])>
+        ensures found { IfSome result (λ all. self.entry ≡ all.0.now ∷ all.1.now ∷ all.2.now ∷ all.3.now ∷ []) }
+        ensures none { IfNone result (length self.entry ≢ 4) }
+    {
+        let first = self.next()?;
+        let (second, third, fourth) = self.three()?;
+        Some((first, second, third, fourth))
+    }
+}

@@ -1,0 +1,256 @@
+// Frames as lines of text.
+
+ghost use Rattle.std.specs.Prelude.{◌≡◌, ◌++◌, ◌≤◌, codes, decimal, length, take, OnErr, OnOk};
+ghost use Rattle.std.specs.Fmt.{signed_decimal};
+ghost use Rattle.std.specs.Int.{w32, cast_signed};
+ghost use Rattle.hex.specs.Hex.{encode_lower};
+ghost use Rattle.endpoint_link.specs.declared.kinds.Side.TheVariants as side;
+ghost use Rattle.endpoint_link.specs.Frames.{HasShape, IsFrame};
+ghost use Rattle.endpoint_link.specs.Views.{frame_of, handle_numbers};
+ghost use Rattle.vfs_script.specs.Transcripts.{bytes_text, counts_line, front_word, frame_line, handles_text, label_of, label_with, name_of, told_of};
+
+use crate::outtext::Outtext;
+use byteorder::{ByteOrder, LittleEndian};
+use endpoint_link::{FrameKind, FrameView, HandleBytes};
+use fidl_names::{Method, NoMemory};
+use fidl_wire::Ordinals;
+use itoa::Buffer;
+
+/// The ordinal of an epitaph.
+const EPITAPH: u64 = 0xffff_ffff_ffff_ffff;
+
+/// How many bytes are written as digits at once.
+const CHUNK: usize = 512;
+
+/// Appends the line of a frame, with its end; for want of memory nothing.
+///
+/// The caller sees to it that the frame is sound.
+pub fn print_frame(
+    ordinals: &Ordinals,
+    frame: FrameView<'_>,
+    to: &mut Outtext,
+) -> Result<(), NoMemory>
+    requires { IsFrame side.Any (frame_of frame) }
+    ensures line { OnOk result (to.new ≡ to.old ++ frame_line (frame_of frame.entry)) }
+    ensures no_memory { OnErr result (to.new ≡ to.old) }
+{
+    let len = to.len();
+    let printed = put_line(ordinals, frame, to);
+    if printed.is_err() {
+        to.truncate(len);
+    }
+    printed
+}
+
+/// Appends the last line of a transcript, with its end: how many calls there were, and how many of them
+/// were answered. For want of memory it appends nothing.
+pub fn print_counts(calls: u32, answered: u32, to: &mut Outtext) -> Result<(), NoMemory>
+    ensures line { OnOk result (to.new ≡ to.old ++ counts_line calls answered) }
+    ensures no_memory { OnErr result (to.new ≡ to.old) }
+{
+    let len = to.len();
+    let printed = put_counts(calls, answered, to);
+    if printed.is_err() {
+        to.truncate(len);
+    }
+    printed
+}
+
+#[tactic(auto, unfolding(crate::specs::Transcripts::counts_line))]
+fn put_counts(calls: u32, answered: u32, to: &mut Outtext) -> Result<(), NoMemory>
+    ensures put { OnOk result (to.new ≡ to.old ++ counts_line calls answered) }
+    ensures grows { take (length to.old) to.new ≡ to.old }
+{
+    to.put(b"calls ")?;
+    put_number(calls, to)?;
+    to.put(b" answered ")?;
+    put_number(answered, to)?;
+    to.put(b"\n")
+}
+
+fn put_number(number: u32, to: &mut Outtext) -> Result<(), NoMemory>
+    ensures put { OnOk result (to.new ≡ to.old ++ decimal number) }
+    ensures grows { take (length to.old) to.new ≡ to.old }
+{
+    let mut digits = Buffer::new();
+    to.put(digits.format(number).as_bytes())
+}
+
+fn put_signed(number: i32, to: &mut Outtext) -> Result<(), NoMemory>
+    ensures put { OnOk result (to.new ≡ to.old ++ signed_decimal number) }
+    ensures grows { take (length to.old) to.new ≡ to.old }
+{
+    let mut digits = Buffer::new();
+    to.put(digits.format(number).as_bytes())
+}
+
+#[tactic(auto, unfolding(crate::specs::Transcripts::frame_line))]
+fn put_line(ordinals: &Ordinals, frame: FrameView<'_>, to: &mut Outtext) -> Result<(), NoMemory>
+    requires { HasShape frame.kind (length (handle_numbers frame.handles)) (length frame.bytes.now) }
+    ensures put { OnOk result (to.new ≡ to.old ++ frame_line (frame_of frame.entry)) }
+    ensures grows { take (length to.old) to.new ≡ to.old }
+{
+    put_number(frame.endpoint, to)?;
+    put_told(ordinals, frame, to)?;
+    to.put(b"\n")
+}
+
+fn put_told(ordinals: &Ordinals, frame: FrameView<'_>, to: &mut Outtext) -> Result<(), NoMemory>
+    requires { HasShape frame.kind (length (handle_numbers frame.handles)) (length frame.bytes.now) }
+    ensures put { OnOk result (to.new ≡ to.old ++ told_of frame.entry.kind (handle_numbers frame.entry.handles) frame.entry.bytes.now) }
+    ensures grows { take (length to.old) to.new ≡ to.old }
+{
+    match frame.kind {
+        FrameKind::Message => put_message(ordinals, frame.handles, frame.bytes, to),
+        FrameKind::Close => to.put(b" close"),
+        FrameKind::Turn => put_turn(frame.bytes, to),
+        FrameKind::Pick => to.put(b" pick"),
+        FrameKind::Refused => put_refused(frame.bytes, to),
+    }
+}
+
+fn put_message(
+    ordinals: &Ordinals,
+    handles: HandleBytes<'_>,
+    bytes: &[u8],
+    to: &mut Outtext,
+) -> Result<(), NoMemory>
+    ensures put { OnOk result (to.new ≡ to.old ++ told_of FrameKind.Message (handle_numbers handles.entry) bytes.now) }
+    ensures grows { take (length to.old) to.new ≡ to.old }
+{
+    to.put(b" message ")?;
+    to.put(label_of(ordinals, bytes))?;
+    to.put(b" ")?;
+    put_handles(handles, to)?;
+    to.put(b" ")?;
+    put_bytes(bytes, to)
+}
+
+// The number of 32 bits in front.
+#[tactic(auto, unfolding(fidl_names::specs::Numbers::number_at))]
+fn front_word(bytes: &[u8]) -> u32
+    requires { 4 ≤ length bytes.now }
+    ensures { result ≡ front_word bytes.now }
+{
+    LittleEndian::read_u32(bytes)
+}
+
+fn put_turn(bytes: &[u8], to: &mut Outtext) -> Result<(), NoMemory>
+    requires { 4 ≤ length bytes.now }
+    ensures put { OnOk result (to.new ≡ to.old ++ codes " turn " ++ decimal (front_word bytes.now)) }
+    ensures grows { take (length to.old) to.new ≡ to.old }
+{
+    to.put(b" turn ")?;
+    put_number(front_word(bytes), to)
+}
+
+fn put_refused(bytes: &[u8], to: &mut Outtext) -> Result<(), NoMemory>
+    requires { 4 ≤ length bytes.now }
+    ensures put { OnOk result (to.new ≡ to.old ++ codes " refused " ++ signed_decimal (cast_signed w32 (front_word bytes.now))) }
+    ensures grows { take (length to.old) to.new ≡ to.old }
+{
+    to.put(b" refused ")?;
+    put_signed(front_word(bytes).cast_signed(), to)
+}
+
+// Handles in decimal, joined by commas; `-` for none.
+#[tactic(auto, unfolding(crate::specs::Transcripts::handles_text))]
+fn put_handles(handles: HandleBytes<'_>, to: &mut Outtext) -> Result<(), NoMemory>
+    ensures put { OnOk result (to.new ≡ to.old ++ handles_text (handle_numbers handles.entry)) }
+    ensures grows { take (length to.old) to.new ≡ to.old }
+{
+    if handles.is_empty() {
+        return to.put(b"-");
+    }
+    put_number(handles.at(0), to)?;
+    for place in 1..handles.len() {
+        to.put(b",")?;
+        put_number(handles.at(place), to)?;
+    }
+    Ok(())
+}
+
+// Bytes as hexadecimal digits; `-` for none.
+fn put_bytes(bytes: &[u8], to: &mut Outtext) -> Result<(), NoMemory>
+    ensures put { OnOk result (to.new ≡ to.old ++ bytes_text bytes.now) }
+    ensures grows { take (length to.old) to.new ≡ to.old }
+{
+    if bytes.is_empty() {
+        return to.put(b"-");
+    }
+    let mut rest = bytes;
+    while rest.len() > CHUNK {
+        let (chunk, behind) = rest.split_at(CHUNK);
+        put_chunk(chunk, to)?;
+        rest = behind;
+    }
+    put_chunk(rest, to)
+}
+
+// At most so many bytes as digits.
+fn put_chunk(chunk: &[u8], to: &mut Outtext) -> Result<(), NoMemory>
+    requires { length chunk.now ≤ CHUNK }
+    ensures put { OnOk result (to.new ≡ to.old ++ encode_lower chunk.now) }
+    ensures grows { take (length to.old) to.new ≡ to.old }
+{
+    let mut digits = [0; 2 * CHUNK];
+    let room = &mut digits[..2 * chunk.len()];
+    if hex::encode_to_slice(chunk, room).is_err() {
+        unreachable!();
+    }
+    to.put(&digits[..2 * chunk.len()])
+}
+
+// The label of a message.
+#[tactic(auto, unfolding(crate::specs::Transcripts::label_of, fidl_names::specs::Numbers::number_at))]
+fn label_of(ordinals: &Ordinals, bytes: &[u8]) -> &'static [u8]
+    ensures { result.now ≡ label_of bytes.now }
+{
+    if bytes.len() < 16 || bytes[7] != 1 {
+        return b"raw";
+    }
+    label_with(ordinals, LittleEndian::read_u64(&bytes[8..]))
+}
+
+fn label_with(ordinals: &Ordinals, ordinal: u64) -> &'static [u8]
+    ensures { result.now ≡ label_with ordinal }
+{
+    if ordinal == EPITAPH {
+        return b"epitaph";
+    }
+    if ordinal == ordinals.event() {
+        return b"OnRepresentation";
+    }
+    match ordinals.method(ordinal) {
+        Some(method) => name_of(method),
+        None => b"raw",
+    }
+}
+
+// The name of a method.
+fn name_of(method: Method) -> &'static [u8]
+    ensures { result.now ≡ name_of method }
+{
+    match method {
+        Method::Clone => b"Clone",
+        Method::Close => b"Close",
+        Method::Query => b"Query",
+        Method::GetAttributes => b"GetAttributes",
+        Method::Sync => b"Sync",
+        Method::OpenPath => b"Open",
+        Method::ReadDirents => b"ReadDirents",
+        Method::Rewind => b"Rewind",
+        Method::GetToken => b"GetToken",
+        Method::Rename => b"Rename",
+        Method::Link => b"Link",
+        Method::Unlink => b"Unlink",
+        Method::Watch => b"Watch",
+        Method::Read => b"Read",
+        Method::ReadAt => b"ReadAt",
+        Method::Write => b"Write",
+        Method::WriteAt => b"WriteAt",
+        Method::Seek => b"Seek",
+        Method::Resize => b"Resize",
+        Method::EchoString => b"EchoString",
+    }
+}

@@ -1,0 +1,269 @@
+ghost use Rattle.std.specs.Prelude.{◌≡◌, ◌≤◌, ◌<◌, ◌+◌, [], ◌∷◌, length, false, None, Some, is_none, slice_get, IfNone, IfSome, IfOk, IfErr, OnOk, OnErr};
+ghost use Rattle.std.specs.Option.{option_or};
+ghost use Rattle.fidl_names.specs.First.{cause_if, first_of};
+ghost use Rattle.endpoint_link.specs.Frames.{spellings};
+ghost use Rattle.io_messages.specs.Shapes.{is_one_way};
+ghost use Rattle.vfs_script.specs.Kept.{kept_with};
+ghost use Rattle.vfs_script.specs.Noting.{IsFree, with_noted};
+ghost use Rattle.vfs_script.specs.Scripts.{AreApart, IsFirstBad, bad_heads, bad_in, bad_line, bad_lines, behind_mode, calls_of, count_calls, frames_of, heads, is_skipped, lines_of, mode_in, mode_of, script_mode, spoken_in};
+
+use crate::calls::Call;
+use crate::faults::ScriptFault;
+use crate::frames::Frames;
+use crate::numbers::is_text;
+use crate::pieces::Pieces;
+use endpoint_link::{Mode, Outbox};
+use fidl_names::{MAX_TEXT, NoMemory};
+use fidl_wire::Ordinals;
+use io_client::{Client, ClientFault};
+use std::alloc::Global;
+use std::marker::Model;
+
+/// A script: its mode, its frames, and beside each frame the call that it makes, if any.
+#[derive(Drop)]
+pub struct Script {
+    mode: Mode,
+    frames: Outbox,
+    calls: Vec<Option<Call>>,
+    count: u32,
+}
+
+impl Model for Script {
+    ghost use Rattle.std.specs.Prelude.{◌≡◌, ◌<◌, ◌^◌, length};
+    ghost use Rattle.vfs_script.specs.Kept.{ScriptValue};
+    ghost use Rattle.vfs_script.specs.Scripts.{AreCalls, count_calls};
+
+    ghost Value = { ScriptValue };
+
+    ghost view = { λ s. record { mode = s.mode; bytes = s.frames; calls = s.calls.items } };
+
+    ghost invariant = { λ s. (s.count ≡ count_calls s.calls.items) × AreCalls 0 s.calls.items };
+}
+
+impl Script {
+    /// Whether entries are served after each frame, or by Turn and Pick frames alone.
+    pub fn mode(&self) -> Mode
+        ensures { result ≡ self.now.mode }
+    {
+        self.mode
+    }
+
+    /// The frames, one after another.
+    pub fn frames(&self) -> &[u8]
+        ensures { result.now ≡ self.now.bytes }
+    {
+        self.frames.as_bytes()
+    }
+
+    /// How many frames make a call.
+    pub fn calls(&self) -> u32
+        ensures { result ≡ count_calls self.now.calls }
+    {
+        self.count
+    }
+
+    /// No two calls have one transaction id. The call tells it to a proof, and does nothing.
+    pub fn tells_calls_apart(&self)
+        ensures { AreApart self.now.calls }
+    {
+        let _ = &self.calls;
+    }
+
+    /// Lets a client wait for the call that frame `i` makes, counted from 0, if it makes one. For want of
+    /// memory nothing has changed.
+    ///
+    /// The caller sees to it that there is such a frame, and that no call with its endpoint and
+    /// transaction id waits. No two calls of a script have one.
+    pub fn note(&self, i: u32, client: &mut Client) -> Result<(), NoMemory>
+        requires frame { i < length self.now.calls }
+        requires free { IsFree client.old (slice_get self.now.calls i) }
+        ensures noted { OnOk result (client.new ≡ with_noted client.old (slice_get self.now.calls i)) }
+        ensures no_memory { OnErr result (client.new ≡ client.old) }
+    {
+        let Some(call) = self.call_at(i) else {
+            return Ok(());
+        };
+        match client.note(call.endpoint, call.txid, call.method, call.watcher) {
+            Ok(()) => Ok(()),
+            Err(ClientFault::NoMemory) => Err(NoMemory),
+            Err(_) => unreachable!(),
+        }
+    }
+
+    /// The call that frame `i` makes.
+    fn call_at(&self, i: u32) -> Option<Call>
+        requires { i < length self.now.calls }
+        ensures found { slice_get self.now.calls i ≡ Some result }
+        ensures txid { IfSome result (λ call. 0 < call.txid) }
+        ensures two_way { IfSome result (λ call. is_one_way call.method ≡ false) }
+    {
+        self.calls[i as usize]
+    }
+}
+
+/// What a text says as a script: lines of words. `Line` is the first bad line, counted from 1, and 0 where
+/// the first line that is neither empty nor begins with `#` isn't `auto` or `given`.
+///
+/// The caller sees to it that the text has at most 1,048,576 bytes.
+pub fn script_of(alloc: Global, ordinals: &Ordinals, text: &[u8]) -> Result<Script, ScriptFault>
+    requires { length text.now ≤ MAX_TEXT }
+    ensures mode { IfOk result (λ script. script_mode text.now ≡ Some script.mode) }
+    ensures frames { IfOk result (λ script. script.bytes ≡ spellings (frames_of text.now)) }
+    ensures calls { IfOk result (λ script. script.calls ≡ calls_of text.now) }
+    ensures good { OnOk result (bad_line text.now ≡ None) }
+    ensures refused { IfErr result (IsFirstBad (bad_line text.now)) }
+{
+    let mut lines = Lines::new(text);
+    let mode = read_mode(&mut lines)?;
+    let mut frames = Frames::new(alloc, ordinals)?;
+    read_lines(&mut lines, &mut frames)?;
+    let (frames, calls) = frames.into_parts();
+    let count = count_calls(&calls);
+    Ok(Script {
+        mode,
+        frames,
+        calls,
+        count,
+    })
+}
+
+fn count_calls(calls: &[Option<Call>]) -> u32
+    requires { length calls.now ≤ MAX_TEXT + 1 }
+    ensures { result ≡ count_calls calls.now }
+{
+    calls.iter().filter(|call| call.is_some()).count() as u32
+}
+
+/// The lines of a text that are left, each with its number.
+#[derive(Drop)]
+struct Lines<'a> {
+    number: u32,
+    pieces: Pieces<'a>,
+}
+
+impl<'a> Model for Lines<'a> {
+    ghost use Rattle.std.specs.Prelude.{List, ◌+◌, ◌≤◌, ◌<◌, length};
+    ghost use Rattle.fidl_names.specs.declared.limits.TheConstants as limit;
+    ghost use Rattle.vfs_script.specs.Scripts.{Numbered, numbered_from};
+
+    ghost Value = { List Numbered };
+
+    ghost view = { λ l. numbered_from l.number l.pieces };
+
+    ghost invariant = { λ l. (0 < l.number) × (l.number + length l.pieces ≤ limit.MAX_TEXT + 2) };
+}
+
+impl<'a> Lines<'a> {
+    fn new(text: &'a [u8]) -> Lines<'a>
+        requires { length text.now ≤ MAX_TEXT }
+        ensures lines { result ≡ lines_of text.now }
+        ensures few { length result ≤ MAX_TEXT + 1 }
+    {
+        Lines {
+            number: 1,
+            pieces: Pieces::new(b'\n', text),
+        }
+    }
+
+    /// The next line, and its number.
+    fn next(&mut self) -> Option<(u32, &'a [u8])>
+        ensures none { IfNone result ((self.old ≡ []) × (self.new ≡ [])) }
+        ensures line { IfSome result (λ line. self.old ≡ record { number = line.0; bytes = line.1.now } ∷ self.new) }
+        ensures number { IfSome result (λ line. 0 < line.0) }
+    {
+        let line = self.pieces.next()?;
+        let number = self.number;
+        self.number += 1;
+        Some((number, line))
+    }
+}
+
+fn is_skipped(line: &[u8]) -> bool
+    ensures { result ≡ is_skipped line.now }
+{
+    line.is_empty() || line[0] == b'#'
+}
+
+#[tactic(auto, unfolding(crate::specs::Scripts::mode_of))]
+fn mode_of(word: &[u8]) -> Option<Mode>
+    ensures { result ≡ mode_of word.now }
+{
+    if word == b"auto".as_slice() {
+        Some(Mode::Auto)
+    } else if word == b"given".as_slice() {
+        Some(Mode::Given)
+    } else {
+        None
+    }
+}
+
+// Reads up to the mode line, and past it.
+fn read_mode(lines: &mut Lines<'_>) -> Result<Mode, ScriptFault>
+    ensures mode { IfOk result (λ mode. mode_in lines.old ≡ Some mode) }
+    ensures heads { OnOk result (bad_heads (heads lines.old) ≡ None) }
+    ensures left { OnOk result (lines.new ≡ behind_mode lines.old) }
+    ensures refused { IfErr result (IsFirstBad (bad_in lines.old)) }
+{
+    let mut bad = None;
+    while let Some((number, line)) = lines.next() {
+        if !is_skipped(line) {
+            return said_mode(mode_of(line), bad);
+        }
+        bad = first_bad(bad, number, line);
+    }
+    Err(ScriptFault::Line(0))
+}
+
+// The first line in front of the mode line that isn't UTF-8, with one more line.
+fn first_bad(bad: Option<u32>, number: u32, line: &[u8]) -> Option<u32>
+    ensures { result ≡ option_or bad (bad_heads (record { number = number; bytes = line.now } ∷ [])) }
+{
+    match bad {
+        Some(bad) => Some(bad),
+        None if is_text(line) => None,
+        None => Some(number),
+    }
+}
+
+// The mode that was said, where no line in front of it was bad.
+fn said_mode(mode: Option<Mode>, bad: Option<u32>) -> Result<Mode, ScriptFault>
+    ensures mode { IfOk result (λ said. mode ≡ Some said) }
+    ensures heads { OnOk result (bad ≡ None) }
+    ensures refused { IfErr result (IsFirstBad (first_of (cause_if (is_none mode) 0 ∷ bad ∷ []))) }
+{
+    let Some(mode) = mode else {
+        return Err(ScriptFault::Line(0));
+    };
+    match bad {
+        None => Ok(mode),
+        Some(number) => Err(ScriptFault::Line(u64::from(number))),
+    }
+}
+
+// Reads the lines behind the mode line.
+fn read_lines(lines: &mut Lines<'_>, frames: &mut Frames) -> Result<(), ScriptFault>
+    ensures good { OnOk result (bad_lines lines.old ≡ None) }
+    ensures kept { OnOk result (frames.new ≡ kept_with frames.old (spoken_in lines.old)) }
+    ensures refused { IfErr result (IsFirstBad (bad_lines lines.old)) }
+{
+    while let Some((number, line)) = lines.next() {
+        read_line(number, line, frames)?;
+    }
+    Ok(())
+}
+
+// Reads a line behind the mode line.
+fn read_line(number: u32, line: &[u8], frames: &mut Frames) -> Result<(), ScriptFault>
+    requires { 0 < number }
+    ensures good { OnOk result (bad_lines (record { number = number; bytes = line.now } ∷ []) ≡ None) }
+    ensures kept { OnOk result (frames.new ≡ kept_with frames.old (spoken_in (record { number = number; bytes = line.now } ∷ []))) }
+    ensures refused { IfErr result (IsFirstBad (bad_lines (record { number = number; bytes = line.now } ∷ []))) }
+{
+    if !is_text(line) {
+        return Err(ScriptFault::Line(u64::from(number)));
+    }
+    if is_skipped(line) {
+        return Ok(());
+    }
+    frames.take_line(number, line)
+}
