@@ -14,30 +14,24 @@ use Rattle.std.proofs.lemmas.Cmp.{nat_cmp_total}
 use Rattle.std.proofs.lemmas.List.{nil_from_length}
 use Rattle.std.proofs.lemmas.List.Elements.{filter_agree}
 use Rattle.std.proofs.lemmas.Map.Keys.{sorted_head, sorted_tail}
-use Rattle.endpoint_link.specs.Frames.{Frame}
 use Rattle.endpoint_link.specs.Numbering.{among}
-use Rattle.node_graph.specs.Tree.{Tree}
 use Rattle.conn_rules.specs.Births.{Position, fresh}
 use Rattle.vfs_journal.specs.Deaths.{first_deaths, spread}
 use Rattle.vfs_journal.specs.Entries.{Sent, endpoints_in}
 use Rattle.vfs_journal.specs.Fit.{IsFit}
 use Rattle.vfs_journal.specs.History.{Event, changed, tree_at}
 use Rattle.vfs_journal.specs.Outcomes.{close_frame}
-use Rattle.vfs_journal.specs.Output.{frames_of_serving, rising}
+use Rattle.vfs_journal.specs.Output.{rising}
 use Rattle.vfs_journal.specs.Starts.{Bound}
-use Rattle.vfs_journal.specs.View.{View, deaths_in, head_in, moved, others_in, outcome_in, queue_in, serving_in}
+use Rattle.vfs_journal.specs.View.{View, deaths_in, head_in, moved, others_in, outcome_in, queue_in}
 use Rattle.vfs_journal.specs.Watching.{first_frames, told_frames}
 use Rattle.journal_laws.specs.Behind.{later_of}
 use Rattle.journal_laws.specs.Choosing.{AreAllThatDie, IsClosedOver, IsToldByMembers, queue_beside}
 use Rattle.journal_laws.proofs.Among.{among_of, member_of}
+use Rattle.journal_laws.proofs.KnowingCount.{same_bool}
 use Rattle.journal_laws.proofs.LookedUp.{is_first, own_queue, other_queue}
 use Rattle.journal_laws.proofs.Members.{contains_here, contains_later, kept, kept_of}
 use Rattle.journal_laws.proofs.Spreading.{among_sides, spread_keeps}
-
-pub same_test : (a b : Bool) → (a ≡ true → b ≡ true) → (b ≡ true → a ≡ true) → a ≡ b
-same_test true b to from = sym (to refl)
-same_test false true to from = from refl
-same_test false false to from = refl
 
 -- ---- the one pass stays within each set that is closed
 
@@ -71,7 +65,7 @@ pub deaths_are_least : (view : View) (sent : Sent) (deaths : List ℕ) → IsFit
     AreAllThatDie (queue_beside view sent) (first_deaths sent (outcome_in view sent)) deaths → (endpoint : ℕ) → among endpoint deaths ≡ among endpoint (deaths_in view sent)
 deaths_are_least view sent deaths fit h all n =
     let dying = first_deaths sent (outcome_in view sent) in
-    same_test (among n deaths) (among n (deaths_in view sent))
+    same_bool (among n deaths) (among n (deaths_in view sent))
     (all.least (λ m. among m (deaths_in view sent)) (λ m g. spread_keeps m dying (others_in view sent) g) closed n)
     (spread_within (λ m. among m deaths) dying (others_in view sent) all.first (λ one p dead m c. all.closed one.endpoint m one dead (on_queue one p) c) n) where
       closed : IsClosedOver (queue_beside view sent) (λ m. among m (deaths_in view sent))
@@ -141,7 +135,7 @@ kept_among p n xs h passes = among_of n (filter p xs) (kept p xs n (member_of n 
 
 same_kept : (p : ℕ → Bool) (xs ys : List ℕ) → ((n : ℕ) → among n xs ≡ among n ys) → (n : ℕ) → among n (filter p xs) ≡ among n (filter p ys)
 same_kept p xs ys same n =
-    same_test (among n (filter p xs)) (among n (filter p ys))
+    same_bool (among n (filter p xs)) (among n (filter p ys))
     (λ h. let at = among_kept p n xs h in kept_among p n ys (sym (same n) ∙ at.0) at.1)
     (λ h. let at = among_kept p n ys h in kept_among p n xs (same n ∙ at.0) at.1)
 

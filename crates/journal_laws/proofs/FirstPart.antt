@@ -1,5 +1,5 @@
 -- What servings do as long as the first part of the protocol is built.
-use Rattle.std.proofs.Common.{◌≡◌, ℕ, zero, suc, ◌==◌, ◌&&◌, ◌||◌, ◌⊎◌, Bool, true, false, cond, not, unwrap_or, if◌then◌else◌, List, [], ◌∷◌, ◌++◌, map, filter, option_to_list, slice_index_or, Option, Some, None, Ok, Err, All, Contains, refl, sym, ap, ◌∙◌, subst, append-nil}
+use Rattle.std.proofs.Common.{◌≡◌, ℕ, zero, suc, ◌==◌, ◌&&◌, ◌||◌, Bool, true, false, cond, not, unwrap_or, if◌then◌else◌, List, [], ◌∷◌, ◌++◌, filter, option_to_list, slice_index_or, Option, Some, None, Ok, Err, All, refl, sym, ap, ◌∙◌, subst, append-nil}
 use Rattle.std.specs.Prelude.{slice_set}
 use Rattle.std.specs.Option.{option_map}
 use Rattle.std.proofs.lemmas.Bool.{true≢false}
@@ -24,20 +24,19 @@ use Rattle.io_messages.specs.declared.requests.RequestFault.TheVariants.{Malform
 use Rattle.io_rights.specs.Operations.{OperationSet, is_within}
 use Rattle.node_graph.specs.declared.nodes.NodeKind.{NodeKind}
 use Rattle.node_graph.specs.declared.nodes.NodeKind.TheVariants.{Directory, File, Service, Mount}
-use Rattle.node_graph.specs.Tree.{Tree, EdgeTo, Change, after, fill, kind_of, stay}
+use Rattle.node_graph.specs.Tree.{Tree, EdgeTo, Change, fill, stay}
 use Rattle.path_walk.specs.Paths.{names_of}
 use Rattle.conn_rules.specs.declared.births.Room.{Room}
 use Rattle.conn_rules.specs.Acts.{act_of, lacks_right, is_beyond, method_refusals, row_act}
-use Rattle.conn_rules.specs.Answers.{Answer, replies, closes, binds, watches, forwards, refuses, ends, hangs_up, silent, Act, Told, only, failure_of, nothing_told}
+use Rattle.conn_rules.specs.Answers.{Answer, replies, closes, binds, watches, forwards, refuses, ends, hangs_up, silent, Act, only, failure_of, nothing_told}
 use Rattle.conn_rules.specs.Births.{Birth, Position}
-use Rattle.conn_rules.specs.Built.{Built, first_methods, is_first_kind, is_first_method, is_first_word}
+use Rattle.conn_rules.specs.Built.{first_methods, is_first_kind, is_first_method, is_first_word}
 use Rattle.conn_rules.specs.FileRows.{reading_refusal}
 use Rattle.conn_rules.specs.Nodes.{edge_at, is_file, is_mount, kind_behind, kind_here}
 use Rattle.conn_rules.specs.Opens.{arrival, arrival_refusals, by_walk, entry_refusals, is_full, is_other_kind, making_refusals, marks_file, other_kind_status, protocol_of}
-use Rattle.conn_rules.specs.Refusals.{unless}
 use Rattle.conn_rules.specs.Walks.{Walk, arrives, missing, crosses, stops, behind, passing, last_by_kind, last_step, inner_rights, inner_by_kind, inner_step, walk, limit_of}
 use Rattle.vfs_journal.specs.Entries.{Journal, Sending, Sent, message, hang_up, sends, serves}
-use Rattle.vfs_journal.specs.History.{Event, History, bound_at, changed, is_dead, living, tree_at, trees_of}
+use Rattle.vfs_journal.specs.History.{History, bound_at, changed, is_dead, living, tree_at, trees_of}
 use Rattle.vfs_journal.specs.Lawful.{Lawful}
 use Rattle.vfs_journal.specs.Lawful as lawful
 use Rattle.vfs_journal.specs.Outcomes.{Asker, Forwarded, Given, Outcome, bound_of, outcome_with, token_of}
@@ -110,7 +109,7 @@ arrives_at tree word (name ∷ next ∷ names) directory node masks from e =
 
 -- ---- what is refused
 
-not_not : (b : Bool) → not b ≡ false → b ≡ true
+pub not_not : (b : Bool) → not b ≡ false → b ≡ true
 not_not true e = refl
 not_not false e = absurd (true≢false e)
 

@@ -1,13 +1,11 @@
 -- Behind each frame a reached view leads to another.
-use Rattle.std.proofs.Common.{◌≡◌, ℕ, [], ◌∷◌, Some, None, sym, ap, ◌∙◌}
-use Rattle.endpoint_link.specs.Admission.{admission}
-use Rattle.endpoint_link.specs.declared.kinds.FrameKind.TheVariants as kind
+use Rattle.std.proofs.Common.{◌≡◌, ℕ, ◌∷◌, None, sym, ap, ◌∙◌}
 use Rattle.endpoint_link.specs.declared.kinds.Side.TheVariants.{ToServers}
 use Rattle.endpoint_link.specs.Frames.{Frame, IsFrame}
 use Rattle.vfs_journal.specs.Entries.{Sending, Sent, message, hang_up, sends, refuses}
 use Rattle.vfs_journal.specs.Lawful as lawful
 use Rattle.vfs_journal.specs.Past.{history_of}
-use Rattle.vfs_journal.specs.Session.{look_ups, sent_behind}
+use Rattle.vfs_journal.specs.Session.{sent_behind}
 use Rattle.vfs_journal.specs.View.{View, refusing_in, sending_in}
 use Rattle.journal_laws.specs.Hearing.{Hears, sent_in}
 use Rattle.journal_laws.specs.Viewing.{IsReached, view_behind}

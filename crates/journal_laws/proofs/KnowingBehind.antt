@@ -1,16 +1,15 @@
 -- What is known behind a serving: its deaths, the tokens that are gone, the one that is given, and what waits.
-use Rattle.std.proofs.Common.{◌≡◌, ◌≢◌, ℕ, ◌+◌, ◌-◌, ◌<◌, ◌≤◌, ◌==◌, ◌&&◌, ◌||◌, ◌⊎◌, Bool, true, false, cond, not, is_some, List, [], ◌∷◌, ◌++◌, length, map, filter, flat_map, fold, option_to_list, Option, Some, None, All, AllPairs, Contains, refl, sym, ap, ◌∙◌, subst, inl, inr, if◌then◌else◌, arith, append-nil, length-append}
+use Rattle.std.proofs.Common.{◌≡◌, ◌≢◌, ℕ, ◌+◌, ◌-◌, ◌<◌, ◌≤◌, ◌==◌, ◌&&◌, ◌||◌, ◌⊎◌, Bool, true, false, cond, not, is_some, List, [], ◌∷◌, ◌++◌, length, map, fold, option_to_list, Option, Some, None, All, AllPairs, Contains, refl, sym, ap, ◌∙◌, subst, inl, inr, if◌then◌else◌, arith, length-append}
 use Rattle.std.specs.Prelude.{unwrap_or}
 use Rattle.std.specs.List.{list_any}
 use Rattle.std.specs.FinMap as finite
 use Rattle.std.specs.FinMap.{get-insert, get-remove}
 use Rattle.std.specs.Ordering.{nat_cmp, eq_by_cmp}
-use Rattle.std.proofs.lemmas.Bool.{and_from, and_parts, cases_Bool, eq-eqb, eqb-true, false_from_ne_true, or_cases, or_left, or_right, true≢false}
+use Rattle.std.proofs.lemmas.Bool.{and_from, and_parts, cases_Bool, eq-eqb, eqb-true, false_from_ne_true, or_cases, or_right, true≢false}
 use Rattle.std.proofs.lemmas.Bool.Decides.{nat_tests}
 use Rattle.std.proofs.lemmas.Cmp.{nat_cmp_total}
 use Rattle.std.proofs.lemmas.List.{length-map}
 use Rattle.std.proofs.lemmas.List.Elements.{All-nil, All-cons, All-head, All-tail, All-contains}
-use Rattle.std.proofs.lemmas.List.Filters.{length-filter_both}
 use Rattle.std.proofs.lemmas.List.Folds.{list_any-append}
 use Rattle.std.proofs.lemmas.List.Kept.{AllPairs-cons, AllPairs-filter}
 use Rattle.fidl_names.specs.HandleNumber.{is_client}
@@ -18,9 +17,9 @@ use Rattle.fidl_names.specs.declared.limits.TheConstants as limit
 use Rattle.endpoint_link.specs.declared.kinds.Standing.{Standing}
 use Rattle.endpoint_link.specs.declared.kinds.Standing.TheVariants as standing
 use Rattle.endpoint_link.specs.Numbering.{among}
-use Rattle.endpoint_link.specs.Standings.{Known, holds, next_token_of, standing_of as known_standing, ended as ended_in, given, gone}
+use Rattle.endpoint_link.specs.Standings.{Known, standing_of as known_standing, ended as ended_in, given, gone}
 use Rattle.conn_rules.specs.Built.{Built}
-use Rattle.vfs_journal.specs.Entries.{Sent, Journal, message, handles_of, endpoints_in, serves, sends}
+use Rattle.vfs_journal.specs.Entries.{Sent, Journal, message, handles_of, serves}
 use Rattle.vfs_journal.specs.Deaths.{deaths_of}
 use Rattle.vfs_journal.specs.History.{History, all_sent, waiting, was_carried}
 use Rattle.vfs_journal.specs.Lawful.{Lawful}
@@ -29,27 +28,27 @@ use Rattle.vfs_journal.specs.Outcomes.{Forwarded, Given, Outcome}
 use Rattle.vfs_journal.specs.Past.{behind, history_of}
 use Rattle.vfs_journal.specs.Serving.{outcome_of}
 use Rattle.vfs_journal.specs.Session.{after_serving, head, sent_behind, with_forward}
-use Rattle.vfs_journal.specs.Starts.{Bound, Start}
-use Rattle.vfs_journal.specs.Tokens.{all_given, is_held, next_token, tokens_out, waits_with, was_given}
+use Rattle.vfs_journal.specs.Starts.{Start}
+use Rattle.vfs_journal.specs.Tokens.{all_given, is_held, tokens_out, waits_with, was_given}
 use Rattle.vfs_journal.specs.View.{View, deaths_in, event_in, head_in, onward_in, outcome_in, serving_in, then_in}
 use Rattle.journal_laws.specs.Choosing.{IsListOf}
-use Rattle.journal_laws.specs.Knowing.{IsNumbered, Knows, dropped_in, known_served, spent_in, token_out}
+use Rattle.journal_laws.specs.Knowing.{IsNumbered, Knows, known_served, spent_in, token_out}
 use Rattle.journal_laws.specs.Soundness.{IsStart, OtherEndpoint}
 use Rattle.journal_laws.specs.Viewing.{view_behind}
 use Rattle.journal_laws.proofs.Among.{among_of, carried_is, member_of, one_passes, passes_any}
 use Rattle.journal_laws.proofs.Below.{Below}
-use Rattle.journal_laws.proofs.Dying.{same_test}
+use Rattle.journal_laws.proofs.KnowingCount.{same_bool}
 use Rattle.journal_laws.proofs.Fits.{views_fit}
-use Rattle.journal_laws.proofs.Kept.{client_low, is_serving, lawful_kept, one_handle}
+use Rattle.journal_laws.proofs.Kept.{is_serving, lawful_kept, one_handle}
 use Rattle.journal_laws.proofs.KnowingLists.{Apart, apart_append, apart_one, no_more}
 use Rattle.journal_laws.proofs.KnowingSent.{no_token}
 use Rattle.journal_laws.proofs.KnowingServes.{ended_live, ended_same, ended_standing, servings_end}
 use Rattle.journal_laws.proofs.KnowingTokens.{holds_from, next_from, out_of}
-use Rattle.journal_laws.proofs.Lists.{eqb_sym, pairs-head, pairs-tail}
+use Rattle.journal_laws.proofs.Lists.{pairs-head, pairs-tail}
 use Rattle.journal_laws.proofs.LookedUp.{is_first}
-use Rattle.journal_laws.proofs.Members.{contains_cases, contains_here, contains_later, contains_none, kept, kept_of}
+use Rattle.journal_laws.proofs.Members.{contains_cases, contains_here, contains_later, contains_map, contains_none, kept, kept_of}
 use Rattle.journal_laws.proofs.Places.{waits_of_sent}
-use Rattle.journal_laws.proofs.Spent.{carry, left_in, spent_by, spent_waits, waits_unspent}
+use Rattle.journal_laws.proofs.Spent.{carry, spent_by, spent_waits, waits_unspent}
 use Rattle.journal_laws.proofs.Spreading.{among-append}
 use Rattle.journal_laws.proofs.Stepping.{stepped}
 use Rattle.journal_laws.proofs.Steps.{sendings_wait_last, servings_take_effect}
@@ -242,13 +241,6 @@ token_told past now token spent told n = by_kind (number_is n) where
 abbrev out_numbers : History → List ℕ
 out_numbers history = map (λ g. g.token) (tokens_out history)
 
-mapped : (f : Given → ℕ) (g : Given) (gs : List Given) → Contains gs g → Contains (map f gs) (f g)
-mapped f g [] p = absurd (contains_none g p)
-mapped f g (x ∷ gs) p = by_place (mapped f g gs) (contains_cases g x gs p) where
-  by_place : (Contains gs g → Contains (map f gs) (f g)) → (x ≡ g) ⊎ Contains gs g → Contains (f x ∷ map f gs) (f g)
-  by_place rest (inl e) = subst (λ (y : Given). Contains (f y ∷ map f gs) (f g)) (sym e) (contains_here (f g) (map f gs))
-  by_place rest (inr q) = contains_later (f g) (f x) (map f gs) (rest q)
-
 mapped_from : (f : Given → ℕ) (n : ℕ) (gs : List Given) → Contains (map f gs) n → (g : Given) × Contains gs g × (f g ≡ n)
 mapped_from f n [] p = absurd (contains_none n p)
 mapped_from f n (x ∷ gs) p = by_place (mapped_from f n gs) (contains_cases n (f x) (map f gs) p) where
@@ -261,7 +253,7 @@ is_out history n = is_held history n || waits_with history n
 
 number_out : (history : History) (n : ℕ) → among n (out_numbers history) ≡ (was_given history n && is_out history n)
 number_out history n =
-    same_test (among n (out_numbers history)) (was_given history n && is_out history n)
+    same_bool (among n (out_numbers history)) (was_given history n && is_out history n)
     (λ h.
     let at = mapped_from (λ (g : Given). g.token) n (tokens_out history) (member_of n (out_numbers history) h) in
     let parts = kept_of (λ (g : Given). is_out history g.token) (all_given history) at.0 at.1 in
@@ -271,7 +263,7 @@ number_out history n =
     let one = one_passes (λ (g : Given). g.token == n) (all_given history) parts.0 in
     let at = eqb-true one.0.token n one.2 in
     among_of n (out_numbers history) (subst (Contains (out_numbers history)) at
-    (mapped (λ (g : Given). g.token) one.0 (tokens_out history) (kept (λ (g : Given). is_out history g.token) (all_given history) one.0 one.1 (ap (is_out history) at ∙ parts.1)))))
+    (contains_map (λ (g : Given). g.token) (tokens_out history) one.0 (kept (λ (g : Given). is_out history g.token) (all_given history) one.0 one.1 (ap (is_out history) at ∙ parts.1)))))
 
 -- tokens that rise are apart
 rising_apart : (gs : List Given) → AllPairs (λ one later. one.token < later.token) gs → Apart (map (λ g. g.token) gs)

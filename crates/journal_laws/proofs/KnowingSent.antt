@@ -1,8 +1,8 @@
 -- What is known behind an admitted message or hang-up.
-use Rattle.std.proofs.Common.{◌≡◌, ℕ, ◌+◌, ◌≤◌, ◌==◌, ◌&&◌, ◌||◌, Bool, true, false, cond, not, nat_le, List, [], ◌∷◌, ◌++◌, length, filter, Option, Some, None, Contains, refl, sym, ap, ◌∙◌, subst, if◌then◌else◌, arith, length-append}
+use Rattle.std.proofs.Common.{◌≡◌, ℕ, ◌+◌, ◌≤◌, ◌==◌, ◌&&◌, ◌||◌, Bool, true, false, cond, not, List, [], ◌∷◌, ◌++◌, length, Option, Some, None, refl, sym, ap, ◌∙◌, subst, if◌then◌else◌, arith, length-append}
 use Rattle.std.specs.Prelude.{unwrap_or}
 use Rattle.std.specs.List.{list_any}
-use Rattle.std.proofs.lemmas.Bool.{eqb-true, eq-eqb, or_parts, and_from, and_parts, false_from_ne_true, true≢false}
+use Rattle.std.proofs.lemmas.Bool.{eqb-true, or_parts, and_from, and_parts, false_from_ne_true, true≢false}
 use Rattle.std.proofs.lemmas.List.Sums.{length-filter}
 use Rattle.std.proofs.lemmas.List.Folds.{list_any-append}
 use Rattle.std.specs.Ordering.{nat_cmp, eq_by_cmp}
@@ -19,7 +19,7 @@ use Rattle.endpoint_link.specs.Admission.{admission, may_travel, all_may_travel,
 use Rattle.endpoint_link.specs.Frames.{Frame}
 use Rattle.fidl_names.specs.HandleNumber.{is_client}
 use Rattle.endpoint_link.specs.Numbering.{among}
-use Rattle.endpoint_link.specs.Standings.{Known, Sends, holds, hung_up as hung_up_in}
+use Rattle.endpoint_link.specs.Standings.{Known, Sends, hung_up as hung_up_in}
 use Rattle.endpoint_link.proofs.Travelling.{travel_each, unused_by, held_by as held_when}
 use Rattle.conn_rules.specs.Built.{Built}
 use Rattle.vfs_journal.specs.Entries.{Sent, Sending, Journal, message, hang_up, handles_of, endpoints_in, is_hang_up, sends}
@@ -32,7 +32,7 @@ use Rattle.vfs_journal.specs.Session.{look_ups, sent_behind}
 use Rattle.journal_laws.specs.Soundness.{IsStart}
 use Rattle.vfs_journal.specs.Starts.{Start}
 use Rattle.vfs_journal.specs.Tokens.{all_given, is_held, was_given, waits_with, tokens_out}
-use Rattle.journal_laws.proofs.Among.{carried_is, carried_from, one_passes, passes_any}
+use Rattle.journal_laws.proofs.Among.{carried_is, carried_from, one_passes}
 use Rattle.journal_laws.proofs.Below.{Below}
 use Rattle.journal_laws.proofs.Kept.{lawful_kept, client_low}
 use Rattle.journal_laws.proofs.KnowingAdmits.{used_where}
@@ -41,7 +41,6 @@ use Rattle.journal_laws.proofs.KnowingLists.{or-none}
 use Rattle.journal_laws.proofs.KnowingServed.{sent_lives}
 use Rattle.journal_laws.proofs.KnowingTokens.{holds_from, next_from, out_of, outs_same, token_same, token_sent}
 use Rattle.journal_laws.proofs.Lists.{eqb_sym}
-use Rattle.journal_laws.proofs.Members.{contains_here, contains_later}
 use Rattle.journal_laws.proofs.Sound.{view, Sound, endpoint_known}
 use Rattle.journal_laws.proofs.Stepping.{stepped}
 use Rattle.journal_laws.proofs.Steps.{sendings_wait_last}

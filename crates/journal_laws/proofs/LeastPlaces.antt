@@ -1,15 +1,14 @@
 -- What has the least place of all that is first on its endpoint is served next.
-use Rattle.std.proofs.Common.{◌≡◌, ℕ, zero, suc, ◌+◌, ◌<◌, ◌≤◌, ◌==◌, ◌⊎◌, Bool, true, false, not, cond, if◌then◌else◌, List, [], ◌∷◌, length, filter, find, Option, Some, None, All, AllPairs, Contains, refl, sym, ap, ◌∙◌, subst, inl, inr, arith}
+use Rattle.std.proofs.Common.{◌≡◌, ℕ, zero, suc, ◌+◌, ◌<◌, ◌≤◌, ◌==◌, ◌⊎◌, Bool, true, false, not, cond, if◌then◌else◌, List, [], ◌∷◌, length, filter, find, Option, Some, None, AllPairs, Contains, refl, sym, ap, ◌∙◌, subst, inl, inr, arith}
 use Rattle.std.specs.Prelude.{slice_get}
 use Rattle.std.proofs.lemmas.Bool.{eqb-true, eq-eqb, true≢false}
-use Rattle.std.proofs.lemmas.List.Elements.{All-contains, filter_agree}
 use Rattle.std.proofs.lemmas.List.Filters.{length-filter_both}
 use Rattle.vfs_journal.specs.Entries.{Sent}
 use Rattle.vfs_journal.specs.Fit.{IsFit}
-use Rattle.vfs_journal.specs.View.{View, at_in, head_in, is_bound_in, next_in, oldest_in, queue_in}
-use Rattle.journal_laws.specs.Choosing.{ChoosesLeast, HasLeastPlace, IsChosenByPlace, first_on, is_bound_at_in}
+use Rattle.vfs_journal.specs.View.{View, is_bound_in, queue_in}
+use Rattle.journal_laws.specs.Choosing.{ChoosesLeast, HasLeastPlace, IsChosenByPlace, is_bound_at_in}
 use Rattle.journal_laws.proofs.LookedUp.{filter_kept}
-use Rattle.journal_laws.proofs.Members.{contains_here, contains_none, first_found, found, kept, kept_of, none_found}
+use Rattle.journal_laws.proofs.Members.{contains_here, contains_none, first_found, found, kept, none_found}
 
 abbrev IsBefore : Sent → Sent → Type 0
 IsBefore one later = one.place < later.place

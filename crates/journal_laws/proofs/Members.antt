@@ -1,5 +1,5 @@
 -- Members of lists that are found or kept, and numbers among others.
-use Rattle.std.proofs.Common.{◌≡◌, ℕ, zero, suc, ◌<◌, ◌||◌, ◌⊎◌, Bool, true, false, cond, List, [], ◌∷◌, length, slice_index_or, Some, None, filter, find, All, AllPairs, Contains, refl, sym, ap, ◌∙◌, subst, inl, inr, arith}
+use Rattle.std.proofs.Common.{◌≡◌, ℕ, zero, suc, ◌<◌, ◌||◌, ◌⊎◌, Bool, true, false, cond, List, [], ◌∷◌, length, slice_index_or, Some, None, filter, find, map, All, AllPairs, Contains, refl, sym, ap, ◌∙◌, subst, inl, inr, arith}
 use Rattle.std.specs.List.{list_any}
 use Rattle.journal_laws.proofs.Lists.{pairs-head, pairs-tail}
 use Rattle.std.proofs.lemmas.List.Elements.{All-filter, All-contains, All-contains_itself, filter_passes}
@@ -19,6 +19,14 @@ contains_cases x y xs h = by_place h.0 h.1 h.2 where
 
 pub contains_none : {X : Type 0} (x : X) → Contains [] x → ⊥
 contains_none x h = omega (arith, h.1)
+
+-- what a member is mapped to is a member
+pub contains_map : {X Y : Type 0} (f : X → Y) (xs : List X) (x : X) → Contains xs x → Contains (map f xs) (f x)
+contains_map f [] x h = absurd (contains_none x h)
+contains_map f (y ∷ xs) x h = by_place (contains_cases x y xs h) (contains_map f xs x) where
+  by_place : (y ≡ x) ⊎ Contains xs x → (Contains xs x → Contains (map f xs) (f x)) → Contains (f y ∷ map f xs) (f x)
+  by_place (inl e) rest = subst (λ z. Contains (z ∷ map f xs) (f x)) (ap f (sym e)) (contains_here (f x) (map f xs))
+  by_place (inr h) rest = contains_later (f x) (f y) (map f xs) (rest h)
 
 -- ---- what a filter keeps
 

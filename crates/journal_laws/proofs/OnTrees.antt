@@ -1,22 +1,21 @@
 -- Who lives stands on a node of its tree in every lawful journal.
-use Rattle.std.proofs.Common.{◌≡◌, ℕ, zero, suc, ◌<◌, ◌==◌, ◌⊎◌, Bool, true, false, not, unwrap_or, List, [], ◌∷◌, ◌++◌, length, filter, option_to_list, slice_get, slice_index_or, Option, Some, None, All, Contains, refl, sym, ap, ◌∙◌, subst, inl, inr, append-nil, arith}
-use Rattle.std.specs.Prelude.{slice_set, IsSome}
-use Rattle.std.specs.FinMap as finite
+use Rattle.std.proofs.Common.{◌≡◌, ℕ, zero, suc, ◌<◌, ◌==◌, ◌⊎◌, Bool, not, List, [], ◌∷◌, ◌++◌, length, filter, option_to_list, Option, Some, None, All, refl, sym, ap, ◌∙◌, subst, inl, inr, append-nil, arith}
+use Rattle.std.specs.Prelude.{IsSome}
 use Rattle.std.specs.FinMap.{get-empty}
 use Rattle.std.specs.Option.{option_map}
-use Rattle.std.proofs.lemmas.Bool.{cases_order, true≢false}
+use Rattle.std.proofs.lemmas.Bool.{cases_order}
 use Rattle.std.proofs.lemmas.List.{get_or-set_same, get_or-set_other, length-set}
 use Rattle.std.proofs.lemmas.List.Elements.{All-nil, All-cons, All-head, All-tail, All-append, All-contains, All-filter, All-weaker}
 use Rattle.endpoint_link.specs.Numbering.{among}
 use Rattle.io_messages.specs.declared.protocols.Protocol.{Protocol}
 use Rattle.io_rights.specs.Operations.{OperationSet}
-use Rattle.node_graph.specs.Tree.{IsSound, NodeRow, Tree, EdgeKey, EdgeTo, Change, after, bare_tree, edge_cmp, kind_of, row_of}
+use Rattle.node_graph.specs.Tree.{IsSound, NodeRow, Tree, Change, after, bare_tree, edge_cmp, kind_of, row_of}
 use Rattle.node_graph.specs.declared.nodes.NodeKind.{NodeKind}
 use Rattle.node_graph.specs.declared.nodes.NodeKind.TheVariants.{Directory, Mount}
 use Rattle.tree_file.specs.Sound.{HasOneEdge}
 use Rattle.conn_rules.specs.Built.{Built}
 use Rattle.vfs_journal.specs.Entries.{Journal, Sent, message, hang_up, sends, serves}
-use Rattle.vfs_journal.specs.History.{History, bound_at, changed, is_dead, living, tree_at, trees_of}
+use Rattle.vfs_journal.specs.History.{History, changed, is_dead, living, tree_at, trees_of}
 use Rattle.vfs_journal.specs.Lawful.{Lawful}
 use Rattle.vfs_journal.specs.Lawful as lawful
 use Rattle.vfs_journal.specs.Outcomes.{Forwarded, Given, Outcome}
@@ -26,13 +25,13 @@ use Rattle.vfs_journal.specs.Session.{head, sent_behind, with_forward}
 use Rattle.vfs_journal.specs.Starts.{Bound, Start}
 use Rattle.vfs_journal.specs.Tokens.{all_given}
 use Rattle.journal_laws.specs.Laws.{HasSameEndpoints, but_for, newly_living}
-use Rattle.journal_laws.specs.Soundness.{AreMountedOnce, IsMountedOnce, IsOnDirectory, IsStart}
+use Rattle.journal_laws.specs.Soundness.{AreMountedOnce, IsOnDirectory, IsStart}
 use Rattle.journal_laws.specs.Trees.{IsOnNode, NamesDirectory, StandOnTrees, suits}
 use Rattle.journal_laws.proofs.Below.{Below}
 use Rattle.journal_laws.proofs.Kept.{is_serving, lawful_kept}
 use Rattle.journal_laws.proofs.Members.{found}
 use Rattle.journal_laws.proofs.Orderly.{HasChildren, IsOrderly, children_stay, edge_stays, kind_stays, mount_back}
-use Rattle.journal_laws.proofs.Placed.{IsPlacedOutcome, IsServedOn, sending_placed}
+use Rattle.journal_laws.proofs.Placed.{IsPlacedOutcome, sending_placed}
 use Rattle.journal_laws.proofs.Stepping.{stepped}
 use Rattle.journal_laws.proofs.Steps.{refusals_change_nothing, sendings_wait_last, servings_take_effect}
 

@@ -1,5 +1,5 @@
 -- What goes on behind a mount: it reads as an Open of the names that are left, with the same object.
-use Rattle.std.proofs.Common.{◌≡◌, ℕ, zero, suc, ◌+◌, ◌-◌, ◌^◌, ◌<◌, ◌≤◌, Bool, true, false, cond, nat_le, get_or, slice_index, List, [], ◌∷◌, ◌++◌, length, drop, map, slice_get, Option, Some, None, Ok, All, refl, sym, ap, ◌∙◌, subst, length-append, drop_at, drop-drop, lit<, lit≤, rules, arith}
+use Rattle.std.proofs.Common.{◌≡◌, ℕ, zero, suc, ◌+◌, ◌^◌, ◌<◌, ◌≤◌, Bool, true, false, cond, nat_le, get_or, slice_index, List, [], ◌∷◌, ◌++◌, length, drop, map, slice_get, Option, Some, None, Ok, All, refl, sym, ap, ◌∙◌, subst, length-append, drop_at, drop-drop, lit<, lit≤, rules, arith}
 use Rattle.std.specs.List.{join_with_byte}
 use Rattle.std.specs.Str.{IsUtf8}
 use Rattle.std.proofs.lemmas.Bool.{lt-leb, leb-true, leb-false}

@@ -1,6 +1,5 @@
 -- What acts bind stands on a node, and the changes that they make are orderly.
-use Rattle.std.proofs.Common.{◌≡◌, ℕ, ◌+◌, ◌&&◌, ◌||◌, Bool, true, false, cond, not, nat_lt, nat_le, is_some, is_none, unwrap_or, if◌then◌else◌, List, [], ◌∷◌, ◌++◌, length, map, Option, Some, None, Ok, Err, refl, sym, ap, ◌∙◌, subst}
-use Rattle.std.specs.FinMap as finite
+use Rattle.std.proofs.Common.{◌≡◌, ℕ, ◌||◌, Bool, true, false, not, nat_lt, is_some, is_none, unwrap_or, if◌then◌else◌, List, [], ◌∷◌, map, Option, Some, None, Ok, Err, refl, sym, ap, ◌∙◌, subst}
 use Rattle.std.specs.Option.{option_map, option_map_or}
 use Rattle.std.proofs.lemmas.Bool.{true≢false}
 use Rattle.fidl_names.specs.First.{cause_if, first_of}
@@ -27,26 +26,26 @@ use Rattle.io_messages.specs.declared.protocols.Home.TheVariants as homes
 use Rattle.io_messages.specs.declared.protocols.Protocol.{Protocol}
 use Rattle.io_messages.specs.declared.protocols.Protocol.TheVariants as protocol
 use Rattle.io_messages.specs.declared.requests.RequestFault.TheVariants.{Malformed, UnknownStrict, UnknownOneWay, UnknownTwoWay}
-use Rattle.io_rights.specs.Operations.{OperationSet, is_within, all}
+use Rattle.io_rights.specs.Operations.{OperationSet, is_within}
 use Rattle.node_graph.specs.Graph.{write_change}
-use Rattle.node_graph.specs.Tree.{Tree, EdgeKey, EdgeTo, Change, after, fill, is_removed, kind_of, make, move, new_row, stay}
+use Rattle.node_graph.specs.Tree.{Tree, EdgeKey, EdgeTo, Change, after, fill, is_removed, kind_of, new_row, stay}
 use Rattle.node_graph.specs.declared.nodes.NodeKind.{NodeKind}
 use Rattle.node_graph.specs.declared.nodes.NodeKind.TheVariants.{Directory, File, Service, Mount}
 use Rattle.path_walk.specs.Paths.{names_of}
 use Rattle.conn_rules.specs.declared.births.Room.{Room}
 use Rattle.conn_rules.specs.Acts.{act_of, is_beyond, is_of_every_node, method_refusals, row_act}
-use Rattle.conn_rules.specs.Answers.{Answer, replies, closes, binds, watches, forwards, refuses, ends, hangs_up, silent, Act, only, failure_of, nothing_told}
+use Rattle.conn_rules.specs.Answers.{Answer, replies, closes, binds, watches, forwards, refuses, ends, hangs_up, silent, Act, only, failure_of}
 use Rattle.conn_rules.specs.Births.{Birth, Position}
 use Rattle.conn_rules.specs.Built.{Built}
 use Rattle.conn_rules.specs.FileRows.{is_no_position, is_too_much, reading_refusal, seek_sum, write_start, writing_refusal}
 use Rattle.conn_rules.specs.Listings.{fits_none, listing}
-use Rattle.conn_rules.specs.NameRows.{is_bad_name, is_same_name, leads_elsewhere, leads_to_names, link_into, link_refusals, linked, move_refusals, moving, name_in, rename_into, replacing, replacing_refusals, token_act, two_names_refusal, unlink_refusals, watch_refusals}
+use Rattle.conn_rules.specs.NameRows.{is_bad_name, is_same_name, link_into, link_refusals, linked, move_refusals, moving, name_in, rename_into, replacing, replacing_refusals, token_act, two_names_refusal, unlink_refusals, watch_refusals}
 use Rattle.conn_rules.specs.Nodes.{bytes_of, edge_at, is_directory, is_mount, kind_behind, kind_here, leads_to}
 use Rattle.conn_rules.specs.Opens.{arrival, arrival_refusals, by_walk, entry_refusals, is_full, kind_made, making, making_refusals, protocol_of, truncation}
 use Rattle.conn_rules.specs.Refusals.{unless}
 use Rattle.conn_rules.specs.Walks.{Walk, arrives, missing, crosses, stops, behind, passing, last_by_kind, last_step, inner_rights, inner_by_kind, inner_step, walk, limit_of}
 use Rattle.vfs_journal.specs.Entries.{Sending, message, hang_up}
-use Rattle.vfs_journal.specs.Outcomes.{Asker, Given, Outcome, bound_of, outcome_with, token_of, watcher_birth}
+use Rattle.vfs_journal.specs.Outcomes.{Given, Outcome, bound_of, outcome_with, token_of, watcher_birth}
 use Rattle.vfs_journal.specs.Serving.{Moment, Read, asker_of, object_of, outcome_of_message, outcome_of_read, outcome_of_sending, read_by, request_act, token_of as asked_token}
 use Rattle.vfs_journal.specs.Starts.{Bound}
 use Rattle.journal_laws.specs.Trees.{suits}
@@ -242,7 +241,7 @@ is_dir File e = absurd (true≢false (sym e))
 is_dir Service e = absurd (true≢false (sym e))
 is_dir (Mount index) e = absurd (true≢false (sym e))
 
-on_directory : (tree : Tree) (birth : Birth) (kind : NodeKind) (m : Method) → kind_of tree birth.node ≡ Some kind → suits birth.protocol kind ≡ true → home_of m ≡ homes.Directories → has_method birth.protocol m ≡ true → is_beyond birth.protocol m ≡ false →
+pub on_directory : (tree : Tree) (birth : Birth) (kind : NodeKind) (m : Method) → kind_of tree birth.node ≡ Some kind → suits birth.protocol kind ≡ true → home_of m ≡ homes.Directories → has_method birth.protocol m ≡ true → is_beyond birth.protocol m ≡ false →
     kind_of tree birth.node ≡ Some Directory
 on_directory tree birth kind m at suited' home has beyond =
     at ∙ ap Some (is_dir kind (ap (λ (p : Protocol). suits p kind) (sym (directory_protocol birth.protocol m home has beyond)) ∙ suited'))

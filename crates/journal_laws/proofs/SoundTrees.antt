@@ -1,14 +1,13 @@
 -- What is made, written, resized and cut leaves a tree sound.
-use Rattle.std.proofs.Common.{◌≡◌, ℕ, zero, suc, ◌+◌, ◌<◌, ◌≤◌, ◌==◌, ◌&&◌, ◌||◌, Bool, true, false, not, nat_lt, nat_le, is_some, unwrap_or, if◌then◌else◌, List, [], ◌∷◌, ◌++◌, length, Option, Some, None, Ok, Err, All, Contains, refl, sym, ap, ◌∙◌, subst, arith}
+use Rattle.std.proofs.Common.{◌≡◌, ℕ, zero, suc, ◌+◌, ◌==◌, ◌&&◌, Bool, true, false, not, nat_lt, nat_le, is_some, if◌then◌else◌, List, [], ◌∷◌, length, Option, Some, None, Ok, Err, All, refl, sym, ap, ◌∙◌, subst, arith}
 use Rattle.std.specs.FinMap as finite
-use Rattle.std.specs.Option.{option_map, option_map_or}
+use Rattle.std.specs.Option.{option_map_or}
 use Rattle.std.proofs.lemmas.Bool.{ne_eqb, or_right, true≢false}
 use Rattle.std.proofs.lemmas.List.Elements.{All-contains, All-head, All-set, All-tail}
 use Rattle.fidl_names.specs.First.{cause_if, first_of}
 use Rattle.fidl_names.specs.declared.limits.TheConstants as limit
 use Rattle.fidl_names.specs.declared.methods.Method.{Method}
 use Rattle.fidl_names.specs.declared.methods.Method.TheVariants as method
-use Rattle.fidl_names.specs.declared.statuses.Status.{Status}
 use Rattle.fidl_names.specs.declared.statuses.Status.TheVariants as status
 use Rattle.io_flags.specs.Grants.{asked_rights, explicit_rights}
 use Rattle.io_flags.specs.Words.{creates, has}
@@ -22,8 +21,8 @@ use Rattle.io_messages.specs.declared.protocols.Protocol.{Protocol}
 use Rattle.io_messages.specs.declared.protocols.Protocol.TheVariants as protocol
 use Rattle.io_messages.specs.declared.requests.RequestFault.TheVariants.{Malformed, UnknownStrict, UnknownOneWay, UnknownTwoWay}
 use Rattle.io_rights.specs.Operations.{OperationSet, all, is_within}
-use Rattle.node_graph.specs.Graph.{create_refusal, resize_refusal, resized, write_change, write_refusal}
-use Rattle.node_graph.specs.Tree.{IsSound, NodeRow, Tree, Edges, EdgeKey, EdgeTo, Change, after, bare_tree, fill, is_removed, kind_of, make, new_row, row_of, stay}
+use Rattle.node_graph.specs.Graph.{create_refusal, write_refusal}
+use Rattle.node_graph.specs.Tree.{IsSound, NodeRow, Tree, Edges, EdgeKey, EdgeTo, after, fill, is_removed, kind_of, row_of, stay}
 use Rattle.node_graph.specs.declared.faults.GraphFault.TheVariants as fault
 use Rattle.node_graph.specs.declared.nodes.NodeKind.{NodeKind}
 use Rattle.node_graph.specs.declared.nodes.NodeKind.TheVariants.{Directory, File, Service, Mount}
@@ -33,7 +32,7 @@ use Rattle.path_walk.specs.Paths.{names_of}
 use Rattle.path_walk.proofs.PartLemmas.{name_short}
 use Rattle.conn_rules.specs.declared.births.Room.{Room}
 use Rattle.conn_rules.specs.Acts.{act_of, is_beyond, is_of_every_node, lacks_right, method_refusals, row_act}
-use Rattle.conn_rules.specs.Answers.{Act, only, failure_of}
+use Rattle.conn_rules.specs.Answers.{Act}
 use Rattle.conn_rules.specs.Births.{Birth, Position}
 use Rattle.conn_rules.specs.Built.{Built}
 use Rattle.conn_rules.specs.FileRows.{is_no_position, is_too_far, is_too_much, reading_refusal, seek_sum, write_start, writing_refusal}
@@ -43,7 +42,7 @@ use Rattle.conn_rules.specs.Nodes.{bytes_of, edge_at, is_file, kind_behind, kind
 use Rattle.conn_rules.specs.Opens.{arrival, arrival_refusals, by_walk, entry_refusals, is_full, is_other_kind, kind_made, making, making_refusals, marks_file, other_kind_status}
 use Rattle.conn_rules.specs.Walks.{Walk, arrives, missing, crosses, stops, behind, passing, last_by_kind, last_step, inner_rights, inner_by_kind, inner_step, walk, limit_of}
 use Rattle.vfs_journal.specs.Entries.{Journal, Sending, Sent, message, hang_up, serves}
-use Rattle.vfs_journal.specs.History.{History, bound_at, changed, living, tree_at, trees_of}
+use Rattle.vfs_journal.specs.History.{living, tree_at, trees_of}
 use Rattle.vfs_journal.specs.Lawful.{Lawful}
 use Rattle.vfs_journal.specs.Lawful as lawful
 use Rattle.vfs_journal.specs.Outcomes.{Forwarded, Outcome}
@@ -56,11 +55,12 @@ use Rattle.journal_laws.specs.Trees.{IsOnNode, KeepsNames, suits}
 use Rattle.journal_laws.proofs.Acts.{first_none, not_refused, path_passes, unless_holds}
 use Rattle.journal_laws.proofs.Below.{Below}
 use Rattle.journal_laws.proofs.Edges.{mapped}
+use Rattle.journal_laws.proofs.FirstPart.{not_not}
 use Rattle.journal_laws.proofs.Kept.{is_serving, lawful_kept}
 use Rattle.journal_laws.proofs.Members.{found}
-use Rattle.journal_laws.proofs.OnTrees.{StandAt, lawful_stand, sound_children}
+use Rattle.journal_laws.proofs.OnTrees.{lawful_stand, sound_children}
 use Rattle.journal_laws.proofs.Orderly.{HasChildren}
-use Rattle.journal_laws.proofs.Placed.{IsNode, LeadsToNode, has_read, kind_there, leads_to_node}
+use Rattle.journal_laws.proofs.Placed.{IsNode, LeadsToNode, has_read, kind_there, leads_to_node, on_directory}
 use Rattle.journal_laws.proofs.Stepping.{stepped}
 use Rattle.journal_laws.proofs.Steps.{refusals_change_nothing, sendings_wait_last, servings_take_effect}
 
@@ -179,32 +179,16 @@ write_passes offset (byte ∷ bytes) e = by_far (nat_lt limit.MAX_FILE (offset +
     some : (n : ℕ) → (not (suc n == 0) && true) ≡ true
     some n = ap (λ (b : Bool). not b && true) (ne_eqb (suc n) 0 (λ e. omega arith))
 
+file_protocol : (p : Protocol) (m : Method) → home_of m ≡ homes.Files → has_method p m ≡ true → is_beyond p m ≡ false → p ≡ protocol.File
+file_protocol protocol.File m home has' beyond = refl
+file_protocol protocol.Directory m home has' beyond = absurd (true≢false (sym has' ∙ ap (has_home protocol.Directory) home))
+file_protocol protocol.Echo m home has' beyond = absurd (true≢false (sym has' ∙ ap (has_home protocol.Echo) home))
+file_protocol protocol.Watcher m home has' beyond = absurd (true≢false (sym has' ∙ ap (has_home protocol.Watcher) home))
+file_protocol protocol.Node m home has' beyond = absurd (true≢false (ap (λ (h : Home). not (is_of_every_node h)) (sym home) ∙ beyond))
+
 module _ (below : Below) (built : Built) (names : KeepsNames built) (birth : Birth) (position : Position) (room : Room) (tree : Tree) (target : Option ℕ) (kind : NodeKind) (sound : IsSound tree) (at : kind_of tree birth.node ≡ Some kind) (suited : suits birth.protocol kind ≡ true) where
-  file_protocol : (p : Protocol) (m : Method) → home_of m ≡ homes.Files → has_method p m ≡ true → is_beyond p m ≡ false → p ≡ protocol.File
-  file_protocol protocol.File m home has' beyond = refl
-  file_protocol protocol.Directory m home has' beyond = absurd (true≢false (sym has' ∙ ap (has_home protocol.Directory) home))
-  file_protocol protocol.Echo m home has' beyond = absurd (true≢false (sym has' ∙ ap (has_home protocol.Echo) home))
-  file_protocol protocol.Watcher m home has' beyond = absurd (true≢false (sym has' ∙ ap (has_home protocol.Watcher) home))
-  file_protocol protocol.Node m home has' beyond = absurd (true≢false (ap (λ (h : Home). not (is_of_every_node h)) (sym home) ∙ beyond))
-
-  directory_protocol : (p : Protocol) (m : Method) → home_of m ≡ homes.Directories → has_method p m ≡ true → is_beyond p m ≡ false → p ≡ protocol.Directory
-  directory_protocol protocol.Directory m home has' beyond = refl
-  directory_protocol protocol.File m home has' beyond = absurd (true≢false (sym has' ∙ ap (has_home protocol.File) home))
-  directory_protocol protocol.Echo m home has' beyond = absurd (true≢false (sym has' ∙ ap (has_home protocol.Echo) home))
-  directory_protocol protocol.Watcher m home has' beyond = absurd (true≢false (sym has' ∙ ap (has_home protocol.Watcher) home))
-  directory_protocol protocol.Node m home has' beyond = absurd (true≢false (ap (λ (h : Home). not (is_of_every_node h)) (sym home) ∙ beyond))
-
-  a_directory : (k : NodeKind) → suits protocol.Directory k ≡ true → k ≡ Directory
-  a_directory Directory e = refl
-  a_directory File e = absurd (true≢false (sym e))
-  a_directory Service e = absurd (true≢false (sym e))
-  a_directory (Mount index) e = absurd (true≢false (sym e))
-
   on_file : (m : Method) → home_of m ≡ homes.Files → has_method birth.protocol m ≡ true → is_beyond birth.protocol m ≡ false → kind_of tree birth.node ≡ Some File
   on_file m home has' beyond = at ∙ ap Some (is_file_kind kind (ap (λ (p : Protocol). suits p kind) (sym (file_protocol birth.protocol m home has' beyond)) ∙ suited))
-
-  on_directory : (m : Method) → home_of m ≡ homes.Directories → has_method birth.protocol m ≡ true → is_beyond birth.protocol m ≡ false → kind_of tree birth.node ≡ Some Directory
-  on_directory m home has' beyond = at ∙ ap Some (a_directory kind (ap (λ (p : Protocol). suits p kind) (sym (directory_protocol birth.protocol m home has' beyond)) ∙ suited))
 
   token_sound : (o : Option ℕ) → IsLeftSound tree (token_act position asks.get_token o)
   token_sound None = sound
@@ -219,7 +203,7 @@ module _ (below : Below) (built : Built) (names : KeepsNames built) (birth : Bir
   row_sound (asks.open_path path flags given object) has' beyond made =
       unless_holds (IsLeftSound tree) (first_of (entry_refusals built birth flags path)) position (asks.open_path path flags given object) _ (λ s. sound)
       (λ e.
-      let here = on_directory method.OpenPath refl has' beyond in
+      let here = on_directory tree birth kind method.OpenPath at suited refl has' beyond in
       let valid = (below.sound path (path_passes built birth flags path e)).valid in
       walk_sound built birth position room tree path flags given object sound (walk tree flags (names_of path) birth.node)
       (leads_to_node tree flags (names_of path) birth.node (sound_children tree sound) (Directory, here)) (misses_name tree flags (names_of path) birth.node (sound_children tree sound) here valid))
@@ -245,10 +229,6 @@ module _ (below : Below) (built : Built) (names : KeepsNames built) (birth : Bir
       unless_holds (IsLeftSound tree) (first_of (cause_if (nat_lt limit.MAX_FILE size) status.FileBig ∷ [])) position (asks.resize size) _ (λ s. sound)
       (λ e. resized_sound tree birth.node (bytes_of tree birth.node) size sound (file_row tree birth.node (on_file method.Resize refl has' beyond)) (ap (λ (b : Bool). cause_if b fault.FileBig) (not_refused (nat_lt limit.MAX_FILE size) status.FileBig _ e)))
   row_sound (asks.echo_string value) has' beyond made = sound
-
-  not_not : (b : Bool) → not b ≡ false → b ≡ true
-  not_not true e = refl
-  not_not false e = absurd (true≢false e)
 
   act_sound : (request : Asked) → has_method birth.protocol (method_of request) ≡ true → IsLeftSound tree (act_of built birth position room tree target request)
   unfolding act_of

@@ -1,7 +1,7 @@
 -- The tokens that are gone behind a serving: what carries them is served or dropped, and nothing else carries them.
-use Rattle.std.proofs.Common.{◌≡◌, ◌≢◌, ℕ, ◌==◌, ◌&&◌, ◌||◌, ◌⊎◌, Bool, true, false, not, List, [], ◌∷◌, ◌++◌, map, filter, flat_map, Option, Some, None, AllPairs, Contains, refl, sym, ap, ◌∙◌, subst, inl, inr}
+use Rattle.std.proofs.Common.{◌≡◌, ◌≢◌, ℕ, ◌==◌, ◌&&◌, ◌⊎◌, Bool, true, false, not, List, [], ◌∷◌, ◌++◌, filter, flat_map, Some, AllPairs, Contains, refl, sym, ap, ◌∙◌, inl, inr}
 use Rattle.std.specs.List.{list_any}
-use Rattle.std.proofs.lemmas.Bool.{and_from, and_parts, cases_Bool, eqb-true, eq-eqb, or_cases, or_left, or_right, true≢false}
+use Rattle.std.proofs.lemmas.Bool.{and_from, and_parts, cases_Bool, eqb-true, eq-eqb, or_cases, true≢false}
 use Rattle.std.proofs.lemmas.List.Elements.{All-contains}
 use Rattle.fidl_names.specs.HandleNumber.{is_client}
 use Rattle.endpoint_link.specs.Numbering.{among}
@@ -10,11 +10,11 @@ use Rattle.vfs_journal.specs.Fit.{IsFit}
 use Rattle.vfs_journal.specs.View.{View, deaths_in, head_in, others_in}
 use Rattle.journal_laws.specs.Knowing.{dropped_in, spent_in, tokens_in}
 use Rattle.journal_laws.proofs.Among.{among_of, member_of, one_passes, one_place, passes_any}
-use Rattle.journal_laws.proofs.Dying.{same_test}
+use Rattle.journal_laws.proofs.KnowingCount.{same_bool}
 use Rattle.journal_laws.proofs.Lists.{pairs-head, pairs-tail}
 use Rattle.journal_laws.proofs.LookedUp.{is_first}
 use Rattle.journal_laws.proofs.Members.{contains_cases, contains_here, contains_later, contains_none, kept, kept_of}
-use Rattle.journal_laws.proofs.Spreading.{among-append, among_back, among_front, among_sides}
+use Rattle.journal_laws.proofs.Spreading.{among_back, among_front, among_sides}
 
 -- some of these entries carries a number
 abbrev pub carry : ℕ → List Sent → Bool
@@ -114,7 +114,7 @@ spent_waits view sent n waits h = let by = spent_by view sent n waits h in passe
 -- a token waits behind the serving where it did, and isn't spent
 pub waits_unspent : (view : View) (sent : Sent) (n : ℕ) → IsFit view → head_in view sent.endpoint ≡ Some sent → is_client n ≡ false → carry n (left_in view sent) ≡ (carry n view.waiting && not (among n (spent_in view sent)))
 waits_unspent view sent n fit h other =
-    same_test (carry n (left_in view sent)) (carry n view.waiting && not (among n (spent_in view sent)))
+    same_bool (carry n (left_in view sent)) (carry n view.waiting && not (among n (spent_in view sent)))
     (λ g. let one = one_passes (λ (one : Sent). among n (handles_of one.sending)) (left_in view sent) g in left_waits one.0 one.1 one.2)
     (λ g.
     let parts = and_parts (carry n view.waiting) (not (among n (spent_in view sent))) g in

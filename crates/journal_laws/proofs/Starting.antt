@@ -1,5 +1,5 @@
 -- The start that a tree file stands for has its endpoints apart.
-use Rattle.std.proofs.Common.{◌≡◌, ◌≢◌, ◌+◌, AllPairs, ℕ, zero, suc, ◌<◌, ◌≤◌, ◌==◌, ◌⊎◌, Bool, true, false, cond, nat_lt, List, [], ◌∷◌, ◌++◌, length, map, filter, count_by, slice_get, slice_index_or, Some, None, All, Contains, refl, sym, ap, ◌∙◌, subst, inl, inr, arith}
+use Rattle.std.proofs.Common.{◌≡◌, ◌≢◌, ◌+◌, AllPairs, ℕ, zero, suc, ◌<◌, ◌≤◌, ◌==◌, ◌⊎◌, Bool, true, false, cond, nat_lt, List, [], ◌∷◌, ◌++◌, length, map, filter, count_by, slice_get, slice_index_or, Some, All, Contains, refl, sym, ap, ◌∙◌, subst, inl, inr, arith}
 use Rattle.std.specs.List.{enumerate_from, range_with_len}
 use Rattle.std.proofs.lemmas.Bool.{cases_order, ne_eqb, true≢false, and_right, le-ltb}
 use Rattle.std.proofs.lemmas.List.FromFn.{get_or-map-range_with_len, length-map-range_with_len}
@@ -23,7 +23,7 @@ use Rattle.vfs_journal.specs.History.{tree_at}
 use Rattle.vfs_journal.specs.Starts.{Bound, Start, start_of, directory_birth, first_of_client, end_of}
 use Rattle.journal_laws.proofs.Acts.{IsMade}
 use Rattle.journal_laws.proofs.KnowingStarts.{mounts_in_order}
-use Rattle.journal_laws.proofs.Members.{contains_here, contains_later, contains_cases, contains_none}
+use Rattle.journal_laws.proofs.Members.{contains_map}
 
 -- ---- the lists of an accepted tree
 
@@ -48,13 +48,6 @@ lists_apart lists accepted =
     }
 
 -- ---- the start
-
-contains_map : {X Y : Type 0} (f : X → Y) (xs : List X) (x : X) → Contains xs x → Contains (map f xs) (f x)
-contains_map f [] x h = absurd (contains_none x h)
-contains_map f (y ∷ xs) x h = by_place (contains_cases x y xs h) (contains_map f xs x) where
-  by_place : (y ≡ x) ⊎ Contains xs x → (Contains xs x → Contains (map f xs) (f x)) → Contains (f y ∷ map f xs) (f x)
-  by_place (inl e) rest = subst (λ z. Contains (z ∷ map f xs) (f x)) (ap f (sym e)) (contains_here (f x) (map f xs))
-  by_place (inr h) rest = contains_later (f x) (f y) (map f xs) (rest h)
 
 abbrev mounts_of : Lists → List (ℕ × MountItem)
 mounts_of lists = enumerate_from 0 lists.mounts

@@ -1,5 +1,5 @@
 -- How many entries wait.
-use Rattle.std.proofs.Common.{◌≡◌, ℕ, suc, ◌+◌, ◌<◌, ◌≤◌, ◌==◌, ◌⊎◌, Bool, true, false, cond, not, nat_le, if◌then◌else◌, inl, inr, List, [], ◌∷◌, ◌++◌, length, filter, option_to_list, Option, Some, None, All, AllPairs, Contains, refl, sym, ap, ◌∙◌, subst, arith, length-append}
+use Rattle.std.proofs.Common.{◌≡◌, ℕ, suc, ◌+◌, ◌<◌, ◌≤◌, ◌==◌, ◌⊎◌, Bool, true, false, cond, not, if◌then◌else◌, inl, inr, List, [], ◌∷◌, length, filter, option_to_list, Option, Some, None, All, AllPairs, Contains, refl, sym, ap, ◌∙◌, subst, arith, length-append}
 use Rattle.std.proofs.lemmas.Bool.{eq-eqb, leb-false, ne_eqb}
 use Rattle.std.proofs.lemmas.List.Elements.{All-contains, All-head, All-tail}
 use Rattle.std.proofs.lemmas.List.Filters.{length-filter_both}
@@ -16,7 +16,7 @@ use Rattle.endpoint_link.specs.Frames.{Frame}
 use Rattle.endpoint_link.specs.Numbering.{among}
 use Rattle.conn_rules.specs.Built.{Built}
 use Rattle.vfs_journal.specs.Deaths.{others}
-use Rattle.vfs_journal.specs.Entries.{Sent, Journal, message, hang_up, endpoints_in, sends, serves}
+use Rattle.vfs_journal.specs.Entries.{Sent, Journal, message, hang_up, sends, serves}
 use Rattle.vfs_journal.specs.Fit.{IsFit}
 use Rattle.vfs_journal.specs.History.{History, waiting, waits}
 use Rattle.vfs_journal.specs.Lawful.{Lawful}
@@ -33,7 +33,6 @@ use Rattle.journal_laws.proofs.Lists.{pairs-head, pairs-tail}
 use Rattle.journal_laws.proofs.LookedUp.{is_first}
 use Rattle.journal_laws.proofs.Members.{contains_cases, contains_none}
 use Rattle.journal_laws.proofs.Places.{waiting_rises}
-use Rattle.journal_laws.proofs.Spent.{left_in}
 use Rattle.journal_laws.proofs.Stepping.{stepped}
 use Rattle.journal_laws.proofs.Steps.{refusals_change_nothing, sendings_wait_last, servings_take_effect}
 use Rattle.journal_laws.proofs.ViewParts.{head_is_in}

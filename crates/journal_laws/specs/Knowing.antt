@@ -85,8 +85,8 @@ spent_in view sent = tokens_in sent ++ flat_map tokens_in (dropped_in view sent)
 -- what is known behind a serving: these endpoints are dead, these tokens gone, one is held if one is given, and so many entries wait
 abbrev pub known_served : Known → List ℕ → List ℕ → Option Given → ℕ → Known
 known_served known deaths spent token waiting =
-    let gone' = fold gone (fold ended_in known deaths) spent in
-    record (if is_some token then given gone' else gone') { waiting = waiting }
+    let left = fold gone (fold ended_in known deaths) spent in
+    record (if is_some token then given left else left) { waiting = waiting }
 
 -- ---- laws
 

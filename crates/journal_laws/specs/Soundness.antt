@@ -54,6 +54,7 @@ pub record IsMountedOnce (trees : List Tree) (index : ℕ) (end : Bound) : Type 
   pub edge : HasOneEdge (tree_at trees host) index end.birth.rights
   pub alone : (server node : ℕ) → kind_of (tree_at trees server) node ≡ Some (Mount index) → server ≡ host
 
+-- so each mount
 abbrev pub AreMountedOnce : Start → List Tree → Type 0
 AreMountedOnce start trees = (index : ℕ) (end : Bound) → slice_get start.mounts index ≡ Some end → IsMountedOnce trees index end
 
@@ -62,7 +63,8 @@ abbrev pub HasRoom : Start → Type 0
 HasRoom start = (server : ℕ) → count_by (λ bound. bound.server == server) (start.firsts ++ start.mounts) ≤ limit.MAX_CONNECTIONS
 
 -- the trees are sound, and few; first connections are on clients' endpoints, and the ends of mounts on others, in the order of their
--- numbers; no endpoint stands twice, and each is bound to a directory; each mount has its end, and one edge
+-- numbers; no endpoint stands twice, each is bound to a directory, and no server has more of them than it may; each mount has its end, and
+-- one edge
 pub record IsStart (start : Start) : Type 0 where
   pub few : length start.trees ≤ limit.MAX_SERVERS
   pub trees : All IsSound start.trees
