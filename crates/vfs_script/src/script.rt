@@ -1,4 +1,4 @@
-ghost use Rattle.std.specs.Prelude.{◌≡◌, ◌≤◌, ◌<◌, ◌+◌, [], ◌∷◌, length, false, None, Some, is_none, slice_get, IfNone, IfSome, IfOk, IfErr, OnOk, OnErr};
+ghost use Rattle.std.specs.Prelude.{◌≡◌, ◌≤◌, ◌<◌, ◌+◌, ◌↔◌, [], ◌∷◌, IsTrue, length, false, None, Some, is_none, slice_get, IfNone, IfSome, IfOk, IfErr, OnOk, OnErr};
 ghost use Rattle.std.specs.Option.{option_or};
 ghost use Rattle.fidl_names.specs.First.{cause_if, first_of};
 ghost use Rattle.endpoint_link.specs.Frames.{spellings};
@@ -29,7 +29,8 @@ pub struct Script {
 }
 
 impl Model for Script {
-    ghost use Rattle.std.specs.Prelude.{◌≡◌, ◌<◌, ◌^◌, length};
+    ghost use Rattle.std.specs.Prelude.{◌≡◌, ◌≤◌, ◌+◌, length};
+    ghost use Rattle.fidl_names.specs.declared.limits.TheConstants as limit;
     ghost use Rattle.vfs_script.specs.Kept.{ScriptValue};
     ghost use Rattle.vfs_script.specs.Scripts.{AreCalls, count_calls};
 
@@ -37,7 +38,7 @@ impl Model for Script {
 
     ghost view = { λ s. record { mode = s.mode; bytes = s.frames; calls = s.calls.items } };
 
-    ghost invariant = { λ s. (s.count ≡ count_calls s.calls.items) × AreCalls 0 s.calls.items };
+    ghost invariant = { λ s. (s.count ≡ count_calls s.calls.items) × AreCalls 0 s.calls.items × (length s.calls.items ≤ limit.MAX_TEXT + 1) };
 }
 
 impl Script {
@@ -53,6 +54,20 @@ impl Script {
         ensures { result.now ≡ self.now.bytes }
     {
         self.frames.as_bytes()
+    }
+
+    /// How many frames there are.
+    pub fn len(&self) -> u32
+        ensures { result ≡ length self.now.calls }
+    {
+        self.calls.len() as u32
+    }
+
+    /// Whether there is no frame.
+    pub fn is_empty(&self) -> bool
+        ensures { IsTrue result ↔ (self.now.calls ≡ []) }
+    {
+        self.calls.is_empty()
     }
 
     /// How many frames make a call.

@@ -1,13 +1,17 @@
 //! Scripts with the frames that they stand for.
-use crate::{ScriptFault, script_of};
+use crate::{Script, script_of};
 use endpoint_link::Mode;
+use fidl_names::MAX_TEXT;
 use fidl_wire::Ordinals;
+use io_client::Client;
 use std::alloc::{AllocError, Global};
 use std::test::Fail;
 use test_rows::rows;
 
 // Each row has the lines of a script, with `;` between them, and its frames.
 const SCRIPTS: &str = "
+lines that are skipped count | auto;;# the root;;list 1 10 | 010000000100000018000000050000000200000114916b2a59ccb0050a00000000000000
+rewind and sync | given;rewind 7;sync 0xffffffff | 0700000001000000100000000200000002000001594705f815b1c77dffffffff0100000010000000030000000200000149dcb50aca275c2c
 append_seek_resize_truncate | auto;open 1 d/f 0x100000000006 2;write 2 2121;seek 2 1 0;resize 2 8;open 1 d/f 0x200000000006 3;seek 3 2 0;seek 3 0 -1;resize 3 65537 | 010000000101000048000000020000000000000002000001d6547cffbb4fbc2f0300000000000000ffffffffffffffff06000000001000000000000000000000ffffffffffffffffffffffff00000000642f660000000000020000000100000028000000030000000200000185013bc6280590490200000000000000ffffffffffffffff2121000000000000020000000100000020000000040000000200000107522c16689107780100000000000000000000000000000002000000010000001800000005000000020000013a7435055f82802b0800000000000000010000000101000048000000030000000000000002000001d6547cffbb4fbc2f0300000000000000ffffffffffffffff06000000002000000000000000000000ffffffffffffffffffffffff00000000642f660000000000030000000100000020000000070000000200000107522c166891077802000000000000000000000000000000030000000100000020000000080000000200000107522c16689107780000000000000000ffffffffffffffff03000000010000001800000009000000020000013a7435055f82802b0100010000000000
 clone_then_hangup | auto;open 1 d/f 0x2 2;read 2 5;clone 2 3;read 3 5;hangup 2;read 2 1 | 010000000101000048000000020000000000000002000001d6547cffbb4fbc2f0300000000000000ffffffffffffffff02000000000000000000000000000000ffffffffffffffffffffffff00000000642f66000000000002000000010000001800000003000000020000014c01b891c67ff2400500000000000000020000000101000018000000030000000000000002000001798a16a2aba7d820ffffffff0000000003000000010000001800000005000000020000014c01b891c67ff240050000000000000002000000020000000000000002000000010000001800000007000000020000014c01b891c67ff2400100000000000000
 echo_needs_connect | auto;open 1 echo 0x1 2;echo 2 6869;open 1 echo 0 3 | 010000000101000048000000020000000000000002000001d6547cffbb4fbc2f0400000000000000ffffffffffffffff01000000000000000000000000000000ffffffffffffffffffffffff000000006563686f00000000020000000100000028000000030000000200000116a6d9524e27b8750200000000000000ffffffffffffffff6869000000000000010000000101000048000000030000000000000002000001d6547cffbb4fbc2f0400000000000000ffffffffffffffff00000000000000000000000000000000ffffffffffffffffffffffff000000006563686f00000000
@@ -66,5 +70,48 @@ fn scripts_stand_for_their_frames(rt: HostRuntime) -> Result<(), Fail> {
         };
         assert!(rt; script.mode() == mode);
     }
+    Ok(())
+}
+
+// How many calls a client waits for that notes the call of one frame, if it makes one.
+fn waiting_for(alloc: Global, script: &Script, frame: u32) -> Result<usize, Fail> {
+    let mut client = Client::new(alloc)?;
+    if frame < script.len() {
+        script.note(frame, &mut client)?;
+    }
+    Ok(client.waiting())
+}
+
+#[test]
+fn calls_are_noted(rt: HostRuntime) -> Result<(), Fail> {
+    let alloc = rt.alloc();
+    let ordinals = Ordinals::new()?;
+    let text = b"auto\nopen 1 d 0x1c0 2\nwatch 2 31 9\nread 2 5\nhangup 2\nraw 1 - 00\nturn 0 1\npick 2\nsync 1\n";
+    let script = script_of(alloc, &ordinals, text)?;
+    assert_eq!(rt; script.calls(), 3);
+    assert_eq!(rt; script.len(), 8);
+    let waiting: [usize; 8] = [0, 1, 1, 0, 0, 0, 0, 1];
+    for frame in 0..8 {
+        assert_eq!(rt; waiting_for(alloc, &script, frame)?, waiting[frame as usize]);
+    }
+    Ok(())
+}
+
+#[test]
+fn the_longest_script_is_read(rt: HostRuntime) -> Result<(), Fail> {
+    let alloc = rt.alloc();
+    let ordinals = Ordinals::new()?;
+    let mut text = Vec::new(alloc);
+    text.extend_from_slice(b"given\n")?;
+    while text.len() + 7 <= MAX_TEXT {
+        text.extend_from_slice(b"sync 1\n")?;
+    }
+    while text.len() < MAX_TEXT {
+        text.push(b'\n')?;
+    }
+    assert_eq!(rt; text.len(), 1_048_576);
+    let script = script_of(alloc, &ordinals, &text)?;
+    assert_eq!(rt; script.calls(), 149_795);
+    assert_eq!(rt; script.frames().len(), 149_795 * 28);
     Ok(())
 }

@@ -30,7 +30,11 @@ pub invariant_of-result : goal.invariant_of-result
 invariant_of-result c =
     let calls = c.into_parts-frames.ensures.calls
     ∙ all_calls c.args.text.now c.new-lines.result c.read_mode.new.lines _ _ c.new-lines.ensures.lines c.in_ok-mode.ensures.left c.in_ok-frames.ensures c.in_ok-read_lines.ensures.kept in
-    (c.count_calls-count.ensures ∙ ap count_calls c.deref.ensures.value, subst (AreCalls 0) (sym calls) (calls_are c.args.text.now))
+    let few = calls_few c.args.text.now c.new-lines.result c.read_mode.new.lines c.into_parts-frames.result.1.items c.new-lines.ensures.lines c.in_ok-mode.ensures.left calls in (
+      c.count_calls-count.ensures ∙ ap count_calls c.deref.ensures.value,
+      subst (AreCalls 0) (sym calls) (calls_are c.args.text.now),
+      omega (arith, few, c.new-lines.ensures.few),
+    )
 
 pub returns-clause-mode : goal.returns-clause-mode
 returns-clause-mode c = sym (mode-is c.args.text.now c.new-lines.result c.new-lines.ensures.lines) ∙ c.in_ok-mode.ensures.mode
