@@ -47,6 +47,20 @@ for others in 100 60000; do
     one_work admit-1-beside-$others 500000 0
     one_work admit-64-beside-$others 10000 0
 done
+echo "A directory of so many names: one is looked up, made and taken out, moved and moved back; all are listed, and the first behind one"
+for names in 16 256 4096; do
+    one_work look-up-$names 5000000 0
+    one_work make-and-unlink-$names 1000000 0
+    one_work rename-and-back-$names 500000 0
+    one_work list-$names $((20000000 / names)) 0
+    one_work list-behind-$names 2000000 0
+done
+if [ -x /usr/bin/time ]; then
+    for rounds in 10 20000; do
+        /usr/bin/time -f '%M' -o "$work/peak" "$bench" make-and-unlink-16 $rounds > /dev/null
+        echo "  peak memory $(cat "$work/peak") KiB after $rounds rounds in which a name is made, held, taken out and released"
+    done
+fi
 
 # The frame on standard input so many times, in a file.
 many() { # TIMES TO

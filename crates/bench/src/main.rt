@@ -7,6 +7,7 @@ mod answers;
 mod frames;
 mod messages;
 mod passes;
+mod trees;
 mod works;
 
 use std::env;

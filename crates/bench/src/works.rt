@@ -5,6 +5,7 @@ use crate::answers::Answers;
 use crate::frames::{Copies, Deframing, Fronts, large_frames, small_frames};
 use crate::messages::{Opens, Reads, Replies};
 use crate::passes::repeat;
+use crate::trees::{Deed, Trees};
 use endpoint_link::Outbox;
 use fidl_wire::NoMemory;
 use std::alloc::Global;
@@ -28,6 +29,15 @@ pub enum Work {
     AdmitOneInCrowd,
     AdmitMany,
     AdmitManyInCrowd,
+    Names(Deed, Size),
+}
+
+/// How many names a directory has.
+#[derive(Clone, Copy, Debug, PartialEq, Eq)]
+pub enum Size {
+    Small,
+    Middle,
+    Large,
 }
 
 /// How many items a piece of at most 65,536 bytes has.
@@ -43,7 +53,7 @@ const FEW: u32 = 100;
 const CROWD: u32 = 60_000;
 
 impl Work {
-    pub const ALL: [Work; 16] = [
+    pub const ALL: [Work; 31] = [
         Work::ReadRead,
         Work::ReadOpen,
         Work::WriteReply,
@@ -60,6 +70,21 @@ impl Work {
         Work::AdmitOneInCrowd,
         Work::AdmitMany,
         Work::AdmitManyInCrowd,
+        Work::Names(Deed::LookUp, Size::Small),
+        Work::Names(Deed::LookUp, Size::Middle),
+        Work::Names(Deed::LookUp, Size::Large),
+        Work::Names(Deed::Make, Size::Small),
+        Work::Names(Deed::Make, Size::Middle),
+        Work::Names(Deed::Make, Size::Large),
+        Work::Names(Deed::Rename, Size::Small),
+        Work::Names(Deed::Rename, Size::Middle),
+        Work::Names(Deed::Rename, Size::Large),
+        Work::Names(Deed::List, Size::Small),
+        Work::Names(Deed::List, Size::Middle),
+        Work::Names(Deed::List, Size::Large),
+        Work::Names(Deed::ListBehind, Size::Small),
+        Work::Names(Deed::ListBehind, Size::Middle),
+        Work::Names(Deed::ListBehind, Size::Large),
     ];
 
     pub fn name(self) -> &'static str {
@@ -80,7 +105,36 @@ impl Work {
             Work::AdmitOneInCrowd => "admit-1-beside-60000",
             Work::AdmitMany => "admit-64-beside-100",
             Work::AdmitManyInCrowd => "admit-64-beside-60000",
+            Work::Names(deed, size) => names_of(deed, size),
         }
+    }
+}
+
+fn names_of(deed: Deed, size: Size) -> &'static str {
+    match (deed, size) {
+        (Deed::LookUp, Size::Small) => "look-up-16",
+        (Deed::LookUp, Size::Middle) => "look-up-256",
+        (Deed::LookUp, Size::Large) => "look-up-4096",
+        (Deed::Make, Size::Small) => "make-and-unlink-16",
+        (Deed::Make, Size::Middle) => "make-and-unlink-256",
+        (Deed::Make, Size::Large) => "make-and-unlink-4096",
+        (Deed::Rename, Size::Small) => "rename-and-back-16",
+        (Deed::Rename, Size::Middle) => "rename-and-back-256",
+        (Deed::Rename, Size::Large) => "rename-and-back-4096",
+        (Deed::List, Size::Small) => "list-16",
+        (Deed::List, Size::Middle) => "list-256",
+        (Deed::List, Size::Large) => "list-4096",
+        (Deed::ListBehind, Size::Small) => "list-behind-16",
+        (Deed::ListBehind, Size::Middle) => "list-behind-256",
+        (Deed::ListBehind, Size::Large) => "list-behind-4096",
+    }
+}
+
+fn count_of(size: Size) -> u32 {
+    match size {
+        Size::Small => 16,
+        Size::Middle => 256,
+        Size::Large => 4096,
     }
 }
 
@@ -112,6 +166,10 @@ pub fn total_of(alloc: Global, work: Work, times: u32) -> Result<u64, NoMemory> 
         Work::AdmitOneInCrowd => admit(alloc, CROWD, 1, times),
         Work::AdmitMany => admit(alloc, FEW, 64, times),
         Work::AdmitManyInCrowd => admit(alloc, CROWD, 64, times),
+        Work::Names(deed, size) => {
+            let mut work = Trees::new(alloc, deed, count_of(size))?;
+            Ok(repeat(&mut work, MESSAGES, times))
+        }
     }
 }
 

@@ -91,6 +91,25 @@ fn a_node_is_kept_while_it_is_held(rt: HostRuntime) -> Result<(), Fail> {
 }
 
 #[test]
+fn a_file_is_kept_by_its_second_name(rt: HostRuntime) -> Result<(), Fail> {
+    let mut graph = Graph::new(rt.alloc())?;
+    make(&rt, &mut graph, b"f", NodeKind::File)?;
+    let root = graph.root();
+    graph.link(root, b"f", root, b"g")?;
+    let root = graph.root();
+    graph.unlink(root, b"f", false)?;
+    let entry = graph.lookup(graph.root(), b"g").ok_or("linked above")?;
+    assert_eq!(rt; (graph.number(entry.node), graph.links(entry.node)), (2, 1));
+    assert_eq!(rt; entry.mask, Rights::of(Operation::ReadBytes));
+    let root = graph.root();
+    graph.rename(root, b"g", root, b"h")?;
+    let entry = graph.lookup(graph.root(), b"h").ok_or("moved above")?;
+    assert_eq!(rt; (graph.number(entry.node), graph.kept()), (2, 2));
+    assert_eq!(rt; entry.mask, Rights::of(Operation::ReadBytes));
+    Ok(())
+}
+
+#[test]
 fn a_gap_is_filled_with_zeros(rt: HostRuntime) -> Result<(), Fail> {
     let mut graph = Graph::new(rt.alloc())?;
     make(&rt, &mut graph, b"f", NodeKind::File)?;
