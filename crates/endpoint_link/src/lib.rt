@@ -22,6 +22,3 @@ pub use kinds::{
 pub use laws::{in_any_cut, joined_streams, one_reading, sound_fixed_parts};
 pub use outbox::{FrameRoom, Outbox, spelled_len, write_frame, write_message};
 pub use reading::frame_at;
-
-#[cfg(test)]
-mod tests;

@@ -29,6 +29,3 @@ pub use laws::{
 };
 pub use ordinals::{OrdinalFault, Ordinals};
 pub use output::Out;
-
-#[cfg(test)]
-mod tests;

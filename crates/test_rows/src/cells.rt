@@ -52,6 +52,14 @@ impl<'a> Row<'a> {
         }
     }
 
+    /// The value that stands beside the cell's word.
+    pub fn named<T: Copy>(&self, at: usize, words: &[(&str, T)]) -> Result<T, BadCell<'a>> {
+        match words::named(words, self.cell(at)?) {
+            Some(value) => Ok(value),
+            None => Err(self.bad(at)),
+        }
+    }
+
     pub fn numbers(&self, alloc: Global, at: usize) -> Result<Vec<u64>, BadCell<'a>> {
         match words::numbers(alloc, self.cell(at)?) {
             Ok(Some(numbers)) => Ok(numbers),
@@ -78,16 +86,21 @@ impl<'a> Row<'a> {
 
     /// Whether the cell says a value as `{:?}` writes it, with texts in place of lists of bytes. Want of memory says no.
     pub fn says<T: Debug>(&self, alloc: Global, at: usize, value: &T) -> bool {
+        match format!(in alloc; "{value:?}") {
+            Ok(said) => self.is_text(alloc, at, &said),
+            Err(_) => false,
+        }
+    }
+
+    /// Whether the cell is this text, with texts in place of lists of bytes. Want of memory says no.
+    pub fn is_text(&self, alloc: Global, at: usize, text: &str) -> bool {
         let Ok(cell) = self.cell(at) else {
             return false;
         };
-        let (Ok(Some(wanted)), Ok(said)) = (
-            words::with_lists(alloc, cell),
-            format!(in alloc; "{value:?}"),
-        ) else {
-            return false;
-        };
-        wanted.as_str() == said.as_str()
+        match words::with_lists(alloc, cell) {
+            Ok(Some(wanted)) => wanted.as_str() == text,
+            _ => false,
+        }
     }
 
     /// The fault of the cell at a place, for a test that reads it in its own way.

@@ -2,10 +2,12 @@
 #![tactic(auto)]
 
 mod cells;
+mod tables;
 mod words;
 
 pub use cells::{BadCell, Row, rows};
-pub use words::{bytes, handles, number, numbers, with_lists};
+pub use tables::{Table, all_hold, first_wrong};
+pub use words::{bytes, handles, named, number, numbers, with_lists};
 
 #[cfg(test)]
 mod tests;

@@ -1,5 +1,8 @@
-use crate::{bytes, handles, number, numbers, rows, with_lists};
+use crate::{
+    BadCell, Row, Table, bytes, first_wrong, handles, named, number, numbers, rows, with_lists,
+};
 use fidl_names::Handle;
+use std::alloc::Global;
 use std::test::Fail;
 
 const TEXT: &str = "
@@ -53,12 +56,40 @@ fn rows_have_their_cells(rt: HostRuntime) -> Result<(), Fail> {
     Ok(())
 }
 
+/// A table whose rows hold up to the one with this name.
+#[derive(Drop)]
+struct UpTo {
+    name: &'static str,
+}
+
+impl Table for UpTo {
+    fn holds<'a>(&mut self, _alloc: Global, row: &Row<'a>) -> Result<bool, BadCell<'a>> {
+        Ok(row.name() != self.name)
+    }
+}
+
+#[test]
+fn the_first_wrong_row_is_named(rt: HostRuntime) -> Result<(), Fail> {
+    for (name, want) in [
+        ("second", Some("second")),
+        ("last", Some("last")),
+        ("none", None),
+    ] {
+        let wrong = first_wrong(rt.alloc(), TEXT, &mut UpTo { name })?;
+        assert!(rt; wrong == want, "{name}");
+    }
+    Ok(())
+}
+
 #[test]
 fn words_that_say_nothing(rt: HostRuntime) -> Result<(), Fail> {
     let alloc = rt.alloc();
     for word in ["", "-", "0x", "1 ", "18446744073709551616", "-1"] {
         assert_eq!(rt; number(word), None, "{word}");
     }
+    let words = [("one", 1), ("two", 2)];
+    assert_eq!(rt; named(&words, "two"), Some(2));
+    assert_eq!(rt; named(&words, "tw"), None);
     for word in ["", "1,", "1,-"] {
         assert!(rt; numbers(alloc, word)?.is_none(), "{word}");
     }

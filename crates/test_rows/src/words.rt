@@ -9,6 +9,16 @@ pub fn number(word: &str) -> Option<u64> {
     }
 }
 
+/// The value that stands beside a word.
+pub fn named<T: Copy>(words: &[(&str, T)], word: &str) -> Option<T> {
+    for (name, value) in words {
+        if *name == word {
+            return Some(*value);
+        }
+    }
+    None
+}
+
 /// The numbers between the commas of a word; `-` says none.
 pub fn numbers(alloc: Global, word: &str) -> Result<Option<Vec<u64>>, AllocError> {
     let mut all = Vec::new(alloc);

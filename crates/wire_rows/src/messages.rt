@@ -1,4 +1,4 @@
-//! Outside values, read row by row, and written again where the row says so.
+//! Outside values of the methods' messages, read row by row, and written again where the row says so.
 ghost use Rattle.std.specs.Prelude.{◌≡◌, IsTrue, true};
 ghost use Rattle.io_messages.specs.Asked.{asked, method_of};
 ghost use Rattle.io_messages.specs.Replies.{answered};
@@ -11,27 +11,23 @@ mod event_rows;
 mod reply_rows;
 mod request_rows;
 
-use crate::replies::{Shape, is_one_way, shape_of};
-use crate::{
-    Protocol, Reply, Request, TooLong, read_event, read_reply, read_request, write_event,
-    write_reply, write_request,
-};
 use fidl_names::{Handle, Method, Status};
 use fidl_wire::{Ordinals, Out};
-use std::process::Abort;
+use io_messages::{
+    Protocol, Reply, Request, Shape, TooLong, is_one_way, read_event, read_reply, read_request,
+    shape_of, write_event, write_reply, write_request,
+};
+use std::alloc::Global;
 use std::test::Fail;
-use test_rows::{BadCell, Row, rows};
+use test_rows::{BadCell, Row, Table, all_hold};
 
-fn protocol<'a>(row: &Row<'a>, at: usize) -> Result<Protocol, BadCell<'a>> {
-    match row.cell(at)? {
-        "Directory" => Ok(Protocol::Directory),
-        "File" => Ok(Protocol::File),
-        "Node" => Ok(Protocol::Node),
-        "Echo" => Ok(Protocol::Echo),
-        "Watcher" => Ok(Protocol::Watcher),
-        _ => Err(row.bad(at)),
-    }
-}
+const PROTOCOLS: [(&str, Protocol); 5] = [
+    ("Directory", Protocol::Directory),
+    ("File", Protocol::File),
+    ("Node", Protocol::Node),
+    ("Echo", Protocol::Echo),
+    ("Watcher", Protocol::Watcher),
+];
 
 /// The texts of a request are UTF-8.
 fn has_texts(request: &Request<'_>) -> bool
@@ -75,22 +71,55 @@ fn is_written(
         && out.handles() == handles
 }
 
-#[test]
-fn requests_are_read_and_written(rt: HostRuntime) -> Result<(), Fail> {
-    let alloc = rt.alloc();
-    let ordinals = Ordinals::new()?;
-    let mut out = Out::new(alloc)?;
-    for row in &rows(alloc, request_rows::REQUESTS)? {
+/// Whether writing gives what the word says: the `same` bytes and handles, `other` ones, or `-` where there is nothing to write.
+fn is_said(word: &str, written: Option<bool>) -> bool {
+    match written {
+        Some(same) => same == (word == "same"),
+        None => word == "-",
+    }
+}
+
+/// Requests are read, and written again.
+#[derive(Drop)]
+struct Requests {
+    ordinals: Ordinals,
+    out: Out,
+}
+
+impl Table for Requests {
+    fn holds<'a>(&mut self, alloc: Global, row: &Row<'a>) -> Result<bool, BadCell<'a>> {
+        let protocol = row.named(1, &PROTOCOLS)?;
+        let again = row.cell(5)?;
         let bytes = row.bytes(alloc, 2)?;
         let handles = row.handles(alloc, 3)?;
-        let read = read_request(&ordinals, protocol(row, 1)?, &bytes, &handles);
-        assert!(rt; row.says(alloc, 4, &read), "{}", row.name());
-        if let Ok((txid, request)) = read {
-            let same = is_written(&ordinals, &mut out, txid, request, &bytes, &handles);
-            assert_eq!(rt; same, row.cell(5)? == "same", "{} is written", row.name());
-        }
+        let read = read_request(&self.ordinals, protocol, &bytes, &handles);
+        let said = row.says(alloc, 4, &read);
+        let written = match read {
+            Ok((txid, request)) => {
+                Some(is_written(
+                    &self.ordinals,
+                    &mut self.out,
+                    txid,
+                    request,
+                    &bytes,
+                    &handles,
+                ))
+            }
+            Err(_) => None,
+        };
+        Ok(said && is_said(again, written))
     }
-    Ok(())
+}
+
+#[test]
+fn requests_are_read_and_written(rt: HostRuntime) -> Result<(), Fail> {
+    let ordinals = Ordinals::new()?;
+    let out = Out::new(rt.alloc())?;
+    all_hold(
+        rt.alloc(),
+        request_rows::REQUESTS,
+        &mut Requests { ordinals, out },
+    )
 }
 
 fn may_fail(method: Method) -> bool
@@ -151,43 +180,81 @@ fn is_reply_written(
     out.as_bytes() == bytes && out.handles() == handles
 }
 
-#[test]
-fn replies_are_read_and_written(rt: HostRuntime) -> Result<(), Fail> {
-    let alloc = rt.alloc();
-    let ordinals = Ordinals::new()?;
-    let mut out = Out::new(alloc)?;
-    for row in &rows(alloc, reply_rows::REPLIES)? {
+/// Replies are read, and written again.
+#[derive(Drop)]
+struct Replies {
+    ordinals: Ordinals,
+    out: Out,
+}
+
+impl Table for Replies {
+    fn holds<'a>(&mut self, alloc: Global, row: &Row<'a>) -> Result<bool, BadCell<'a>> {
+        let again = row.cell(4)?;
         let bytes = row.bytes(alloc, 1)?;
         let handles = row.handles(alloc, 2)?;
-        let read = read_reply(&ordinals, &bytes, &handles);
-        assert!(rt; row.says(alloc, 3, &read), "{}", row.name());
-        if let Ok((txid, reply)) = read {
-            let same = is_reply_written(&ordinals, &mut out, txid, reply, &bytes, &handles);
-            assert_eq!(rt; same, row.cell(4)? == "same", "{} is written", row.name());
-        }
+        let read = read_reply(&self.ordinals, &bytes, &handles);
+        let said = row.says(alloc, 3, &read);
+        let written = match read {
+            Ok((txid, reply)) => {
+                Some(is_reply_written(&self.ordinals, &mut self.out, txid, reply, &bytes, &handles))
+            }
+            Err(_) => None,
+        };
+        Ok(said && is_said(again, written))
     }
-    Ok(())
+}
+
+#[test]
+fn replies_are_read_and_written(rt: HostRuntime) -> Result<(), Fail> {
+    let ordinals = Ordinals::new()?;
+    let out = Out::new(rt.alloc())?;
+    all_hold(
+        rt.alloc(),
+        reply_rows::REPLIES,
+        &mut Replies { ordinals, out },
+    )
+}
+
+/// Events are read, and written again.
+#[derive(Drop)]
+struct Events {
+    ordinals: Ordinals,
+    out: Out,
+}
+
+/// Whether what is written for the event is these bytes.
+fn is_event_written(ordinals: &Ordinals, out: &mut Out, kind: Protocol, bytes: &[u8]) -> bool {
+    out.clear();
+    if kind == Protocol::Watcher {
+        return false;
+    }
+    write_event(ordinals, kind, out);
+    out.as_bytes() == bytes
+}
+
+impl Table for Events {
+    fn holds<'a>(&mut self, alloc: Global, row: &Row<'a>) -> Result<bool, BadCell<'a>> {
+        let again = row.cell(3)?;
+        let bytes = row.bytes(alloc, 1)?;
+        let read = read_event(&self.ordinals, &bytes);
+        let said = row.says(alloc, 2, &read);
+        let written = match read {
+            Ok(kind) => Some(is_event_written(&self.ordinals, &mut self.out, kind, &bytes)),
+            Err(_) => None,
+        };
+        Ok(said && is_said(again, written))
+    }
 }
 
 #[test]
 fn events_are_read_and_written(rt: HostRuntime) -> Result<(), Fail> {
-    let alloc = rt.alloc();
     let ordinals = Ordinals::new()?;
-    let mut out = Out::new(alloc)?;
-    for row in &rows(alloc, event_rows::EVENTS)? {
-        let bytes = row.bytes(alloc, 1)?;
-        let read = read_event(&ordinals, &bytes);
-        assert!(rt; row.says(alloc, 2, &read), "{}", row.name());
-        if let Ok(kind) = read
-            && kind != Protocol::Watcher
-        {
-            out.clear();
-            write_event(&ordinals, kind, &mut out);
-            let same = out.as_bytes() == bytes.as_slice();
-            assert_eq!(rt; same, row.cell(3)? == "same", "{} is written", row.name());
-        }
-    }
-    Ok(())
+    let out = Out::new(rt.alloc())?;
+    all_hold(
+        rt.alloc(),
+        event_rows::EVENTS,
+        &mut Events { ordinals, out },
+    )
 }
 
 #[test]
@@ -196,7 +263,7 @@ fn a_request_of_one_byte_more_is_too_long(rt: HostRuntime) -> Result<(), Fail> {
     let bytes = [0x61; 65_505];
     let longer = Request::Write { bytes: &bytes };
     let written = write_request(&Ordinals::new()?, 1, longer, &mut out);
-    assert_eq!(rt; written, Err(TooLong));
-    assert_eq!(rt; out.as_bytes().len(), 0);
+    assert!(rt; written == Err(TooLong));
+    assert!(rt; out.as_bytes().is_empty());
     Ok(())
 }

@@ -1,5 +1,0 @@
-// Outside values, read row by row; tokens; and the largest frame.
-
-mod admission;
-mod frames;
-mod rows;
