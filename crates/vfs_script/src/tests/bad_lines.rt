@@ -1,6 +1,6 @@
 //! Texts with their first bad line, and the nearest good ones.
-use crate::{ScriptFault, script_of};
-use fidl_wire::Ordinals;
+use super::read;
+use crate::ScriptFault;
 use std::test::Fail;
 
 const WHOLE: &[(&[u8], u64)] = &[
@@ -32,9 +32,8 @@ const WHOLE: &[(&[u8], u64)] = &[
 #[test]
 fn texts_have_their_first_bad_line(rt: HostRuntime) -> Result<(), Fail> {
     let alloc = rt.alloc();
-    let ordinals = Ordinals::new()?;
     for (text, line) in WHOLE {
-        let found = script_of(alloc, &ordinals, text).err();
+        let found = read(alloc, text).ok_or("too long")?.err();
         assert!(rt;
             found == Some(ScriptFault::Line(*line)),
             "{text:?} {found:?}"
@@ -190,20 +189,19 @@ const GOOD: &[&[u8]] = &[
 #[test]
 fn each_form_has_bad_and_good_lines(rt: HostRuntime) -> Result<(), Fail> {
     let alloc = rt.alloc();
-    let ordinals = Ordinals::new()?;
     let mut text = Vec::new(alloc);
     for line in BAD {
         text.clear();
         text.extend_from_slice(b"auto\n\n")?;
         text.extend_from_slice(line)?;
-        let found = script_of(alloc, &ordinals, &text).err();
+        let found = read(alloc, &text).ok_or("too long")?.err();
         assert!(rt; found == Some(ScriptFault::Line(3)), "{line:?}");
     }
     for line in GOOD {
         text.clear();
         text.extend_from_slice(b"auto\n\n")?;
         text.extend_from_slice(line)?;
-        assert!(rt; script_of(alloc, &ordinals, &text).is_ok(), "{line:?}");
+        assert!(rt; read(alloc, &text).ok_or("too long")?.is_ok(), "{line:?}");
     }
     Ok(())
 }
@@ -222,7 +220,6 @@ fn with_bytes(text: &mut Vec<u8>, line: &[u8], count: usize) -> Result<(), Fail>
 #[test]
 fn messages_end_at_their_limit(rt: HostRuntime) -> Result<(), Fail> {
     let alloc = rt.alloc();
-    let ordinals = Ordinals::new()?;
     let mut text = Vec::new(alloc);
     let lines: [(&[u8], usize); 3] = [
         (b"write 1 ", 65_504),
@@ -231,10 +228,10 @@ fn messages_end_at_their_limit(rt: HostRuntime) -> Result<(), Fail> {
     ];
     for (line, most) in lines {
         with_bytes(&mut text, line, most)?;
-        let script = script_of(alloc, &ordinals, &text)?;
+        let script = read(alloc, &text).ok_or("too long")??;
         assert_eq!(rt; script.frames().len(), 12 + 65_536);
         with_bytes(&mut text, line, most + 1)?;
-        let found = script_of(alloc, &ordinals, &text).err();
+        let found = read(alloc, &text).ok_or("too long")?.err();
         assert!(rt; found == Some(ScriptFault::Line(2)));
     }
     Ok(())

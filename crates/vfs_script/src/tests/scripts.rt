@@ -1,8 +1,7 @@
 //! Scripts with the frames that they stand for.
-use crate::{Script, script_of};
+use super::read;
+use crate::Script;
 use endpoint_link::Mode;
-use fidl_names::MAX_TEXT;
-use fidl_wire::Ordinals;
 use io_client::Client;
 use std::alloc::{AllocError, Global};
 use std::test::Fail;
@@ -57,10 +56,9 @@ fn text_of(alloc: Global, lines: &str) -> Result<Vec<u8>, AllocError> {
 #[test]
 fn scripts_stand_for_their_frames(rt: HostRuntime) -> Result<(), Fail> {
     let alloc = rt.alloc();
-    let ordinals = Ordinals::new()?;
     for row in &rows(alloc, SCRIPTS)? {
         let text = text_of(alloc, row.cell(1)?)?;
-        let script = script_of(alloc, &ordinals, &text)?;
+        let script = read(alloc, &text).ok_or("too long")??;
         let frames = row.bytes(alloc, 2)?;
         assert!(rt; script.frames() == frames.as_slice(), "{}", row.name());
         let mode = if row.cell(1)?.starts_with("auto") {
@@ -85,9 +83,8 @@ fn waiting_for(alloc: Global, script: &Script, frame: u32) -> Result<usize, Fail
 #[test]
 fn calls_are_noted(rt: HostRuntime) -> Result<(), Fail> {
     let alloc = rt.alloc();
-    let ordinals = Ordinals::new()?;
     let text = b"auto\nopen 1 d 0x1c0 2\nwatch 2 31 9\nread 2 5\nhangup 2\nraw 1 - 00\nturn 0 1\npick 2\nsync 1\n";
-    let script = script_of(alloc, &ordinals, text)?;
+    let script = read(alloc, text).ok_or("too long")??;
     assert_eq!(rt; script.calls(), 3);
     assert_eq!(rt; script.len(), 8);
     let waiting: [usize; 8] = [0, 1, 1, 0, 0, 0, 0, 1];
@@ -100,17 +97,14 @@ fn calls_are_noted(rt: HostRuntime) -> Result<(), Fail> {
 #[test]
 fn the_longest_script_is_read(rt: HostRuntime) -> Result<(), Fail> {
     let alloc = rt.alloc();
-    let ordinals = Ordinals::new()?;
     let mut text = Vec::new(alloc);
     text.extend_from_slice(b"given\n")?;
-    while text.len() + 7 <= MAX_TEXT {
+    for _ in 0..149_795 {
         text.extend_from_slice(b"sync 1\n")?;
     }
-    while text.len() < MAX_TEXT {
-        text.push(b'\n')?;
-    }
+    text.extend_from_slice(b"\n\n\n\n\n")?;
     assert_eq!(rt; text.len(), 1_048_576);
-    let script = script_of(alloc, &ordinals, &text)?;
+    let script = read(alloc, &text).ok_or("too long")??;
     assert_eq!(rt; script.calls(), 149_795);
     assert_eq!(rt; script.frames().len(), 149_795 * 28);
     Ok(())
