@@ -110,11 +110,11 @@ standing a b =
     ] refl
 
 -- one key is another, or its entry is not concerned
-data Same (q k : EdgeKey) : Type 0 where
+pub data Same (q k : EdgeKey) : Type 0 where
   alike_key : q ≡ k → eq_by_cmp edge_cmp q k ≡ true → Same q k
   other_key : ¬ (q ≡ k) → eq_by_cmp edge_cmp q k ≡ false → Same q k
 
-same_or_other : (q k : EdgeKey) → Same q k
+pub same_or_other : (q k : EdgeKey) → Same q k
 same_or_other q k =
     elim (standing q k) [
       | earlier a b ↦ other_key (λ e. absurd (let tied : edge_cmp q k ≡ Equal = ap (λ (x : EdgeKey). edge_cmp q x) (sym e) ∙ self q in let wrong : Less ≡ Equal = sym a ∙ tied in cc)) (ap is_eq a)

@@ -46,7 +46,7 @@ use Rattle.journal_laws.proofs.KnowingServes.{ended_live, ended_same, ended_stan
 use Rattle.journal_laws.proofs.KnowingTokens.{holds_from, next_from, out_of}
 use Rattle.journal_laws.proofs.Lists.{pairs-head, pairs-tail}
 use Rattle.journal_laws.proofs.LookedUp.{is_first}
-use Rattle.journal_laws.proofs.Members.{contains_cases, contains_here, contains_later, contains_map, contains_none, kept, kept_of}
+use Rattle.journal_laws.proofs.Members.{contains_map, mapped_member, kept, kept_of}
 use Rattle.journal_laws.proofs.Places.{waits_of_sent}
 use Rattle.journal_laws.proofs.Spent.{carry, spent_by, spent_waits, waits_unspent}
 use Rattle.journal_laws.proofs.Spreading.{among-append}
@@ -241,13 +241,6 @@ token_told past now token spent told n = by_kind (number_is n) where
 abbrev out_numbers : History → List ℕ
 out_numbers history = map (λ g. g.token) (tokens_out history)
 
-mapped_from : (f : Given → ℕ) (n : ℕ) (gs : List Given) → Contains (map f gs) n → (g : Given) × Contains gs g × (f g ≡ n)
-mapped_from f n [] p = absurd (contains_none n p)
-mapped_from f n (x ∷ gs) p = by_place (mapped_from f n gs) (contains_cases n (f x) (map f gs) p) where
-  by_place : (Contains (map f gs) n → (g : Given) × Contains gs g × (f g ≡ n)) → (f x ≡ n) ⊎ Contains (map f gs) n → (g : Given) × Contains (x ∷ gs) g × (f g ≡ n)
-  by_place rest (inl e) = (x, contains_here x gs, e)
-  by_place rest (inr q) = let later = rest q in (later.0, contains_later later.0 x gs later.1, later.2)
-
 abbrev is_out : History → ℕ → Bool
 is_out history n = is_held history n || waits_with history n
 
@@ -255,7 +248,7 @@ number_out : (history : History) (n : ℕ) → among n (out_numbers history) ≡
 number_out history n =
     same_bool (among n (out_numbers history)) (was_given history n && is_out history n)
     (λ h.
-    let at = mapped_from (λ (g : Given). g.token) n (tokens_out history) (member_of n (out_numbers history) h) in
+    let at = mapped_member (λ (g : Given). g.token) n (tokens_out history) (member_of n (out_numbers history) h) in
     let parts = kept_of (λ (g : Given). is_out history g.token) (all_given history) at.0 at.1 in
     and_from (was_given history n) (is_out history n) (passes_any (λ (g : Given). g.token == n) (all_given history) at.0 parts.0 (eq-eqb at.0.token n at.2)) (ap (is_out history) (sym at.2) ∙ parts.1))
     (λ h.
@@ -270,7 +263,7 @@ rising_apart : (gs : List Given) → AllPairs (λ one later. one.token < later.t
 rising_apart [] h = tt
 rising_apart (g ∷ gs) h = (
   false_from_ne_true (among g.token (map (λ (x : Given). x.token) gs)) (λ there.
-      let at = mapped_from (λ (x : Given). x.token) g.token gs (member_of g.token (map (λ (x : Given). x.token) gs) there) in
+      let at = mapped_member (λ (x : Given). x.token) g.token gs (member_of g.token (map (λ (x : Given). x.token) gs) there) in
       let after : g.token < at.0.token = All-contains (λ (x : Given). g.token < x.token) gs at.0 (pairs-head Precedes g gs h) at.1 in
       let equal : at.0.token ≡ g.token = at.2 in
       omega (arith, after, equal)),

@@ -28,6 +28,14 @@ contains_map f (y ∷ xs) x h = by_place (contains_cases x y xs h) (contains_map
   by_place (inl e) rest = subst (λ z. Contains (z ∷ map f xs) (f x)) (ap f (sym e)) (contains_here (f x) (map f xs))
   by_place (inr h) rest = contains_later (f x) (f y) (map f xs) (rest h)
 
+-- a member of what is mapped is that of a member
+pub mapped_member : {X Y : Type 0} (f : X → Y) (y : Y) (xs : List X) → Contains (map f xs) y → (x : X) × Contains xs x × (f x ≡ y)
+mapped_member f y [] p = absurd (contains_none y p)
+mapped_member {X} {Y} f y (x ∷ xs) p = by_place (mapped_member f y xs) (contains_cases y (f x) (map f xs) p) where
+  by_place : (Contains (map f xs) y → (z : X) × Contains xs z × (f z ≡ y)) → (f x ≡ y) ⊎ Contains (map f xs) y → (z : X) × Contains (x ∷ xs) z × (f z ≡ y)
+  by_place rest (inl e) = (x, contains_here x xs, e)
+  by_place rest (inr q) = let later = rest q in (later.0, contains_later later.0 x xs later.1, later.2)
+
 -- ---- what a filter keeps
 
 pub kept_of : {X : Type 0} (p : X → Bool) (xs : List X) (x : X) → Contains (filter p xs) x → Contains xs x × (p x ≡ true)

@@ -1,8 +1,8 @@
--- What is made, written, resized and cut leaves a tree sound.
-use Rattle.std.proofs.Common.{◌≡◌, ℕ, zero, suc, ◌+◌, ◌==◌, ◌&&◌, Bool, true, false, not, nat_lt, nat_le, is_some, if◌then◌else◌, List, [], ◌∷◌, length, Option, Some, None, Ok, Err, All, refl, sym, ap, ◌∙◌, subst, arith}
+-- Whatever is served leaves a tree sound.
+use Rattle.std.proofs.Common.{◌≡◌, ℕ, zero, suc, ◌+◌, ◌≤◌, ◌==◌, ◌&&◌, ◌||◌, Bool, true, false, not, find, nat_lt, nat_le, is_some, if◌then◌else◌, List, [], ◌∷◌, length, Option, Some, None, Ok, Err, All, refl, sym, ap, ◌∙◌, subst, arith}
 use Rattle.std.specs.FinMap as finite
 use Rattle.std.specs.Option.{option_map_or}
-use Rattle.std.proofs.lemmas.Bool.{ne_eqb, or_right, true≢false}
+use Rattle.std.proofs.lemmas.Bool.{eqb-true, ne_eqb, or_parts, or_right, true≢false}
 use Rattle.std.proofs.lemmas.List.Elements.{All-contains, All-head, All-set, All-tail}
 use Rattle.fidl_names.specs.First.{cause_if, first_of}
 use Rattle.fidl_names.specs.declared.limits.TheConstants as limit
@@ -22,22 +22,23 @@ use Rattle.io_messages.specs.declared.protocols.Protocol.TheVariants as protocol
 use Rattle.io_messages.specs.declared.requests.RequestFault.TheVariants.{Malformed, UnknownStrict, UnknownOneWay, UnknownTwoWay}
 use Rattle.io_rights.specs.Operations.{OperationSet, all, is_within}
 use Rattle.node_graph.specs.Graph.{create_refusal, write_refusal}
-use Rattle.node_graph.specs.Tree.{IsSound, NodeRow, Tree, Edges, EdgeKey, EdgeTo, after, fill, is_removed, kind_of, row_of, stay}
+use Rattle.node_graph.specs.Tree.{IsSound, NodeRow, Tree, Edges, EdgeKey, EdgeTo, after, fill, is_removed, kind_of, row_of, stay, add, move, Change}
 use Rattle.node_graph.specs.declared.faults.GraphFault.TheVariants as fault
 use Rattle.node_graph.specs.declared.nodes.NodeKind.{NodeKind}
 use Rattle.node_graph.specs.declared.nodes.NodeKind.TheVariants.{Directory, File, Service, Mount}
+use Rattle.node_graph.proofs.SoundNames.{cut_sound, link_sound, rename_sound}
 use Rattle.node_graph.proofs.Soundness.{bare_sound, filled_sound, made_sound, resized_sound, written_sound}
-use Rattle.path_walk.specs.Names.{IsName}
+use Rattle.path_walk.specs.Names.{IsName, name_fault}
 use Rattle.path_walk.specs.Paths.{names_of}
 use Rattle.path_walk.proofs.PartLemmas.{name_short}
 use Rattle.conn_rules.specs.declared.births.Room.{Room}
-use Rattle.conn_rules.specs.Acts.{act_of, is_beyond, is_of_every_node, lacks_right, method_refusals, row_act}
-use Rattle.conn_rules.specs.Answers.{Act}
+use Rattle.conn_rules.specs.Acts.{act_of, is_beyond, is_of_every_node, method_refusals, row_act}
+use Rattle.conn_rules.specs.Answers.{Act, only, replies}
 use Rattle.conn_rules.specs.Births.{Birth, Position}
 use Rattle.conn_rules.specs.Built.{Built}
 use Rattle.conn_rules.specs.FileRows.{is_no_position, is_too_far, is_too_much, reading_refusal, seek_sum, write_start, writing_refusal}
 use Rattle.conn_rules.specs.Listings.{fits_none, listing}
-use Rattle.conn_rules.specs.NameRows.{token_act, watch_refusals}
+use Rattle.conn_rules.specs.NameRows.{token_act, watch_refusals, is_bad_name, is_same_name, link_into, link_refusals, linked, move_refusals, moving, name_in, rename_into, replacing, replacing_refusals, two_names_refusal, unlink_refusals}
 use Rattle.conn_rules.specs.Nodes.{bytes_of, edge_at, is_file, kind_behind, kind_here}
 use Rattle.conn_rules.specs.Opens.{arrival, arrival_refusals, by_walk, entry_refusals, is_full, is_other_kind, kind_made, making, making_refusals, marks_file, other_kind_status}
 use Rattle.conn_rules.specs.Walks.{Walk, arrives, missing, crosses, stops, behind, passing, last_by_kind, last_step, inner_rights, inner_by_kind, inner_step, walk, limit_of}
@@ -45,17 +46,16 @@ use Rattle.vfs_journal.specs.Entries.{Journal, Sending, Sent, message, hang_up, 
 use Rattle.vfs_journal.specs.History.{living, tree_at, trees_of}
 use Rattle.vfs_journal.specs.Lawful.{Lawful}
 use Rattle.vfs_journal.specs.Lawful as lawful
-use Rattle.vfs_journal.specs.Outcomes.{Forwarded, Outcome}
+use Rattle.vfs_journal.specs.Outcomes.{Forwarded, Outcome, Given}
 use Rattle.vfs_journal.specs.Past.{behind as behind_entry, event_of, history_of}
 use Rattle.vfs_journal.specs.Serving.{Moment, Read, moment_of, outcome_at, outcome_of, outcome_of_message, outcome_of_read, outcome_of_sending, read_by, token_of as asked_token}
 use Rattle.vfs_journal.specs.Session.{head, sent_behind, with_forward}
 use Rattle.vfs_journal.specs.Starts.{Bound, Start}
 use Rattle.journal_laws.specs.Soundness.{IsStart}
-use Rattle.journal_laws.specs.Trees.{IsOnNode, KeepsNames, suits}
-use Rattle.journal_laws.proofs.Acts.{first_none, not_refused, path_passes, unless_holds}
+use Rattle.journal_laws.specs.Trees.{IsOnNode, NamesDirectory, suits}
+use Rattle.journal_laws.proofs.Acts.{first_none, not_refused, path_passes, unless_holds, none_there}
 use Rattle.journal_laws.proofs.Below.{Below}
 use Rattle.journal_laws.proofs.Edges.{mapped}
-use Rattle.journal_laws.proofs.FirstPart.{not_not}
 use Rattle.journal_laws.proofs.Kept.{is_serving, lawful_kept}
 use Rattle.journal_laws.proofs.Members.{found}
 use Rattle.journal_laws.proofs.OnTrees.{lawful_stand, sound_children}
@@ -63,6 +63,11 @@ use Rattle.journal_laws.proofs.Orderly.{HasChildren}
 use Rattle.journal_laws.proofs.Placed.{IsNode, LeadsToNode, has_read, kind_there, leads_to_node, on_directory}
 use Rattle.journal_laws.proofs.Stepping.{stepped}
 use Rattle.journal_laws.proofs.Steps.{refusals_change_nothing, sendings_wait_last, servings_take_effect}
+use Rattle.io_messages.specs.Replies.{done}
+use Rattle.node_graph.specs.Refusals.{link_change}
+use Rattle.conn_rules.specs.Refusals.{unless}
+use Rattle.vfs_journal.specs.Tokens.{all_given, directory_among}
+use Rattle.journal_laws.proofs.Renaming.{link_agrees, other_name, rename_agrees, unlink_agrees}
 
 -- ---- a name that a walk misses
 
@@ -179,6 +184,58 @@ write_passes offset (byte ∷ bytes) e = by_far (nat_lt limit.MAX_FILE (offset +
     some : (n : ℕ) → (not (suc n == 0) && true) ≡ true
     some n = ap (λ (b : Bool). not b && true) (ne_eqb (suc n) 0 (λ e. omega arith))
 
+-- ---- names
+
+second_name : (src dst : List ℕ) (target : Option ℕ) → two_names_refusal src dst target ≡ None → IsName dst
+second_name src dst target e =
+    none_there (name_fault dst) (or_parts (is_bad_name src) (is_bad_name dst) (not_refused (is_bad_name src || is_bad_name dst) status.InvalidArgs _ e)).1
+
+linked_sound : (position : Position) (tree : Tree) (request : Asked) (from to : EdgeKey) → IsSound tree → IsSound (after tree (link_change tree from to)) → (o : Option EdgeTo) → edge_at tree from ≡ o → IsLeftSound tree (linked position request to o)
+linked_sound position tree request from to sound new None e = sound
+linked_sound position tree request from to sound new (Some edge) e = subst (λ (c : Change). IsSound (after tree c)) (ap (λ (o : Option EdgeTo). option_map_or (λ edge. add to edge) o stay) e) new
+
+into_sound : (birth : Birth) (position : Position) (tree : Tree) (request : Asked) (src dst : List ℕ) → IsSound tree → IsName dst → (target : Option ℕ) → ((d : ℕ) → target ≡ Some d → kind_of tree d ≡ Some Directory) →
+    IsLeftSound tree (link_into birth position tree request src dst target)
+into_sound birth position tree request src dst sound valid None is = sound
+into_sound birth position tree request src dst sound valid (Some target) is =
+    let from = name_in birth.node src in
+    let to = name_in target dst in
+    let short = name_short dst valid in
+    unless_holds (IsLeftSound tree) (first_of (link_refusals tree from to)) position request (linked position request to (edge_at tree from)) (λ s. sound)
+    (λ e. linked_sound position tree request from to sound (link_sound tree from to sound (link_agrees tree from to sound e) (is target refl) short.0 short.1) (edge_at tree from) refl)
+
+replacing_sound : (position : Position) (tree : Tree) (request : Asked) (from to : EdgeKey) → IsSound tree → first_of (move_refusals tree from to) ≡ None → kind_of tree to.directory ≡ Some Directory → 1 ≤ length to.name → length to.name ≤ limit.MAX_NAME →
+    (b : Bool) → is_same_name from to ≡ b → IsLeftSound tree (if b then only position (replies (done method.Rename)) else unless (first_of (replacing_refusals tree from to)) position request (moving position tree from to))
+replacing_sound position tree request from to sound e dir some few true same = sound
+replacing_sound position tree request from to sound e dir some few false apart =
+    unless_holds (IsLeftSound tree) (first_of (replacing_refusals tree from to)) position request (moving position tree from to) (λ s. sound)
+    (λ f. subst (λ (b : Bool). IsSound (after tree (if b then stay else move from to))) (other_name from to apart) (rename_sound tree from to sound (rename_agrees tree from to sound e apart f) dir some few))
+
+renamed_sound : (birth : Birth) (position : Position) (tree : Tree) (request : Asked) (src dst : List ℕ) → IsSound tree → IsName dst → (target : Option ℕ) → ((d : ℕ) → target ≡ Some d → kind_of tree d ≡ Some Directory) →
+    IsLeftSound tree (rename_into birth position tree request src dst target)
+renamed_sound birth position tree request src dst sound valid None is = sound
+renamed_sound birth position tree request src dst sound valid (Some target) is =
+    let from = name_in birth.node src in
+    let to = name_in target dst in
+    let short = name_short dst valid in
+    unless_holds (IsLeftSound tree) (first_of (move_refusals tree from to)) position request (replacing position tree request from to) (λ s. sound)
+    (λ e. replacing_sound position tree request from to sound e (is target refl) short.0 short.1 (is_same_name from to) refl)
+
+-- the directory that a token names, where it is of this server
+named_directory : (trees : List Tree) (tokens : List Given) (server token d : ℕ) → All (NamesDirectory trees) tokens → directory_among tokens server token ≡ Some d → kind_of (tree_at trees server) d ≡ Some Directory
+named_directory trees tokens server token d names e = by_found (find (λ given. given.token == token) tokens) refl e where
+  by_server : (g : Given) → NamesDirectory trees g → (b : Bool) → (g.server == server) ≡ b → (if b then Some g.node else None) ≡ Some d → kind_of (tree_at trees server) d ≡ Some Directory
+  by_server g at true same is =
+      let node : g.node ≡ d = cc in
+      ap (λ (n : ℕ). kind_of (tree_at trees server) n) (sym node) ∙ ap (λ (s : ℕ). kind_of (tree_at trees s) g.node) (sym (eqb-true g.server server same)) ∙ at.node
+  by_server g at false apart is = absurd (cc)
+
+  by_found : (o : Option Given) → find (λ given. given.token == token) tokens ≡ o → option_map_or (λ given. if given.server == server then Some given.node else None) o None ≡ Some d → kind_of (tree_at trees server) d ≡ Some Directory
+  by_found None f is = absurd (cc)
+  by_found (Some g) f is = by_server g (All-contains (NamesDirectory trees) tokens g names (found (λ (given : Given). given.token == token) tokens g f).0) (g.server == server) refl is
+
+-- ---- all rows
+
 file_protocol : (p : Protocol) (m : Method) → home_of m ≡ homes.Files → has_method p m ≡ true → is_beyond p m ≡ false → p ≡ protocol.File
 file_protocol protocol.File m home has' beyond = refl
 file_protocol protocol.Directory m home has' beyond = absurd (true≢false (sym has' ∙ ap (has_home protocol.Directory) home))
@@ -186,7 +243,7 @@ file_protocol protocol.Echo m home has' beyond = absurd (true≢false (sym has' 
 file_protocol protocol.Watcher m home has' beyond = absurd (true≢false (sym has' ∙ ap (has_home protocol.Watcher) home))
 file_protocol protocol.Node m home has' beyond = absurd (true≢false (ap (λ (h : Home). not (is_of_every_node h)) (sym home) ∙ beyond))
 
-module _ (below : Below) (built : Built) (names : KeepsNames built) (birth : Birth) (position : Position) (room : Room) (tree : Tree) (target : Option ℕ) (kind : NodeKind) (sound : IsSound tree) (at : kind_of tree birth.node ≡ Some kind) (suited : suits birth.protocol kind ≡ true) where
+module _ (below : Below) (built : Built) (birth : Birth) (position : Position) (room : Room) (tree : Tree) (target : Option ℕ) (kind : NodeKind) (sound : IsSound tree) (at : kind_of tree birth.node ≡ Some kind) (suited : suits birth.protocol kind ≡ true) (target_is : (d : ℕ) → target ≡ Some d → kind_of tree d ≡ Some Directory) where
   on_file : (m : Method) → home_of m ≡ homes.Files → has_method birth.protocol m ≡ true → is_beyond birth.protocol m ≡ false → kind_of tree birth.node ≡ Some File
   on_file m home has' beyond = at ∙ ap Some (is_file_kind kind (ap (λ (p : Protocol). suits p kind) (sym (file_protocol birth.protocol m home has' beyond)) ∙ suited))
 
@@ -194,75 +251,82 @@ module _ (below : Below) (built : Built) (names : KeepsNames built) (birth : Bir
   token_sound None = sound
   token_sound (Some number) = sound
 
-  row_sound : (request : Asked) → has_method birth.protocol (method_of request) ≡ true → is_beyond birth.protocol (method_of request) ≡ false → built.methods (method_of request) ≡ true → IsLeftSound tree (row_act built birth position room tree target request)
-  row_sound (asks.clone endpoint) has' beyond made = unless_holds (IsLeftSound tree) (first_of (cause_if (is_full room) status.NoResources ∷ [])) position (asks.clone endpoint) _ (λ s. sound) (λ e. sound)
-  row_sound asks.close has' beyond made = sound
-  row_sound asks.query has' beyond made = sound
-  row_sound (asks.get_attributes bits) has' beyond made = sound
-  row_sound asks.sync has' beyond made = sound
-  row_sound (asks.open_path path flags given object) has' beyond made =
+  row_sound : (request : Asked) → has_method birth.protocol (method_of request) ≡ true → is_beyond birth.protocol (method_of request) ≡ false → IsLeftSound tree (row_act built birth position room tree target request)
+  row_sound (asks.clone endpoint) has' beyond = unless_holds (IsLeftSound tree) (first_of (cause_if (is_full room) status.NoResources ∷ [])) position (asks.clone endpoint) _ (λ s. sound) (λ e. sound)
+  row_sound asks.close has' beyond = sound
+  row_sound asks.query has' beyond = sound
+  row_sound (asks.get_attributes bits) has' beyond = sound
+  row_sound asks.sync has' beyond = sound
+  row_sound (asks.open_path path flags given object) has' beyond =
       unless_holds (IsLeftSound tree) (first_of (entry_refusals built birth flags path)) position (asks.open_path path flags given object) _ (λ s. sound)
       (λ e.
       let here = on_directory tree birth kind method.OpenPath at suited refl has' beyond in
       let valid = (below.sound path (path_passes built birth flags path e)).valid in
       walk_sound built birth position room tree path flags given object sound (walk tree flags (names_of path) birth.node)
       (leads_to_node tree flags (names_of path) birth.node (sound_children tree sound) (Directory, here)) (misses_name tree flags (names_of path) birth.node (sound_children tree sound) here valid))
-  row_sound (asks.read_dirents most) has' beyond made =
+  row_sound (asks.read_dirents most) has' beyond =
       unless_holds (IsLeftSound tree) (first_of (cause_if (is_too_much most) status.InvalidArgs ∷ cause_if (fits_none (listing tree birth.node position.place) most) status.BufferTooSmall ∷ [])) position (asks.read_dirents most) _ (λ s. sound) (λ e. sound)
-  row_sound asks.rewind has' beyond made = sound
-  row_sound asks.get_token has' beyond made = token_sound room.token
-  row_sound (asks.rename src token dst) has' beyond made = absurd (true≢false (sym made ∙ names.rename))
-  row_sound (asks.link src token dst) has' beyond made = absurd (true≢false (sym made ∙ names.link))
-  row_sound (asks.unlink name flags) has' beyond made = absurd (true≢false (sym made ∙ names.unlink))
-  row_sound (asks.watch mask options watcher) has' beyond made = unless_holds (IsLeftSound tree) (first_of (watch_refusals room mask options)) position (asks.watch mask options watcher) _ (λ s. sound) (λ e. sound)
-  row_sound (asks.read count) has' beyond made = unless_holds (IsLeftSound tree) (reading_refusal count) position (asks.read count) _ (λ s. sound) (λ e. sound)
-  row_sound (asks.read_at count offset) has' beyond made = unless_holds (IsLeftSound tree) (reading_refusal count) position (asks.read_at count offset) _ (λ s. sound) (λ e. sound)
-  row_sound (asks.write bytes) has' beyond made =
+  row_sound asks.rewind has' beyond = sound
+  row_sound asks.get_token has' beyond = token_sound room.token
+  row_sound (asks.rename src token dst) has' beyond =
+      unless_holds (IsLeftSound tree) (two_names_refusal src dst target) position (asks.rename src token dst) _ (λ s. sound)
+      (λ e. renamed_sound birth position tree (asks.rename src token dst) src dst sound (second_name src dst target e) target target_is)
+  row_sound (asks.link src token dst) has' beyond =
+      unless_holds (IsLeftSound tree) (two_names_refusal src dst target) position (asks.link src token dst) _ (λ s. sound)
+      (λ e. into_sound birth position tree (asks.link src token dst) src dst sound (second_name src dst target e) target target_is)
+  row_sound (asks.unlink name flags) has' beyond =
+      unless_holds (IsLeftSound tree) (first_of (unlink_refusals tree (name_in birth.node name) flags)) position (asks.unlink name flags) _ (λ s. sound)
+      (λ e. cut_sound tree (name_in birth.node name) false sound (unlink_agrees tree (name_in birth.node name) flags sound e))
+  row_sound (asks.watch mask options watcher) has' beyond = unless_holds (IsLeftSound tree) (first_of (watch_refusals room mask options)) position (asks.watch mask options watcher) _ (λ s. sound) (λ e. sound)
+  row_sound (asks.read count) has' beyond = unless_holds (IsLeftSound tree) (reading_refusal count) position (asks.read count) _ (λ s. sound) (λ e. sound)
+  row_sound (asks.read_at count offset) has' beyond = unless_holds (IsLeftSound tree) (reading_refusal count) position (asks.read_at count offset) _ (λ s. sound) (λ e. sound)
+  row_sound (asks.write bytes) has' beyond =
       unless_holds (IsLeftSound tree) (writing_refusal (write_start birth position tree) bytes) position (asks.write bytes) _ (λ s. sound)
       (λ e. written_sound tree birth.node (bytes_of tree birth.node) (write_start birth position tree) bytes sound (file_row tree birth.node (on_file method.Write refl has' beyond)) (write_passes (write_start birth position tree) bytes e))
-  row_sound (asks.write_at bytes offset) has' beyond made =
+  row_sound (asks.write_at bytes offset) has' beyond =
       unless_holds (IsLeftSound tree) (writing_refusal offset bytes) position (asks.write_at bytes offset) _ (λ s. sound)
       (λ e. written_sound tree birth.node (bytes_of tree birth.node) offset bytes sound (file_row tree birth.node (on_file method.WriteAt refl has' beyond)) (write_passes offset bytes e))
-  row_sound (asks.seek origin offset) has' beyond made =
+  row_sound (asks.seek origin offset) has' beyond =
       unless_holds (IsLeftSound tree) (first_of (cause_if (nat_lt 2 origin) status.InvalidArgs ∷ cause_if (is_no_position (seek_sum birth position tree origin offset)) status.OutOfRange ∷ [])) position (asks.seek origin offset) _ (λ s. sound) (λ e. sound)
-  row_sound (asks.resize size) has' beyond made =
+  row_sound (asks.resize size) has' beyond =
       unless_holds (IsLeftSound tree) (first_of (cause_if (nat_lt limit.MAX_FILE size) status.FileBig ∷ [])) position (asks.resize size) _ (λ s. sound)
       (λ e. resized_sound tree birth.node (bytes_of tree birth.node) size sound (file_row tree birth.node (on_file method.Resize refl has' beyond)) (ap (λ (b : Bool). cause_if b fault.FileBig) (not_refused (nat_lt limit.MAX_FILE size) status.FileBig _ e)))
-  row_sound (asks.echo_string value) has' beyond made = sound
+  row_sound (asks.echo_string value) has' beyond = sound
 
   act_sound : (request : Asked) → has_method birth.protocol (method_of request) ≡ true → IsLeftSound tree (act_of built birth position room tree target request)
   unfolding act_of
   act_sound request has' =
       unless_holds (IsLeftSound tree) (first_of (method_refusals built birth (method_of request))) position request (row_act built birth position room tree target request) (λ s. sound)
       (λ e.
-      row_sound request has' (not_refused (is_beyond birth.protocol (method_of request)) status.BadHandle _ e)
-      (not_not (built.methods (method_of request))
-      (not_refused (not (built.methods (method_of request))) status.NotSupported _
-      (first_none (cause_if (lacks_right birth (method_of request)) status.BadHandle) _ (first_none (cause_if (is_beyond birth.protocol (method_of request)) status.BadHandle) _ e)))))
+      row_sound request has' (not_refused (is_beyond birth.protocol (method_of request)) status.BadHandle _ e))
 
 -- ---- what servings leave
 
-read_sound : Below → (built : Built) → KeepsNames built → (moment : Moment) (bytes handles : List ℕ) (kind : NodeKind) → IsSound moment.tree → kind_of moment.tree moment.bound.birth.node ≡ Some kind → suits moment.bound.birth.protocol kind ≡ true → (r : Read) → read_by moment.bound.birth.protocol bytes handles ≡ r →
+-- tokens name directories of the server's tree
+abbrev TokensName : Moment → Type 0
+TokensName moment = (token d : ℕ) → moment.directory token ≡ Some d → kind_of moment.tree d ≡ Some Directory
+
+read_sound : Below → (built : Built) → (moment : Moment) (bytes handles : List ℕ) (kind : NodeKind) → IsSound moment.tree → kind_of moment.tree moment.bound.birth.node ≡ Some kind → suits moment.bound.birth.protocol kind ≡ true → TokensName moment → (r : Read) → read_by moment.bound.birth.protocol bytes handles ≡ r →
     IsSound (after moment.tree (outcome_of_read built moment r).change)
-read_sound below built names moment bytes handles kind sound at suited (Ok (txid, a)) read =
-    act_sound below built names moment.bound.birth moment.position moment.room moment.tree (moment.directory (asked_token a)) kind sound at suited a (has_read below.spelled moment.bound.birth.protocol bytes handles txid a read)
-read_sound below built names moment bytes handles kind sound at suited (Err (Malformed fault)) read = sound
-read_sound below built names moment bytes handles kind sound at suited (Err UnknownStrict) read = sound
-read_sound below built names moment bytes handles kind sound at suited (Err UnknownOneWay) read = sound
-read_sound below built names moment bytes handles kind sound at suited (Err (UnknownTwoWay txid ordinal)) read = sound
+read_sound below built moment bytes handles kind sound at suited tokens (Ok (txid, a)) read =
+    act_sound below built moment.bound.birth moment.position moment.room moment.tree (moment.directory (asked_token a)) kind sound at suited (tokens (asked_token a)) a (has_read below.spelled moment.bound.birth.protocol bytes handles txid a read)
+read_sound below built moment bytes handles kind sound at suited tokens (Err (Malformed fault)) read = sound
+read_sound below built moment bytes handles kind sound at suited tokens (Err UnknownStrict) read = sound
+read_sound below built moment bytes handles kind sound at suited tokens (Err UnknownOneWay) read = sound
+read_sound below built moment bytes handles kind sound at suited tokens (Err (UnknownTwoWay txid ordinal)) read = sound
 
-message_sound : Below → (built : Built) → KeepsNames built → (moment : Moment) (bytes handles : List ℕ) (kind : NodeKind) → IsSound moment.tree → kind_of moment.tree moment.bound.birth.node ≡ Some kind → suits moment.bound.birth.protocol kind ≡ true → (p : Protocol) → moment.bound.birth.protocol ≡ p →
+message_sound : Below → (built : Built) → (moment : Moment) (bytes handles : List ℕ) (kind : NodeKind) → IsSound moment.tree → kind_of moment.tree moment.bound.birth.node ≡ Some kind → suits moment.bound.birth.protocol kind ≡ true → TokensName moment → (p : Protocol) → moment.bound.birth.protocol ≡ p →
     IsSound (after moment.tree (outcome_of_message built moment p bytes handles).change)
-message_sound below built names moment bytes handles kind sound at suited protocol.Watcher is = sound
-message_sound below built names moment bytes handles kind sound at suited protocol.Directory is = read_sound below built names moment bytes handles kind sound at suited (read_by protocol.Directory bytes handles) (ap (λ (p : Protocol). read_by p bytes handles) is)
-message_sound below built names moment bytes handles kind sound at suited protocol.File is = read_sound below built names moment bytes handles kind sound at suited (read_by protocol.File bytes handles) (ap (λ (p : Protocol). read_by p bytes handles) is)
-message_sound below built names moment bytes handles kind sound at suited protocol.Node is = read_sound below built names moment bytes handles kind sound at suited (read_by protocol.Node bytes handles) (ap (λ (p : Protocol). read_by p bytes handles) is)
-message_sound below built names moment bytes handles kind sound at suited protocol.Echo is = read_sound below built names moment bytes handles kind sound at suited (read_by protocol.Echo bytes handles) (ap (λ (p : Protocol). read_by p bytes handles) is)
+message_sound below built moment bytes handles kind sound at suited tokens protocol.Watcher is = sound
+message_sound below built moment bytes handles kind sound at suited tokens protocol.Directory is = read_sound below built moment bytes handles kind sound at suited tokens (read_by protocol.Directory bytes handles) (ap (λ (p : Protocol). read_by p bytes handles) is)
+message_sound below built moment bytes handles kind sound at suited tokens protocol.File is = read_sound below built moment bytes handles kind sound at suited tokens (read_by protocol.File bytes handles) (ap (λ (p : Protocol). read_by p bytes handles) is)
+message_sound below built moment bytes handles kind sound at suited tokens protocol.Node is = read_sound below built moment bytes handles kind sound at suited tokens (read_by protocol.Node bytes handles) (ap (λ (p : Protocol). read_by p bytes handles) is)
+message_sound below built moment bytes handles kind sound at suited tokens protocol.Echo is = read_sound below built moment bytes handles kind sound at suited tokens (read_by protocol.Echo bytes handles) (ap (λ (p : Protocol). read_by p bytes handles) is)
 
-sending_sound : Below → (built : Built) → KeepsNames built → (moment : Moment) (sending : Sending) (kind : NodeKind) → IsSound moment.tree → kind_of moment.tree moment.bound.birth.node ≡ Some kind → suits moment.bound.birth.protocol kind ≡ true → IsSound (after moment.tree (outcome_of_sending built moment sending).change)
+sending_sound : Below → (built : Built) → (moment : Moment) (sending : Sending) (kind : NodeKind) → IsSound moment.tree → kind_of moment.tree moment.bound.birth.node ≡ Some kind → suits moment.bound.birth.protocol kind ≡ true → TokensName moment → IsSound (after moment.tree (outcome_of_sending built moment sending).change)
 unfolding outcome_of_sending
-sending_sound below built names moment (message bytes handles) kind sound at suited = message_sound below built names moment bytes handles kind sound at suited moment.bound.birth.protocol refl
-sending_sound below built names moment hang_up kind sound at suited = sound
+sending_sound below built moment (message bytes handles) kind sound at suited tokens = message_sound below built moment bytes handles kind sound at suited tokens moment.bound.birth.protocol refl
+sending_sound below built moment hang_up kind sound at suited tokens = sound
 
 -- the change is of the server's own tree
 read_server : (built : Built) (moment : Moment) (r : Read) → (outcome_of_read built moment r).server ≡ moment.bound.server
@@ -291,10 +355,10 @@ tree_sound [] server h = bare_sound
 tree_sound (tree ∷ trees) zero h = All-head IsSound tree trees h
 tree_sound (tree ∷ trees) (suc server) h = tree_sound trees server (All-tail IsSound tree trees h)
 
-served_sound : Below → (built : Built) → KeepsNames built → (start : Start) (journal : Journal) (sent : Sent) → IsStart start → Lawful built start journal → head start (history_of built start journal) sent.endpoint ≡ Some sent →
+served_sound : Below → (built : Built) → (start : Start) (journal : Journal) (sent : Sent) → IsStart start → Lawful built start journal → head start (history_of built start journal) sent.endpoint ≡ Some sent →
     All IsSound (trees_of start (history_of built start journal)) → All IsSound (trees_of start (behind_entry built start (serves sent) (history_of built start journal)))
 unfolding event_of
-served_sound below built names start journal sent s h first sound =
+served_sound below built start journal sent s h first sound =
     let past = history_of built start journal in
     let trees = trees_of start past in
     let outcome = outcome_of built start past sent in
@@ -305,7 +369,7 @@ served_sound below built names start journal sent s h first sound =
     let lives = (found (λ (b : Bound). b.endpoint == sent.endpoint) (living start past) bound serving'.bound).0 in
     let on = All-contains (IsOnNode trees) (living start past) bound stand.placed lives in
     let whole : outcome ≡ outcome_at built start past sent (Some bound) = ap (outcome_at built start past sent) serving'.bound in
-    let one = sending_sound below built names (moment_of start past bound) sent.sending on.kind (tree_sound trees bound.server sound) on.node on.suited in
+    let one = sending_sound below built (moment_of start past bound) sent.sending on.kind (tree_sound trees bound.server sound) on.node on.suited (λ token d e. named_directory trees (all_given past) bound.server token d stand.given e) in
     let left : IsSound (after (tree_at trees outcome.server) outcome.change) = subst (λ (o : Outcome). IsSound (after (tree_at trees o.server) o.change)) (sym whole) (same_server built (moment_of start past bound) sent.sending trees one) in
     subst (All IsSound) (sym effect.trees) (All-set IsSound trees outcome.server (after (tree_at trees outcome.server) outcome.change) left sound) where
       same_server : (built : Built) (moment : Moment) (sending : Sending) (trees : List Tree) → IsSound (after (tree_at trees moment.bound.server) (outcome_of_sending built moment sending).change) →
@@ -318,15 +382,15 @@ onward_sound built start journal origin None sound = sound
 onward_sound built start journal origin (Some f) sound =
     subst (All IsSound) (sym (sendings_wait_last built start (history_of built start journal) (sent_behind journal f.endpoint (message f.bytes (f.object ∷ [])) (Some origin))).same.trees) sound
 
-pub trees_sound : Below → (built : Built) (start : Start) (journal : Journal) → KeepsNames built → IsStart start → Lawful built start journal → All IsSound (trees_of start (history_of built start journal))
+pub trees_sound : Below → (built : Built) (start : Start) (journal : Journal) → IsStart start → Lawful built start journal → All IsSound (trees_of start (history_of built start journal))
 unfolding history_of
-trees_sound below built start journal names s lawful.begun = s.trees
-trees_sound below built start journal names s (lawful.refused earlier frame why h is admits) =
-    subst (All IsSound) (sym (refusals_change_nothing built start (history_of built start earlier) frame.endpoint why).same.trees) (trees_sound below built start earlier names s h)
-trees_sound below built start journal names s (lawful.sent earlier frame h is at admits) =
-    subst (All IsSound) (sym (sendings_wait_last built start (history_of built start earlier) (sent_behind earlier frame.endpoint (message frame.bytes frame.handles) None)).same.trees) (trees_sound below built start earlier names s h)
-trees_sound below built start journal names s (lawful.closed earlier frame h is at admits) =
-    subst (All IsSound) (sym (sendings_wait_last built start (history_of built start earlier) (sent_behind earlier frame.endpoint hang_up None)).same.trees) (trees_sound below built start earlier names s h)
-trees_sound below built start journal names s (lawful.served earlier entry h is) =
+trees_sound below built start journal s lawful.begun = s.trees
+trees_sound below built start journal s (lawful.refused earlier frame why h is admits) =
+    subst (All IsSound) (sym (refusals_change_nothing built start (history_of built start earlier) frame.endpoint why).same.trees) (trees_sound below built start earlier s h)
+trees_sound below built start journal s (lawful.sent earlier frame h is at admits) =
+    subst (All IsSound) (sym (sendings_wait_last built start (history_of built start earlier) (sent_behind earlier frame.endpoint (message frame.bytes frame.handles) None)).same.trees) (trees_sound below built start earlier s h)
+trees_sound below built start journal s (lawful.closed earlier frame h is at admits) =
+    subst (All IsSound) (sym (sendings_wait_last built start (history_of built start earlier) (sent_behind earlier frame.endpoint hang_up None)).same.trees) (trees_sound below built start earlier s h)
+trees_sound below built start journal s (lawful.served earlier entry h is) =
     onward_sound built start (serves entry ∷ earlier) entry.place (outcome_of built start (history_of built start earlier) entry).forward
-    (served_sound below built names start earlier entry s h is (trees_sound below built start earlier names s h))
+    (served_sound below built start earlier entry s h is (trees_sound below built start earlier s h))

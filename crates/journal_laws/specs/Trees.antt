@@ -1,6 +1,5 @@
 -- What stands on the trees of lawful journals.
-use Rattle.std.specs.Prelude.{◌≡◌, ◌<◌, Bool, true, false, List, length, All, Some}
-use Rattle.fidl_names.specs.declared.methods.Method.TheVariants as method
+use Rattle.std.specs.Prelude.{◌≡◌, ◌<◌, Bool, true, List, length, All, Some}
 use Rattle.io_messages.specs.declared.protocols.Protocol.{Protocol}
 use Rattle.io_messages.specs.declared.protocols.Protocol.TheVariants as protocol
 use Rattle.node_graph.specs.declared.nodes.NodeKind.{NodeKind}
@@ -47,13 +46,6 @@ pub record StandOnTrees (start : Start) (history : History) : Type 0 where
 abbrev pub WhoLivesStandsOnTrees : Type 0
 WhoLivesStandsOnTrees = (built : Built) (start : Start) (journal : Journal) → IsStart start → Lawful built start journal → StandOnTrees start (history_of built start journal)
 
--- names are neither taken out, nor linked, nor renamed
-pub record KeepsNames (built : Built) : Type 0 where
-  pub unlink : built.methods method.Unlink ≡ false
-  pub link : built.methods method.Link ≡ false
-  pub rename : built.methods method.Rename ≡ false
-
--- what is made, written, resized and cut leaves all trees sound
+-- whatever is served leaves all trees sound
 abbrev pub TreesStaySound : Type 0
-TreesStaySound =
-    (built : Built) (start : Start) (journal : Journal) → KeepsNames built → IsStart start → Lawful built start journal → All IsSound (trees_of start (history_of built start journal))
+TreesStaySound = (built : Built) (start : Start) (journal : Journal) → IsStart start → Lawful built start journal → All IsSound (trees_of start (history_of built start journal))

@@ -109,8 +109,7 @@ pub fn who_lives_stands_on_trees()
     path_laws();
 }
 
-/// As long as names are neither taken out, nor linked, nor renamed, the trees of each lawful journal are sound; where no two names have
-/// equal ordinals.
+/// The trees of each lawful journal are sound; where no two names have equal ordinals.
 pub fn trees_stay_sound()
     ensures { AreDistinct → TreesStaySound }
 {
