@@ -83,13 +83,17 @@ fn waiting_for(alloc: Global, script: &Script, frame: u32) -> Result<usize, Fail
 #[test]
 fn calls_are_noted(rt: HostRuntime) -> Result<(), Fail> {
     let alloc = rt.alloc();
-    let text = b"auto\nopen 1 d 0x1c0 2\nwatch 2 31 9\nread 2 5\nhangup 2\nraw 1 - 00\nturn 0 1\npick 2\nsync 1\n";
+    let text =
+        b"auto\nopen 1 d 0x1c0 2\nwatch 2 31 9\nread 2 5\nhangup 2\nraw 1 - 00\nturn 0 1\npick 2\nsync 1\n";
     let script = read(alloc, text).ok_or("too long")??;
     assert_eq!(rt; script.calls(), 3);
     assert_eq!(rt; script.len(), 8);
     let waiting: [usize; 8] = [0, 1, 1, 0, 0, 0, 0, 1];
     for frame in 0..8 {
-        assert_eq!(rt; waiting_for(alloc, &script, frame)?, waiting[frame as usize]);
+        assert_eq!(rt;
+            waiting_for(alloc, &script, frame)?,
+            waiting[frame as usize]
+        );
     }
     Ok(())
 }
