@@ -1,0 +1,58 @@
+-- A list of numbers, each once, beside the set of them.
+use Rattle.std.proofs.Common.{◌≡◌, ◌≢◌, ℕ, ◌<◌, ◌≤◌, ◌^◌, Bool, true, false, cond, eqb, List, [], ◌∷◌, ◌++◌, length, refl, sym, ap, ◌∙◌, subst, arith}
+use Rattle.std.specs.Prelude.{◌||◌, ◌==◌, AllPairs, not}
+use Rattle.std.specs.BTreeMap.{is_at}
+use Rattle.std.specs.List.{IsDistinct, list_any}
+use Rattle.std.specs.Ordering.{nat_cmp}
+use Rattle.std.proofs.lemmas.Bool.Decides.{nat_tests, Decides-eqb}
+use Rattle.std.proofs.lemmas.Cmp.{nat_eq_equiv}
+use Rattle.std.proofs.lemmas.Map.Keys.{IsDistinct-push}
+use Rattle.std.proofs.lemmas.Map.Made.{AllPairs-from_IsDistinct}
+use Rattle.std.proofs.lemmas.Map.Steps.{length-le_from_distinct_below}
+use Rattle.endpoint_link.specs.Numbering.{among}
+use Rattle.message_queues.specs.Steps.{IsListed}
+use Rattle.message_queues.proofs.Numbers.{among-append, among-one, same_number}
+
+flipped : (n : ℕ) (ms : List ℕ) → list_any (eqb n) ms ≡ among n ms
+flipped n [] = refl
+flipped n (m ∷ ms) = let front : eqb n m ≡ (m == n) = grind (arith, nat_tests) in rw (front, flipped n ms) refl
+
+pub listed_none : (keys : List ℕ) → keys ≡ [] → IsListed [] keys
+unfolding IsDistinct
+listed_none keys e = record { same = λ number. ap (λ (ks : List ℕ). list_any (is_at (nat_cmp number)) ks) e; once = tt; small = λ number there. absurd (cc) }
+
+tested : (a b : ℕ) → is_at (nat_cmp a) b ≡ (a == b)
+tested a b = grind (arith, nat_tests)
+
+turned : (a b : Bool) → cond a true b ≡ (b || a)
+turned true true = refl
+turned true false = refl
+turned false true = refl
+turned false false = refl
+
+pub listed_push : (found keys now : List ℕ) (number : ℕ) → IsListed found keys → number < 2 ^ 32 → list_any (is_at (nat_cmp number)) keys ≡ false
+    → ((q : ℕ) → list_any (is_at (nat_cmp q)) now ≡ cond (is_at (nat_cmp number) q) true (list_any (is_at (nat_cmp q)) keys)) → IsListed (found ++ number ∷ []) now
+listed_push found keys now number listed low isnt updates = record {
+  same = λ q. updates q ∙ ap (λ (b : Bool). cond b true (list_any (is_at (nat_cmp q)) keys)) (tested number q) ∙ ap (cond (number == q) true) (listed.same q)
+      ∙ turned (number == q) (among q found) ∙ ap (λ (b : Bool). among q found || b) (sym (among-one q number)) ∙ sym (among-append q found (number ∷ []));
+  once = IsDistinct-push nat_eq_equiv found number listed.once (flipped number found ∙ sym (listed.same number) ∙ isnt);
+  small = λ q there. elim (among q found) as (λ b. among q found ≡ b → q < 2 ^ 32) [
+    | true ↦ λ e. listed.small q e
+    | false ↦ λ e. let it : number ≡ q = same_number q number (last (among q found) (number == q) e (ap (λ (b : Bool). among q found || b) (sym (among-one q number)) ∙ sym (among-append q found (number ∷ [])) ∙ there)) in
+        subst (λ (x : ℕ). x < 2 ^ 32) it low
+  ] refl;
+}
+  where
+    last : (a b : Bool) → a ≡ false → (a || b) ≡ true → b ≡ true
+    last true b h there = absurd (cc)
+    last false b h there = there
+
+pub listed_few : (found keys : List ℕ) → IsListed found keys → length found ≤ 2 ^ 32
+listed_few found keys listed = length-le_from_distinct_below found (2 ^ 32) listed.once (λ q there. listed.small q (sym (flipped q found) ∙ there))
+
+pub listed_once : (found keys : List ℕ) → IsListed found keys → AllPairs (λ one other. one ≢ other) found
+listed_once found keys listed = AllPairs-from_IsDistinct Decides-eqb found listed.once
+
+pub not_true : (b : Bool) → true ≡ not b → b ≡ false
+not_true true h = absurd (cc)
+not_true false h = refl

@@ -1,0 +1,136 @@
+-- Which endpoint is served next, by the heads.
+use Rattle.std.proofs.Common.{◌≡◌, ℕ, ◌+◌, ◌<◌, ◌≤◌, Bool, true, false, List, [], ◌∷◌, refl, sym, ap, ◌∙◌, subst, arith}
+use Rattle.std.specs.Prelude.{Option, Some, None, Result, Ok, Err, IsOk, IsSome, MatchOption, OnErr, if◌then◌else◌, nat_lt, slice_get}
+use Rattle.std.specs.Option.{option_map}
+use Rattle.std.specs.FinMap as finite
+use Rattle.std.proofs.lemmas.Bool.Decides.{nat_tests}
+use Rattle.vfs_journal.specs.Entries.{Sent}
+use Rattle.message_queues.specs.Queues.{Queues, head_of, queue_of, server_of}
+use Rattle.message_queues.specs.Oldest.{IsBound, IsBoundAt, IsOldest, NothingWaits}
+use Rattle.message_queues.specs.Steps.{Heads, IsKept, IsLeastAt, IsLeastBelow, older, turn_by, turn_of}
+use Rattle.message_queues.proofs.Turns.{turn_parts}
+
+some_is : {A : Type 0} (o : Option A) (x : A) → o ≡ Some x → IsSome o
+some_is o x h = rw h refl
+
+the_some : {A : Type 0} (o : Option A) → IsSome o → (x : A) × (o ≡ Some x)
+the_some None h = absurd (cc)
+the_some (Some x) h = (x, refl)
+
+-- what waits on a bound endpoint has its turn
+has_turn : (q : Queues) (endpoint server : ℕ) (sent : Sent) → server_of q endpoint ≡ Some server → head_of q endpoint ≡ Some sent → turn_of q endpoint ≡ Some (server, sent.place)
+has_turn q endpoint server sent bound waits = alike _ _ _ _ bound waits
+  where
+    alike : (s t : Option ℕ) (h k : Option Sent) → s ≡ t → h ≡ k → turn_by s h ≡ turn_by t k
+    alike s t h k a b = cc
+
+nothing : (q : Queues) (endpoint : ℕ) → ((sent : Sent) → head_of q endpoint ≡ Some sent → ⊥) → queue_of q endpoint ≡ []
+nothing q endpoint none = by_cases (queue_of q endpoint) refl
+  where
+    by_cases : (queue : List Sent) → queue_of q endpoint ≡ queue → queue ≡ []
+    by_cases [] e = refl
+    by_cases (sent ∷ later) e = absurd (none sent (ap (λ (queue : List Sent). slice_get queue 0) e))
+
+-- ---- at one server
+
+pub oldest_at : (q : Queues) (heads : Heads) (counted server : ℕ) (head : Option (ℕ × ℕ)) → IsKept q heads counted → IsLeastAt heads server head
+    → MatchOption (option_map (λ (h : ℕ × ℕ). h.1) head) (NothingWaits q (IsBoundAt q server)) (λ endpoint. IsOldest q (IsBoundAt q server) endpoint)
+oldest_at q heads counted server None kept none = λ endpoint bound. nothing q endpoint (λ sent waits.
+    let there = (kept.turns (server, sent.place) endpoint).1 (has_turn q endpoint server sent bound waits) in
+    let wrong : None ≡ Some endpoint = sym (none sent.place) ∙ there in cc)
+oldest_at q heads counted server (Some head) kept least =
+    let turn = turn_parts _ _ _ ((kept.turns (server, head.0) head.1).0 least.0) in
+    record {
+      sent = turn.sent;
+      one_of = turn.bound;
+      waits = turn.waits;
+      least = λ other later bound waits.
+          let there = (kept.turns (server, later.place) other).1 (has_turn q other server later bound waits) in
+          let low : head.0 ≤ later.place = least.1 later.place (some_is _ other there) in
+          let is : turn.sent.place ≡ head.0 = turn.place in omega arith;
+    }
+
+-- ---- over all servers
+
+pub least_none : (heads : Heads) → IsLeastBelow heads 0 None
+least_none heads = λ server place low. absurd (omega arith)
+
+data Where (server servers : ℕ) : Type 0 where
+  here : server ≡ servers → Where server servers
+  before : server < servers → Where server servers
+
+where_is : (server servers : ℕ) → server < servers + 1 → Where server servers
+where_is server servers low =
+    elim (nat_lt server servers) as (λ b. nat_lt server servers ≡ b → Where server servers) [
+      | true ↦ λ e. before (grind (arith, nat_tests))
+      | false ↦ λ e. here (grind (arith, nat_tests))
+    ] refl
+
+no_head : {A : Type 0} (o : Option A) → o ≡ None → IsSome o → ⊥
+no_head None h some = cc
+no_head (Some x) h some = cc
+
+module _ (heads : Heads) (servers : ℕ) where
+  one_kept : (one : ℕ × ℕ) → IsLeastBelow heads servers (Some one) → ((place : ℕ) → IsSome (finite.get heads (servers, place)) → one.0 ≤ place) → IsLeastBelow heads (servers + 1) (Some one)
+  one_kept one least least_here = (
+    (least.0.0, (let low = least.0.1 in omega arith), least.0.2),
+    λ server place low there. elim (where_is server servers low) [
+      | here e ↦ least_here place (subst (λ (s : ℕ). IsSome (finite.get heads (s, place))) e there)
+      | before less ↦ least.1 server place less there
+    ],
+  )
+
+  other_taken : (other : ℕ × ℕ) → IsLeastAt heads servers (Some other) → ((server place : ℕ) → server < servers → IsSome (finite.get heads (server, place)) → other.0 ≤ place) → IsLeastBelow heads (servers + 1) (Some other)
+  other_taken other least least_before = (
+    (servers, (omega arith), least.0),
+    λ server place low there. elim (where_is server servers low) [
+      | here e ↦ least.1 place (subst (λ (s : ℕ). IsSome (finite.get heads (s, place))) e there)
+      | before less ↦ least_before server place less there
+    ],
+  )
+
+  pub least_more : (one other : Option (ℕ × ℕ)) → IsLeastBelow heads servers one → IsLeastAt heads servers other → IsLeastBelow heads (servers + 1) (older one other)
+  least_more None None least none = λ server place low. elim (where_is server servers low) [
+    | here e ↦ ap (λ (s : ℕ). finite.get heads (s, place)) e ∙ none place
+    | before less ↦ least server place less
+  ]
+  least_more None (Some other) none least = other_taken other least (λ server place low there. absurd (no_head _ (none server place low) there))
+  least_more (Some one) None least none = one_kept one least (λ place there. absurd (no_head _ (none place) there))
+  least_more (Some one) (Some other) least least_here = by_test (nat_lt other.0 one.0) refl
+    where
+      by_test : (b : Bool) → nat_lt other.0 one.0 ≡ b → IsLeastBelow heads (servers + 1) (if b then Some other else Some one)
+      by_test true e = other_taken other least_here (λ server place low there. let le : one.0 ≤ place = least.1 server place low there in let less : other.0 < one.0 = grind (arith, nat_tests) in omega arith)
+      by_test false e = one_kept one least (λ place there. let le : other.0 ≤ place = least_here.1 place there in let less : one.0 ≤ other.0 = grind (arith, nat_tests) in omega arith)
+
+pub oldest_of_all : (q : Queues) (heads : Heads) (counted : ℕ) (head : Option (ℕ × ℕ)) → IsKept q heads counted → IsLeastBelow heads q.servers head
+    → MatchOption (option_map (λ (h : ℕ × ℕ). h.1) head) (NothingWaits q (IsBound q)) (λ endpoint. IsOldest q (IsBound q) endpoint)
+oldest_of_all q heads counted None kept none = λ endpoint bound. nothing q endpoint (λ sent waits.
+    let at = the_some (server_of q endpoint) bound in
+    let there = (kept.turns (at.0, sent.place) endpoint).1 (has_turn q endpoint at.0 sent at.1 waits) in
+    let wrong : None ≡ Some endpoint = sym (none at.0 sent.place (kept.within endpoint at.0 at.1)) ∙ there in cc)
+oldest_of_all q heads counted (Some head) kept least =
+    let turn = turn_parts _ _ _ ((kept.turns (least.0.0, head.0) head.1).0 least.0.2) in
+    record {
+      sent = turn.sent;
+      one_of = some_is _ _ turn.bound;
+      waits = turn.waits;
+      least = λ other later bound waits.
+          let at = the_some (server_of q other) bound in
+          let there = (kept.turns (at.0, later.place) other).1 (has_turn q other at.0 later at.1 waits) in
+          let low : head.0 ≤ later.place = least.1 at.0 later.place (kept.within other at.0 at.1) (some_is _ other there) in
+          let is : turn.sent.place ≡ head.0 = turn.place in omega arith;
+    }
+
+-- ---- results
+
+pub on_err_more : {A E P Q : Type 0} (r : Result A E) → (P → Q) → OnErr r P → OnErr r Q
+on_err_more (Ok v) more p = tt
+on_err_more (Err e) more p = more p
+
+pub ok_no_err : {A E : Type 0} (P : Type 0) (r : Result A E) → IsOk r → OnErr r P
+ok_no_err P (Ok v) h = tt
+ok_no_err P (Err e) h = absurd (cc)
+
+pub empty_queue : (queue : List Sent) → slice_get queue 0 ≡ None → queue ≡ []
+empty_queue [] h = refl
+empty_queue (sent ∷ queue) h = absurd (cc)

@@ -1,0 +1,6 @@
+use Rattle.std.proofs.Common.{◌≤◌, ◌^◌, length, subst, List, ℕ}
+use Rattle.message_queues.proofs.Listed.{listed_few}
+use Rattle.message_queues.proofs.dying.Dying.get.Goals as goal
+
+pub returns-clause-few : goal.returns-clause-few
+returns-clause-few c = subst (λ (found : List ℕ). length found ≤ 2 ^ 32) c.self.view_is (listed_few c.self.inside.found.items c.self.inside.set.keys c.self.invariant)

@@ -1,0 +1,122 @@
+-- Words of the steps: which first entries are kept in order, and what every value keeps. No public clause cites them.
+use Rattle.std.specs.Prelude.{◌≡◌, ◌↔◌, ◌≤◌, ◌<◌, ◌^◌, ◌++◌, ◌||◌, ℕ, Bool, true, false, List, [], ◌∷◌, IsSome, drop, flat_map, is_none, length, map, nat_lt, slice_get, Option, Some, None, if◌then◌else◌}
+use Rattle.std.specs.FinMap as finite
+use Rattle.std.specs.List.{IsDistinct, list_any}
+use Rattle.std.specs.List.Sorted.{IsStrictlySortedBy}
+use Rattle.std.specs.Map.{keys_of}
+use Rattle.std.specs.Ordering.{nat_cmp, ordering_then}
+use Rattle.std.specs.declared.cmp.Ordering.{Ordering}
+use Rattle.std.specs.Prelude.{eqb}
+use Rattle.std.specs.BTreeMap.{is_at}
+use Rattle.fidl_names.specs.declared.limits.TheConstants as limit
+use Rattle.endpoint_link.specs.Numbering.{among}
+use Rattle.vfs_journal.specs.Entries.{Sent, endpoints_in}
+use Rattle.message_queues.specs.Dying.{HasAll, IsClosed}
+use Rattle.message_queues.specs.Queues.{Mailbox, Queues, count, head_of, queue_of, server_of}
+
+-- by servers, and there by places
+abbrev pub place_cmp : ℕ × ℕ → ℕ × ℕ → Ordering
+place_cmp one other = ordering_then (nat_cmp one.0 other.0) (nat_cmp one.1 other.1)
+
+-- for a server and a place the endpoint whose first entry it is
+abbrev pub Heads : Type 0
+Heads = finite.FinMap place_cmp ℕ
+
+-- the places of what waits on an endpoint
+abbrev pub places_of : Queues → ℕ → List ℕ
+places_of queues endpoint = map (λ sent. sent.place) (queue_of queues endpoint)
+
+-- no number stands twice
+abbrev pub AreOnce : List ℕ → Type 0
+AreOnce [] = Unit {0}
+AreOnce (number ∷ numbers) = (among number numbers ≡ false) × AreOnce numbers
+
+-- the server of a first entry and its place there
+abbrev pub turn_by : Option ℕ → Option Sent → Option (ℕ × ℕ)
+turn_by (Some server) (Some sent) = Some (server, sent.place)
+turn_by _ _ = None
+
+abbrev pub turn_of : Queues → ℕ → Option (ℕ × ℕ)
+turn_of queues endpoint = turn_by (server_of queues endpoint) (head_of queues endpoint)
+
+-- at each key stands the endpoint whose turn is there
+abbrev pub AreTurns : Heads → (ℕ → Option (ℕ × ℕ)) → Type 0
+AreTurns heads turn = (key : ℕ × ℕ) (endpoint : ℕ) → (finite.get heads key ≡ Some endpoint) ↔ (turn endpoint ≡ Some key)
+
+-- the heads are those of the bound endpoints, no two entries have one place, and the count is that of what waits
+pub record IsKept (queues : Queues) (heads : Heads) (counted : ℕ) : Type 0 where
+  pub turns : AreTurns heads (turn_of queues)
+  pub once : (endpoint : ℕ) → AreOnce (places_of queues endpoint)
+  pub apart : (one other place : ℕ) → among place (places_of queues one) ≡ true → among place (places_of queues other) ≡ true → one ≡ other
+  pub within : (endpoint server : ℕ) → server_of queues endpoint ≡ Some server → server < queues.servers
+  pub counts : counted ≡ count queues
+  pub few : counted ≤ limit.MAX_WAITING
+
+-- the queues of a tree's entries, and what is kept of them
+abbrev pub queues_with : List (ℕ × Mailbox) → ℕ → Queues
+queues_with entries servers = record { boxes = finite.from_entries entries; servers = servers }
+
+pub record IsSound (entries : List (ℕ × Mailbox)) (heads : Heads) (counted servers : ℕ) : Type 0 where
+  pub kept : IsKept (queues_with entries servers) heads counted
+  pub ordered : IsStrictlySortedBy nat_cmp (keys_of entries)
+
+-- a list of 32-bit numbers, each once, and the set of them
+pub record IsListed (found keys : List ℕ) : Type 0 where
+  pub same : (number : ℕ) → list_any (is_at (nat_cmp number)) keys ≡ among number found
+  pub once : IsDistinct eqb found
+  pub small : (number : ℕ) → among number found ≡ true → number < 2 ^ 32
+
+-- these were added where they weren't there, behind all others
+pub record Adds (numbers old new : List ℕ) : Type 0 where
+  pub behind : (more : List ℕ) × (new ≡ old ++ more)
+  pub members : (number : ℕ) → among number new ≡ (among number old || among number numbers)
+
+-- of two first entries, each a place and an endpoint, the older one
+abbrev pub older : Option (ℕ × ℕ) → Option (ℕ × ℕ) → Option (ℕ × ℕ)
+older (Some one) (Some other) = if nat_lt other.0 one.0 then Some other else Some one
+older (Some one) None = Some one
+older None other = other
+
+-- a mailbox that is bound, has one entry more, or has lost its first
+abbrev pub bound_box : Mailbox → ℕ → Mailbox
+bound_box box server = record { server = Some server; queue = box.queue }
+
+abbrev pub pushed_box : Mailbox → Sent → Mailbox
+pushed_box box sent = record { server = box.server; queue = box.queue ++ sent ∷ [] }
+
+abbrev pub popped_box : Mailbox → Mailbox
+popped_box box = record { server = box.server; queue = drop 1 box.queue }
+
+-- what is a first entry once it is pushed
+abbrev pub first_pushed : Mailbox → Sent → Option Sent
+first_pushed box sent = if is_none (slice_get box.queue 0) then Some sent else None
+
+-- the heads with an endpoint at its turn, and without a turn
+abbrev pub put_turn : Heads → Option (ℕ × ℕ) → ℕ → Heads
+put_turn heads (Some key) endpoint = finite.insert heads key endpoint
+put_turn heads None endpoint = heads
+
+abbrev pub drop_turn : Heads → Option (ℕ × ℕ) → Heads
+drop_turn heads (Some key) = finite.remove heads key
+drop_turn heads None = heads
+
+-- a server's least place with its endpoint, or that nothing stands at the server
+abbrev pub IsLeastAt : Heads → ℕ → Option (ℕ × ℕ) → Type 0
+IsLeastAt heads server None = (place : ℕ) → finite.get heads (server, place) ≡ None
+IsLeastAt heads server (Some head) =
+    (finite.get heads (server, head.0) ≡ Some head.1) × ((place : ℕ) → IsSome (finite.get heads (server, place)) → head.0 ≤ place)
+
+-- the same over the first so many servers
+abbrev pub IsLeastBelow : Heads → ℕ → Option (ℕ × ℕ) → Type 0
+IsLeastBelow heads servers None = (server place : ℕ) → server < servers → finite.get heads (server, place) ≡ None
+IsLeastBelow heads servers (Some head) =
+    ((server : ℕ) × (server < servers) × (finite.get heads (server, head.0) ≡ Some head.1))
+    × ((server place : ℕ) → server < servers → IsSome (finite.get heads (server, place)) → head.0 ≤ place)
+
+-- so far who dies was found: what waits on the first so many of them carries no other endpoint
+pub record IsSpread (queues : Queues) (firsts found : List ℕ) (done : ℕ) : Type 0 where
+  pub first : HasAll (λ endpoint. among endpoint found) firsts
+  pub closed : (index endpoint : ℕ) → index < done → slice_get found index ≡ Some endpoint →
+      HasAll (λ other. among other found) (flat_map endpoints_in (queue_of queues endpoint))
+  pub least : (set : ℕ → Bool) → HasAll set firsts → IsClosed queues set → HasAll set found
+  pub within : done ≤ length found

@@ -1,0 +1,102 @@
+//! Endpoints that die with others.
+
+ghost use Rattle.std.specs.Prelude.{◌≡◌, ◌≢◌, ◌≤◌, ◌^◌, ◌++◌, [], ◌∷◌, AllPairs, OnOk, flat_map, if◌then◌else◌, length, slice_get};
+ghost use Rattle.endpoint_link.specs.Numbering.{among};
+ghost use Rattle.vfs_journal.specs.Entries.{endpoints_in};
+ghost use Rattle.message_queues.specs.Steps.{Adds};
+
+use crate::parcel::Sent;
+use fidl_names::{NoMemory, is_client};
+use std::alloc::Global;
+use std::collections::BTreeSet;
+use std::marker::Model;
+
+/// Endpoints, each once, in the order in which they were found.
+#[derive(Drop)]
+pub(crate) struct Dying {
+    found: Vec<u32>,
+    set: BTreeSet<u32>,
+}
+
+impl Model for Dying {
+    ghost use Rattle.std.specs.Prelude.{List, ℕ};
+    ghost use Rattle.message_queues.specs.Steps.{IsListed};
+
+    ghost Value = { List ℕ };
+
+    ghost view = { λ dying. dying.found.items };
+
+    ghost invariant = { λ dying. IsListed dying.found.items dying.set.keys };
+}
+
+impl Dying {
+    pub(crate) fn new(alloc: Global) -> Dying
+        ensures { result ≡ [] }
+    {
+        Dying {
+            found: Vec::new(alloc),
+            set: BTreeSet::new(alloc),
+        }
+    }
+
+    /// The endpoint at an index.
+    pub(crate) fn get(&self, index: usize) -> Option<u32>
+        ensures endpoint { result ≡ slice_get self.now index }
+        ensures few { length self.now ≤ 2 ^ 32 }
+    {
+        self.found.get(index).copied()
+    }
+
+    /// Adds an endpoint that isn't there yet.
+    pub(crate) fn add(&mut self, endpoint: u32) -> Result<(), NoMemory>
+        ensures { OnOk result (self.new ≡ (if among endpoint self.old then self.old else self.old ++ endpoint ∷ [])) }
+    {
+        self.found.reserve(1)?;
+        let added = self.set.insert(endpoint)?;
+        if added {
+            self.found.push(endpoint)?;
+        }
+        Ok(())
+    }
+
+    /// Adds those of these endpoints that aren't there yet.
+    pub(crate) fn add_all(&mut self, endpoints: &[u32]) -> Result<(), NoMemory>
+        ensures { OnOk result (Adds endpoints.now self.old self.new) }
+    {
+        for endpoint in endpoints {
+            self.add(*endpoint)?;
+        }
+        Ok(())
+    }
+
+    /// Adds the endpoints that an entry carries.
+    pub(crate) fn add_carried(&mut self, sent: &Sent) -> Result<(), NoMemory>
+        ensures { OnOk result (Adds (endpoints_in sent.now) self.old self.new) }
+    {
+        for handle in sent.parcel.handles() {
+            let number = handle.number();
+            if is_client(number) {
+                self.add(number)?;
+            }
+        }
+        Ok(())
+    }
+
+    /// Adds the endpoints that these entries carry.
+    pub(crate) fn add_all_carried(&mut self, entries: &[Sent]) -> Result<(), NoMemory>
+        ensures { OnOk result (Adds (flat_map endpoints_in entries.now) self.old self.new) }
+    {
+        for sent in entries {
+            self.add_carried(sent)?;
+        }
+        Ok(())
+    }
+
+    /// All of them.
+    pub(crate) fn into_list(self) -> Vec<u32>
+        ensures list { result.items ≡ self }
+        ensures once { AllPairs (λ one other. one ≢ other) result.items }
+    {
+        self.found
+    }
+}

@@ -1,0 +1,320 @@
+//! What waits, over all endpoints.
+
+ghost use Rattle.std.specs.Prelude.{◌≡◌, ◌≢◌, AllPairs, ◌≤◌, ◌<◌, ◌+◌, ◌++◌, ◌∷◌, [], Some, None, IfOk, IsSome, OnOk, OnErr, MatchOption, drop, flat_map, length, slice_get, sum_by};
+ghost use Rattle.std.specs.BTreeMap.{IsOrdered, UpdatesBy, insert_entry};
+ghost use Rattle.std.specs.Option.{option_copied};
+ghost use Rattle.std.specs.Ordering.{nat_cmp};
+ghost use Rattle.vfs_journal.specs.Entries.{endpoints_in};
+ghost use Rattle.message_queues.specs.Queues.{Binds, IsAbove, IsNew, IsReady, Requeues, count, head_of, queue_of, server_of};
+ghost use Rattle.message_queues.specs.Oldest.{IsBound, IsBoundAt, IsOldest, NothingWaits};
+ghost use Rattle.message_queues.specs.Dying.{AreDeaths, Buries};
+ghost use Rattle.message_queues.specs.Steps.{Adds, bound_box, drop_turn, first_pushed, older, popped_box, pushed_box, put_turn, turn_by};
+
+use crate::dying::Dying;
+use crate::heads::Heads;
+use crate::mailbox::Mailbox;
+use crate::parcel::Sent;
+use fidl_names::{MAX_WAITING, NoMemory};
+use std::alloc::Global;
+use std::collections::BTreeMap;
+use std::marker::Model;
+
+/// What waits on each endpoint, and at which server each endpoint is bound. At most 4,096 entries wait.
+#[derive(Drop)]
+pub struct Queues {
+    alloc: Global,
+    boxes: BTreeMap<u32, Mailbox>,
+    heads: Heads,
+    count: u32,
+    servers: u32,
+}
+
+impl Model for Queues {
+    ghost use Rattle.message_queues.specs.Queues as waiting;
+    ghost use Rattle.message_queues.specs.Steps.{IsSound, queues_with};
+
+    ghost Value = { waiting.Queues };
+
+    ghost coded = { waiting.queues_code };
+
+    ghost view = { λ queues. queues_with queues.boxes.entries queues.servers };
+
+    ghost invariant = { λ queues. IsSound queues.boxes.entries queues.heads queues.count queues.servers };
+}
+
+impl Queues {
+    /// Nothing waits, and no endpoint is bound, at so many servers.
+    pub fn new(alloc: Global, servers: u32) -> Queues
+        ensures { IsNew result servers }
+    {
+        Queues {
+            alloc,
+            boxes: BTreeMap::new(alloc),
+            heads: Heads::new(alloc),
+            count: 0,
+            servers,
+        }
+    }
+
+    /// How many servers there are.
+    pub fn servers(&self) -> u32
+        ensures { result ≡ self.now.servers }
+    {
+        self.servers
+    }
+
+    /// At which server an endpoint is bound.
+    pub fn server_of(&self, endpoint: u32) -> Option<u32>
+        ensures { result ≡ server_of self.now endpoint }
+    {
+        match self.boxes.get(&endpoint) {
+            Some(mailbox) => mailbox.server(),
+            None => None,
+        }
+    }
+
+    /// How many entries wait.
+    pub fn len(&self) -> u32
+        ensures len { result ≡ count self.now }
+        ensures few { result ≤ MAX_WAITING }
+    {
+        self.count
+    }
+
+    /// The first entry that waits on an endpoint, where it lies.
+    pub fn first(&self, endpoint: u32) -> Option<&Sent>
+        ensures { option_copied result ≡ head_of self.now endpoint }
+    {
+        match self.boxes.get(&endpoint) {
+            Some(mailbox) => mailbox.head(),
+            None => None,
+        }
+    }
+
+    /// Of the endpoints that are bound at a server, the one whose first entry is the oldest; `None` where nothing waits on any of them.
+    pub fn oldest(&self, server: u32) -> Option<u32>
+        ensures { MatchOption result (NothingWaits self.now (IsBoundAt self.now server)) (λ endpoint. IsOldest self.now (IsBoundAt self.now server) endpoint) }
+    {
+        match self.heads.oldest(server) {
+            Some(head) => Some(head.1),
+            None => None,
+        }
+    }
+
+    /// The same of all endpoints that are bound.
+    pub fn next(&self) -> Option<u32>
+        ensures { MatchOption result (NothingWaits self.now (IsBound self.now)) (λ endpoint. IsOldest self.now (IsBound self.now) endpoint) }
+    {
+        let mut oldest = None;
+        for server in 0..self.servers {
+            oldest = older(oldest, self.heads.oldest(server));
+        }
+        match oldest {
+            Some(head) => Some(head.1),
+            None => None,
+        }
+    }
+
+    /// Binds an endpoint at a server. What waits on it already is served there from now on. Want of memory leaves all as it was.
+    pub fn bind(&mut self, endpoint: u32, server: u32) -> Result<(), NoMemory>
+        requires unbound { server_of self.old endpoint ≡ None }
+        requires one_of { server < self.old.servers }
+        ensures bound { OnOk result (Binds self.old endpoint server self.new) }
+        ensures len { OnOk result (count self.new ≡ count self.old) }
+        ensures err { OnErr result (self.new ≡ self.old) }
+    {
+        match self.boxes.get_mut(&endpoint) {
+            Some(mailbox) => bind_waiting(mailbox, &mut self.heads, endpoint, server)?,
+            None => {
+                let mailbox = Mailbox::new(self.alloc, Some(server), None);
+                add_box(&mut self.boxes, endpoint, mailbox)?;
+            }
+        }
+        Ok(())
+    }
+
+    /// Puts an entry behind all that waits on its endpoint. Want of memory leaves all as it was.
+    pub fn push(&mut self, sent: Sent) -> Result<(), NoMemory>
+        requires newest { IsAbove self.old sent.place }
+        requires few { count self.old < MAX_WAITING }
+        ensures pushed { OnOk result (Requeues self.old sent.endpoint (queue_of self.old sent.endpoint ++ sent ∷ []) self.new) }
+        ensures len { OnOk result (count self.new ≡ count self.old + 1) }
+        ensures err { OnErr result (self.new ≡ self.old) }
+    {
+        let endpoint = sent.endpoint;
+        match self.boxes.get_mut(&endpoint) {
+            Some(mailbox) => push_into(mailbox, &mut self.heads, sent)?,
+            None => {
+                let mailbox = Mailbox::new(self.alloc, None, Some(sent));
+                add_box(&mut self.boxes, endpoint, mailbox)?;
+            }
+        }
+        self.count += 1;
+        Ok(())
+    }
+
+    /// Takes the first entry from a bound endpoint on which something waits. Want of memory leaves all as it was.
+    pub fn take(&mut self, endpoint: u32) -> Result<Sent, NoMemory>
+        requires { IsReady self.old endpoint }
+        ensures first { IfOk result (λ sent. head_of self.old endpoint ≡ Some sent) }
+        ensures later { OnOk result (Requeues self.old endpoint (drop 1 (queue_of self.old endpoint)) self.new) }
+        ensures len { OnOk result (count self.new + 1 ≡ count self.old) }
+        ensures err { OnErr result (self.new ≡ self.old) }
+    {
+        let Some(mailbox) = self.boxes.get_mut(&endpoint) else {
+            unreachable!();
+        };
+        let sent = take_from(mailbox, &mut self.heads, endpoint)?;
+        self.count -= 1;
+        Ok(sent)
+    }
+
+    /// Drops what waits on these endpoints and on all that die with them, since what is dropped carries them, and unbinds them. Answers
+    /// all that died, each once. Want of memory leaves all as it was.
+    pub fn bury(&mut self, alloc: Global, dying: &[u32]) -> Result<Vec<u32>, NoMemory>
+        ensures died { IfOk result (λ dead. AreDeaths self.old dying.now dead.items) }
+        ensures buried { IfOk result (λ dead. Buries self.old dead.items self.new) }
+        ensures dropped { IfOk result (λ dead. count self.new + sum_by (λ endpoint. length (queue_of self.old endpoint)) dead.items ≡ count self.old) }
+        ensures err { OnErr result (self.new ≡ self.old) }
+    {
+        let dead = self.deaths(alloc, dying)?;
+        self.close_all(&dead);
+        Ok(dead)
+    }
+
+    /// Who dies with these.
+    fn deaths(&self, alloc: Global, firsts: &[u32]) -> Result<Vec<u32>, NoMemory>
+        ensures { IfOk result (λ dead. AreDeaths self.now firsts.now dead.items) }
+    {
+        let mut dying = Dying::new(alloc);
+        dying.add_all(firsts)?;
+        let mut index = 0;
+        while let Some(endpoint) = dying.get(index) {
+            self.add_carried(endpoint, &mut dying)?;
+            index += 1;
+        }
+        Ok(dying.into_list())
+    }
+
+    /// Adds the endpoints that the entries carry which wait on one.
+    fn add_carried(&self, endpoint: u32, dying: &mut Dying) -> Result<(), NoMemory>
+        ensures { OnOk result (Adds (flat_map endpoints_in (queue_of self.now endpoint)) dying.old dying.new) }
+    {
+        match self.boxes.get(&endpoint) {
+            Some(mailbox) => mailbox.add_carried(dying),
+            None => Ok(()),
+        }
+    }
+
+    /// Drops what waits on endpoints, of which no two are one, and unbinds them.
+    fn close_all(&mut self, dead: &[u32])
+        requires { AllPairs (λ one other. one ≢ other) dead.now }
+        ensures closed { Buries self.old dead.now self.new }
+        ensures len { count self.new + sum_by (λ endpoint. length (queue_of self.old endpoint)) dead.now ≡ count self.old }
+    {
+        for endpoint in dead {
+            self.close(*endpoint);
+        }
+    }
+
+    /// Drops what waits on an endpoint, and unbinds it.
+    fn close(&mut self, endpoint: u32)
+        ensures closed { Buries self.old (endpoint ∷ []) self.new }
+        ensures len { count self.new + length (queue_of self.old endpoint) ≡ count self.old }
+    {
+        let Some(mailbox) = self.boxes.remove(&endpoint) else {
+            return;
+        };
+        self.count -= discard(mailbox, &mut self.heads);
+    }
+}
+
+/// Of two first entries the older one.
+fn older(one: Option<(u64, u32)>, other: Option<(u64, u32)>) -> Option<(u64, u32)>
+    ensures { result ≡ older one other }
+{
+    match (one, other) {
+        (Some(first), Some(second)) if second.0 < first.0 => other,
+        (Some(_), _) => one,
+        (None, _) => other,
+    }
+}
+
+/// Adds a mailbox.
+fn add_box(
+    boxes: &mut BTreeMap<u32, Mailbox>,
+    endpoint: u32,
+    mailbox: Mailbox,
+) -> Result<(), NoMemory>
+    ensures updates { OnOk result (UpdatesBy nat_cmp (nat_cmp endpoint) boxes.old boxes.new (Some mailbox)) }
+    ensures entries { OnOk result (boxes.new.entries ≡ insert_entry nat_cmp boxes.old.entries endpoint mailbox) }
+    ensures ordered { IsOrdered nat_cmp boxes.new }
+    ensures err { OnErr result (boxes.new.entries ≡ boxes.old.entries) }
+{
+    boxes.insert(endpoint, mailbox)?;
+    Ok(())
+}
+
+/// Binds an endpoint that has a mailbox. Its first entry is put in order.
+fn bind_waiting(
+    mailbox: &mut Mailbox,
+    heads: &mut Heads,
+    endpoint: u32,
+    server: u32,
+) -> Result<(), NoMemory>
+    ensures bound { OnOk result (mailbox.new ≡ bound_box mailbox.old server) }
+    ensures put { OnOk result (heads.new ≡ put_turn heads.old (turn_by (Some server) (slice_get mailbox.old.queue 0)) endpoint) }
+    ensures err { OnErr result ((mailbox.new ≡ mailbox.old) × (heads.new ≡ heads.old)) }
+{
+    if let Some(head) = mailbox.head() {
+        heads.put(server, head.place, endpoint)?;
+    }
+    mailbox.bind(server);
+    Ok(())
+}
+
+/// Puts an entry into its mailbox. The first one of a bound endpoint is put in order.
+fn push_into(mailbox: &mut Mailbox, heads: &mut Heads, sent: Sent) -> Result<(), NoMemory>
+    ensures pushed { OnOk result (mailbox.new ≡ pushed_box mailbox.old sent) }
+    ensures put { OnOk result (heads.new ≡ put_turn heads.old (turn_by mailbox.old.server (first_pushed mailbox.old sent)) sent.endpoint) }
+    ensures err { OnErr result ((mailbox.new ≡ mailbox.old) × (heads.new ≡ heads.old)) }
+{
+    if let (Some(server), None) = (mailbox.server(), mailbox.head()) {
+        heads.put(server, sent.place, sent.endpoint)?;
+    }
+    mailbox.push(sent)
+}
+
+/// Takes the first entry from a mailbox. The next one is put in order before, so that want of memory changes nothing.
+fn take_from(mailbox: &mut Mailbox, heads: &mut Heads, endpoint: u32) -> Result<Sent, NoMemory>
+    requires bound { IsSome mailbox.old.server }
+    requires some { IsSome (slice_get mailbox.old.queue 0) }
+    ensures first { IfOk result (λ sent. slice_get mailbox.old.queue 0 ≡ Some sent) }
+    ensures later { OnOk result (mailbox.new ≡ popped_box mailbox.old) }
+    ensures put { OnOk result (heads.new ≡ drop_turn (put_turn heads.old (turn_by mailbox.old.server (slice_get mailbox.old.queue 1)) endpoint) (turn_by mailbox.old.server (slice_get mailbox.old.queue 0))) }
+    ensures err { OnErr result ((mailbox.new ≡ mailbox.old) × (heads.new ≡ heads.old)) }
+{
+    let Some(server) = mailbox.server() else {
+        unreachable!();
+    };
+    if let Some(second) = mailbox.second() {
+        heads.put(server, second.place, endpoint)?;
+    }
+    let Some(sent) = mailbox.pop() else {
+        unreachable!();
+    };
+    heads.remove(server, sent.place);
+    Ok(sent)
+}
+
+/// Drops a mailbox, and its first entry from the order. Answers how many entries waited there.
+fn discard(mailbox: Mailbox, heads: &mut Heads) -> u32
+    requires { length mailbox.queue ≤ MAX_WAITING }
+    ensures len { result ≡ length mailbox.queue }
+    ensures dropped { heads.new ≡ drop_turn heads.old (turn_by mailbox.server (slice_get mailbox.queue 0)) }
+{
+    if let (Some(server), Some(head)) = (mailbox.server(), mailbox.head()) {
+        heads.remove(server, head.place);
+    }
+    mailbox.len()
+}

@@ -1,0 +1,352 @@
+-- What connections and their places are together, before and after each change.
+use Rattle.std.proofs.Common.{◌≡◌, ◌≢◌, ℕ, ◌+◌, ◌-◌, Bool, true, false, cond, List, [], ◌∷◌, Option, Some, None, refl, sym, ap, ◌∙◌, subst, arith, get_or}
+use Rattle.std.specs.Prelude.{IsSome, is_some, filter_map}
+use Rattle.std.specs.BTreeMap as tree
+use Rattle.std.specs.Cmp.{nat_cmp_total, tied_itself}
+use Rattle.std.specs.FinMap as finite
+use Rattle.std.specs.FinMap.Entries as entry
+use Rattle.std.specs.Map.{lookup}
+use Rattle.std.specs.Ordering.{is_eq, eq_by_cmp, nat_cmp}
+use Rattle.std.specs.declared.cmp.Ordering.{Ordering}
+use Rattle.std.specs.declared.cmp.Ordering.TheVariants.{Less, Equal, Greater}
+use Rattle.slab.specs.Slab as slab
+use Rattle.slab.proofs.SlabLemmas.{ContainsKey-within}
+use Rattle.std.proofs.lemmas.List.Sums.{sum_by-set}
+use Rattle.conn_rules.specs.Births.{Connection}
+use Rattle.vfs_server.specs.Kept.{AreJoined, Connections, connections_of, entry_at}
+
+-- ---- numbers that tie
+
+equal : (o : Ordering) → is_eq o ≡ true → o ≡ Equal
+equal Less h = absurd (cc)
+equal Equal h = refl
+equal Greater h = absurd (cc)
+
+pub tied : (a b : ℕ) → eq_by_cmp nat_cmp a b ≡ true → a ≡ b
+tied a b e = finite.nat_cmp-IsAntisymmetric a b (equal _ e)
+
+pub ties : (a : ℕ) → eq_by_cmp nat_cmp a a ≡ true
+ties a = ap is_eq (tied_itself nat_cmp_total a)
+
+-- a number is another or isn't
+pub data Standing (a b : ℕ) : Type 0 where
+  same : a ≡ b → eq_by_cmp nat_cmp a b ≡ true → Standing a b
+  other : a ≢ b → eq_by_cmp nat_cmp a b ≡ false → Standing a b
+
+pub standing : (a b : ℕ) → Standing a b
+standing a b = by_test (eq_by_cmp nat_cmp a b) refl where
+  by_test : (t : Bool) → eq_by_cmp nat_cmp a b ≡ t → Standing a b
+  by_test true e = same (tied a b e) e
+  by_test false e = other (λ is. absurd (let yes : eq_by_cmp nat_cmp a b ≡ true = subst (λ x. eq_by_cmp nat_cmp a x ≡ true) is (ties a) in let wrong : true ≡ false = sym yes ∙ e in cc)) e
+
+-- ---- maps of connections
+
+pub same_connections : (m n : Connections) → ((q : ℕ) → finite.get m q ≡ finite.get n q) → m ≡ n
+same_connections m n is = finite.same_map nat_cmp_total finite.nat_cmp-IsAntisymmetric m n is
+
+pub get_put : (m : Connections) (k : ℕ) (v : Connection) → finite.get (finite.insert m k v) k ≡ Some v
+get_put m k v = finite.get-insert nat_cmp_total m k v k ∙ ap (λ b. cond b (Some v) (finite.get m k)) (ties k)
+
+pub get_put_other : (m : Connections) (k q : ℕ) (v : Connection) → q ≢ k → finite.get (finite.insert m k v) q ≡ finite.get m q
+get_put_other m k q v apart = elim (standing q k) [
+  | same e b ↦ absurd (apart e)
+  | other e b ↦ finite.get-insert nat_cmp_total m k v q ∙ ap (λ b. cond b (Some v) (finite.get m q)) b
+]
+
+pub get_cut : (m : Connections) (k : ℕ) → finite.get (finite.remove m k) k ≡ None
+get_cut m k = finite.get-remove nat_cmp_total m k k ∙ ap (λ b. cond b None (finite.get m k)) (ties k)
+
+pub get_cut_other : (m : Connections) (k q : ℕ) → q ≢ k → finite.get (finite.remove m k) q ≡ finite.get m q
+get_cut_other m k q apart = elim (standing q k) [
+  | same e b ↦ absurd (apart e)
+  | other e b ↦ finite.get-remove nat_cmp_total m k q ∙ ap (λ b. cond b None (finite.get m q)) b
+]
+
+-- ---- look-ups
+
+-- the connection at a place
+pub at_place : slab.Slab Connection → Option ℕ → Option Connection
+at_place kept None = None
+at_place kept (Some place) = slab.get kept place
+
+pub at_none : (kept : slab.Slab Connection) → at_place kept None ≡ None
+unfolding at_place
+at_none kept = refl
+
+pub at_some : (kept : slab.Slab Connection) (place : ℕ) → at_place kept (Some place) ≡ slab.get kept place
+unfolding at_place
+at_some kept place = refl
+
+module _ (kept : slab.Slab Connection) (q : ℕ) where
+  abbrev looks : List (ℕ × ℕ) → Option ℕ
+  looks es = lookup (λ k. is_eq (nat_cmp q k)) es
+
+  found_behind : (e : ℕ × ℕ) (es : List (ℕ × ℕ)) (t : Bool) → is_eq (nat_cmp q e.0) ≡ t → (o : Option Connection) → slab.get kept e.1 ≡ o →
+      (is_eq (nat_cmp q e.0) ≡ true → IsSome (slab.get kept e.1)) →
+      (is_eq (nat_cmp q e.0) ≡ false → entry.find nat_cmp q (filter_map (entry_at kept) es) ≡ at_place kept (looks es)) →
+      entry.find nat_cmp q (filter_map (entry_at kept) (e ∷ es)) ≡ at_place kept (looks (e ∷ es))
+  unfolding at_place
+  found_behind e es true t None o there rest =
+      let wrong : false ≡ true = sym (ap is_some o) ∙ there t in
+      absurd (cc)
+  found_behind e es true t (Some connection) o there rest = rw (o, t) (sym o)
+  found_behind e es false t None o there rest = rw (o, t) (rest t)
+  found_behind e es false t (Some connection) o there rest = rw (o, t) (rest t)
+
+  found_in : (es : List (ℕ × ℕ)) → ((place : ℕ) → looks es ≡ Some place → IsSome (slab.get kept place)) →
+      entry.find nat_cmp q (filter_map (entry_at kept) es) ≡ at_place kept (looks es)
+  unfolding at_place
+  found_in [] there = refl
+  found_in (e ∷ es) there =
+      found_behind e es (is_eq (nat_cmp q e.0)) refl (slab.get kept e.1) refl
+      (λ t. there e.1 (ap (λ b. cond b (Some e.1) (looks es)) t))
+      (λ t. found_in es (λ place is. there place (ap (λ b. cond b (Some e.1) (looks es)) t ∙ is)))
+
+pub get-connections_of : (kept : slab.Slab Connection) (places : tree.BTreeMap ℕ ℕ) → ((endpoint place : ℕ) → tree.get nat_cmp places endpoint ≡ Some place → IsSome (slab.get kept place)) → (q : ℕ) →
+    finite.get (connections_of kept places) q ≡ at_place kept (tree.get nat_cmp places q)
+unfolding connections_of
+get-connections_of kept places there q = finite.get-from_entries nat_cmp_total _ q ∙ found_in kept q places.entries (there q)
+
+-- ---- changes
+
+module _ (kept : slab.Slab Connection) (places : tree.BTreeMap ℕ ℕ) (joined : AreJoined kept places) where
+  pub looked_up : (q : ℕ) → finite.get (connections_of kept places) q ≡ at_place kept (tree.get nat_cmp places q)
+  looked_up q = get-connections_of kept places joined.there q
+
+  -- a connection is there exactly where a place is
+  pub placed : (q : ℕ) → is_some (tree.get nat_cmp places q) ≡ is_some (finite.get (connections_of kept places) q)
+  placed q = by_place (tree.get nat_cmp places q) refl where
+    by_place : (o : Option ℕ) → tree.get nat_cmp places q ≡ o → is_some (tree.get nat_cmp places q) ≡ is_some (finite.get (connections_of kept places) q)
+    by_place None e = ap is_some e ∙ sym (ap is_some (looked_up q ∙ ap (at_place kept) e ∙ at_none kept))
+    by_place (Some place) e = ap is_some e ∙ sym (ap is_some (looked_up q ∙ ap (at_place kept) e ∙ at_some kept place) ∙ joined.there q place e)
+
+  pub unplaced : (q : ℕ) → finite.get (connections_of kept places) q ≡ None → tree.get nat_cmp places q ≡ None
+  unplaced q none = by_place (tree.get nat_cmp places q) refl where
+    by_place : (o : Option ℕ) → tree.get nat_cmp places q ≡ o → tree.get nat_cmp places q ≡ None
+    by_place None e = e
+    by_place (Some place) e =
+        let some : true ≡ false = sym (ap is_some e) ∙ placed q ∙ ap is_some none in
+        absurd (cc)
+
+  pub there_at : (q place : ℕ) → tree.get nat_cmp places q ≡ Some place → finite.get (connections_of kept places) q ≡ slab.get kept place
+  there_at q place e = looked_up q ∙ ap (at_place kept) e ∙ at_some kept place
+
+  -- a connection more, at a place that was free
+  module _ (endpoint place : ℕ) (connection : Connection) (kept' : slab.Slab Connection) (places' : tree.BTreeMap ℕ ℕ)
+      (free : finite.get (connections_of kept places) endpoint ≡ None) (vacant : slab.get kept place ≡ None)
+      (fills : slab.Updates kept kept' place (Some connection)) (longer : slab.slab_len kept' ≡ slab.slab_len kept + 1)
+      (puts : (q : ℕ) → tree.get nat_cmp places' q ≡ cond (eq_by_cmp nat_cmp endpoint q) (Some place) (tree.get nat_cmp places q)) where
+    here : tree.get nat_cmp places' endpoint ≡ Some place
+    here = puts endpoint ∙ ap (λ b. cond b (Some place) (tree.get nat_cmp places endpoint)) (ties endpoint)
+
+    elsewhere : (q : ℕ) → endpoint ≢ q → tree.get nat_cmp places' q ≡ tree.get nat_cmp places q
+    elsewhere q apart = elim (standing endpoint q) [
+      | same e b ↦ absurd (apart e)
+      | other e b ↦ puts q ∙ ap (λ b. cond b (Some place) (tree.get nat_cmp places q)) b
+    ]
+
+    not_there : (p : ℕ) → IsSome (slab.get kept p) → p ≢ place
+    not_there p some is =
+        let wrong : true ≡ false = sym some ∙ ap (λ x. is_some (slab.get kept x)) is ∙ ap is_some vacant in
+        absurd (cc)
+
+    there' : (q p : ℕ) → tree.get nat_cmp places' q ≡ Some p → IsSome (slab.get kept' p)
+    there' q p at = elim (standing endpoint q) [
+      | same e b ↦
+          let is : Some place ≡ Some p = sym (ap (tree.get nat_cmp places') (sym e) ∙ here) ∙ at in
+          let number : place ≡ p = cc in
+          ap is_some (ap (slab.get kept') (sym number) ∙ fills.changed)
+      | other e b ↦
+          let was = joined.there q p (sym (elsewhere q e) ∙ at) in
+          ap is_some (fills.others p (not_there p was)) ∙ was
+    ]
+
+    old_place : (q p : ℕ) → endpoint ≢ q → tree.get nat_cmp places' q ≡ Some p → p ≢ place
+    old_place q p apart at = not_there p (joined.there q p (sym (elsewhere q apart) ∙ at))
+
+    new_place : (q p : ℕ) → endpoint ≡ q → tree.get nat_cmp places' q ≡ Some p → p ≡ place
+    new_place q p e at =
+        let is : Some place ≡ Some p = sym (ap (tree.get nat_cmp places') (sym e) ∙ here) ∙ at in
+        cc
+
+    apart' : (one two p : ℕ) → tree.get nat_cmp places' one ≡ Some p → tree.get nat_cmp places' two ≡ Some p → one ≡ two
+    apart' one two p first second = elim (standing endpoint one) [
+      | same e b ↦ elim (standing endpoint two) [
+        | same f d ↦ sym e ∙ f
+        | other f d ↦ absurd (old_place two p f second (new_place one p e first))
+      ]
+      | other e b ↦ elim (standing endpoint two) [
+        | same f d ↦ absurd (old_place one p e first (new_place two p f second))
+        | other f d ↦ joined.apart one two p (sym (elsewhere one e) ∙ first) (sym (elsewhere two f) ∙ second)
+      ]
+    ]
+
+    pub inserted : connections_of kept' places' ≡ finite.insert (connections_of kept places) endpoint connection
+    inserted = same_connections _ _ (λ q. elim (standing endpoint q) [
+      | same e b ↦
+          ap (finite.get (connections_of kept' places')) (sym e) ∙ get-connections_of kept' places' there' endpoint ∙ ap (at_place kept') here ∙ at_some kept' place ∙ fills.changed
+          ∙ sym (ap (finite.get (finite.insert (connections_of kept places) endpoint connection)) (sym e) ∙ get_put (connections_of kept places) endpoint connection)
+      | other e b ↦
+          get-connections_of kept' places' there' q ∙ other_at q e (tree.get nat_cmp places' q) refl ∙ ap (at_place kept) (elsewhere q e) ∙ sym (looked_up q)
+          ∙ sym (get_put_other (connections_of kept places) endpoint q connection (λ is. e (sym is)))
+    ])
+      where
+        other_at : (q : ℕ) → endpoint ≢ q → (o : Option ℕ) → tree.get nat_cmp places' q ≡ o → at_place kept' (tree.get nat_cmp places' q) ≡ at_place kept (tree.get nat_cmp places' q)
+        other_at q apart None e = ap (at_place kept') e ∙ at_none kept' ∙ sym (ap (at_place kept) e ∙ at_none kept)
+        other_at q apart (Some p) e =
+            ap (at_place kept') e ∙ at_some kept' p ∙ fills.others p (old_place q p apart e) ∙ sym (ap (at_place kept) e ∙ at_some kept p)
+
+    pub joined_more : AreJoined kept' places'
+    joined_more = record {
+      there = there';
+      apart = apart';
+      count = ap finite.len inserted ∙ finite.len-insert nat_cmp_total (connections_of kept places) endpoint connection
+          ∙ ap (λ o. cond (is_some o) (finite.len (connections_of kept places)) (finite.len (connections_of kept places) + 1)) free
+          ∙ ap (λ n. n + 1) joined.count ∙ sym longer;
+    }
+
+  -- the same places, and the same connections at them
+  module _ (kept' : slab.Slab Connection) (places' : tree.BTreeMap ℕ ℕ) (alike : (p : ℕ) → slab.get kept' p ≡ slab.get kept p) (long : slab.slab_len kept' ≡ slab.slab_len kept)
+      (entries : places'.entries ≡ places.entries) where
+    same_get : (q : ℕ) → tree.get nat_cmp places' q ≡ tree.get nat_cmp places q
+    same_get q = ap (lookup (tree.is_at (nat_cmp q))) entries
+
+    same_there : (q p : ℕ) → tree.get nat_cmp places' q ≡ Some p → IsSome (slab.get kept' p)
+    same_there q p at = ap is_some (alike p) ∙ joined.there q p (sym (same_get q) ∙ at)
+
+    same_at : (o : Option ℕ) → at_place kept' o ≡ at_place kept o
+    same_at None = at_none kept' ∙ sym (at_none kept)
+    same_at (Some p) = at_some kept' p ∙ alike p ∙ sym (at_some kept p)
+
+    pub unchanged : connections_of kept' places' ≡ connections_of kept places
+    unchanged = same_connections _ _ (λ q. get-connections_of kept' places' same_there q ∙ same_at (tree.get nat_cmp places' q) ∙ ap (at_place kept) (same_get q) ∙ sym (looked_up q))
+
+    pub joined_still : AreJoined kept' places'
+    joined_still = record {
+      there = same_there;
+      apart = λ one two p first second. joined.apart one two p (sym (same_get one) ∙ first) (sym (same_get two) ∙ second);
+      count = ap finite.len unchanged ∙ joined.count ∙ sym long;
+    }
+
+  -- another connection at the place of an endpoint
+  module _ (endpoint place : ℕ) (connection : Connection) (kept' : slab.Slab Connection)
+      (at : tree.get nat_cmp places endpoint ≡ Some place) (fills : slab.Updates kept kept' place (Some connection)) (long : slab.slab_len kept' ≡ slab.slab_len kept) where
+    served_there : (q p : ℕ) → tree.get nat_cmp places q ≡ Some p → IsSome (slab.get kept' p)
+    served_there q p there = elim (standing place p) [
+      | same e b ↦ ap is_some (ap (slab.get kept') (sym e) ∙ fills.changed)
+      | other e b ↦ ap is_some (fills.others p (λ is. e (sym is))) ∙ joined.there q p there
+    ]
+
+    pub replaced : connections_of kept' places ≡ finite.insert (connections_of kept places) endpoint connection
+    replaced = same_connections _ _ (λ q. elim (standing endpoint q) [
+      | same e b ↦
+          ap (finite.get (connections_of kept' places)) (sym e) ∙ get-connections_of kept' places served_there endpoint ∙ ap (at_place kept') at ∙ at_some kept' place ∙ fills.changed
+          ∙ sym (ap (finite.get (finite.insert (connections_of kept places) endpoint connection)) (sym e) ∙ get_put (connections_of kept places) endpoint connection)
+      | other e b ↦
+          get-connections_of kept' places served_there q ∙ other_at q e (tree.get nat_cmp places q) refl ∙ sym (looked_up q)
+          ∙ sym (get_put_other (connections_of kept places) endpoint q connection (λ is. e (sym is)))
+    ])
+      where
+        other_at : (q : ℕ) → endpoint ≢ q → (o : Option ℕ) → tree.get nat_cmp places q ≡ o → at_place kept' (tree.get nat_cmp places q) ≡ at_place kept (tree.get nat_cmp places q)
+        other_at q apart None e = ap (at_place kept') e ∙ at_none kept' ∙ sym (ap (at_place kept) e ∙ at_none kept)
+        other_at q apart (Some p) e =
+            ap (at_place kept') e ∙ at_some kept' p
+            ∙ fills.others p (λ is. apart (joined.apart endpoint q place at (e ∙ ap Some is)))
+            ∙ sym (ap (at_place kept) e ∙ at_some kept p)
+
+    contained : finite.contains_key (connections_of kept places) endpoint ≡ true
+    contained = sym (placed endpoint) ∙ ap is_some at
+
+    pub joined_served : AreJoined kept' places
+    joined_served = record {
+      there = served_there;
+      apart = joined.apart;
+      count = ap finite.len replaced ∙ finite.len-insert nat_cmp_total (connections_of kept places) endpoint connection
+          ∙ ap (λ b. cond b (finite.len (connections_of kept places)) (finite.len (connections_of kept places) + 1)) contained
+          ∙ joined.count ∙ sym long;
+    }
+
+  -- a connection less
+  module _ (endpoint place : ℕ) (kept' : slab.Slab Connection) (places' : tree.BTreeMap ℕ ℕ)
+      (at : tree.get nat_cmp places endpoint ≡ Some place) (clears : slab.Updates kept kept' place None) (shorter : slab.slab_len kept' + 1 ≡ slab.slab_len kept)
+      (cuts : (q : ℕ) → tree.get nat_cmp places' q ≡ cond (eq_by_cmp nat_cmp endpoint q) None (tree.get nat_cmp places q)) where
+    gone : tree.get nat_cmp places' endpoint ≡ None
+    gone = cuts endpoint ∙ ap (λ b. cond b None (tree.get nat_cmp places endpoint)) (ties endpoint)
+
+    left : (q : ℕ) → endpoint ≢ q → tree.get nat_cmp places' q ≡ tree.get nat_cmp places q
+    left q apart = elim (standing endpoint q) [
+      | same e b ↦ absurd (apart e)
+      | other e b ↦ cuts q ∙ ap (λ b. cond b None (tree.get nat_cmp places q)) b
+    ]
+
+    not_gone : (q p : ℕ) → tree.get nat_cmp places' q ≡ Some p → endpoint ≢ q
+    not_gone q p there is =
+        let wrong : None ≡ Some p = sym (ap (tree.get nat_cmp places') (sym is) ∙ gone) ∙ there in
+        absurd (cc)
+
+    was_there : (q p : ℕ) → tree.get nat_cmp places' q ≡ Some p → tree.get nat_cmp places q ≡ Some p
+    was_there q p there = sym (left q (not_gone q p there)) ∙ there
+
+    not_place : (q p : ℕ) → tree.get nat_cmp places' q ≡ Some p → p ≢ place
+    not_place q p there is = not_gone q p there (joined.apart endpoint q place at (was_there q p there ∙ ap Some is))
+
+    left_there : (q p : ℕ) → tree.get nat_cmp places' q ≡ Some p → IsSome (slab.get kept' p)
+    left_there q p there = ap is_some (clears.others p (not_place q p there)) ∙ joined.there q p (was_there q p there)
+
+    pub removed : connections_of kept' places' ≡ finite.remove (connections_of kept places) endpoint
+    removed = same_connections _ _ (λ q. elim (standing endpoint q) [
+      | same e b ↦
+          ap (finite.get (connections_of kept' places')) (sym e) ∙ get-connections_of kept' places' left_there endpoint ∙ ap (at_place kept') gone ∙ at_none kept'
+          ∙ sym (ap (finite.get (finite.remove (connections_of kept places) endpoint)) (sym e) ∙ get_cut (connections_of kept places) endpoint)
+      | other e b ↦
+          get-connections_of kept' places' left_there q ∙ other_at q (tree.get nat_cmp places' q) refl ∙ ap (at_place kept) (left q e) ∙ sym (looked_up q)
+          ∙ sym (get_cut_other (connections_of kept places) endpoint q (λ is. e (sym is)))
+    ])
+      where
+        other_at : (q : ℕ) → (o : Option ℕ) → tree.get nat_cmp places' q ≡ o → at_place kept' (tree.get nat_cmp places' q) ≡ at_place kept (tree.get nat_cmp places' q)
+        other_at q None e = ap (at_place kept') e ∙ at_none kept' ∙ sym (ap (at_place kept) e ∙ at_none kept)
+        other_at q (Some p) e = ap (at_place kept') e ∙ at_some kept' p ∙ clears.others p (not_place q p e) ∙ sym (ap (at_place kept) e ∙ at_some kept p)
+
+    was_contained : finite.contains_key (connections_of kept places) endpoint ≡ true
+    was_contained = sym (placed endpoint) ∙ ap is_some at
+
+    pub joined_less : AreJoined kept' places'
+    joined_less =
+        let count : finite.len (connections_of kept' places') ≡ finite.len (connections_of kept places) - 1 =
+        ap finite.len removed ∙ finite.len-remove nat_cmp_total (connections_of kept places) endpoint
+        ∙ ap (λ b. cond b (finite.len (connections_of kept places) - 1) (finite.len (connections_of kept places))) was_contained in
+        let before = joined.count in
+        record {
+          there = left_there;
+          apart = λ one two p first second. joined.apart one two p (was_there one p first) (was_there two p second);
+          count = omega (arith, count, before, shorter);
+        }
+
+-- ---- a write at a place
+
+pub same_length : (kept : slab.Slab Connection) (place : ℕ) (value : Connection) → IsSome (slab.get kept place) → slab.slab_len (slab.with_value kept place value) ≡ slab.slab_len kept
+same_length kept place value some =
+    let within = ContainsKey-within kept place some in
+    let one : Option Connection → ℕ = λ o. cond (is_some o) 1 0 in
+    let counted = sum_by-set one kept.slots place (Some value) None within in
+    let was : one (get_or kept.slots place None) ≡ 1 = ap (λ b. cond b 1 0) some in
+    omega (arith, counted, was)
+
+-- ---- none
+
+module _ (kept : slab.Slab Connection) (places : tree.BTreeMap ℕ ℕ) (empty : places.entries ≡ []) where
+  pub none_joined : connections_of kept places ≡ finite.empty
+  unfolding connections_of
+  none_joined = ap (λ es. finite.from_entries (filter_map (entry_at kept) es)) empty
+
+  no_place : (q place : ℕ) → tree.get nat_cmp places q ≡ Some place → ⊥
+  no_place q place at =
+      let wrong : None ≡ Some place = sym (ap (lookup (tree.is_at (nat_cmp q))) empty) ∙ at in
+      cc
+
+  pub joined_none : slab.slab_len kept ≡ 0 → AreJoined kept places
+  joined_none none = record {
+    there = λ q place at. absurd (no_place q place at);
+    apart = λ one two place first second. absurd (no_place one place first);
+    count = ap finite.len none_joined ∙ finite.len-empty nat_cmp Connection ∙ sym none;
+  }

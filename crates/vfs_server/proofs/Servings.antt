@@ -1,0 +1,232 @@
+-- What a server is behind what it binds, lets go and serves.
+use Rattle.std.proofs.Common.{◌≡◌, ◌≢◌, ℕ, ◌+◌, ◌-◌, ◌<◌, ◌≤◌, ◌++◌, true, false, List, [], length, Option, Some, None, Result, IfOk, refl, sym, ap, ◌∙◌, subst, arith}
+use Rattle.std.specs.Prelude.{if◌then◌else◌, IsSome}
+use Rattle.std.proofs.lemmas.Bool.{eq-eqb, ne_eqb}
+use Rattle.std.proofs.lemmas.Bool.Decides.{nat_tests}
+use Rattle.std.proofs.lemmas.List.{append-nil}
+use Rattle.std.specs.FinMap as finite
+use Rattle.std.specs.Option.{option_map, option_map_or}
+use Rattle.fidl_names.specs.declared.limits.TheConstants as limit
+use Rattle.fidl_names.specs.declared.methods.Handle.{Handle}
+use Rattle.fidl_wire.specs.Written.{Written}
+use Rattle.endpoint_link.specs.Frames.{Frame, spellings}
+use Rattle.io_messages.specs.declared.protocols.Protocol.{Protocol}
+use Rattle.io_messages.specs.declared.protocols.Protocol.TheVariants as protocol
+use Rattle.io_messages.specs.Requests.{request_of}
+use Rattle.node_graph.specs.Graph.{Kept, HoldsNow, KeepsNames, Leads, StandsFor, holds_at, number_of}
+use Rattle.node_graph.specs.Tree.{Tree, Change, after, stay}
+use Rattle.conn_rules.specs.declared.births.Birth as code
+use Rattle.conn_rules.specs.declared.births.Room.{Room}
+use Rattle.conn_rules.specs.Answers.{Told, nothing_told}
+use Rattle.conn_rules.specs.Births.{Connection, Position, fresh}
+use Rattle.conn_rules.specs.Built.{first_methods}
+use Rattle.conn_rules.specs.Opens.{is_full}
+use Rattle.conn_rules.specs.Shared.{CanBeBound}
+use Rattle.vfs_journal.specs.Entries.{message}
+use Rattle.vfs_journal.specs.Outcomes.{Outcome}
+use Rattle.vfs_journal.specs.Serving.{Moment, outcome_of_message, outcome_of_read, outcome_of_sending, read_by}
+use Rattle.vfs_journal.specs.Starts.{Bound}
+use Rattle.vfs_journal.specs.View.{moved}
+use Rattle.vfs_journal.specs.Watching.{first_frames, told_frames}
+use Rattle.vfs_server.specs.declared.asking.Asking.{Asking}
+use Rattle.vfs_server.specs.declared.fate.Fate.{Fate}
+use Rattle.vfs_server.specs.declared.fate.Fate.TheVariants as fates
+use Rattle.vfs_server.specs.Binding.{Binds, Unbinds}
+use Rattle.vfs_server.specs.Effects.{effects_told}
+use Rattle.vfs_server.specs.Kept.{Connections}
+use Rattle.vfs_server.specs.Servers.{Server, bound_with, connected, in_use, seen_as}
+use Rattle.vfs_server.specs.Serving.{AreByNumber, IsMomentOf, Serves, frames_here, numbers_of}
+use Rattle.vfs_server.specs.Steps.{Answers, IsAskedAt}
+use Rattle.vfs_server.proofs.Answering.{no_watcher, ok_map}
+use Rattle.vfs_server.proofs.Held.{as_long, longer, shorter}
+use Rattle.vfs_server.proofs.Joined.{standing, same, other, get_put, get_put_other, get_cut, get_cut_other}
+
+-- a server that nobody watches
+abbrev pub server_of : ℕ → Kept → Connections → Server
+server_of index graph connections = record { index = index; graph = graph; connections = connections; watchers = [] }
+
+pub some_of : {X : Type 0} (o : Option X) → IsSome o → (x : X) × (o ≡ Some x)
+some_of None some = absurd (let wrong : false ≡ true = some in cc)
+some_of (Some x) some = (x, refl)
+
+pub is_connected : (index endpoint : ℕ) (o : Option Connection) → IsSome (seen_as index [] endpoint o) → IsSome o
+is_connected index endpoint None some = some
+is_connected index endpoint (Some connection) some = refl
+
+-- ---- one more, and one less
+
+pub binds_one : (index : ℕ) (old new : Kept) (connections : Connections) (endpoint : ℕ) (birth : code.Birth) → finite.get connections endpoint ≡ None →
+    Leads old new stay → HoldsNow old new (number_of birth.node) (holds_at old (number_of birth.node) + 1) → KeepsNames old new →
+    Binds (server_of index old connections) endpoint birth (server_of index new (finite.insert connections endpoint (record { birth = birth; position = fresh })))
+binds_one index old new connections endpoint birth free tree holds names = record {
+  index = refl;
+  bound = λ one. elim (standing one endpoint) [
+    | same e b ↦
+        ap (seen_as index [] one) (ap (finite.get (finite.insert connections endpoint here)) e ∙ get_put connections endpoint here)
+        ∙ ap (λ n. Some (bound_with index n birth, fresh)) e
+        ∙ sym (ap (λ t. if t then Some (bound_with index endpoint birth, fresh) else seen_as index [] one (finite.get connections one)) (eq-eqb one endpoint e))
+    | other e b ↦
+        ap (seen_as index [] one) (get_put_other connections endpoint one here e)
+        ∙ sym (ap (λ t. if t then Some (bound_with index endpoint birth, fresh) else seen_as index [] one (finite.get connections one)) (ne_eqb one endpoint e))
+  ];
+  count = omega (arith, longer connections endpoint here free);
+  watchers = refl;
+  tree = tree;
+  holds = holds;
+  names = names;
+}
+  where
+    here : Connection
+    here = record { birth = birth; position = fresh }
+
+pub unbinds_one : (index : ℕ) (old new : Kept) (connections : Connections) (endpoint : ℕ) (connection : Connection) → finite.get connections endpoint ≡ Some connection →
+    Leads old new stay → HoldsNow old new (number_of connection.birth.node) (holds_at old (number_of connection.birth.node) - 1) → KeepsNames old new →
+    Unbinds (server_of index old connections) endpoint (server_of index new (finite.remove connections endpoint))
+unbinds_one index old new connections endpoint connection there tree holds names = record {
+  index = refl;
+  bound = λ one. elim (standing one endpoint) [
+    | same e b ↦
+        ap (seen_as index [] one) (ap (finite.get (finite.remove connections endpoint)) e ∙ get_cut connections endpoint)
+        ∙ sym (ap (λ t. if t then None else seen_as index [] one (finite.get connections one)) (eq-eqb one endpoint e))
+    | other e b ↦
+        ap (seen_as index [] one) (get_cut_other connections endpoint one e)
+        ∙ sym (ap (λ t. if t then None else seen_as index [] one (finite.get connections one)) (ne_eqb one endpoint e))
+  ];
+  count = omega (arith, shorter connections endpoint connection there);
+  watchers = refl;
+  tree = tree;
+  holds = λ pair is.
+      let here : Some (connected index endpoint connection) ≡ Some pair = sym (ap (seen_as index [] endpoint) there) ∙ is in
+      let one : connected index endpoint connection ≡ pair = cc in
+      subst (λ (p : Bound × Position). HoldsNow old new p.0.birth.node (holds_at old p.0.birth.node - 1)) one holds;
+  names = names;
+}
+
+pub is_free : (index endpoint : ℕ) (o : Option Connection) → seen_as index [] endpoint o ≡ None → o ≡ None
+is_free index endpoint None none = refl
+is_free index endpoint (Some connection) none = absurd (cc)
+
+pub roomy : (index : ℕ) (graph : Kept) (connections : Connections) → in_use (server_of index graph connections) < limit.MAX_CONNECTIONS → finite.len connections < limit.MAX_CONNECTIONS
+roomy index graph connections room = omega (arith, room)
+
+-- ---- one served
+
+no_first : (tree : Tree) (endpoint server : ℕ) (fate : Fate) (out : Written) (o : Option Bound) → o ≡ (effects_told endpoint server fate out).bound → option_map_or (λ bound. first_frames tree bound) o [] ≡ []
+no_first tree endpoint server fates.Stays out o is = rw is refl
+no_first tree endpoint server fates.Ends out o is = rw is refl
+no_first tree endpoint server (fates.Binds object birth) out o is = rw is refl
+no_first tree endpoint server (fates.Refuses object) out o is = rw is refl
+no_first tree endpoint server (fates.Forwards mount object) out o is = rw is refl
+
+none_told : (server : ℕ) (told : Told) → told ≡ nothing_told → told_frames [] server told ≡ []
+none_told server told is = ap (told_frames [] server) is
+
+by_protocol : (moment : Moment) (p : Protocol) (bytes numbers : List ℕ) → p ≢ protocol.Watcher →
+    outcome_of_message first_methods moment p bytes numbers ≡ outcome_of_read first_methods moment (read_by p bytes numbers)
+by_protocol moment protocol.Directory bytes numbers isnt = refl
+by_protocol moment protocol.File bytes numbers isnt = refl
+by_protocol moment protocol.Node bytes numbers isnt = refl
+by_protocol moment protocol.Echo bytes numbers isnt = refl
+by_protocol moment protocol.Watcher bytes numbers isnt = absurd (isnt refl)
+
+pub of_message : (moment : Moment) (p : Protocol) (bytes : List ℕ) (handles : List Handle) → moment.bound.birth.protocol ≡ p → p ≢ protocol.Watcher → AreByNumber handles →
+    outcome_of_read first_methods moment (request_of p bytes handles) ≡ outcome_of_sending first_methods moment (message bytes (numbers_of handles))
+unfolding outcome_of_sending
+of_message moment p bytes handles is isnt numbered =
+    ap (λ hs. outcome_of_read first_methods moment (request_of p bytes hs)) (sym numbered)
+    ∙ sym (by_protocol moment p bytes (numbers_of handles) isnt)
+    ∙ ap (λ q. outcome_of_message first_methods moment q bytes (numbers_of handles)) (sym is)
+
+not_full : (room : Room) (n : ℕ) → room.connections ≡ n → is_full room ≡ false → n < limit.MAX_CONNECTIONS
+not_full room n is free =
+    let least : limit.MAX_CONNECTIONS ≤ room.connections → ⊥ = λ over. grind (arith, nat_tests) in
+    omega (arith, is, least)
+
+module _ (index : ℕ) (graph : Kept) (connections : Connections) (asking : Asking) (token : Option ℕ) (moment : Moment) (old : Connection)
+    (there : finite.get connections asking.endpoint ≡ Some old) (on : asking.graph.now ≡ graph) (with_room : asking.room ≡ record { connections = finite.len connections; watchers = 0; token = token })
+    (asked : IsMomentOf (server_of index graph connections) asking.endpoint token moment) where
+  both : (connected index asking.endpoint old) ≡ (moment.bound, moment.position)
+  both =
+      let one : Some (connected index asking.endpoint old) ≡ Some (moment.bound, moment.position) = sym (ap (seen_as index [] asking.endpoint) there) ∙ asked.bound in
+      cc
+
+  pub bound_is : moment.bound ≡ bound_with index asking.endpoint old.birth
+  bound_is = sym (ap (λ (pair : Bound × Position). pair.0) both)
+
+  pub is_asked : IsAskedAt index asking old moment
+  is_asked = record {
+    bound = bound_is;
+    position = sym (ap (λ (pair : Bound × Position). pair.1) both);
+    room = asked.room ∙ ap (λ n. record { connections = n; watchers = 0; token = token }) long ∙ sym with_room;
+    tree = subst (λ g. StandsFor g moment.tree) (sym on) asked.tree;
+  }
+    where
+      long : finite.len connections + length {A = Bound} [] ≡ finite.len connections
+      long = omega arith
+
+  module _ (new : Connection) (outcome : Outcome) (fate : Fate) (out : Written) (before behind : List ℕ) (answers : Answers asking moment outcome fate out old new before behind) (alike : new.birth ≡ old.birth) where
+    frames_are : frames_here moment [] outcome ≡ outcome.frames
+    frames_are =
+        ap (λ (fs : List Frame). outcome.frames ++ fs ++ told_frames [] moment.bound.server outcome.told)
+        (no_first moment.tree moment.bound.endpoint moment.bound.server fate out outcome.bound (ap (λ e. e.bound) answers.effects))
+        ∙ ap (λ (fs : List Frame). outcome.frames ++ [] ++ fs) (none_told moment.bound.server outcome.told answers.told)
+        ∙ append-nil (outcome.frames ++ []) ∙ append-nil outcome.frames
+
+    endpoint_is : moment.bound.endpoint ≡ asking.endpoint
+    endpoint_is = ap (λ (bound : Bound). bound.endpoint) bound_is
+
+    moved_here : (one : ℕ) → one ≡ asking.endpoint → moved moment.bound.endpoint outcome.position (connected index one old) ≡ connected index one new
+    moved_here one e =
+        ap (λ t. if t then (bound_with index one old.birth, outcome.position) else connected index one old) (eq-eqb one moment.bound.endpoint (e ∙ sym endpoint_is))
+        ∙ ap (λ (position : Position). (bound_with index one old.birth, position)) (sym answers.position)
+        ∙ ap (λ (birth : code.Birth). (bound_with index one birth, new.position)) (sym alike)
+
+    stays : (one : ℕ) (o : Option Connection) → one ≢ asking.endpoint → option_map (moved moment.bound.endpoint outcome.position) (seen_as index [] one o) ≡ seen_as index [] one o
+    stays one None apart = refl
+    stays one (Some connection) apart =
+        ap (λ t. Some (if t then (bound_with index one connection.birth, outcome.position) else connected index one connection))
+        (ne_eqb one moment.bound.endpoint (λ is. apart (is ∙ endpoint_is)))
+
+    pub serves : Serves moment outcome fate out (server_of index graph connections) (server_of index graph (finite.insert connections asking.endpoint new)) before behind
+    serves = record {
+      frames = answers.frames ∙ ap (λ (fs : List Frame). before ++ spellings fs) (sym frames_are);
+      effects = answers.effects;
+      index = refl;
+      bound = λ one. elim (standing one asking.endpoint) [
+        | same e b ↦
+            ap (seen_as index [] one) (ap (finite.get (finite.insert connections asking.endpoint new)) e ∙ get_put connections asking.endpoint new)
+            ∙ ap Some (sym (moved_here one e))
+            ∙ sym (ap (λ o. option_map (moved moment.bound.endpoint outcome.position) (seen_as index [] one o)) (ap (finite.get connections) e ∙ there))
+        | other e b ↦
+            ap (seen_as index [] one) (get_put_other connections asking.endpoint one new e)
+            ∙ sym (stays one (finite.get connections one) e)
+      ];
+      count = omega (arith, as_long connections asking.endpoint old new there);
+      watchers = refl;
+      tree = λ tree stands. subst (λ (change : Change). StandsFor graph (after tree change)) (sym answers.change) stands;
+      holds = λ number. refl;
+      names = λ node named kept. (named, refl);
+      has_place = λ object birth is. record {
+        node = subst (λ g. CanBeBound g birth) on (answers.bound object birth is);
+        room = omega (arith, as_long connections asking.endpoint old new there, not_full asking.room (finite.len connections) (ap (λ (room : Room). room.connections) with_room) (answers.room object birth is));
+        built = answers.built object birth is;
+      };
+      mounted = answers.mounted;
+    }
+
+-- a message that was served on a connection
+pub serves_message : (index : ℕ) (graph : Kept) (connections : Connections) (token : Option ℕ) (moment : Moment) (old new : Connection) (bytes : List ℕ) (handles : List Handle)
+    {E : Type 0} (result : Result Fate E) (out : Written) (before behind : List ℕ) (asking : Asking) →
+    ((server : ℕ) (moment : Moment) → IsAskedAt server asking old moment →
+    IfOk result (λ fate. Answers asking moment (outcome_of_read first_methods moment (request_of old.birth.protocol bytes handles)) fate out old new before behind)) →
+    finite.get connections asking.endpoint ≡ Some old → asking.graph.now ≡ graph → asking.room ≡ record { connections = finite.len connections; watchers = 0; token = token } →
+    CanBeBound graph old.birth → new.birth ≡ old.birth → AreByNumber handles → IsMomentOf (server_of index graph connections) asking.endpoint token moment →
+    IfOk result (λ fate. Serves moment (outcome_of_sending first_methods moment (message bytes (numbers_of handles))) fate out
+    (server_of index graph connections) (server_of index graph (finite.insert connections asking.endpoint new)) before behind)
+serves_message index graph connections token moment old new bytes handles result out before behind asking answers there on with_room can alike numbered asked =
+    let outcome_is = of_message moment old.birth.protocol bytes handles
+    (ap (λ (bound : Bound). bound.birth.protocol) (bound_is index graph connections asking token moment old there on with_room asked)) (no_watcher old.birth.protocol _ can.spoken) numbered in
+    subst (λ outcome. IfOk result (λ fate. Serves moment outcome fate out (server_of index graph connections) (server_of index graph (finite.insert connections asking.endpoint new)) before behind)) outcome_is
+    (ok_map _ _ result
+    (λ fate does. serves index graph connections asking token moment old there on with_room asked new (outcome_of_read first_methods moment (request_of old.birth.protocol bytes handles)) fate out before behind does alike)
+    (answers index moment (is_asked index graph connections asking token moment old there on with_room asked)))

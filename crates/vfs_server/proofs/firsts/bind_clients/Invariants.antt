@@ -1,0 +1,5 @@
+use Rattle.vfs_server.specs.Growing.{HoldsJust, clients_among}
+use Rattle.vfs_server.proofs.firsts.bind_clients.Given as goal
+
+abbrev pub invariant-loop-item : goal.invariant-loop-item
+invariant-loop-item l = HoldsJust l.start l.index (clients_among l.start l.index l.item) l.server l.places

@@ -1,0 +1,41 @@
+use Rattle.std.proofs.Common.{◌∙◌, ◌++◌, ◌∷◌, [], List, OnOk, ap, arith, subst, sym}
+use Rattle.tree_file.specs.Lent.{mount_item}
+use Rattle.tree_file.proofs.Accepted.{few_of}
+use Rattle.vfs_journal.specs.Starts.{Bound}
+use Rattle.vfs_server.specs.Growing.{HoldsJust, bound_among}
+use Rattle.vfs_server.proofs.Begins.{ends_more, ends_same}
+use Rattle.vfs_server.proofs.Begun.{end_is, end_next}
+use Rattle.vfs_server.proofs.firsts.bind_end.Goals as goal
+
+pub returns-then-mount-index : goal.returns-then-mount-index
+returns-then-mount-index c =
+    subst (λ (bounds : List Bound). HoldsJust c.args.start.now c.args.index bounds c.args.server.now c.args.places.now)
+    (sym (ends_same c.args.start.now c.args.index c.args.item (mount_item c.mount_at-mount.result) c.mount_at-mount.ensures c.if-mount-index.true)) c.requires.holds
+
+pub overflow_add-item : goal.overflow_add-item
+overflow_add-item c =
+    let few = few_of c.args.start.now c.requires.accepted in
+    let mounts = few.mounts in
+    let within = c.requires.within in
+    omega (arith, mounts, within)
+
+pub bind_at-requires : goal.bind_at-requires
+bind_at-requires c = record {
+  next = (
+    c.args.start.now,
+    c.args.index,
+    bound_among c.args.start.now c.args.index c.args.item,
+    end_next c.args.start.now c.requires.accepted c.args.index c.requires.there c.args.item c.args.server.now c.args.places.now (mount_item c.mount_at-mount.result) c.mount_at-mount.ensures c.if-mount-index.false c.requires.holds,
+  );
+}
+
+pub returns : goal.returns
+returns c =
+    let lists = c.args.start.now in
+    let mount = mount_item c.mount_at-mount.result in
+    subst (λ (bounds : List Bound). OnOk c.bind_at.result (HoldsJust lists c.args.index bounds c.bind_at.new.server c.args.places.now))
+    (sym (ends_more lists c.args.index c.args.item mount c.mount_at-mount.ensures c.if-mount-index.false
+    ∙ ap (λ (bound : Bound). bound_among lists c.args.index c.args.item ++ bound ∷ [])
+    (end_is lists c.requires.accepted c.args.index c.requires.there c.args.item c.args.server.now c.args.places.now mount c.mount_at-mount.ensures c.if-mount-index.false)))
+    (c.bind_at.ensures lists c.args.index (bound_among lists c.args.index c.args.item)
+    (end_next lists c.requires.accepted c.args.index c.requires.there c.args.item c.args.server.now c.args.places.now mount c.mount_at-mount.ensures c.if-mount-index.false c.requires.holds))

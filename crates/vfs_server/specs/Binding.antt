@@ -1,0 +1,39 @@
+-- What a server takes in and lets go.
+use Rattle.std.specs.Prelude.{◌≡◌, ℕ, ◌+◌, ◌-◌, ◌==◌, ◌<◌, true, not, if◌then◌else◌, filter, Some, None}
+use Rattle.fidl_names.specs.declared.limits.TheConstants as limit
+use Rattle.node_graph.specs.Graph.{HoldsNow, KeepsNames, Leads, holds_at, number_of}
+use Rattle.node_graph.specs.Tree.{stay}
+use Rattle.conn_rules.specs.declared.births.Birth as code
+use Rattle.conn_rules.specs.Births.{Position, fresh}
+use Rattle.conn_rules.specs.Built.{first_methods}
+use Rattle.conn_rules.specs.Shared.{CanBeBound}
+use Rattle.vfs_journal.specs.Starts.{Bound}
+use Rattle.vfs_server.specs.Servers.{Server, bound_with, in_use, seen}
+use Rattle.vfs_server.specs.Spoken.{speaks_protocol}
+
+-- the server has room, keeps the node, and speaks_protocol the protocol there, which is built today
+pub record HasPlace (server : Server) (birth : code.Birth) : Type 0 where
+  pub node : CanBeBound server.graph birth
+  pub room : in_use server < limit.MAX_CONNECTIONS
+  pub built : speaks_protocol first_methods birth.protocol ≡ true
+
+-- an endpoint is bound and no other changes; its node has one hold more
+pub record Binds (old : Server) (endpoint : ℕ) (birth : code.Birth) (new : Server) : Type 0 where
+  pub index : new.index ≡ old.index
+  pub bound : (other : ℕ) → seen new other ≡ (if other == endpoint then Some (bound_with old.index endpoint birth, fresh) else seen old other)
+  pub count : in_use new ≡ in_use old + 1
+  pub watchers : new.watchers ≡ old.watchers
+  pub tree : Leads old.graph new.graph stay
+  pub holds : HoldsNow old.graph new.graph (number_of birth.node) (holds_at old.graph (number_of birth.node) + 1)
+  pub names : KeepsNames old.graph new.graph
+
+-- an endpoint isn't bound any more and no other changes; the node that it was bound to has one hold less
+pub record Unbinds (old : Server) (endpoint : ℕ) (new : Server) : Type 0 where
+  pub index : new.index ≡ old.index
+  pub bound : (other : ℕ) → seen new other ≡ (if other == endpoint then None else seen old other)
+  pub count : in_use new + 1 ≡ in_use old
+  pub watchers : new.watchers ≡ filter (λ bound. not (bound.endpoint == endpoint)) old.watchers
+  pub tree : Leads old.graph new.graph stay
+  pub holds : (pair : Bound × Position) → seen old endpoint ≡ Some pair →
+      HoldsNow old.graph new.graph pair.0.birth.node (holds_at old.graph pair.0.birth.node - 1)
+  pub names : KeepsNames old.graph new.graph

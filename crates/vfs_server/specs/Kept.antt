@@ -1,0 +1,38 @@
+-- How a server keeps what is connected, and what holds of every server. No public clause needs this.
+use Rattle.std.specs.Prelude.{◌≡◌, ℕ, ◌≤◌, ◌==◌, filter_map, count_by, Option, Some, IsSome}
+use Rattle.std.specs.BTreeMap as tree
+use Rattle.std.specs.FinMap as finite
+use Rattle.std.specs.Option.{option_map}
+use Rattle.std.specs.Ordering.{nat_cmp}
+use Rattle.slab.specs.Slab as slab
+use Rattle.fidl_names.specs.declared.limits.TheConstants as limit
+use Rattle.node_graph.specs.Graph.{Kept, holds_at, number_of}
+use Rattle.conn_rules.specs.Births.{Connection}
+use Rattle.conn_rules.specs.Shared.{CanBeBound}
+
+abbrev pub Connections : Type 0
+Connections = finite.FinMap nat_cmp Connection
+
+-- an endpoint with the connection at its place
+abbrev pub entry_at : slab.Slab Connection → ℕ × ℕ → Option (ℕ × Connection)
+entry_at kept entry = option_map (λ connection. (entry.0, connection)) (slab.get kept entry.1)
+
+-- the connections by their endpoints
+unfoldable pub connections_of : slab.Slab Connection → tree.BTreeMap ℕ ℕ → Connections
+connections_of kept places = finite.from_entries (filter_map (entry_at kept) places.entries)
+
+-- each endpoint has a place of its own with a connection, and there are no others
+pub record AreJoined (kept : slab.Slab Connection) (places : tree.BTreeMap ℕ ℕ) : Type 0 where
+  pub there : (endpoint place : ℕ) → tree.get nat_cmp places endpoint ≡ Some place → IsSome (slab.get kept place)
+  pub apart : (one other place : ℕ) → tree.get nat_cmp places one ≡ Some place → tree.get nat_cmp places other ≡ Some place → one ≡ other
+  pub count : finite.len (connections_of kept places) ≡ slab.slab_len kept
+
+-- how many connections are to a node
+abbrev pub connected_to : ℕ → Connections → ℕ
+connected_to number connections = count_by (λ connection. number_of connection.birth.node == number) (finite.values connections)
+
+-- each connection is to a node that the graph keeps, which has one hold for each; and there are no more than a server may have
+pub record IsSound (graph : Kept) (connections : Connections) : Type 0 where
+  pub each : (endpoint : ℕ) (connection : Connection) → finite.get connections endpoint ≡ Some connection → CanBeBound graph connection.birth
+  pub holds : (number : ℕ) → holds_at graph number ≡ connected_to number connections
+  pub few : finite.len connections ≤ limit.MAX_CONNECTIONS

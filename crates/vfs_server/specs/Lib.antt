@@ -1,0 +1,10 @@
+pub mod Servers
+pub mod Holding
+pub mod Spoken
+pub mod Effects
+pub mod Binding
+pub mod Serving
+pub mod Codes
+pub mod Kept
+pub mod Steps
+pub mod Growing

@@ -1,0 +1,78 @@
+-- The serving of a message on an endpoint that is bound at a server.
+use Rattle.std.specs.Prelude.{◌≡◌, ℕ, ◌==◌, ◌++◌, List, [], length, filter, map, Option, Some}
+use Rattle.std.specs.Option.{option_map, option_map_or}
+use Rattle.fidl_names.specs.declared.methods.Handle.{Handle}
+use Rattle.fidl_names.specs.HandleNumber.{handle_with, number_of_handle}
+use Rattle.fidl_wire.specs.Written.{Written}
+use Rattle.endpoint_link.specs.Frames.{Frame, spellings}
+use Rattle.node_graph.specs.declared.nodes.NodeKind.TheVariants.{Mount}
+use Rattle.node_graph.specs.Graph.{KeepsNames, Leads, SameHolds, StandsFor}
+use Rattle.node_graph.specs.Tree.{Tree}
+use Rattle.conn_rules.specs.declared.births.Birth as code
+use Rattle.conn_rules.specs.declared.births.Room.{Room}
+use Rattle.conn_rules.specs.Nodes.{kind_here}
+use Rattle.vfs_journal.specs.Outcomes.{Outcome}
+use Rattle.vfs_journal.specs.Serving.{Moment}
+use Rattle.vfs_journal.specs.Starts.{Bound}
+use Rattle.vfs_journal.specs.View.{moved}
+use Rattle.vfs_journal.specs.Watching.{first_frames, told_frames}
+use Rattle.vfs_server.specs.declared.fate.Fate.{Fate}
+use Rattle.vfs_server.specs.declared.fate.Fate.TheVariants as fates
+use Rattle.vfs_server.specs.Binding.{HasPlace}
+use Rattle.vfs_server.specs.Effects.{effects_of, effects_told}
+use Rattle.vfs_server.specs.Servers.{Server, in_use, seen}
+
+-- ---- handles
+
+abbrev pub numbers_of : List Handle → List ℕ
+numbers_of handles = map number_of_handle handles
+
+-- each handle is the one that its number stands for
+abbrev pub AreByNumber : List Handle → Type 0
+AreByNumber handles = map handle_with (numbers_of handles) ≡ handles
+
+-- ---- moments
+
+-- what is in use at a server and at one of its directories, where this is the next token
+abbrev pub room_at : Server → ℕ → Option ℕ → Room
+room_at server node token =
+    record {
+      connections = in_use server;
+      watchers = length (filter (λ bound. bound.birth.node == node) server.watchers);
+      token = token;
+    }
+
+-- a moment of the serving on an endpoint that is bound there, where this is the next token
+pub record IsMomentOf (server : Server) (endpoint : ℕ) (token : Option ℕ) (moment : Moment) : Type 0 where
+  pub bound : seen server endpoint ≡ Some (moment.bound, moment.position)
+  pub room : moment.room ≡ room_at server moment.bound.birth.node token
+  pub tree : StandsFor server.graph moment.tree
+
+-- ---- servings
+
+-- a node of the tree is this mount
+abbrev pub HasMount : Tree → ℕ → Type 0
+HasMount tree mount = (node : ℕ) × (kind_here tree node ≡ Mount mount)
+
+-- the frames of an answer, what a new watcher is told first, and what the watchers are told of the change
+abbrev pub frames_here : Moment → List Bound → Outcome → List Frame
+frames_here moment watchers outcome =
+    outcome.frames
+    ++ option_map_or (λ bound. first_frames moment.tree bound) outcome.bound []
+    ++ told_frames watchers moment.bound.server outcome.told
+
+-- a server does what an outcome says: it writes its frames, tells what becomes of endpoints and tokens, moves the endpoint that it serves
+-- and no other, and changes the tree
+pub record Serves (moment : Moment) (outcome : Outcome) (fate : Fate) (out : Written) (old new : Server) (before after : List ℕ) : Type 0 where
+  pub frames : after ≡ before ++ spellings (frames_here moment old.watchers outcome)
+  pub effects : effects_of outcome ≡ effects_told moment.bound.endpoint moment.bound.server fate out
+  pub index : new.index ≡ old.index
+  pub bound : (endpoint : ℕ) → seen new endpoint ≡ option_map (moved moment.bound.endpoint outcome.position) (seen old endpoint)
+  pub count : in_use new ≡ in_use old
+  pub watchers : new.watchers ≡ old.watchers
+  pub tree : Leads old.graph new.graph outcome.change
+  pub holds : SameHolds old.graph new.graph
+  pub names : KeepsNames old.graph new.graph
+  -- what is to be bound has its place here, and an Open goes on behind a mount of the tree
+  pub has_place : (object : ℕ) (birth : code.Birth) → fate ≡ fates.Binds object birth → HasPlace new birth
+  pub mounted : (mount object : ℕ) → fate ≡ fates.Forwards mount object → HasMount moment.tree mount

@@ -1,0 +1,143 @@
+//! What is done with what a connection gives, and with a message that is no request.
+
+ghost use Rattle.std.specs.Prelude.{◌≡◌, ◌≢◌, ◌++◌, IfOk, OnErr, OnOk};
+ghost use Rattle.endpoint_link.specs.Frames.{spellings};
+ghost use Rattle.io_messages.specs.Asked.{asked};
+ghost use Rattle.vfs_journal.specs.Outcomes.{announcement, ending, onward_bytes};
+ghost use Rattle.vfs_journal.specs.Serving.{object_of};
+ghost use Rattle.vfs_server.specs.Steps.{BindsNoWatcher, DoesFault, DoesGiven, HasTxid};
+
+use crate::asking::Asking;
+use crate::fate::Fate;
+use crate::frames::{put_announcement, put_ending, put_last, put_message};
+use conn_rules::Birth;
+use dir_conn::DirServed;
+use endpoint_link::Outbox;
+use fidl_names::{NoMemory, Status};
+use fidl_wire::{Ordinals, Out};
+use io_flags::OpenFlags;
+use io_messages::{Protocol, Reply, Request, RequestFault, write_reply, write_request};
+use path_walk::Path;
+
+/// The endpoint that a request carries, 0 for none.
+pub(crate) fn object_of(request: &Request<'_>) -> u32
+    ensures { result ≡ object_of (asked request.now) }
+{
+    match request {
+        Request::Clone { request } => *request,
+        Request::OpenPath { object, .. } => *object,
+        Request::Watch { watcher, .. } => *watcher,
+        _ => 0,
+    }
+}
+
+/// Does what the connection that is asked gave to a request that carries `object`.
+pub(crate) fn answer(
+    asking: &Asking<'_>,
+    object: u32,
+    served: DirServed<'_>,
+    out: &mut Out,
+    outbox: &mut Outbox,
+) -> Result<Fate, NoMemory>
+    requires watcher { BindsNoWatcher served }
+    ensures does { IfOk result (λ fate. DoesGiven asking.now.endpoint object served.entry out.old fate out.new outbox.old outbox.new) }
+    ensures no_memory { OnErr result (outbox.new ≡ outbox.old) }
+{
+    let endpoint = asking.endpoint;
+    match served {
+        DirServed::Reply => {
+            put_message(endpoint, out, outbox)?;
+            Ok(Fate::Stays)
+        }
+        DirServed::ReplyEnd => {
+            put_last(endpoint, out, outbox)?;
+            Ok(Fate::Ends)
+        }
+        DirServed::Bind(birth) => bind(asking.ordinals, object, birth, out, outbox),
+        DirServed::Forward { mount, flags, rest } => {
+            write_onward(asking.ordinals, flags, rest, object, out);
+            Ok(Fate::Forwards { mount, object })
+        }
+        DirServed::Refused(status) => {
+            put_ending(object, status, out, outbox)?;
+            Ok(Fate::Refuses { object })
+        }
+        DirServed::NoMemory => Err(NoMemory),
+    }
+}
+
+/// Binds an endpoint, and tells it there where that is asked for.
+fn bind(
+    ordinals: &Ordinals,
+    object: u32,
+    birth: Birth,
+    out: &mut Out,
+    outbox: &mut Outbox,
+) -> Result<Fate, NoMemory>
+    requires watcher { birth.protocol ≢ Protocol.Watcher }
+    ensures frames { OnOk result (outbox.new ≡ outbox.old ++ spellings (announcement object birth.protocol birth.announce)) }
+    ensures fate { IfOk result (λ fate. fate ≡ Fate.Binds object birth) }
+    ensures no_memory { OnErr result (outbox.new ≡ outbox.old) }
+{
+    put_announcement(
+        ordinals,
+        object,
+        birth.protocol,
+        birth.announce,
+        out,
+        outbox,
+    )?;
+    Ok(Fate::Binds { object, birth })
+}
+
+/// Writes the Open that goes on: the rest of the path, the flags that are left, no options, and the
+/// same object.
+fn write_onward(ordinals: &Ordinals, flags: OpenFlags, rest: Path<'_>, object: u32, out: &mut Out)
+    ensures bytes { out.new.bytes ≡ onward_bytes flags rest.entry object }
+{
+    out.clear();
+    let request = Request::OpenPath {
+        path: rest.as_bytes(),
+        flags: flags.word(),
+        attributes: None,
+        object,
+    };
+    if write_request(ordinals, 0, request, out).is_err() {
+        unreachable!();
+    }
+}
+
+/// Answers a message that is no request of the endpoint's protocol.
+pub(crate) fn answer_fault(
+    asking: &Asking<'_>,
+    fault: RequestFault,
+    out: &mut Out,
+    outbox: &mut Outbox,
+) -> Result<Fate, NoMemory>
+    requires txid { HasTxid fault }
+    ensures does { IfOk result (λ fate. DoesFault asking.now.endpoint fault fate out.new outbox.old outbox.new) }
+    ensures no_memory { OnErr result (outbox.new ≡ outbox.old) }
+{
+    let endpoint = asking.endpoint;
+    match fault {
+        RequestFault::Malformed(_) => end(endpoint, Status::InvalidArgs, out, outbox),
+        RequestFault::UnknownStrict => end(endpoint, Status::NotSupported, out, outbox),
+        RequestFault::UnknownOneWay => Ok(Fate::Stays),
+        RequestFault::UnknownTwoWay { txid, ordinal } => {
+            out.clear();
+            write_reply(asking.ordinals, txid, Reply::Unknown(ordinal), out);
+            put_message(endpoint, out, outbox)?;
+            Ok(Fate::Stays)
+        }
+    }
+}
+
+/// Ends the endpoint that is served.
+fn end(endpoint: u32, status: Status, out: &mut Out, outbox: &mut Outbox) -> Result<Fate, NoMemory>
+    ensures frames { OnOk result (outbox.new ≡ outbox.old ++ spellings (ending endpoint status)) }
+    ensures fate { IfOk result (λ fate. fate ≡ Fate.Ends) }
+    ensures no_memory { OnErr result (outbox.new ≡ outbox.old) }
+{
+    put_ending(endpoint, status, out, outbox)?;
+    Ok(Fate::Ends)
+}

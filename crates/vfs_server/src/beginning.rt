@@ -1,0 +1,36 @@
+//! What a server begins with.
+
+ghost use Rattle.std.specs.Prelude.{◌<◌, [], IfOk, length};
+ghost use Rattle.conn_rules.specs.Built.{Built};
+ghost use Rattle.vfs_journal.specs.Starts.{start_of};
+ghost use Rattle.vfs_journal.specs.View.{view_of};
+ghost use Rattle.vfs_server.specs.Holding.{HoldsAt};
+
+use crate::firsts::{bind_clients, bind_ends};
+use crate::making::{Places, add_mounts, add_nodes};
+use crate::server::Server;
+use fidl_names::NoMemory;
+use node_graph::Graph;
+use std::alloc::Global;
+use std::collections::BTreeMap;
+use tree_file::Start;
+
+// The path of the root.
+const ROOT: &[u8] = b".";
+
+/// Makes the server of an accepted start with this index.
+pub(crate) fn begin(alloc: Global, start: &Start, index: u32) -> Result<Server, NoMemory>
+    requires within { index < length start.now.servers }
+    ensures { (built : Built) → IfOk result (HoldsAt (view_of built (start_of start.now) [])) }
+{
+    start.keeps_rules();
+    let mut graph = Graph::new(alloc)?;
+    let mut places: Places<'_> = BTreeMap::new(alloc);
+    places.insert(ROOT, graph.root())?;
+    add_nodes(start, index, &mut graph, &mut places)?;
+    add_mounts(start, index, &mut graph, &mut places)?;
+    let mut server = Server::new(alloc, index, graph);
+    bind_clients(start, index, &places, &mut server)?;
+    bind_ends(start, index, &places, &mut server)?;
+    Ok(server)
+}

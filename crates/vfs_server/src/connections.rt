@@ -1,0 +1,121 @@
+//! The connections of a server, by their endpoints.
+
+ghost use Rattle.std.specs.Prelude.{◌≡◌, ℕ, IfOk, OnErr, OnOk, Option, IsSome, Some, None};
+ghost use Rattle.std.specs.FinMap as finite;
+ghost use Rattle.conn_rules.specs.Births as births;
+ghost use Rattle.conn_rules.specs.Built.{first_methods};
+ghost use Rattle.conn_rules.specs.Shared.{CanBeBound};
+ghost use Rattle.io_messages.specs.Requests.{request_of};
+ghost use Rattle.vfs_journal.specs.Serving.{Moment, outcome_of_read};
+ghost use Rattle.vfs_server.specs.Steps.{Answers, IsAskedAt};
+
+use crate::asking::Asking;
+use crate::connection::Connection;
+use crate::fate::Fate;
+use endpoint_link::Outbox;
+use fidl_names::{Handle, NoMemory};
+use fidl_wire::Out;
+use slab::Slab;
+use std::alloc::Global;
+use std::collections::BTreeMap;
+use std::marker::Model;
+
+/// Connections, each at the place that an endpoint has.
+#[derive(Drop)]
+pub(crate) struct Connections {
+    kept: Slab<Connection>,
+    places: BTreeMap<u32, usize>,
+}
+
+impl Model for Connections {
+    ghost use Rattle.vfs_server.specs.Codes.{connections_code};
+    ghost use Rattle.vfs_server.specs.Kept.{AreJoined, connections_of};
+    ghost use Rattle.std.specs.FinMap as finite;
+    ghost use Rattle.std.specs.Ordering.{nat_cmp};
+    ghost use Rattle.conn_rules.specs.Births as births;
+
+    ghost Value = { finite.FinMap nat_cmp births.Connection };
+
+    ghost coded = { connections_code };
+
+    ghost view = { λ connections. connections_of connections.kept connections.places };
+
+    ghost invariant = { λ connections. AreJoined connections.kept connections.places };
+}
+
+impl Connections {
+    /// None.
+    pub fn new(alloc: Global) -> Connections
+        ensures { result ≡ finite.empty }
+    {
+        Connections {
+            kept: Slab::new(alloc),
+            places: BTreeMap::new(alloc),
+        }
+    }
+
+    /// How many there are.
+    pub fn len(&self) -> usize
+        ensures { result ≡ finite.len self.now }
+    {
+        self.kept.len()
+    }
+
+    /// Whether an endpoint has one.
+    pub fn contains(&self, endpoint: u32) -> bool
+        ensures { result ≡ finite.contains_key self.now endpoint }
+    {
+        self.places.contains_key(&endpoint)
+    }
+
+    /// Puts one at an endpoint that has none. Room is made before anything changes.
+    pub fn insert(&mut self, endpoint: u32, connection: Connection) -> Result<(), NoMemory>
+        requires free { finite.get self.old endpoint ≡ None }
+        ensures inserted { OnOk result (self.new ≡ finite.insert self.old endpoint connection) }
+        ensures unchanged { OnErr result (self.new ≡ self.old) }
+    {
+        self.kept.reserve(1)?;
+        let place = self.kept.vacant_key();
+        self.places.insert(endpoint, place)?;
+        self.kept.insert_reserved(connection);
+        Ok(())
+    }
+
+    /// Takes out the one of an endpoint that has one.
+    pub fn remove(&mut self, endpoint: u32) -> Connection
+        requires there { IsSome (finite.get self.old endpoint) }
+        ensures given { finite.get self.old endpoint ≡ Some result }
+        ensures removed { self.new ≡ finite.remove self.old endpoint }
+    {
+        match self.places.remove(&endpoint) {
+            Some(place) => self.kept.remove(place),
+            None => unreachable!(),
+        }
+    }
+
+    /// Serves a message on the one of the endpoint that is asked. No other changes.
+    pub fn serve(
+        &mut self,
+        asking: &Asking<'_>,
+        bytes: &[u8],
+        handles: &[Handle],
+        out: &mut Out,
+        outbox: &mut Outbox,
+    ) -> Result<Fate, NoMemory>
+        requires there { IsSome (finite.get self.old asking.now.endpoint) }
+        requires node { (connection : births.Connection) → finite.get self.old asking.now.endpoint ≡ Some connection → CanBeBound asking.now.graph.now connection.birth }
+        ensures served { (old : births.Connection) → finite.get self.old asking.now.endpoint ≡ Some old →
+            (new : births.Connection) × (new.birth ≡ old.birth) × (self.new ≡ finite.insert self.old asking.now.endpoint new)
+            × ((server : ℕ) (moment : Moment) → IsAskedAt server asking.now old moment →
+            IfOk result (λ fate. Answers asking.now moment (outcome_of_read first_methods moment (request_of old.birth.protocol bytes.now handles.now)) fate out.new old new outbox.old outbox.new)) }
+        ensures no_memory { OnErr result (outbox.new ≡ outbox.old) }
+    {
+        match self.places.get(&asking.endpoint) {
+            Some(place) => {
+                let connection = &mut self.kept[*place];
+                connection.serve(asking, bytes, handles, out, outbox)
+            }
+            None => unreachable!(),
+        }
+    }
+}

@@ -1,0 +1,17 @@
+use conn_rules::Birth;
+
+/// What becomes of endpoints when an entry was served.
+#[derive(Clone, Copy, Debug, PartialEq, Eq)]
+pub enum Fate {
+    /// Nothing: the endpoint stays.
+    Stays,
+    /// The endpoint that was served ends.
+    Ends,
+    /// The endpoint `object`, which the request carried, is bound.
+    Binds { object: u32, birth: Birth },
+    /// The endpoint `object`, which the request carried, ends.
+    Refuses { object: u32 },
+    /// The Open goes on to the end of a mount, by the mount's index, with the endpoint `object`. It
+    /// stands in the output.
+    Forwards { mount: u32, object: u32 },
+}

@@ -1,0 +1,17 @@
+//! One server: its tree as a graph, the connections to it, and the serving of what is sent to them.
+#![tactic(auto)]
+
+mod answers;
+mod asking;
+mod beginning;
+mod conn;
+mod connection;
+mod connections;
+mod fate;
+mod firsts;
+mod frames;
+mod making;
+mod server;
+
+pub use fate::Fate;
+pub use server::Server;

@@ -1,0 +1,147 @@
+ghost use Rattle.std.specs.Prelude.{◌≡◌, ◌<◌, ℕ, IfOk, IsSome, None, OnErr, OnOk, [], is_some, length};
+ghost use Rattle.std.specs.FinMap as finite;
+ghost use Rattle.node_graph.specs.Graph.{holds_at};
+ghost use Rattle.conn_rules.specs.Built.{Built, first_methods};
+ghost use Rattle.vfs_journal.specs.Entries.{message};
+ghost use Rattle.vfs_journal.specs.Serving.{Moment, outcome_of_sending};
+ghost use Rattle.vfs_journal.specs.Starts.{start_of};
+ghost use Rattle.vfs_journal.specs.View.{view_of};
+ghost use Rattle.vfs_server.specs.Binding.{Binds, HasPlace, Unbinds};
+ghost use Rattle.vfs_server.specs.Holding.{HoldsAt};
+ghost use Rattle.vfs_server.specs.Servers.{in_use, seen};
+ghost use Rattle.vfs_server.specs.Serving.{AreByNumber, IsMomentOf, Serves, numbers_of};
+
+use crate::asking::Asking;
+use crate::beginning;
+use crate::connection::Connection;
+use crate::connections::Connections;
+use crate::fate::Fate;
+use conn_rules::{Birth, Room};
+use endpoint_link::Outbox;
+use fidl_names::{Handle, NoMemory};
+use fidl_wire::{Ordinals, Out};
+use node_graph::Graph;
+use std::alloc::Global;
+use std::marker::Model;
+use tree_file::Start;
+
+/// One server: its tree, and what is connected to it. Each connection holds its node. Nothing watches yet.
+#[derive(Drop)]
+pub struct Server {
+    index: u32,
+    graph: Graph,
+    connections: Connections,
+}
+
+impl Model for Server {
+    ghost use Rattle.std.specs.Prelude.{[]};
+    ghost use Rattle.vfs_server.specs.Codes.{server_code};
+    ghost use Rattle.vfs_server.specs.Kept.{IsSound};
+    ghost use Rattle.vfs_server.specs.Servers as servers;
+
+    ghost Value = { servers.Server };
+
+    ghost coded = { server_code };
+
+    ghost view = { λ server. record { index = server.index; graph = server.graph; connections = server.connections; watchers = [] } };
+
+    ghost invariant = { λ server. IsSound server.graph server.connections };
+}
+
+impl Server {
+    /// The server of an accepted start with this index: its tree, its first connections, and the ends
+    /// of the mounts that go on here.
+    pub fn begin(alloc: Global, start: &Start, index: u32) -> Result<Server, NoMemory>
+        requires within { index < length start.now.servers }
+        ensures { (built : Built) → IfOk result (HoldsAt (view_of built (start_of start.now) [])) }
+    {
+        beginning::begin(alloc, start, index)
+    }
+
+    /// A server to which nothing is connected yet, over a tree of which nothing is held.
+    pub(crate) fn new(alloc: Global, index: u32, graph: Graph) -> Server
+        requires unheld { (number : ℕ) → holds_at graph number ≡ 0 }
+        ensures { result ≡ record { index = index; graph = graph; connections = finite.empty; watchers = [] } }
+    {
+        Server {
+            index,
+            graph,
+            connections: Connections::new(alloc),
+        }
+    }
+
+    /// How many connections there are, at most 4,096.
+    pub fn connections(&self) -> u32
+        ensures { result ≡ in_use self.now }
+    {
+        self.connections.len() as u32
+    }
+
+    /// Whether an endpoint is bound here.
+    pub fn is_bound(&self, endpoint: u32) -> bool
+        ensures { result ≡ is_some (seen self.now endpoint) }
+    {
+        self.connections.contains(endpoint)
+    }
+
+    /// Serves a message on an endpoint that is bound here: the frames of the answer are written to the
+    /// outbox, and the call tells what becomes of endpoints. `token` is the number that the next token
+    /// gets, `None` where none is given any more. An Open that goes on is left in the output; what
+    /// stands there otherwise is of no account. What the answer binds isn't bound yet, and what ends is
+    /// bound still.
+    ///
+    /// For want of memory no frame is written.
+    pub fn serve(
+        &mut self,
+        ordinals: &Ordinals,
+        endpoint: u32,
+        token: Option<u32>,
+        bytes: &[u8],
+        handles: &[Handle],
+        out: &mut Out,
+        outbox: &mut Outbox,
+    ) -> Result<Fate, NoMemory>
+        requires bound { IsSome (seen self.old endpoint) }
+        requires handles { AreByNumber handles.now }
+        ensures serves { (moment : Moment) → IsMomentOf self.old endpoint token moment →
+            IfOk result (λ fate. Serves moment (outcome_of_sending first_methods moment (message bytes.now (numbers_of handles.now))) fate out.new self.old self.new outbox.old outbox.new) }
+        ensures no_memory { OnErr result (outbox.new ≡ outbox.old) }
+    {
+        let room = Room {
+            connections: self.connections.len() as u32,
+            watchers: 0,
+            token,
+        };
+        let asking = Asking {
+            ordinals,
+            graph: &self.graph,
+            endpoint,
+            room,
+        };
+        self.connections.serve(&asking, bytes, handles, out, outbox)
+    }
+
+    /// Binds an endpoint that isn't bound here, and holds its node. Of want of memory the server is as
+    /// it was.
+    pub fn bind(&mut self, endpoint: u32, birth: Birth) -> Result<(), NoMemory>
+        requires free { seen self.old endpoint ≡ None }
+        requires place { HasPlace self.old birth }
+        ensures bound { OnOk result (Binds self.old endpoint birth self.new) }
+        ensures unchanged { OnErr result (self.new ≡ self.old) }
+    {
+        let node = birth.node;
+        let connection = Connection::new(birth);
+        self.connections.insert(endpoint, connection)?;
+        self.graph.hold(node);
+        Ok(())
+    }
+
+    /// Lets go of an endpoint that is bound here, and releases its node.
+    pub fn unbind(&mut self, endpoint: u32)
+        requires bound { IsSome (seen self.old endpoint) }
+        ensures { Unbinds self.old endpoint self.new }
+    {
+        let connection = self.connections.remove(endpoint);
+        self.graph.release(connection.node());
+    }
+}

@@ -1,0 +1,110 @@
+-- What the serving of an entry at its server says.
+use Rattle.std.proofs.Common.{◌≡◌, ℕ, zero, suc, ◌++◌, List, [], ◌∷◌, ◌==◌, if◌then◌else◌, cond, find, Bool, true, false, Option, Some, None, is_some, IsSome, Result, Ok, Err, IfOk, set, append-nil, refl, sym, ap, ◌∙◌, subst}
+use Rattle.std.specs.FinMap as finite
+use Rattle.std.specs.Prelude.{slice_get}
+use Rattle.std.specs.Option.{option_map}
+use Rattle.std.specs.Result.{OnErr}
+use Rattle.std.proofs.lemmas.Bool.{eqb-true}
+use Rattle.std.proofs.lemmas.Option.{none-some, same_Some}
+use Rattle.fidl_names.specs.declared.memory.NoMemory.{NoMemory}
+use Rattle.fidl_wire.specs.Written.{Written}
+use Rattle.endpoint_link.specs.Frames.{spellings}
+use Rattle.node_graph.specs.Graph.{Kept, KeepsNames, Names, is_kept, kind_at, number_of}
+use Rattle.node_graph.specs.declared.nodes.NodeRef.{NodeRef}
+use Rattle.conn_rules.specs.declared.births.Birth as code
+use Rattle.conn_rules.specs.Births.{Connection, Position, fresh}
+use Rattle.conn_rules.specs.Built.{first_methods}
+use Rattle.vfs_journal.specs.Entries.{Sending, Sent, hang_up, message}
+use Rattle.vfs_journal.specs.Outcomes.{Outcome}
+use Rattle.vfs_journal.specs.Serving.{Moment, outcome_of_sending}
+use Rattle.vfs_journal.specs.Starts.{Bound}
+use Rattle.vfs_journal.specs.View.{moved}
+use Rattle.vfs_server.specs.declared.fate.Fate.{Fate}
+use Rattle.vfs_server.specs.declared.fate.Fate.TheVariants as fates
+use Rattle.vfs_server.specs.Servers.{Server, connected, seen, seen_as}
+use Rattle.vfs_server.specs.Serving.{IsMomentOf, Serves}
+use Rattle.vfs_session.specs.Steps.{Answers, Begins}
+
+pub set_same : {X : Type 0} (xs : List X) (i : ℕ) (x : X) → slice_get xs i ≡ Some x → xs ≡ set xs i x
+set_same [] i x e = absurd (cc)
+set_same {X} (y ∷ xs) zero x e = ap (λ (z : X). z ∷ xs) (same_Some y x e)
+set_same {X} (y ∷ xs) (suc i) x e = ap (λ (zs : List X). y ∷ zs) (set_same xs i x e)
+
+pub some_is : {X : Type 0} (o : Option X) (x : X) → o ≡ Some x → IsSome o
+some_is o x e = subst IsSome (sym e) refl
+
+-- ---- a message
+
+pub served_answers : (servers : List Server) (at endpoint : ℕ) (token next : Option ℕ) (sent : Sent) (one now : Server) (out : Written) (before after : List ℕ) (r : Result Fate NoMemory) (sending : Sending) → slice_get servers at ≡ Some one →
+    sent.sending ≡ sending → next ≡ token →
+    ((moment : Moment) → IsMomentOf one endpoint next moment → IfOk r (λ fate. Serves moment (outcome_of_sending first_methods moment sending) fate out one now before after)) →
+    IfOk r (λ fate. Answers servers at endpoint token sent fate out (set servers at now) before after)
+served_answers servers at endpoint token next sent one now out before after (Err fault) sending there is same serves = tt
+served_answers servers at endpoint token next sent one now out before after (Ok fate) sending there is same serves =
+    λ other moment found moment_of. (
+      now,
+      refl,
+      subst (λ (x : Sending). Serves moment (outcome_of_sending first_methods moment x) fate out other now before after) (sym is)
+          (subst (λ (x : Server). IsMomentOf x endpoint token moment → Serves moment (outcome_of_sending first_methods moment sending) fate out x now before after) (same_Some one other (sym there ∙ found))
+          (λ m. serves moment (subst (λ (t : Option ℕ). IsMomentOf one endpoint t moment) (sym same) m)) moment_of),
+    )
+
+pub begins_by : (one now : Server) (moment : Moment) (o : Outcome) (out : Written) (before after : List ℕ) (r : Result Fate NoMemory) → IfOk r (λ fate. Serves moment o fate out one now before after) → OnErr r (after ≡ before) → Begins before after
+begins_by one now moment o out before after (Ok fate) serves same = (_, serves.frames)
+begins_by one now moment o out before after (Err fault) serves same = ([], same ∙ sym (append-nil before))
+
+-- ---- a hang-up
+
+watcher_name : (n : ℕ) (ws : List Bound) (b : Bound) → find (λ bound. bound.endpoint == n) ws ≡ Some b → b.endpoint ≡ n
+watcher_name n [] b e = absurd (none-some b e)
+watcher_name n (w ∷ ws) b e = by_test (w.endpoint == n) refl e (watcher_name n ws b) where
+  by_test : (t : Bool) → (w.endpoint == n) ≡ t → cond t (Some w) (find (λ bound. bound.endpoint == n) ws) ≡ Some b → (find (λ bound. bound.endpoint == n) ws ≡ Some b → b.endpoint ≡ n) → b.endpoint ≡ n
+  by_test true f g rest = ap (λ (x : Bound). x.endpoint) (sym (same_Some w b g)) ∙ eqb-true w.endpoint n f
+  by_test false f g rest = rest g
+
+watched_name : (n : ℕ) (o : Option Bound) (pair : Bound × Position) → ((b : Bound) → o ≡ Some b → b.endpoint ≡ n) → option_map (λ (b : Bound). (b, fresh)) o ≡ Some pair → pair.0.endpoint ≡ n
+watched_name n None pair named e = absurd (none-some pair e)
+watched_name n (Some b) pair named e = ap (λ (p : Bound × Position). p.0.endpoint) (sym (same_Some (b, fresh) pair e)) ∙ named b refl
+
+seen_name : (one : Server) (n : ℕ) (pair : Bound × Position) → seen one n ≡ Some pair → pair.0.endpoint ≡ n
+seen_name one n pair e = by_found (finite.get one.connections n) e where
+  by_found : (o : Option Connection) → seen_as one.index one.watchers n o ≡ Some pair → pair.0.endpoint ≡ n
+  by_found (Some connection) h = ap (λ (p : Bound × Position). p.0.endpoint) (sym (same_Some (connected one.index n connection) pair h))
+  by_found None h = watched_name n (find (λ bound. bound.endpoint == n) one.watchers) pair (watcher_name n one.watchers) h
+
+hangs_up : (one : Server) (endpoint : ℕ) (token : Option ℕ) (moment : Moment) (out : Written) (before : List ℕ) → IsMomentOf one endpoint token moment →
+    Serves moment (outcome_of_sending first_methods moment hang_up) fates.Ends out one one before before
+unfolding outcome_of_sending
+hangs_up one endpoint token moment out before m = record {
+  frames = sym (append-nil before);
+  effects = refl;
+  index = refl;
+  bound = λ n. by_seen n (seen one n) refl;
+  count = refl;
+  watchers = refl;
+  tree = λ tree stands. stands;
+  holds = λ number. refl;
+  names = λ node named kept. (named, refl);
+  has_place = λ object birth e. absurd (cc);
+  mounted = λ mount object e. absurd (cc);
+} where
+  same : moment.bound.endpoint ≡ endpoint
+  same = seen_name one endpoint (moment.bound, moment.position) m.bound
+
+  by_seen : (n : ℕ) (o : Option (Bound × Position)) → seen one n ≡ o → o ≡ option_map (moved moment.bound.endpoint moment.position) o
+  by_seen n None e = refl
+  by_seen n (Some pair) e = ap (λ (p : Bound × Position). Some p) (sym (by_test (pair.0.endpoint == moment.bound.endpoint) refl)) where
+    by_test : (t : Bool) → (pair.0.endpoint == moment.bound.endpoint) ≡ t → (if t then (let p : Bound × Position = (pair.0, moment.position) in p) else pair) ≡ pair
+    by_test false f = refl
+    by_test true f =
+        let here : n ≡ endpoint = sym (seen_name one n pair e) ∙ eqb-true pair.0.endpoint moment.bound.endpoint f ∙ same in
+        let also : pair ≡ (moment.bound, moment.position) = same_Some pair (moment.bound, moment.position) (sym e ∙ ap (seen one) here ∙ m.bound) in
+        ap (λ (p : Bound × Position). let q : Bound × Position = (pair.0, p.1) in q) (sym also)
+
+pub hang_up_answers : (servers : List Server) (at endpoint : ℕ) (token : Option ℕ) (sent : Sent) (out : Written) (before : List ℕ) → sent.sending ≡ hang_up → Answers servers at endpoint token sent fates.Ends out servers before before
+hang_up_answers servers at endpoint token sent out before is =
+    λ one moment there m. (
+      one,
+      set_same servers at one there,
+      subst (λ (x : Sending). Serves moment (outcome_of_sending first_methods moment x) fates.Ends out one one before before) (sym is) (hangs_up one endpoint token moment out before m),
+    )

@@ -1,0 +1,107 @@
+-- What serves the first entry of a bound endpoint leads to the journal behind that serving.
+use Rattle.std.proofs.Common.{◌≡◌, ◌≢◌, ℕ, zero, suc, ◌+◌, ◌<◌, ◌==◌, ◌⊎◌, Bool, true, false, List, [], ◌∷◌, ◌++◌, length, map, filter, flat_map, find, All, Contains, Option, Some, None, get_or, inl, inr, refl, sym, ap, ◌∙◌, subst, arith}
+use Rattle.std.specs.Prelude.{slice_get}
+use Rattle.std.specs.List.{list_any}
+use Rattle.std.proofs.lemmas.Bool.{true≢false, cases_Bool}
+use Rattle.std.proofs.lemmas.List.Elements.{All-contains}
+use Rattle.std.proofs.lemmas.Option.{slice_get-get_or}
+use Rattle.endpoint_link.specs.Numbering.{among}
+use Rattle.conn_rules.specs.Births.{Position}
+use Rattle.conn_rules.specs.Built.{first_methods}
+use Rattle.fidl_names.specs.HandleNumber.{is_client}
+use Rattle.fidl_wire.specs.Names.{AreDistinct}
+use Rattle.vfs_journal.specs.Entries.{Journal, Sent, handles_of}
+use Rattle.vfs_journal.specs.Fit.{IsFit, handles_out}
+use Rattle.vfs_journal.specs.History.{living, trees_of}
+use Rattle.vfs_journal.specs.Lawful.{Lawful}
+use Rattle.vfs_journal.specs.Outcomes.{Given}
+use Rattle.vfs_journal.specs.Past.{history_of}
+use Rattle.vfs_journal.specs.Session.{after_serving}
+use Rattle.vfs_journal.specs.Starts.{Bound, Start}
+use Rattle.vfs_journal.specs.View.{View, at_in, bounds_in, head_in}
+use Rattle.journal_laws.specs.Choosing.{IsListOf}
+use Rattle.journal_laws.specs.Knowing.{spent_in}
+use Rattle.journal_laws.specs.Soundness.{IsStart}
+use Rattle.journal_laws.specs.Trees.{IsOnNode}
+use Rattle.journal_laws.specs.Viewing.{view_behind}
+use Rattle.journal_laws.proofs.FirstPart.{sessions_little}
+use Rattle.journal_laws.proofs.Fits.{views_fit}
+use Rattle.journal_laws.proofs.LookedUp.{is_first}
+use Rattle.journal_laws.proofs.Members.{contains_cases, contains_here, contains_later, contains_none, found}
+use Rattle.journal_laws.proofs.OnTrees.{stand_on_trees}
+use Rattle.journal_laws.proofs.Spent.{IsSpentBy, spent_by}
+use Rattle.journal_laws.proofs.Spreading.{among_back, among_front}
+use Rattle.journal_laws.proofs.ViewParts.{bounds_are}
+use Rattle.message_queues.specs.Queues.{Queues, count, head_of, queue_of, server_of}
+use Rattle.vfs_server.specs.Servers.{Server}
+use Rattle.vfs_session.specs.Servings.{ServesHead}
+use Rattle.vfs_session.specs.World.{LeadsTo, StandsFor, World}
+use Rattle.vfs_session.proofs.Grounds.{below}
+use Rattle.vfs_session.proofs.OneServed.{IsReadyIn, Laws, ready_in, serving_leads}
+
+-- ---- no token is spent where none was given
+
+among_many : (n : ℕ) (x : Sent) (ones : List Sent) → Contains ones x → among n (handles_of x.sending) ≡ true → among n (flat_map (λ sent. handles_of sent.sending) ones) ≡ true
+among_many n x [] p h = absurd (contains_none x p)
+among_many n x (one ∷ ones) p h = by_place (λ q. among_many n x ones q h) (contains_cases x one ones p) where
+  by_place : (Contains ones x → among n (flat_map (λ sent. handles_of sent.sending) ones) ≡ true) → (one ≡ x) ⊎ Contains ones x → among n (handles_of one.sending ++ flat_map (λ sent. handles_of sent.sending) ones) ≡ true
+  by_place rest (inl e) = among_front n (handles_of one.sending) (flat_map (λ sent. handles_of sent.sending) ones) (ap (λ (s : Sent). among n (handles_of s.sending)) e ∙ h)
+  by_place rest (inr q) = among_back n (handles_of one.sending) (flat_map (λ sent. handles_of sent.sending) ones) (rest q)
+
+none_spent_by : (view : View) (sent : Sent) (n : ℕ) → IsFit view → view.given ≡ [] → IsSpentBy view sent n → ⊥
+none_spent_by view sent n fit none by = by_kind (fit.carried n (among_many n by.one view.waiting by.waits by.carries)) where
+  by_kind : (is_client n ≡ true) ⊎ ((list_any (λ (given : Given). given.token == n) view.given ≡ true) × (list_any (λ (given : Given). given.token == n) view.held ≡ false)) → ⊥
+  by_kind (inl client) = true≢false (sym client ∙ by.other)
+  by_kind (inr given) = true≢false (sym given.0 ∙ ap (list_any (λ (given : Given). given.token == n)) none)
+
+pub nothing_spent : (view : View) (sent : Sent) → IsFit view → view.given ≡ [] → head_in view sent.endpoint ≡ Some sent → IsListOf (spent_in view sent) []
+nothing_spent view sent fit none first = record {
+  same = λ n. by_test n (cases_Bool (among n (spent_in view sent)));
+  once = λ i j d a b. absurd (omega arith);
+} where
+  by_test : (n : ℕ) → (among n (spent_in view sent) ≡ true) ⊎ (among n (spent_in view sent) ≡ false) → among n [] ≡ among n (spent_in view sent)
+  by_test n (inl h) = absurd (none_spent_by view sent n fit none (spent_by view sent n (is_first view sent first).waits h))
+  by_test n (inr h) = sym h
+
+-- ---- whoever is bound is at one of the servers
+
+mapped_has : (pairs : List (Bound × Position)) (pair : Bound × Position) → Contains pairs pair → Contains (map (λ p. p.0) pairs) pair.0
+mapped_has [] pair h = absurd (contains_none pair h)
+mapped_has (one ∷ pairs) pair h = by_place (mapped_has pairs pair) (contains_cases pair one pairs h) where
+  by_place : (Contains pairs pair → Contains (map (λ p. p.0) pairs) pair.0) → (one ≡ pair) ⊎ Contains pairs pair → Contains (map (λ p. p.0) (one ∷ pairs)) pair.0
+  by_place rest (inl e) = subst (λ (b : Bound). Contains (one.0 ∷ map (λ p. p.0) pairs) b) (ap (λ (p : Bound × Position). p.0) e) (contains_here one.0 (map (λ p. p.0) pairs))
+  by_place rest (inr q) = contains_later pair.0 one.0 (map (λ p. p.0) pairs) (rest q)
+
+pub server_low : (start : Start) (journal : Journal) (endpoint : ℕ) (pair : Bound × Position) → AreDistinct → IsStart start → Lawful first_methods start journal → at_in (view_behind first_methods start journal) endpoint ≡ Some pair →
+    pair.0.server < length (view_behind first_methods start journal).trees
+server_low start journal endpoint pair apart sound lawful' e =
+    let past = history_of first_methods start journal in
+    let view = view_behind first_methods start journal in
+    let lives : Contains (living start past) pair.0 =
+    subst (λ (bs : List Bound). Contains bs pair.0) (bounds_are first_methods start past)
+    (mapped_has view.living pair (found (λ (p : Bound × Position). p.0.endpoint == endpoint) view.living pair e).0) in
+    (All-contains (IsOnNode (trees_of start past)) (living start past) pair.0 (stand_on_trees (below apart) first_methods start journal sound lawful').placed lives).server
+
+by_length : (servers : List Server) (i : ℕ) → i < length servers → (one : Server) × (slice_get servers i ≡ Some one)
+by_length [] i low = absurd (omega arith)
+by_length (one ∷ servers) zero low = (one, refl)
+by_length (one ∷ servers) (suc i) low = by_length servers i (omega arith)
+
+-- ---- the whole
+
+pub laws : AreDistinct → Laws
+laws apart = record { below = below apart; today = sessions_little }
+
+pub head_served : AreDistinct →
+    (start : Start) (journal : Journal) (old new : World) (endpoint server : ℕ) (sent : Sent) (before after : List ℕ) → StandsFor start old journal → server_of old.queues endpoint ≡ Some server → head_of old.queues endpoint ≡ Some sent →
+    ServesHead old endpoint server sent new before after → LeadsTo start (after_serving first_methods start journal sent) new journal before after
+head_served apart start journal old new endpoint server sent before after s bound waits d =
+    let view = view_behind first_methods start journal in
+    let r : IsReadyIn view endpoint server sent = ready_in view old.queues endpoint server sent s.holds.queues bound waits in
+    let low = server_low start journal sent.endpoint r.pair apart s.sound s.lawful r.found in
+    let many = s.holds.servers.many in
+    let first_server = by_length old.servers r.pair.0.server (omega (arith, low, many)) in
+    serving_leads (laws apart) start journal old new sent r.pair first_server.0 before after s r.found r.first first_server.1
+    (nothing_spent view sent (views_fit (below apart) first_methods start journal s.sound s.lawful) (sessions_little start journal s.sound s.lawful).given r.first)
+    (subst (λ (n : ℕ). ServesHead old n r.pair.0.server sent new before after) (sym r.on)
+    (subst (λ (n : ℕ). ServesHead old endpoint n sent new before after) (sym r.at) d))

@@ -1,0 +1,19 @@
+-- What a world keeps, as a world that isn't spent. No public clause needs this.
+use Rattle.std.specs.Prelude.{◌≡◌, ◌≤◌, ◌*◌, ◌^◌, ℕ, Bool, false}
+use Rattle.vfs_session.specs.declared.parts.Parts.{Parts}
+use Rattle.vfs_session.specs.Steps.{IsRunning}
+use Rattle.vfs_session.specs.World.{World}
+
+abbrev pub whole : Parts → World
+whole parts = record {
+  servers = parts.servers.items;
+  queues = parts.queues;
+  known = parts.endpoints;
+  places = parts.places;
+  spent = false;
+  frames = 0;
+}
+
+-- each accepted frame takes 4,098 places at most, its own and those of its servings, so that places don't run out
+abbrev pub IsWithin : World → Bool → ℕ → Type 0
+IsWithin world spent frames = spent ≡ false → IsRunning (4098 * frames) world × (frames ≤ 2 ^ 48)

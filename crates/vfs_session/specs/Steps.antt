@@ -1,0 +1,122 @@
+-- Words of the steps of a world. No public clause needs these.
+use Rattle.std.specs.Prelude.{◌≡◌, ◌≢◌, AllPairs, ℕ, ◌+◌, ◌≤◌, ◌==◌, Bool, false, not, List, [], ◌∷◌, ◌++◌, map, filter, option_to_list, Option, Some, None, slice_get, slice_set}
+use Rattle.std.specs.Option.{option_map_or}
+use Rattle.fidl_wire.specs.Names.{AreDistinct}
+use Rattle.fidl_wire.specs.Written.{Written}
+use Rattle.endpoint_link.specs.Frames.{Frame}
+use Rattle.endpoint_link.specs.Numbering.{among}
+use Rattle.tree_file.specs.Numbering.{end_of_mount}
+use Rattle.conn_rules.specs.Births.{Position, fresh}
+use Rattle.conn_rules.specs.Built.{first_methods}
+use Rattle.vfs_journal.specs.Entries.{Journal, Sent, endpoints_in, message}
+use Rattle.vfs_journal.specs.History.{changed}
+use Rattle.vfs_journal.specs.Outcomes.{Outcome, close_frame}
+use Rattle.vfs_journal.specs.Output.{rising}
+use Rattle.vfs_journal.specs.Serving.{Moment, outcome_of_sending}
+use Rattle.vfs_journal.specs.Starts.{Bound, Start}
+use Rattle.vfs_journal.specs.View.{View, moved}
+use Rattle.journal_laws.specs.Viewing.{view_behind}
+use Rattle.message_queues.specs.Queues.{Queues, Requeues, queue_of}
+use Rattle.message_queues.specs.Queues.{Binds as QueuesBind}
+use Rattle.vfs_server.specs.Binding.{Binds as ServerBinds}
+use Rattle.vfs_server.specs.declared.fate.Fate.{Fate}
+use Rattle.vfs_server.specs.declared.fate.Fate.TheVariants as fates
+use Rattle.vfs_server.specs.Servers.{Server}
+use Rattle.vfs_server.specs.Serving.{IsMomentOf, Serves}
+use Rattle.vfs_session.specs.Places.{places_left}
+use Rattle.vfs_session.specs.World.{StandsFor, World}
+
+-- ---- the view behind each step of a serving
+
+-- the endpoint that was served has its new position, and the tree its change
+abbrev pub answered_in : View → ℕ → Outcome → View
+answered_in view endpoint outcome =
+    record view { living = map (moved endpoint outcome.position) view.living; trees = changed view.trees outcome.server outcome.change }
+
+-- what is bound is the newest
+abbrev pub bound_in : View → Option Bound → View
+bound_in view bound = record view { living = view.living ++ map (λ one. (one, fresh)) (option_to_list bound) }
+
+-- these live no more
+abbrev pub without_in : View → List ℕ → View
+without_in view dead = record view { living = filter (λ pair. not (among pair.0.endpoint dead)) view.living }
+
+-- ---- what a step counts on
+
+-- no endpoint is bound twice
+abbrev pub AreApart : List (Bound × Position) → Type 0
+AreApart living = AllPairs (λ one other. one.0.endpoint ≢ other.0.endpoint) living
+
+-- more is written behind what was
+abbrev pub Begins : List ℕ → List ℕ → Type 0
+Begins before after = (more : List ℕ) × (after ≡ before ++ more)
+
+-- names are told apart, and it stands for a journal whose places, with those that what waits can still take, are no more than so many
+pub record IsRunning (most : ℕ) (world : World) : Type 0 where
+  pub apart : AreDistinct
+  pub start : Start
+  pub journal : Journal
+  pub stands : StandsFor start world journal
+  pub few : (view_behind first_methods start journal).places + places_left (view_behind first_methods start journal) ≤ most
+
+-- ---- what each step of a serving says, of the server at which the endpoint is bound
+
+-- the server does what the outcome of the entry says, and no other does anything
+abbrev pub Answers : List Server → ℕ → ℕ → Option ℕ → Sent → Fate → Written → List Server → List ℕ → List ℕ → Type 0
+Answers old at endpoint token sent fate out new before after =
+    (one : Server) (moment : Moment) → slice_get old at ≡ Some one → IsMomentOf one endpoint token moment →
+    (now : Server) × (new ≡ slice_set old at now) × Serves moment (outcome_of_sending first_methods moment sent.sending) fate out one now before after
+
+-- what the fate binds is bound, at the server and for what waits
+abbrev pub BindsTold : ℕ → Fate → List Server → Queues → List Server → Queues → Type 0
+BindsTold at (fates.Binds object birth) old waiting new waits =
+    ((one : Server) → slice_get old at ≡ Some one → (now : Server) × (new ≡ slice_set old at now) × ServerBinds one object birth now) × QueuesBind waiting object at waits
+BindsTold at _ old waiting new waits = (new ≡ old) × (waits ≡ waiting)
+
+-- an Open that goes on, at a place, from the one at another
+abbrev pub onward_told : ℕ → ℕ → ℕ → ℕ → Written → Sent
+onward_told place origin mount object out =
+    record { place = place; endpoint = end_of_mount mount; sending = message out.bytes (object ∷ []); origin = Some origin }
+
+-- what the fate sends on waits last on its mount's end, and takes a place
+abbrev pub SendsOn : ℕ → ℕ → Fate → Written → Queues → Queues → Type 0
+SendsOn place origin (fates.Forwards mount object) out old new =
+    Requeues old (end_of_mount mount) (queue_of old (end_of_mount mount) ++ onward_told place origin mount object out ∷ []) new
+SendsOn place origin _ out old new = new ≡ old
+
+abbrev pub is_sent_on : Fate → ℕ
+is_sent_on (fates.Forwards mount object) = 1
+is_sent_on _ = 0
+
+-- ---- deaths, as a fate tells them
+
+-- the endpoint that ends
+abbrev pub end_told : ℕ → Fate → Option ℕ
+end_told endpoint fates.Stays = None
+end_told endpoint fates.Ends = Some endpoint
+end_told endpoint (fates.Binds object birth) = None
+end_told endpoint (fates.Refuses object) = Some object
+end_told endpoint (fates.Forwards mount object) = None
+
+-- the endpoint with which something was done
+abbrev pub settled_told : ℕ → Fate → Option ℕ
+settled_told endpoint fates.Stays = None
+settled_told endpoint fates.Ends = Some endpoint
+settled_told endpoint (fates.Binds object birth) = Some object
+settled_told endpoint (fates.Refuses object) = Some object
+settled_told endpoint (fates.Forwards mount object) = Some object
+
+abbrev pub is_it : Option ℕ → ℕ → Bool
+is_it one number = option_map_or (λ it. it == number) one false
+
+-- the endpoints that an entry carries, but one
+abbrev pub carried_but : Option ℕ → Sent → List ℕ
+carried_but one sent = filter (λ number. not (is_it one number)) (endpoints_in sent)
+
+-- the first that die
+abbrev pub first_told : Sent → Fate → List ℕ
+first_told sent fate = option_to_list (end_told sent.endpoint fate) ++ carried_but (settled_told sent.endpoint fate) sent
+
+-- the Close frames for deaths beside the one that the answer closed
+abbrev pub closed_for : Option ℕ → List ℕ → List Frame
+closed_for one deaths = map close_frame (rising (filter (λ number. not (is_it one number)) deaths))

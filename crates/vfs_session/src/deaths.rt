@@ -1,0 +1,68 @@
+//! The endpoints that die of a serving first.
+
+ghost use Rattle.std.specs.Prelude.{◌≡◌, ◌++◌, IfOk, OnOk};
+ghost use Rattle.vfs_session.specs.Steps.{carried_but, end_told, first_told, is_it, settled_told};
+
+use fidl_names::{NoMemory, is_client};
+use message_queues::Sent;
+use std::alloc::Global;
+use vfs_server::Fate;
+
+/// The endpoint that ends.
+pub(crate) fn end_told(endpoint: u32, fate: &Fate) -> Option<u32>
+    ensures { result ≡ end_told endpoint fate.now }
+{
+    match fate {
+        Fate::Ends => Some(endpoint),
+        Fate::Refuses { object } => Some(*object),
+        Fate::Stays | Fate::Binds { .. } | Fate::Forwards { .. } => None,
+    }
+}
+
+/// The endpoint with which something was done.
+fn settled_told(endpoint: u32, fate: &Fate) -> Option<u32>
+    ensures { result ≡ settled_told endpoint fate.now }
+{
+    match fate {
+        Fate::Stays => None,
+        Fate::Ends => Some(endpoint),
+        Fate::Binds { object, .. } | Fate::Refuses { object } | Fate::Forwards { object, .. } => {
+            Some(*object)
+        }
+    }
+}
+
+/// Whether it is this number.
+pub(crate) fn is_it(one: Option<u32>, number: u32) -> bool
+    ensures { result ≡ is_it one number }
+{
+    match one {
+        Some(it) => it == number,
+        None => false,
+    }
+}
+
+/// Adds the endpoints that an entry carries, but one.
+fn add_carried(sent: &Sent, but: Option<u32>, dying: &mut Vec<u32>) -> Result<(), NoMemory>
+    ensures { OnOk result (dying.new.items ≡ dying.old.items ++ carried_but but sent.now) }
+{
+    for handle in sent.parcel.handles() {
+        let number = handle.number();
+        if is_client(number) && !is_it(but, number) {
+            dying.push(number)?;
+        }
+    }
+    Ok(())
+}
+
+/// The endpoint that ends, and those that the entry carries and nothing is done with.
+pub(crate) fn first_deaths(alloc: Global, sent: &Sent, fate: &Fate) -> Result<Vec<u32>, NoMemory>
+    ensures { IfOk result (λ dying. dying.items ≡ first_told sent.now fate.now) }
+{
+    let mut dying = Vec::new(alloc);
+    if let Some(end) = end_told(sent.endpoint, fate) {
+        dying.push(end)?;
+    }
+    add_carried(sent, settled_told(sent.endpoint, fate), &mut dying)?;
+    Ok(dying)
+}

@@ -1,0 +1,11 @@
+//! A session over all servers of a start: what the servers and the queues hold of a view, and the steps of one serving.
+#![tactic(auto)]
+
+mod answering;
+mod closing;
+mod deaths;
+mod laws;
+mod parts;
+mod settling;
+
+pub use laws::{drains_lead_on, picks_lead_on, servings_lead_on, turns_lead_on};

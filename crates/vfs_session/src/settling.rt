@@ -1,0 +1,134 @@
+//! What becomes of endpoints: they are bound, sent on with an Open, or die.
+
+ghost use Rattle.std.specs.Prelude.{◌≡◌, ◌≢◌, ◌≤◌, ◌<◌, ◌+◌, ◌-◌, ◌^◌, ◌++◌, ℕ, true, All, AllPairs, List, None, OnOk, OnErr, Some, fold, length, slice_get, IfOk};
+ghost use Rattle.fidl_names.specs.declared.limits.TheConstants as limit;
+ghost use Rattle.endpoint_link.specs.Standings.{ended, is_live, standing_of};
+ghost use Rattle.conn_rules.specs.declared.births.Birth as code;
+ghost use Rattle.vfs_journal.specs.View.{View};
+ghost use Rattle.message_queues.specs.Dying.{AreDeaths, Buries};
+ghost use Rattle.message_queues.specs.Queues.{IsAbove, count, server_of};
+ghost use Rattle.vfs_server.specs.Binding.{HasPlace};
+ghost use Rattle.vfs_server.specs.Holding.{HoldsAt};
+ghost use Rattle.vfs_server.specs.Servers.{Server, seen};
+ghost use Rattle.vfs_session.specs.Holding.{HoldsEach};
+ghost use Rattle.vfs_session.specs.Steps.{AreApart, BindsTold, SendsOn, is_sent_on, without_in};
+
+use endpoint_link::Endpoints;
+use fidl_names::{FIRST_MOUNT_END, MAX_WAITING, NoMemory};
+use fidl_wire::Out;
+use message_queues::{Parcel, Queues, Sent};
+use std::alloc::Global;
+use vfs_server::{Fate, Server};
+
+/// Binds what a fate binds, at a server and for what waits on it.
+pub(crate) fn bind(
+    servers: &mut Vec<Server>,
+    queues: &mut Queues,
+    server: u32,
+    fate: &Fate,
+) -> Result<(), NoMemory>
+    requires within { server < length servers.old.items }
+    requires one_of { server < queues.old.servers }
+    requires free { (object : ℕ) (birth : code.Birth) (one : Server) → fate.now ≡ Fate.Binds object birth → slice_get servers.old.items server ≡ Some one → seen one object ≡ None }
+    requires place { (object : ℕ) (birth : code.Birth) (one : Server) → fate.now ≡ Fate.Binds object birth → slice_get servers.old.items server ≡ Some one → HasPlace one birth }
+    requires unbound { (object : ℕ) (birth : code.Birth) → fate.now ≡ Fate.Binds object birth → server_of queues.old object ≡ None }
+    ensures bound { OnOk result (BindsTold server fate.now servers.old.items queues.old servers.new.items queues.new) }
+    ensures count { OnOk result (count queues.new ≡ count queues.old) }
+{
+    let Fate::Binds { object, birth } = fate else {
+        return Ok(());
+    };
+    let one = &mut servers[server as usize];
+    one.bind(*object, *birth)?;
+    queues.bind(*object, server)?;
+    Ok(())
+}
+
+/// Lets these endpoints go where they are bound at a server.
+fn let_go(server: &mut Server, dead: &[u32])
+    ensures index { server.new.index ≡ server.old.index }
+    ensures gone { (view : View) → AreApart view.living → HoldsAt view server.old → HoldsAt (without_in view dead.now) server.new }
+{
+    for endpoint in dead {
+        if server.is_bound(*endpoint) {
+            server.unbind(*endpoint);
+        }
+    }
+}
+
+/// Lets these endpoints go wherever they are bound.
+fn let_all_go(servers: &mut Vec<Server>, dead: &[u32])
+    ensures gone { (view : View) → AreApart view.living → HoldsEach view servers.old.items → HoldsEach (without_in view dead.now) servers.new.items }
+{
+    for at in 0..servers.len() {
+        let server = &mut servers[at];
+        let_go(server, dead);
+    }
+}
+
+/// Ends endpoints that live, each once.
+fn end_all(endpoints: &mut Endpoints, dead: &[u32])
+    requires live { All (λ endpoint. is_live (standing_of endpoints.old endpoint) ≡ true) dead.now }
+    requires once { AllPairs (λ one other. one ≢ other) dead.now }
+    ensures { endpoints.new ≡ fold ended endpoints.old dead.now }
+{
+    for endpoint in dead {
+        endpoints.ended(*endpoint);
+    }
+}
+
+/// Buries endpoints and all that die with them: they are bound no more, what was sent on them waits no
+/// more, and they are known to be dead. Tells who died, each once.
+pub(crate) fn bury(
+    alloc: Global,
+    servers: &mut Vec<Server>,
+    queues: &mut Queues,
+    endpoints: &mut Endpoints,
+    dying: &[u32],
+) -> Result<Vec<u32>, NoMemory>
+    requires live { (dead : List ℕ) → AreDeaths queues.old dying.now dead → All (λ endpoint. is_live (standing_of endpoints.old endpoint) ≡ true) dead }
+    requires counted { count queues.old ≡ endpoints.old.waiting }
+    ensures died { IfOk result (λ dead. AreDeaths queues.old dying.now dead.items) }
+    ensures buried { IfOk result (λ dead. Buries queues.old dead.items queues.new) }
+    ensures gone { (view : View) → AreApart view.living → HoldsEach view servers.old.items → IfOk result (λ dead. HoldsEach (without_in view dead.items) servers.new.items) }
+    ensures known { IfOk result (λ dead. endpoints.new ≡ record (fold ended endpoints.old dead.items) { waiting = count queues.new }) }
+{
+    let before = queues.len();
+    let dead = queues.bury(alloc, dying)?;
+    endpoints.dropped(before - queues.len());
+    end_all(endpoints, &dead);
+    let_all_go(servers, &dead);
+    Ok(dead)
+}
+
+/// Sends an Open that goes on to its mount's end, at a place, and tells how many places that takes.
+pub(crate) fn send_on(
+    alloc: Global,
+    queues: &mut Queues,
+    endpoints: &mut Endpoints,
+    out: &Out,
+    place: u64,
+    origin: u64,
+    fate: &Fate,
+) -> Result<u64, NoMemory>
+    requires low { (mount object : ℕ) → fate.now ≡ Fate.Forwards mount object → mount < 2 ^ 30 }
+    requires newest { IsAbove queues.old place }
+    requires few { count queues.old < MAX_WAITING }
+    requires counted { count queues.old ≡ endpoints.old.waiting }
+    ensures sent { OnOk result (SendsOn place origin fate.now out.now queues.old queues.new) }
+    ensures count { IfOk result (λ places. places ≡ is_sent_on fate.now) }
+    ensures known { OnOk result (endpoints.new ≡ record endpoints.old { waiting = count queues.new }) }
+{
+    let Fate::Forwards { mount, object } = fate else {
+        return Ok(0);
+    };
+    let parcel = Parcel::carrying(alloc, out.as_bytes(), *object)?;
+    queues.push(Sent {
+        place,
+        endpoint: FIRST_MOUNT_END + *mount,
+        parcel,
+        origin: Some(origin),
+    })?;
+    endpoints.forwarded_one();
+    Ok(1)
+}
