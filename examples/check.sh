@@ -24,6 +24,11 @@ declare -A bytes=(
         6e6f706500000000'
     [missing]='04000000 01 00 0000 18000000  00000000 02000001 ffffffffffffffff e7ffffff 00000000
         04000000 02 00 0000 00000000'
+    # A refusal, a message of four bytes and a Close frame, and their lines.
+    [refusal]='01000000 05 00 0000 04000000  f5ffffff'
+    [four]='01000000 01 00 0000 04000000  61626364'
+    [closed]='01000000 02 00 0000 00000000'
+    [lines]='312072656675736564202d31310a31206d65737361676520726177202d2036313632363336340a3120636c6f73650a'
     # Fixed parts, each bad for one reason, and the front of a Read.
     [kind]='01000000 09 00 0000 00000000'
     [zero]='01000000 01 00 0100 00000000'
@@ -57,6 +62,8 @@ an input that ends in a frame   | file examples/hello               | read front
 a file of the largest size      | file @full                        | nothing     | nothing      | 0 |
 a file that is too large        | file @over                        | read        | nothing      | 5 | file too large
 a file that isn't there         | file @none                        | read        | nothing      | 5 | file failed
+frames as lines                 | show                              | refusal four closed | lines | 0 |
+frames and a bad kind           | show                              | refusal four closed kind | lines | 6 | bad frame at 44: kind
 an Open over a tree             | serve examples/trees/small.toml auto | open     | missing      | 0 |
 an unknown endpoint over a tree | serve examples/trees/small.toml auto | stray open | refused missing | 0 |
 a bad frame over a tree         | serve examples/trees/small.toml auto | open kind | missing     | 6 | bad frame at 88: kind
@@ -73,7 +80,7 @@ a tree that isn't there         | check @none                       | nothing   
 a tree that is too large        | check @large                      | nothing     | nothing      | 5 | file too large
 no word                         |                                   | read        | nothing      | 1 | $usage
 a word too many                 | file examples/hello more          | read        | nothing      | 1 | $usage
-a command that isn't there yet  | show                              | nothing     | nothing      | 1 | $usage
+a command that isn't there yet  | make 1                            | nothing     | nothing      | 1 | $usage
 "
 
 # Writes what a cell of the table stands for: bytes by their names, or a line of text.

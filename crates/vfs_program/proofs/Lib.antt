@@ -10,3 +10,4 @@ pub mod TreeLemmas
 pub mod Complete
 pub mod NoteLemmas
 pub mod SeenLemmas
+mod ShowLemmas

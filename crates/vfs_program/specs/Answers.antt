@@ -15,10 +15,11 @@ use Rattle.vfs_program.specs.Files.{IsFileFault}
 use Rattle.vfs_program.specs.OneFile.{file_course}
 use Rattle.vfs_program.specs.Outside.{Outside, sink_of}
 use Rattle.vfs_program.specs.Session.{SessionAnswers, IsWhole}
+use Rattle.vfs_program.specs.Shown.{lines_course}
 use Rattle.vfs_program.specs.Texts.{WritesText}
 use Rattle.vfs_program.specs.TreeSession.{tree_course}
 use Rattle.vfs_program.specs.Trees.{Stands, IsBuilt, line_of}
-use Rattle.vfs_program.specs.Words.{Asks, FileOf, ServeOf, CheckOf}
+use Rattle.vfs_program.specs.Words.{Asks, FileOf, ServeOf, CheckOf, ShowAll}
 
 -- what each command answers: its causes in their order, and then its work
 abbrev pub Answers : Asks → Outside → Outside → Type 0 → Type 0 → Status → Type 0
@@ -34,6 +35,8 @@ Answers (ServeOf tree) before after source_same sink_same =
 Answers (CheckOf tree) before after source_same sink_same =
     λ status. source_same × AfterTree tree before.files after.files sink_same
     (λ lists. WritesText (line_of lists) ⊥ (sink_of before.streams) (sink_of after.streams)) status
+Answers ShowAll before after source_same sink_same =
+    AfterNames (source_same × sink_same) (SessionAnswers side.Any lines_course before.streams after.streams sink_same)
 
 -- the file is told, and within its limit
 abbrev pub HasFile : List ℕ → Outside → Type 0
@@ -49,12 +52,14 @@ abbrev pub IsServable : Asks → Outside → Type 0
 IsServable (FileOf name) before = AreDistinct × HasFile name before × IsWhole side.ToServers before.streams
 IsServable (ServeOf tree) before = AreDistinct × HasTree tree before IsBuilt × IsWhole side.ToServers before.streams
 IsServable (CheckOf tree) before = HasTree tree before (λ lists. Unit {0})
+IsServable ShowAll before = AreDistinct × IsWhole side.Any before.streams
 
 -- the file that a command names, and the source where it reads that, met a fault
 abbrev pub FileRose : Asks → Outside → Outside → Type 0
 FileRose (FileOf name) before after = IsFileFault name before.files after.files
 FileRose (ServeOf tree) before after = IsFileFault tree before.files after.files
 FileRose (CheckOf tree) before after = IsFileFault tree before.files after.files
+FileRose ShowAll before after = ⊥
 
 abbrev pub SourceRose : Asks → Outside → Outside → Type 0
 SourceRose (CheckOf tree) before after = ⊥

@@ -12,6 +12,7 @@ pub mod Serving
 pub mod Files
 pub mod Trees
 pub mod TreeSession
+pub mod Shown
 pub mod Texts
 pub mod Causes
 pub mod Answers

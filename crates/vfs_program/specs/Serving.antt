@@ -3,7 +3,7 @@ use Rattle.std.specs.Prelude.{◌≡◌, ℕ, ◌+◌, ◌≤◌, ◌-◌, ◌�
 use Rattle.std.specs.Io.KnownBytes.{Appends}
 use Rattle.host_io.specs.Streams.{AppendsPart, IsFlushed}
 use Rattle.endpoint_link.specs.Frames.{Frame, IsFrame, spellings, IsPartial, IsBadFront}
-use Rattle.endpoint_link.specs.declared.kinds.Side.TheVariants.{ToServers}
+use Rattle.endpoint_link.specs.declared.kinds.Side.{Side}
 use Rattle.vfs_program.specs.declared.statuses.Status.{Status}
 use Rattle.vfs_program.specs.declared.statuses.Status.TheVariants as status
 use Rattle.vfs_program.specs.declared.sessions.Served.{Served}
@@ -34,10 +34,10 @@ pub record HeardEnd (course : Course) (frames : List Frame) (held held' : List �
   pub appends : held' ≡ held ++ part
 
 -- the first n bytes are whole frames; what is written for them went to the sink, but for what is held back
-pub record Heard (course : Course) (Stands : List Frame → Type 0) (before : List Frame) (bytes : List ℕ)
+pub record Heard (side : Side) (course : Course) (Stands : List Frame → Type 0) (before : List Frame) (bytes : List ℕ)
     (written written' : Option (List ℕ)) (held : List ℕ) (n : ℕ) : Type 0 where
   pub frames : List Frame
-  pub each : All (IsFrame ToServers) frames
+  pub each : All (IsFrame side) frames
   pub split : bytes ≡ spellings frames ++ drop n bytes
   pub size : length (spellings frames) ≡ n
   pub stands : Stands (before ++ frames)
@@ -46,26 +46,26 @@ pub record Heard (course : Course) (Stands : List Frame → Type 0) (before : Li
   pub passed : Passes written written' owed held
 
 -- some frames stand in front, and a part of what is written for them was written
-pub record HeardPart (course : Course) (before : List Frame) (bytes : List ℕ) (written written' : Option (List ℕ)) : Type 0 where
+pub record HeardPart (side : Side) (course : Course) (before : List Frame) (bytes : List ℕ) (written written' : Option (List ℕ)) : Type 0 where
   pub frames : List Frame
-  pub each : All (IsFrame ToServers) frames
+  pub each : All (IsFrame side) frames
   pub begins : IsFront (spellings frames) bytes
   pub part : List ℕ
   pub lawful : IsFront (course.so_far before ++ part) (course.so_far (before ++ frames))
   pub got : Appends written written' part
 
-abbrev pub IsServing : Course → (List Frame → Type 0) → List Frame → List ℕ → Option (List ℕ) → Option (List ℕ) → List ℕ → Served → Type 0
-IsServing course Stands before bytes written written' held (served.Rest n) =
-    Heard course Stands before bytes written written' held n × IsPartial ToServers (drop n bytes)
-IsServing course Stands before bytes written written' held (served.Bad n why) =
-    Heard course Stands before bytes written written' held n × IsBadFront ToServers (drop n bytes) why
-IsServing course Stands before bytes written written' held served.Failed = HeardPart course before bytes written written'
+abbrev pub IsServing : Side → Course → (List Frame → Type 0) → List Frame → List ℕ → Option (List ℕ) → Option (List ℕ) → List ℕ → Served → Type 0
+IsServing side course Stands before bytes written written' held (served.Rest n) =
+    Heard side course Stands before bytes written written' held n × IsPartial side (drop n bytes)
+IsServing side course Stands before bytes written written' held (served.Bad n why) =
+    Heard side course Stands before bytes written written' held n × IsBadFront side (drop n bytes) why
+IsServing side course Stands before bytes written written' held served.Failed = HeardPart side course before bytes written written'
 
 -- what is left behind the frames that were heard, with the number of frames before and after
-abbrev pub Leaves : List ℕ → ℕ → ℕ → Served → Type 0
-Leaves bytes count count' (served.Rest n) = (n ≤ length bytes) × (count' ≤ count + n) × IsPartial ToServers (drop n bytes)
-Leaves bytes count count' (served.Bad n why) = n ≤ length bytes
-Leaves bytes count count' served.Failed = Unit {0}
+abbrev pub Leaves : Side → List ℕ → ℕ → ℕ → Served → Type 0
+Leaves side bytes count count' (served.Rest n) = (n ≤ length bytes) × (count' ≤ count + n) × IsPartial side (drop n bytes)
+Leaves side bytes count count' (served.Bad n why) = n ≤ length bytes
+Leaves side bytes count count' served.Failed = Unit {0}
 
 -- it holds where a write failed
 abbrev pub FailsOnly : Served → Type 0 → Type 0

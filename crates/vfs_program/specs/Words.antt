@@ -1,7 +1,7 @@
 -- The words that the program is called with.
 use Rattle.std.specs.Prelude.{◌≡◌, ℕ, List, [], ◌∷◌, codes}
 use Rattle.vfs_program.specs.declared.words.Command.{Command}
-use Rattle.vfs_program.specs.declared.words.Command.TheVariants.{File, Serve, Check}
+use Rattle.vfs_program.specs.declared.words.Command.TheVariants.{File, Serve, Check, Show}
 
 -- what the words ask for
 pub data Asks : Type 0 where
@@ -11,12 +11,15 @@ pub data Asks : Type 0 where
   ServeOf : (tree : List ℕ) → Asks
   -- tell whether the tree file of this name stands
   CheckOf : (tree : List ℕ) → Asks
+  -- print each frame of the source as a line
+  ShowAll : Asks
 
 -- the words have this command's shape
 abbrev pub Means : List (List ℕ) → Asks → Type 0
 Means words (FileOf name) = words ≡ codes "file" ∷ name ∷ []
 Means words (ServeOf tree) = words ≡ codes "serve" ∷ tree ∷ codes "auto" ∷ []
 Means words (CheckOf tree) = words ≡ codes "check" ∷ tree ∷ []
+Means words ShowAll = words ≡ codes "show" ∷ []
 
 -- the words have no command's shape
 abbrev pub MeanNothing : List (List ℕ) → Type 0
@@ -27,3 +30,4 @@ abbrev pub command_seen : Command → Asks
 command_seen (File name) = FileOf name.now
 command_seen (Serve tree) = ServeOf tree.now
 command_seen (Check tree) = CheckOf tree.now
+command_seen Show = ShowAll

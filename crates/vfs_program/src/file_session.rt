@@ -9,7 +9,7 @@ use crate::input::Input;
 use crate::one_file::{Connection, MOST_ANSWER};
 use crate::sessions::{Session, run};
 use crate::statuses::Status;
-use endpoint_link::{FrameRoom, FrameView};
+use endpoint_link::{FrameRoom, FrameView, Side};
 use fidl_names::{MAX_FILE, MAX_PIECE, NoMemory};
 use fidl_wire::{OrdinalFault, Ordinals};
 use host_io::{FileFault, Files, Sink, Source};
@@ -81,6 +81,9 @@ impl Session for FileSession {
     ghost use Rattle.vfs_program.specs.declared.file_session.TheConstants.{ROOM};
     ghost use Rattle.std.specs.Prelude.{◌≡◌, ◌≤◌, length};
     ghost use Rattle.vfs_program.specs.OneFile.{file_course, IsBehind};
+    ghost use Rattle.endpoint_link.specs.declared.kinds.Side.TheVariants as side;
+
+    ghost side = { side.ToServers };
 
     ghost stands = { λ s course frames. (course ≡ file_course s.file.items)
         × IsBehind s.file.items (record { live = s.connection.live; position = s.connection.position }) frames };
@@ -90,6 +93,10 @@ impl Session for FileSession {
     ghost heard = { λ s. 0 };
 
     ghost ready = { λ s. (s.connection.position ≤ length s.file.items) × (s.room.size ≡ ROOM) };
+
+    fn side(&self) -> Side {
+        Side::ToServers
+    }
 
     fn hear(&mut self, frame: FrameView<'_>) -> Result<(), NoMemory> {
         self.connection.hear(&self.file, frame, &mut self.room);

@@ -13,6 +13,7 @@ mod replies;
 mod rows;
 mod run;
 mod sessions;
+mod show;
 mod statuses;
 #[cfg(test)]
 mod tests;

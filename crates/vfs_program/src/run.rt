@@ -9,6 +9,7 @@ ghost use Rattle.vfs_program.specs.declared.statuses.Status.TheVariants as statu
 use crate::checks::check_tree;
 use crate::file_session::serve_file;
 use crate::notes::tell;
+use crate::show::show;
 use crate::statuses::Status;
 use crate::tree_session::serve_tree;
 use crate::words::{Command, command_of};
@@ -71,6 +72,7 @@ fn answer<F: Files, S: Source, K: Sink>(
         Some(Command::File { name }) => serve_file(alloc, name, files, source, sink),
         Some(Command::Serve { tree }) => serve_tree(alloc, tree, files, source, sink),
         Some(Command::Check { tree }) => check_tree(alloc, tree, files, sink),
+        Some(Command::Show) => show(alloc, source, sink),
         None => Status::Usage,
     }
 }

@@ -4,7 +4,7 @@ ghost use Rattle.host_io.specs.Causes.{HasCause, Rose};
 ghost use Rattle.host_io.specs.Streams.{AppendsPart, IsFlushed};
 ghost use Rattle.endpoint_link.specs.Frames.{Frame, IsFrame};
 ghost use Rattle.endpoint_link.specs.Views.{frame_of};
-ghost use Rattle.endpoint_link.specs.declared.kinds.Side.TheVariants as side;
+ghost use Rattle.endpoint_link.specs.declared.kinds.Side.{Side};
 ghost use Rattle.vfs_program.specs.Outside.{streams_told};
 ghost use Rattle.vfs_program.specs.Serving.{IsGrowing, PassedOn, Passes, HeardOne, HeardEnd, HeardPart, IsServing, FailsOnly, Leaves, Finishes, end_of};
 ghost use Rattle.vfs_program.specs.Session.{Course, SessionAnswers};
@@ -17,6 +17,9 @@ use host_io::{Failed, Sink, Source, write_whole};
 
 /// A session, frame by frame. What is written for its frames is held back, until it is passed on.
 pub trait Session {
+    /// The side that its frames come to.
+    ghost side: { Side };
+
     /// It stands behind these frames of a session of this course.
     ghost stands: { Self → Course → List Frame → Type 0 };
 
@@ -29,9 +32,13 @@ pub trait Session {
     /// It can hear a frame.
     ghost ready: { Self → Type 0 };
 
+    /// The side that its frames come to.
+    fn side(&self) -> Side
+        ensures { result ≡ side };
+
     /// Hears one frame.
     fn hear(&mut self, frame: FrameView<'_>) -> Result<(), NoMemory>
-        requires frame { IsFrame side.ToServers (frame_of frame) }
+        requires frame { IsFrame side (frame_of frame) }
         requires ready { ready self.old }
         requires room { length (holds self.old) < limit.MAX_PIECE }
         requires few { heard self.old < limit.MAX_INPUT }
@@ -81,7 +88,7 @@ pub fn run<H: Session, S: Source, K: Sink>(
     requires ready { H.ready session.old }
     requires empty { H.holds session.old ≡ [] }
     requires count { H.heard session.old ≡ 0 }
-    ensures { (course : Course) → IsGrowing course → H.stands session.old course [] → SessionAnswers side.ToServers course
+    ensures { (course : Course) → IsGrowing course → H.stands session.old course [] → SessionAnswers H.side course
         (streams_told S.left S.faults K.written K.flushed K.faults source.old sink.old)
         (streams_told S.left S.faults K.written K.flushed K.faults source.new sink.new)
         (sink.new ≡ sink.old) result }
@@ -130,18 +137,18 @@ fn serve<H: Session, K: Sink>(
     requires empty { H.holds session.old ≡ [] }
     requires few { H.heard session.old + length bytes.now ≤ limit.MAX_INPUT }
     ensures served { (course : Course) (before : List Frame) → H.stands session.old course before →
-        IfOk result (IsServing course (H.stands session.new course) before bytes.now
+        IfOk result (IsServing H.side course (H.stands session.new course) before bytes.now
         (K.written sink.old) (K.written sink.new) (H.holds session.new)) }
     ensures starved { (course : Course) (before : List Frame) → H.stands session.old course before →
-        OnErr result (IsTrue course.starves × HeardPart course before bytes.now (K.written sink.old) (K.written sink.new)) }
-    ensures leaves { IfOk result (Leaves bytes.now (H.heard session.old) (H.heard session.new)) }
+        OnErr result (IsTrue course.starves × HeardPart H.side course before bytes.now (K.written sink.old) (K.written sink.new)) }
+    ensures leaves { IfOk result (Leaves H.side bytes.now (H.heard session.old) (H.heard session.new)) }
     ensures ready { OnOk result (H.ready session.new) }
     ensures faults { K.faults sink.old ≤ K.faults sink.new }
     ensures cause { IfOk result (λ served. FailsOnly served (Rose (K.faults sink.old) (K.faults sink.new))) }
 {
     let mut at = 0;
     'frames: loop {
-        match frame_at(Side::ToServers, &bytes[at..]) {
+        match frame_at(session.side(), &bytes[at..]) {
             Reading::Whole { frame, size } => {
                 if let Err(NoMemory) = session.hear(frame) {
                     return Err(NoMemory);

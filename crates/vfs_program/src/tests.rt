@@ -154,7 +154,10 @@ const MIXED: &str =
     "01000000010000001800000001000000020000014c01b891c67ff240050000000000000002000000020000000000000001000000010000001800000001000000020000014c01b891c67ff2400500000000000000010000000100000018000000[00*24]";
 
 /// What its prefixes are the input of.
-const PREFIXES: &str = "prefixes | file held | 'hello world | - | - | - | 1000,1000";
+const PREFIXES: &str = r#"
+prefixes | file held | 'hello world | - | - | - | 1000,1000
+prefixes as lines | show | 'hello world | - | - | - | 1000,1000
+"#;
 
 /// Where the frame begins that a place of it lies in, or `None` between frames.
 fn begun(at: usize) -> Option<u64> {

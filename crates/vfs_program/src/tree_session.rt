@@ -15,7 +15,7 @@ use crate::input::Input;
 use crate::sessions::{Session, run};
 use crate::statuses::Status;
 use crate::trees::read_start;
-use endpoint_link::{FrameView, Outbox};
+use endpoint_link::{FrameView, Outbox, Side};
 use fidl_names::NoMemory;
 use fidl_wire::{OrdinalFault, Ordinals};
 use host_io::{Files, Sink, Source};
@@ -88,6 +88,9 @@ impl Session for TreeSession {
     ghost use Rattle.endpoint_link.specs.declared.kinds.Mode.TheVariants as mode;
     ghost use Rattle.vfs_journal.specs.Starts.{Start as TheStart};
     ghost use Rattle.vfs_program.specs.TreeSession.{tree_course, StandsBehind};
+    ghost use Rattle.endpoint_link.specs.declared.kinds.Side.TheVariants as side;
+
+    ghost side = { side.ToServers };
 
     ghost stands = { λ s course frames.
         (start : TheStart) × (course ≡ tree_course start mode.Auto) × StandsBehind start mode.Auto s.world frames };
@@ -97,6 +100,10 @@ impl Session for TreeSession {
     ghost heard = { λ s. s.world.frames };
 
     ghost ready = { λ s. Unit {0} };
+
+    fn side(&self) -> Side {
+        Side::ToServers
+    }
 
     fn hear(&mut self, frame: FrameView<'_>) -> Result<(), NoMemory> {
         hear(&mut self.world, frame, &mut self.outbox)

@@ -7,6 +7,7 @@ pub enum Command<'a> {
     File { name: &'a str },
     Serve { tree: &'a str },
     Check { tree: &'a str },
+    Show,
 }
 
 /// Reads the words by their exact shape. `None` exactly where they have none.
@@ -26,6 +27,7 @@ pub fn command_of(words: &[String]) -> Option<Command<'_>>
         [first, tree] if is_word(first, "check") => Some(Command::Check {
             tree: tree.as_str(),
         }),
+        [only] if is_word(only, "show") => Some(Command::Show),
         _ => None,
     }
 }

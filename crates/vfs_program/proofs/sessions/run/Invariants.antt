@@ -2,7 +2,6 @@ use Rattle.std.proofs.Common.{◌≡◌, ◌≤◌, ◌+◌, ◌-◌, ◌⊎◌,
 use Rattle.fidl_names.specs.declared.limits.TheConstants as limit
 use Rattle.host_io.specs.Streams.{IsFlushed}
 use Rattle.endpoint_link.specs.Frames.{IsPartial}
-use Rattle.endpoint_link.specs.declared.kinds.Side.TheVariants.{ToServers}
 use Rattle.vfs_program.specs.Serving.{IsGrowing}
 use Rattle.vfs_program.specs.Session.{Course}
 use Rattle.vfs_program.proofs.Progress.{Progress}
@@ -11,10 +10,10 @@ use Rattle.vfs_program.proofs.sessions.run.Given as goal
 abbrev pub invariant-loop-taken : goal.invariant-loop-taken
 invariant-loop-taken g l = record {
   progress : (course : Course) → IsGrowing course → g.H.Session.stands l.initial.session course []
-      → Progress course (g.H.Session.stands l.session course)
+      → Progress g.H.Session.side course (g.H.Session.stands l.session course)
       (g.S.Source.left l.initial.source) (g.S.Source.left l.source) (g.K.Sink.written l.initial.sink) (g.K.Sink.written l.sink)
       l.taken l.input;
-  partial : IsPartial ToServers l.input;
+  partial : IsPartial g.H.Session.side l.input;
   counted : g.H.Session.heard l.session + length l.input ≤ l.taken;
   bound : l.taken ≤ limit.MAX_INPUT;
   ready : g.H.Session.ready l.session;

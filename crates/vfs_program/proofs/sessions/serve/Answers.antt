@@ -3,14 +3,13 @@ use Rattle.std.proofs.lemmas.List.{take_rest}
 use Rattle.std.proofs.KnownBytes.{Appends-nil}
 use Rattle.endpoint_link.specs.Frames.{spelling}
 use Rattle.endpoint_link.specs.Views.{IsWholeFront, frame_of}
-use Rattle.endpoint_link.specs.declared.kinds.Side.TheVariants.{ToServers}
 use Rattle.vfs_program.proofs.Progress.{heard_part}
 use Rattle.vfs_program.proofs.ServingLemmas.{Heard-none, Heard-pass, Heard-more, Heard-stands, spelling_long}
 use Rattle.vfs_program.proofs.sessions.serve.Goals as goal
 
 pub frames-init : goal.frames-init
 frames-init g c = record {
-  heard = λ course before behind. Heard-none course (g.H.Session.stands c.args.session.now course) before c.args.bytes.now _ _ c.requires.empty behind;
+  heard = λ course before behind. Heard-none g.H.Session.side course (g.H.Session.stands c.args.session.now course) before c.args.bytes.now _ _ c.requires.empty behind;
   ready = c.requires.ready;
   room = omega (arith, ap length c.requires.empty);
   few = omega arith;
@@ -24,14 +23,14 @@ frames-preserved g c =
     let bytes = c.args.bytes.now in
     let frame = frame_of c.in-Whole.frame in
     let size = c.in-Whole.size in
-    let front : IsWholeFront ToServers (drop at bytes) frame size = rw take_rest at c.in-Whole.ensures in
+    let front : IsWholeFront g.H.Session.side (drop at bytes) frame size = rw (take_rest, c.side.ensures) at c.in-Whole.ensures in
     record {
       heard = λ course before behind.
           let heard = c.frames.invariant.heard course before behind in
           let one = c.in_default.ensures.heard course (before ++ heard.frames) heard.stands in
-          let more = Heard-more course (g.H.Session.stands c.frames.session course) (g.H.Session.stands c.hear.new.self course) before bytes _ _ _ _ at size frame heard front one in
-          let passed = Heard-pass course (g.H.Session.stands c.hear.new.self course) before bytes _ _ _ _ _ (at + size) more c.in_default-make_room.ensures.passed in
-          Heard-stands course (g.H.Session.stands c.hear.new.self course) (g.H.Session.stands c.make_room.new.session course) before bytes _ _ _ (at + size) passed
+          let more = Heard-more g.H.Session.side course (g.H.Session.stands c.frames.session course) (g.H.Session.stands c.hear.new.self course) before bytes _ _ _ _ at size frame heard front one in
+          let passed = Heard-pass g.H.Session.side course (g.H.Session.stands c.hear.new.self course) before bytes _ _ _ _ _ (at + size) more c.in_default-make_room.ensures.passed in
+          Heard-stands g.H.Session.side course (g.H.Session.stands c.hear.new.self course) (g.H.Session.stands c.make_room.new.session course) before bytes _ _ _ (at + size) passed
           (c.make_room.ensures.stands course (before ++ passed.frames) passed.stands);
       ready = c.make_room.ensures.ready c.in_default.ensures.ready;
       room = c.in_default-make_room.ensures.bounded;
@@ -44,7 +43,7 @@ pub returns-in-Err-clause-starved : goal.returns-in-Err-clause-starved
 returns-in-Err-clause-starved g c = λ course before behind.
     let heard = c.frames.invariant.heard course before behind in (
       c.in-Err.ensures.memory course (before ++ heard.frames) heard.stands,
-      heard_part course (g.H.Session.stands c.frames.session course) before c.args.bytes.now _ _ _ (g.H.Session.holds c.frames.session) c.frames.at
+      heard_part g.H.Session.side course (g.H.Session.stands c.frames.session course) before c.args.bytes.now _ _ _ (g.H.Session.holds c.frames.session) c.frames.at
           heard ([], g.H.Session.holds c.frames.session, refl, Appends-nil (g.K.Sink.written c.frames.sink)),
     )
 
@@ -54,9 +53,9 @@ returns-in-Err-make_room-clause-served g c = λ course before behind.
     let bytes = c.args.bytes.now in
     let frame = frame_of c.in-Whole.frame in
     let size = c.in-Whole.size in
-    let front : IsWholeFront ToServers (drop at bytes) frame size = rw take_rest at c.in-Whole.ensures in
+    let front : IsWholeFront g.H.Session.side (drop at bytes) frame size = rw (take_rest, c.side.ensures) at c.in-Whole.ensures in
     let heard = c.frames.invariant.heard course before behind in
     let one = c.in_default.ensures.heard course (before ++ heard.frames) heard.stands in
-    heard_part course (g.H.Session.stands c.hear.new.self course) before bytes _ _ _ (g.H.Session.holds c.hear.new.self) (at + size)
-    (Heard-more course (g.H.Session.stands c.frames.session course) (g.H.Session.stands c.hear.new.self course) before bytes _ _ _ _ at size frame heard front one)
+    heard_part g.H.Session.side course (g.H.Session.stands c.hear.new.self course) before bytes _ _ _ (g.H.Session.holds c.hear.new.self) (at + size)
+    (Heard-more g.H.Session.side course (g.H.Session.stands c.frames.session course) (g.H.Session.stands c.hear.new.self course) before bytes _ _ _ _ at size frame heard front one)
     c.in-Err-make_room.ensures.part

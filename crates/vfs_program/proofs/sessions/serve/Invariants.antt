@@ -8,7 +8,7 @@ use Rattle.vfs_program.proofs.sessions.serve.Given as goal
 abbrev pub invariant-frames : goal.invariant-frames
 invariant-frames g l = record {
   heard : (course : Course) (before : List Frame) → g.H.Session.stands l.initial.session course before
-      → Heard course (g.H.Session.stands l.session course) before l.bytes
+      → Heard g.H.Session.side course (g.H.Session.stands l.session course) before l.bytes
       (g.K.Sink.written l.initial.sink) (g.K.Sink.written l.sink) (g.H.Session.holds l.session) l.at;
   ready : g.H.Session.ready l.session;
   room : length (g.H.Session.holds l.session) < limit.MAX_PIECE;
