@@ -47,7 +47,7 @@
 //! client.hang_up(2, &mut outbox)?;
 //! ```
 //!
-//! Messages on endpoint 3 are `Taken::Watch` from then on. The tests run this exchange byte by byte.
+//! Messages on endpoint 3 are `Taken::Watch` from then on. A test runs this exchange byte by byte.
 #![tactic(auto)]
 
 mod calls;
@@ -58,6 +58,3 @@ mod taking;
 pub use client::Client;
 pub use faults::ClientFault;
 pub use taking::Taken;
-
-#[cfg(test)]
-mod tests;

@@ -6,9 +6,7 @@ use Rattle.std.proofs.lemmas.Option.{same_Some}
 use Rattle.std.proofs.lemmas.List.{length-drop, length-map}
 use Rattle.io_messages.specs.Asked.{Asked, method_of}
 use Rattle.io_messages.specs.Shapes.{is_one_way}
-use Rattle.io_client.specs.Calls.{call_cmp, none_yet, watcher_of}
-use Rattle.std.specs.FinMap.{get-empty}
-use Rattle.vfs_script.specs.Noting.{IsFree}
+use Rattle.io_client.specs.Calls.{watcher_of}
 use Rattle.endpoint_link.specs.declared.kinds.Mode.{Mode}
 use Rattle.vfs_script.specs.declared.calls.Call.{Call}
 use Rattle.vfs_script.specs.Lines.{Line, request, raw, hang_up, turn, pick, line_of, fits_at, call_of}
@@ -330,9 +328,3 @@ later_higher low (Some first ∷ calls) (suc i) (suc j) a b h lt at later = late
 
 pub are_apart : (calls : List (Option Call)) → AreCalls 0 calls → AreApart calls
 are_apart calls h = λ i j a b lt at later. later_higher 0 calls i j a b h lt at later
-
--- no call waits before the first
-pub free_at_first : (found : Option (Option Call)) → IsFree none_yet found
-free_at_first None = tt
-free_at_first (Some None) = tt
-free_at_first (Some (Some call)) = get-empty call_cmp (call.endpoint, call.txid)

@@ -19,6 +19,3 @@ pub use laws::calls_are_apart;
 pub use outtext::Outtext;
 pub use printing::{print_counts, print_frame};
 pub use script::{Script, script_of};
-
-#[cfg(test)]
-mod tests;

@@ -6,6 +6,3 @@ mod reading;
 
 pub use laws::events_are_read_once;
 pub use reading::{Events, Seen, read_events};
-
-#[cfg(test)]
-mod tests;

@@ -1,0 +1,10 @@
+//! Outside values of the client, of scripts and of what watchers are told, and the tests that read them.
+//! They stand in a crate of their own, since a crate with tests is proved a second time with them.
+#![tactic(auto)]
+
+#[cfg(test)]
+mod client;
+#[cfg(test)]
+mod scripts;
+#[cfg(test)]
+mod watchers;
