@@ -15,6 +15,7 @@ use Rattle.node_graph.proofs.RowLists.{same_some}
 use Rattle.node_graph.proofs.States.{cases, same, other}
 use Rattle.node_graph.proofs.Ordered.{entries-map_of}
 use Rattle.node_graph.proofs.Linked.{edges_of-empty}
+use Rattle.node_graph.proofs.Loops.{NoLoop, no_loop_bare}
 use Rattle.node_graph.proofs.Seats.{seat_came, seat_at}
 
 abbrev pub root_cell : Cell
@@ -44,6 +45,7 @@ module _ (bare nodes : Slab Cell) (place : ℕ) (none : (p : ℕ) → get bare p
     parents = λ key to there. absurd (no_end key to there);
     one_name = λ p c there single. let links : c.links ≡ 0 = ap (λ (c : Cell). c.links) (only p c there).1 in omega (arith, links);
     ways_up = λ key to c there directory at. absurd (no_end key to there);
+    no_loop = subst NoLoop (sym edges_of-empty) no_loop_bare;
     few = omega (arith, finite.len-empty edge_cmp Target);
     room = omega arith;
   }

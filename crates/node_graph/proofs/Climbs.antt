@@ -1,5 +1,5 @@
 -- The directory in which a directory has its name.
-use Rattle.std.proofs.Common.{◌≡◌, ◌≢◌, ℕ, zero, suc, ◌+◌, ◌<◌, ◌≤◌, List, [], ◌∷◌, length, map, Option, Some, None, refl, ap, sym, ◌∙◌, subst, arith, cond, Bool, true, false, nat_lt}
+use Rattle.std.proofs.Common.{◌≡◌, ◌≢◌, ℕ, suc, ◌≤◌, List, [], ◌∷◌, length, map, Some, None, refl, ap, sym, ◌∙◌, arith, cond, Bool, true, false, nat_lt}
 use Rattle.std.specs.Prelude.{◌==◌, ◌||◌, filter}
 use Rattle.std.specs.List.{list_any}
 use Rattle.std.specs.Option.{option_map}
@@ -16,7 +16,7 @@ use Rattle.node_graph.specs.Graph.{Seat, Kept, seat_of, Names, kind_at}
 use Rattle.node_graph.specs.Ends.{Ends, end_of, edges_of}
 use Rattle.node_graph.specs.Rows.{seat_from, kept_of, Sits, AreRows}
 use Rattle.node_graph.proofs.RowLists.{same_some, mapped}
-use Rattle.node_graph.proofs.Ordered.{Same, same_or_other, same, other}
+use Rattle.node_graph.proofs.Ordered.{same_or_other, same, other}
 use Rattle.node_graph.proofs.Linked.{get-edges_of, linked_by, linked_counted}
 use Rattle.node_graph.proofs.Seats.{seat_at, seat_here, number_here}
 use Rattle.node_graph.proofs.Steps.{equal_numbers, apart_numbers}

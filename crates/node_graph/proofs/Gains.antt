@@ -1,5 +1,5 @@
 -- One name more leads to a node: what nodes and names are then, and what a graph keeps.
-use Rattle.std.proofs.Common.{◌≡◌, ◌≢◌, ℕ, zero, suc, ◌+◌, ◌-◌, ◌<◌, ◌≤◌, List, [], ◌∷◌, length, map, Option, Some, None, refl, ap, sym, ◌∙◌, subst, arith, cond, Bool, true, false, nat_lt}
+use Rattle.std.proofs.Common.{◌≡◌, ◌≢◌, ℕ, suc, ◌+◌, ◌<◌, ◌≤◌, List, [], ◌∷◌, length, map, Some, None, refl, ap, sym, ◌∙◌, subst, arith, cond, true, false, nat_lt}
 use Rattle.std.specs.Prelude.{◌==◌, ◌||◌, is_some, filter}
 use Rattle.std.specs.Option.{option_map}
 use Rattle.std.specs.FinMap as finite
@@ -11,14 +11,15 @@ use Rattle.node_graph.specs.declared.nodes.NodeKind.TheVariants.{Directory}
 use Rattle.node_graph.specs.declared.nodes.NodeRef.{NodeRef}
 use Rattle.node_graph.specs.declared.edges.Target.{Target}
 use Rattle.node_graph.specs.Cell.{Cell}
-use Rattle.node_graph.specs.Tree.{Tree, Edges, EdgeKey, EdgeTo, link_count, has_one_name, after, stay, add}
+use Rattle.node_graph.specs.Tree.{Edges, EdgeKey, EdgeTo, link_count, has_one_name, add}
 use Rattle.node_graph.specs.Graph.{Kept, Names, kind_at, create_refusal}
 use Rattle.node_graph.specs.Ends.{Ends, end_of, edges_of, name_in}
 use Rattle.node_graph.specs.Rows.{seat_from, kept_of, is_needed, is_reached, Sits, AreRows}
-use Rattle.node_graph.proofs.RowLists.{same_some}
+use Rattle.node_graph.proofs.RowLists.{same_some, mapped}
 use Rattle.node_graph.proofs.States.{Replaces, unrefused, named_still, same_holds, leads_stay}
-use Rattle.node_graph.proofs.Ordered.{edges_total, Comes, comes, fresh, known}
+use Rattle.node_graph.proofs.Ordered.{edges_total, comes, fresh, known}
 use Rattle.node_graph.proofs.Linked.{get-edges_of, edges_of-insert, link_count-put, one_if, len-edges_of}
+use Rattle.node_graph.proofs.Loops.{NoLoop, no_loop_put}
 use Rattle.node_graph.proofs.Seats.{changed, kept, at_new, apart_still, replaced}
 use Rattle.node_graph.proofs.Steps.{sits_on, leads_count, apart_numbers, equal_numbers, or_true}
 use Rattle.node_graph.proofs.Losses.{Turns}
@@ -91,6 +92,21 @@ module _ (old new : Slab Cell) (ends : Ends) (made : ℕ) (from key : EdgeKey) (
   on : (p n : ℕ) (P : Cell → Type 0) → (P was → P is) → Sits old p n P → Sits new p n P
   on p n P turns sits = sits_on u at number p n P turns sits
 
+  -- a node that may have many names is no directory
+  no_parent : (p n : ℕ) → Sits old p n (λ c. (c.kind ≡ Directory) × (is_reached c ≡ true)) → n ≢ to.node.number
+  no_parent p n (cell, cell_at, numbered, above) e =
+      let place = rows.apart p to.node.place cell was cell_at at (numbered ∙ e ∙ sym was_number) in
+      let cell_is : cell ≡ was = same_some _ _ (sym cell_at ∙ ap (get old) place ∙ at) in
+      let single : has_one_name to.kind ≡ true = ap has_one_name (sym was_kind ∙ ap (λ (c : Cell). c.kind) (sym cell_is) ∙ above.0) in
+      let wrong : false ≡ true = sym many ∙ single in
+      absurd (cc)
+
+  bare : (k : EdgeKey) (t : EdgeTo) → finite.get (edges_of ends) k ≡ Some t → k.directory ≢ to.node.number
+  bare k t there_t =
+      let one = mapped end_of (finite.get ends k) t (sym (get-edges_of ends k) ∙ there_t) in
+      let above = rows.parents k one.0 one.1 in
+      no_parent above.0 k.directory above.1
+
   pub rows_gained : AreRows new (finite.insert ends key to) made
   rows_gained = record {
     root = on 0 1 (λ c. (c.kind ≡ Directory) × (c.links ≡ 0)) (λ p. (kind ∙ p.0, none p.1)) rows.root;
@@ -152,6 +168,7 @@ module _ (old new : Slab Cell) (ends : Ends) (made : ℕ) (from key : EdgeKey) (
             (above.0, on c.parent.place c.parent.number (λ a. a.kind ≡ Directory) (λ same_kind. kind ∙ same_kind) above.1)
       ]
     ];
+    no_loop = subst NoLoop (sym (edges_of-insert ends key to)) (no_loop_put (edges_of ends) key (end_of to) bare (no_parent up.0 key.directory up.1) rows.no_loop);
     few =
         let one_more : finite.len (finite.insert ends key to) ≡ finite.len ends + 1 = finite.len-insert edges_total ends key to ∙ ap (λ b. cond b (finite.len ends) (finite.len ends + 1)) (ap is_some absent) in
         omega (arith, room, one_more);

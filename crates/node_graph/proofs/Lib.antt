@@ -6,6 +6,7 @@ mod Creates
 mod Gains
 mod Linked
 mod Listed
+mod Loops
 mod Losses
 mod Needed
 mod Ordered

@@ -19,6 +19,7 @@ use Rattle.node_graph.proofs.RowLists.{same_some}
 use Rattle.node_graph.proofs.States.{Replaces, cases, same, other, named_still, same_holds, leads_stay}
 use Rattle.node_graph.proofs.Ordered.{edges_total, same_or_other, same, other, stays}
 use Rattle.node_graph.proofs.Linked.{get-edges_of, edges_of-remove, link_count-cut, one_if}
+use Rattle.node_graph.proofs.Loops.{NoLoop, no_loop_cut}
 use Rattle.node_graph.proofs.Seats.{changed, kept, at_new, apart_still, replaced}
 use Rattle.node_graph.proofs.Steps.{sits_on, forgotten, apart_numbers, equal_numbers, neither}
 use Rattle.node_graph.proofs.Sheds.{Sheds, shed, sheds_holds, sheds_stands, shed_names}
@@ -120,6 +121,7 @@ module _ (old between new : Slab Cell) (ends : Ends) (made : ℕ) (key : EdgeKey
           let up = rows.ways_up k t c (stays ends key k t there_t).1 directory was_at in
           (up.0, sits_on u at number c.parent.place c.parent.number (λ a. a.kind ≡ Directory) (λ same_kind. kind ∙ same_kind) up.1)
     ];
+    no_loop = subst NoLoop (sym (edges_of-remove ends key)) (no_loop_cut (edges_of ends) key rows.no_loop);
     few =
         let few = rows.few in
         let len = finite.len-remove edges_total ends key ∙ ap (λ b. cond b (finite.len ends - 1) (finite.len ends)) (ap is_some there) in

@@ -152,6 +152,13 @@ move_removed true cut loop e = absurd (let wrong : Some fault.Unsupported ≡ No
 move_removed false true loop e = absurd (let wrong : Some fault.Removed ≡ None = e in cc)
 move_removed false false loop e = refl
 
+-- and it makes no loop
+pub move_loop : (mount cut loop : Bool) → first_of (cause_if mount fault.Unsupported ∷ cause_if cut fault.Removed ∷ cause_if loop fault.Loop ∷ []) ≡ None → loop ≡ false
+move_loop true cut loop e = absurd (let wrong : Some fault.Unsupported ≡ None = e in cc)
+move_loop false true loop e = absurd (let wrong : Some fault.Removed ≡ None = e in cc)
+move_loop false false true e = absurd (let wrong : Some fault.Loop ≡ None = e in cc)
+move_loop false false false e = refl
+
 pub replace_bare : (mount no_directory no_file full : Bool) → replace_causes mount no_directory no_file full ≡ None → full ≡ false
 replace_bare true no_directory no_file full e = absurd (let wrong : Some fault.Unsupported ≡ None = e in cc)
 replace_bare false true no_file full e = absurd (let wrong : Some fault.NotDir ≡ None = e in cc)

@@ -1,6 +1,6 @@
 -- A name moves: what nodes and names are then, and what a graph keeps.
-use Rattle.std.proofs.Common.{◌≡◌, ◌≢◌, ℕ, ◌+◌, ◌-◌, ◌<◌, ◌≤◌, Option, Some, None, refl, ap, sym, ◌∙◌, subst, arith, cond, Bool, true, false, nat_lt, nat_eq}
-use Rattle.std.specs.Prelude.{◌==◌, ◌||◌, is_some, IsSome}
+use Rattle.std.proofs.Common.{◌≡◌, ◌≢◌, ℕ, zero, suc, ◌+◌, ◌-◌, ◌≤◌, Some, None, refl, ap, sym, ◌∙◌, subst, arith, cond, true, false, nat_lt, nat_eq}
+use Rattle.std.specs.Prelude.{◌==◌, ◌||◌, ◌&&◌, is_some, IsSome}
 use Rattle.std.specs.Option.{option_map, option_map_or}
 use Rattle.std.specs.declared.cmp.Ordering.TheVariants.{Equal}
 use Rattle.std.specs.Ordering.{nat_cmp, is_eq, ordering_then}
@@ -9,22 +9,23 @@ use Rattle.std.proofs.lemmas.Bool.Decides.{nat_tests}
 use Rattle.std.specs.FinMap as finite
 use Rattle.slab.specs.Slab.{Slab, get, Updates, with_value}
 use Rattle.slab.proofs.SlabLemmas.{Updates-with_value}
-use Rattle.fidl_names.specs.declared.limits.TheConstants as limit
 use Rattle.node_graph.specs.declared.nodes.NodeKind.TheVariants.{Directory}
 use Rattle.node_graph.specs.declared.nodes.NodeRef.{NodeRef}
 use Rattle.node_graph.specs.declared.edges.Target.{Target}
 use Rattle.node_graph.specs.Cell.{Cell}
 use Rattle.node_graph.specs.Tree.{Tree, Edges, EdgeKey, EdgeTo, edge_cmp, link_count, is_linked, has_one_name, after, cut, move, moved}
-use Rattle.node_graph.specs.Refusals.{has_names, is_same_name}
+use Rattle.node_graph.specs.Refusals.{has_names, is_directory, is_same_name, lies_within}
 use Rattle.node_graph.specs.Graph.{Kept, Names, kind_at, holds_at, is_kept, StandsFor}
 use Rattle.node_graph.specs.Ends.{Ends, end_of, edges_of}
 use Rattle.node_graph.specs.Rows.{seat_from, kept_of, is_needed, is_reached, Sits, AreRows, Forgets, keeps, drops, LosesName}
-use Rattle.node_graph.proofs.RowLists.{same_some}
-use Rattle.node_graph.proofs.States.{Replaces, Cases, cases, same, other, named_still, same_holds, leads_stay}
-use Rattle.node_graph.proofs.Ordered.{edges_total, same_edges, Same, same_or_other, same, other, Comes, comes, fresh, known, stays, get-put_here, get-put_other, get-cut_here, get-cut_other}
+use Rattle.node_graph.proofs.RowLists.{same_some, mapped}
+use Rattle.node_graph.proofs.States.{Replaces, same, other, named_still, same_holds, leads_stay}
+use Rattle.node_graph.proofs.Ordered.{edges_total, same_edges, same_or_other, same, other, comes, fresh, known, stays, get-put_here, get-put_other, get-cut_here, get-cut_other}
 use Rattle.node_graph.proofs.Linked.{get-edges_of, edges_of-insert, edges_of-remove, link_count-put, link_count-cut, linked_counted, count_some, one_if}
 use Rattle.node_graph.proofs.Seats.{changed, kept, at_new, apart_still, replaced}
 use Rattle.node_graph.proofs.Steps.{sits_on, equal_numbers}
+use Rattle.node_graph.proofs.Loops.{NoLoop}
+use Rattle.node_graph.proofs.Ways.{Ways, no_loop_move, way_cut, way_found}
 use Rattle.node_graph.proofs.Losses.{Turns, in_no_key, rows_lost, turns_lost}
 
 -- an edge after a move is the moved one, or an old one under another key
@@ -87,8 +88,8 @@ module _ (old new : Slab Cell) (ends : Ends) (made : ℕ) (from key : EdgeKey) (
   abbrev IsAbove : Cell → Type 0
   IsAbove c = (c.kind ≡ Directory) × (is_reached c ≡ true)
 
-  pub rows_moved : AreRows new ends_new made
-  rows_moved = record {
+  pub rows_moved : ((count : ℕ) → ¬ (Ways count (edges_of ends) key.directory to.node.number)) → AreRows new ends_new made
+  rows_moved not_within = record {
     root = on 0 1 (λ c. (c.kind ≡ Directory) × (c.links ≡ 0)) (λ p. (kind ∙ p.0, links ∙ p.1)) rows.root;
     numbers = λ p c there_c. elim (at_new u at number p c there_c) [
       | changed e c_is ↦ let P : ℕ → Type 0 = λ n. (1 ≤ n) × (n ≤ made) in subst P (sym (ap (λ (c : Cell). c.number) c_is ∙ number)) (rows.numbers to.node.place was at)
@@ -136,6 +137,7 @@ module _ (old new : Slab Cell) (ends : Ends) (made : ℕ) (from key : EdgeKey) (
             (above.0, on c.parent.place c.parent.number (λ a. a.kind ≡ Directory) (λ same_kind. kind ∙ same_kind) above.1)
       ]
     ];
+    no_loop = subst NoLoop (sym edges_new) (no_loop_move (edges_of ends) from key (end_of to) rows.no_loop not_within);
     few =
         let less = finite.len-remove edges_total ends from ∙ ap (λ b. cond b (finite.len ends - 1) (finite.len ends)) (ap is_some there) in
         let more = finite.len-insert edges_total (finite.remove ends from) key to ∙ ap (λ b. cond b (finite.len (finite.remove ends from)) (finite.len (finite.remove ends from) + 1)) (ap is_some free) in
@@ -181,6 +183,29 @@ module _ (old new : Slab Cell) (ends : Ends) (made : ℕ) (from key : EdgeKey) (
   moved_leads tree stands =
       let first = leads_stay step (ap (λ (c : Cell). c.bytes) is_it) tree stands in
       record { made = first.made; edges = moved_edges tree.edges first.edges; rows = first.rows }
+
+-- a directory isn't within what moves there
+module _ (nodes : Slab Cell) (ends : Ends) (made : ℕ) (graph : Kept) (view : kept_of nodes ends made ≡ graph) (rows : AreRows nodes ends made) where
+  above_directory : (count x d : ℕ) → Ways count (edges_of ends) x d → ((place : ℕ) × Sits nodes place x (λ c. c.kind ≡ Directory)) → (place : ℕ) × Sits nodes place d (λ c. c.kind ≡ Directory)
+  above_directory zero x d e here = let P : ℕ → Type 0 = λ n. (place : ℕ) × Sits nodes place n (λ c. c.kind ≡ Directory) in subst P e here
+  above_directory (suc count) x d (k, t, there, is, rest) here =
+      let one = mapped end_of (finite.get ends k) t (sym (get-edges_of ends k) ∙ there) in
+      let up = rows.parents k one.0 one.1 in
+      above_directory count k.directory d rest (up.0, (up.1.0, up.1.1, up.1.2, up.1.3.0))
+
+  pub not_within : (from key : EdgeKey) (to : Target) → finite.get ends from ≡ Some to → (place : ℕ) → Sits nodes place key.directory (λ c. (c.kind ≡ Directory) × (is_reached c ≡ true))
+      → (is_directory to.kind && lies_within (finite.len graph.edges) graph.edges key.directory to.node.number) ≡ false → (count : ℕ) → ¬ (Ways count (edges_of ends) key.directory to.node.number)
+  not_within from key to there place (cell, at, numbered, above) no_loop count way =
+      let top = above_directory count key.directory to.node.number way (place, (cell, at, numbered, above.0)) in
+      let child = rows.children from to there in
+      let same_place = rows.apart top.0 to.node.place top.1.0 child.0 top.1.1 child.1 (top.1.2 ∙ sym child.2) in
+      let cell_is : top.1.0 ≡ child.0 = same_some _ _ (sym top.1.1 ∙ ap (get nodes) same_place ∙ child.1) in
+      let kind : to.kind ≡ Directory = sym child.3 ∙ ap (λ (c : Cell). c.kind) (sym cell_is) ∙ top.1.3 in
+      let found = way_found (edges_of ends) rows.no_loop count key.directory to.node.number way in
+      let P : Edges → Type 0 = λ e. lies_within (finite.len e) e key.directory to.node.number ≡ true in
+      let here = subst P (ap (λ (g : Kept). g.edges) view) found in
+      let wrong : true ≡ false = sym (ap (λ k. is_directory k && lies_within (finite.len graph.edges) graph.edges key.directory to.node.number) kind ∙ here) ∙ no_loop in
+      absurd (cc)
 
 -- ---- a rename as its call makes it
 
@@ -243,10 +268,10 @@ module _ (nodes : Slab Cell) (ends ends_new : Ends) (made : ℕ) (graph : Kept) 
   ends_free : ends_new ≡ finite.insert (finite.remove ends from) key to
   ends_free = put ∙ shifted ends from key to (apart_keys ends from key to there absent) ∙ ap (λ (m : Ends). finite.insert (finite.remove m from) key to) (remove_absent ends key absent)
 
-  pub rows_free : AreRows (with_value nodes to.node.place is) ends_new made
-  rows_free =
+  pub rows_free : ((count : ℕ) → ¬ (Ways count (edges_of ends) key.directory to.node.number)) → AreRows (with_value nodes to.node.place is) ends_new made
+  rows_free not_within =
       let P : Ends → Type 0 = λ e. AreRows (with_value nodes to.node.place is) e made in
-      subst P (sym ends_free) (rows_moved nodes (with_value nodes to.node.place is) ends made from key to dir was is rows there absent at updates_free is_it into up)
+      subst P (sym ends_free) (rows_moved nodes (with_value nodes to.node.place is) ends made from key to dir was is rows there absent at updates_free is_it into up not_within)
 
   pub turns_free : Turns graph (kept_of (with_value nodes to.node.place is) ends_new made) (move from key)
   turns_free =
@@ -292,10 +317,12 @@ module _ (nodes lost : Slab Cell) (ends ends_new : Ends) (made : ℕ) (graph : K
     ends_over : ends_new ≡ finite.insert (finite.remove ends_left from) key to
     ends_over = put ∙ shifted ends from key to apart
 
-    pub rows_over : AreRows (with_value lost to.node.place is) ends_new made
-    rows_over =
+    pub rows_over : ((count : ℕ) → ¬ (Ways count (edges_of ends) key.directory to.node.number)) → AreRows (with_value lost to.node.place is) ends_new made
+    rows_over not_within =
         let P : Ends → Type 0 = λ e. AreRows (with_value lost to.node.place is) e made in
-        subst P (sym ends_over) (rows_moved lost (with_value lost to.node.place is) ends_left made from key to dir was is rows_left there_left absent_left at updates_over is_it into up_left)
+        let left : (count : ℕ) → ¬ (Ways count (edges_of ends_left) key.directory to.node.number) = λ count way.
+        not_within count (way_cut count (edges_of ends) key key.directory to.node.number (subst (λ (e : Edges). Ways count e key.directory to.node.number) (edges_of-remove ends key) way)) in
+        subst P (sym ends_over) (rows_moved lost (with_value lost to.node.place is) ends_left made from key to dir was is rows_left there_left absent_left at updates_over is_it into up_left left)
 
     pub turns_over : Turns graph (kept_of (with_value lost to.node.place is) ends_new made) (move from key)
     turns_over =

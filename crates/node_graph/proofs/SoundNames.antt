@@ -1,7 +1,6 @@
 -- A name is taken out, added or moved, and a sound tree stays sound.
-use Rattle.std.proofs.Common.{◌≡◌, ◌≢◌, ℕ, zero, suc, ◌+◌, ◌-◌, ◌<◌, ◌≤◌, List, [], ◌∷◌, length, map, Option, Some, None, IsSome, refl, ap, sym, ◌∙◌, subst, arith, cond, Bool, true, false, not, nat_lt, nat_le, ◌⊎◌, inl, inr, eqb-true}
-use Rattle.std.specs.Prelude.{◌==◌, ◌||◌, ◌&&◌, is_some, is_none, if◌then◌else◌}
-use Rattle.std.specs.List.{list_any}
+use Rattle.std.proofs.Common.{◌≡◌, ◌≢◌, ℕ, zero, suc, ◌+◌, ◌-◌, ◌≤◌, [], ◌∷◌, length, Option, Some, None, IsSome, refl, ap, sym, ◌∙◌, subst, arith, cond, Bool, true, false, not, nat_lt, nat_le, eqb-true}
+use Rattle.std.specs.Prelude.{◌==◌, ◌&&◌, is_some, is_none, if◌then◌else◌}
 use Rattle.std.specs.Option.{option_map, option_map_or}
 use Rattle.std.specs.FinMap as finite
 use Rattle.std.proofs.lemmas.Bool.Decides.{nat_tests}
@@ -12,13 +11,14 @@ use Rattle.node_graph.specs.declared.nodes.NodeKind.{NodeKind}
 use Rattle.node_graph.specs.declared.nodes.NodeKind.TheVariants.{Directory, File, Service, Mount}
 use Rattle.node_graph.specs.declared.faults.GraphFault.{GraphFault}
 use Rattle.node_graph.specs.declared.faults.GraphFault.TheVariants as fault
-use Rattle.node_graph.specs.Tree.{Tree, Edges, EdgeKey, EdgeTo, Change, edge_cmp, row_of, kind_of, is_linked, is_removed, link_count, has_one_name, Below, child, deeper, after, cut, add, move, stay, IsSound}
+use Rattle.node_graph.specs.Tree.{Tree, Edges, EdgeKey, EdgeTo, Change, row_of, kind_of, is_linked, is_removed, link_count, has_one_name, after, cut, add, move, stay, IsSound}
 use Rattle.node_graph.specs.Refusals.{is_directory, is_mount, is_no_directory, edge_at, leads_to, directory_behind, has_names, leads_to_names, is_same_name, is_loop, lies_within, unlink_refusal, link_refusal, replace_refusal, rename_refusal, link_change, rename_change}
-use Rattle.node_graph.proofs.Ordered.{edges_total, same_edges, Same, same_or_other, same, other, stays, Comes, comes, fresh, known, get-put_here, get-put_other, get-cut_here, get-cut_other}
+use Rattle.node_graph.proofs.Ordered.{edges_total, same_edges, same_or_other, same, other, stays, comes, fresh, known, get-put_here, get-put_other, get-cut_here, get-cut_other}
 use Rattle.node_graph.proofs.Linked.{link_count-cut, link_count-put, link_count-absent, linked_counted, one_if}
 use Rattle.node_graph.proofs.Steps.{equal_numbers, apart_numbers}
 use Rattle.node_graph.proofs.Losses.{none_found}
-use Rattle.node_graph.proofs.Ways.{Ways, way_of, below_of, join, way_found, below_cut, one_fewer}
+use Rattle.node_graph.proofs.Ways.{Ways, no_loop_move, one_fewer, way_found}
+use Rattle.node_graph.proofs.Loops.{no_loop_cut, no_loop_put}
 
 -- a node that isn't removed is the root or linked
 data Stands (edges : Edges) (number : ℕ) : Type 0 where
@@ -90,7 +90,7 @@ cut_sound tree key must_be_dir sound free =
       parents = λ from x there. sound.parents from x (stays tree.edges key from x there).1;
       children = λ from x there. sound.children from x (stays tree.edges key from x there).1;
       one_name = λ a b x y k at_a at_b same kind only. sound.one_name a b x y k (stays tree.edges key a x at_a).1 (stays tree.edges key b y at_b).1 same kind only;
-      no_loop = λ n below. sound.no_loop n (below_cut tree.edges key n n below);
+      no_loop = no_loop_cut tree.edges key sound.no_loop;
       removed = λ from x there.
           let was = (stays tree.edges key from x there).1 in
           stays_here (finite.remove tree.edges key) from.directory (still tree.edges key gone.to from.directory gone.there (not_in tree.edges gone.to.child gone.bare from x was) (stands_of tree.edges from.directory (sound.removed from x was)));
@@ -168,26 +168,6 @@ module _ (tree : Tree) (from key : EdgeKey) (sound : IsSound tree) (parent : kin
   no_parent : kind_of tree a.to.child ≡ Some Directory → ⊥
   no_parent kind = let wrong : true ≡ false = sym (tests tree from a.to is_directory Directory a.there kind) ∙ a.no_directory in absurd (cc)
 
-  below_added : (x d : ℕ) → Below (finite.insert tree.edges key a.to) x d → (x ≡ a.to.child) ⊎ Below tree.edges x d
-  below_added _ _ (child k y there) = elim (comes tree.edges key a.to k y there) [
-    | fresh same_key new ↦ inl (ap (λ (t : EdgeTo). t.child) (sym new))
-    | known apart old ↦ inr (child k y old)
-  ]
-  below_added _ _ (deeper k y d there below) = elim (comes tree.edges key a.to k y there) [
-    | fresh same_key new ↦ inl (ap (λ (t : EdgeTo). t.child) (sym new))
-    | known apart old ↦ elim (below_added k.directory d below) [
-      | inl past ↦ absurd (no_parent (ap (kind_of tree) (sym past) ∙ sound.parents k y old))
-      | inr deep ↦ inr (deeper k y d old deep)
-    ]
-  ]
-
-  above_added : (x d : ℕ) → Below (finite.insert tree.edges key a.to) x d → kind_of tree d ≡ Some Directory
-  above_added _ _ (child k y there) = elim (comes tree.edges key a.to k y there) [
-    | fresh same_key new ↦ ap (λ (k : EdgeKey). kind_of tree k.directory) same_key ∙ parent
-    | known apart old ↦ sound.parents k y old
-  ]
-  above_added _ _ (deeper k y d there below) = above_added k.directory d below
-
   still_added : (n : ℕ) → Stands tree.edges n → Stands (finite.insert tree.edges key a.to) n
   still_added n (root e) = root e
   still_added n (linked some) = let count = link_count-put tree.edges key a.to n absent in linked (omega (arith, some, count))
@@ -217,10 +197,7 @@ module _ (tree : Tree) (from key : EdgeKey) (sound : IsSound tree) (parent : kin
         | known apart_k ok ↦ sound.one_name j k x y what oj ok alike_child kind only
       ]
     ];
-    no_loop = λ n below. elim (below_added n n below) [
-      | inl past ↦ no_parent (ap (kind_of tree) (sym past) ∙ above_added n n below)
-      | inr old ↦ sound.no_loop n old
-    ];
+    no_loop = no_loop_put tree.edges key a.to (λ k t there e. no_parent (ap (kind_of tree) (sym e) ∙ sound.parents k t there)) (λ e. no_parent (ap (kind_of tree) (sym e) ∙ parent)) sound.no_loop;
     removed = λ k x there. elim (comes tree.edges key a.to k x there) [
       | fresh same_key new ↦ stays_here (finite.insert tree.edges key a.to) k.directory (still_added k.directory (stands_of tree.edges k.directory (ap (λ (k : EdgeKey). is_removed tree.edges k.directory) same_key ∙ a.reached)))
       | known apart old ↦ stays_here (finite.insert tree.edges key a.to) k.directory (still_added k.directory (stands_of tree.edges k.directory (sound.removed k x old)))
@@ -289,17 +266,6 @@ module _ (tree : Tree) (from key : EdgeKey) (sound : IsSound tree) (parent : kin
   abbrev edges_new : Edges
   edges_new = finite.insert (finite.remove tree.edges from) key m.to
 
-  -- ways up in the new tree take the moved edge, or were there
-  splits : (n x d : ℕ) → Ways n edges_new x d → Ways n tree.edges x d ⊎ ((j : ℕ) × (l : ℕ) × Ways j tree.edges x m.to.child × Ways l edges_new key.directory d)
-  splits zero x d e = inl e
-  splits (suc n) x d (k, t, there, is, rest) = elim (lands tree.edges from key m.to k t there) [
-    | landed e t_is ↦ inr (0, n, sym is ∙ ap (λ (t : EdgeTo). t.child) (sym t_is), (let P : EdgeKey → Type 0 = λ k. Ways n edges_new k.directory d in subst P e rest))
-    | stayed e1 e2 was ↦ elim (splits n k.directory d rest) [
-      | inl old ↦ inl (k, t, was, is, old)
-      | inr (j, l, first, second) ↦ inr (suc j, l, (k, t, was, is, first), second)
-    ]
-  ]
-
   -- who stands above a directory is one
   above_directory : (n x d : ℕ) → Ways n tree.edges x d → kind_of tree x ≡ Some Directory → kind_of tree d ≡ Some Directory
   above_directory zero x d e kind = ap (kind_of tree) (sym e) ∙ kind
@@ -314,17 +280,6 @@ module _ (tree : Tree) (from key : EdgeKey) (sound : IsSound tree) (parent : kin
       let found = way_found tree.edges sound.no_loop n key.directory m.to.child way in
       let wrong : true ≡ false = sym (ap (λ o. option_map_or (λ c. lies_within (finite.len tree.edges) tree.edges key.directory c) o false) behind ∙ found) ∙ m.loop_free in
       absurd (cc)
-
-  no_loop_new : (n : ℕ) → ¬ (Below edges_new n n)
-  no_loop_new n below =
-      let way = way_of edges_new n n below in
-      elim (splits (suc way.0) n n way.1) [
-        | inl old ↦ sound.no_loop n (below_of way.0 tree.edges n n old)
-        | inr (j, l, first, second) ↦ elim (splits l key.directory n second) [
-          | inl old ↦ let whole = join l j tree.edges key.directory n m.to.child old first in not_within whole.0 whole.1
-          | inr (i, l2, again, third) ↦ not_within i again
-        ]
-      ]
 
   -- a node that stands in the way of nothing stays linked
   put_count : (n : ℕ) → link_count edges_new n ≡ link_count (finite.remove (finite.remove tree.edges from) key) n + one_if (m.to.child == n)
@@ -388,7 +343,7 @@ module _ (tree : Tree) (from key : EdgeKey) (sound : IsSound tree) (parent : kin
         | stayed e3 e4 was_k ↦ sound.one_name j k x y what was was_k alike_child kind only
       ]
     ];
-    no_loop = no_loop_new;
+    no_loop = no_loop_move tree.edges from key m.to sound.no_loop not_within;
     removed = λ k x there. elim (lands tree.edges from key m.to k x there) [
       | landed e x_is ↦
           let here = still_moved key.directory (λ t taken. not_replaced key t taken t taken) (stands_of tree.edges key.directory m.reached) in

@@ -1,5 +1,5 @@
 -- The changes that a graph's calls make keep a tree sound.
-use Rattle.std.proofs.Common.{◌≡◌, ◌≢◌, ℕ, zero, suc, ◌+◌, ◌-◌, ◌<◌, ◌≤◌, List, [], ◌∷◌, ◌++◌, length, map, Option, Some, None, IsSome, refl, ap, sym, ◌∙◌, subst, arith, cond, Bool, true, false, not, length-append, length-drop, drop, nat_lt, nat_le, ◌⊎◌, inl, inr, eqb-true}
+use Rattle.std.proofs.Common.{◌≡◌, ◌≢◌, ℕ, zero, suc, ◌+◌, ◌-◌, ◌<◌, ◌≤◌, List, [], ◌∷◌, ◌++◌, length, map, Option, Some, None, IsSome, refl, ap, sym, ◌∙◌, subst, arith, cond, Bool, true, false, not, length-append, length-drop, drop, nat_lt, nat_le, eqb-true}
 use Rattle.std.specs.Prelude.{slice_set, ◌==◌, ◌||◌, ◌&&◌, is_some}
 use Rattle.std.specs.List.{list_any}
 use Rattle.std.specs.Option.{option_map}
@@ -18,6 +18,7 @@ use Rattle.node_graph.specs.Tree.{NodeRow, Tree, Edges, EdgeKey, EdgeTo, edge_cm
 use Rattle.node_graph.specs.Graph.{create_refusal, resize_refusal, write_refusal, write_change, resized, overwritten}
 use Rattle.node_graph.proofs.RowLists.{mapped, same_some, row_within, row_of-push_same, row_of-push_other, row_of-set_same, row_of-set_other}
 use Rattle.node_graph.proofs.Ordered.{edges_total, exact_edges, standing, earlier, alike, later}
+use Rattle.node_graph.proofs.Loops.{no_loop_put}
 use Rattle.node_graph.proofs.States.{unrefused, refusal_of, filled_rows}
 
 -- an edge after one was put in is that one or an old one
@@ -101,41 +102,14 @@ module _ (tree : Tree) (row : NodeRow) where
   number_few : (n : ℕ) → IsSome (row_of tree.nodes n) → n ≤ length tree.nodes
   number_few n some = let r = some_row n some in (row_within tree.nodes n r.0 r.1).few
 
--- below another directory after an edge to a new node is below it before, or is the new node
-below_before : (tree : Tree) (key : EdgeKey) (to : EdgeTo) → IsSound tree → to.child ≡ length tree.nodes + 1 → (x d : ℕ) → Below (finite.insert tree.edges key to) x d → (x ≡ length tree.nodes + 1) ⊎ Below tree.edges x d
-below_before tree key to sound is _ _ (child from y there) =
-    elim (comes tree.edges key to from y there) [
-      | fresh same new ↦ inl (ap (λ (t : EdgeTo). t.child) (sym new) ∙ is)
-      | known old ↦ inr (child from y old)
-    ]
-below_before tree key to sound is _ _ (deeper from y d there below) =
-    elim (comes tree.edges key to from y there) [
-      | fresh same new ↦ inl (ap (λ (t : EdgeTo). t.child) (sym new) ∙ is)
-      | known old ↦ elim (below_before tree key to sound is from.directory d below) [
-        | inl past ↦ absurd (no_past tree from past (sound.parents from y old))
-        | inr deep ↦ inr (deeper from y d old deep)
-      ]
-    ]
-  where
-    no_past : (tree : Tree) (from : EdgeKey) → from.directory ≡ length tree.nodes + 1 → kind_of tree from.directory ≡ Some Directory → ⊥
-    no_past tree from past kind =
-        let r = mapped (λ (r : NodeRow). r.kind) (row_of tree.nodes from.directory) Directory kind in
-        let few = (row_within tree.nodes from.directory r.0 r.1).few in
-        omega (arith, past, few)
+-- names stand in nodes
+parent_few : (tree : Tree) (number : ℕ) → kind_of tree number ≡ Some Directory → number ≤ length tree.nodes
+parent_few tree number kind =
+    let r = mapped (λ (r : NodeRow). r.kind) (row_of tree.nodes number) Directory kind in
+    (row_within tree.nodes number r.0 r.1).few
 
--- nothing is below a new node
-no_below_new : (tree : Tree) (key : EdgeKey) (to : EdgeTo) → IsSound tree → key.directory ≤ length tree.nodes → (x d : ℕ) → Below (finite.insert tree.edges key to) x d → d ≡ length tree.nodes + 1 → ⊥
-no_below_new tree key to sound parent _ _ (child from y there) is =
-    elim (comes tree.edges key to from y there) [
-      | fresh same new ↦ let e = ap (λ (k : EdgeKey). k.directory) same in omega (arith, e, is, parent)
-      | known old ↦ let few = parent_few tree from y sound old in omega (arith, is, few)
-    ]
-  where
-    parent_few : (tree : Tree) (from : EdgeKey) (y : EdgeTo) → IsSound tree → finite.get tree.edges from ≡ Some y → from.directory ≤ length tree.nodes
-    parent_few tree from y sound old =
-        let r = mapped (λ (r : NodeRow). r.kind) (row_of tree.nodes from.directory) Directory (sound.parents from y old) in
-        (row_within tree.nodes from.directory r.0 r.1).few
-no_below_new tree key to sound parent _ _ (deeper from y d there below) is = no_below_new tree key to sound parent from.directory d below is
+not_new : (tree : Tree) (number : ℕ) → kind_of tree number ≡ Some Directory → number ≢ length tree.nodes + 1
+not_new tree number kind e = let few = parent_few tree number kind in omega (arith, few, e)
 
 pub made_sound : (tree : Tree) (key : EdgeKey) (what : NodeKind) (mask : OperationSet) → IsSound tree → create_refusal tree.edges key ≡ None → kind_of tree key.directory ≡ Some Directory → 1 ≤ length key.name → length key.name ≤ limit.MAX_NAME
     → IsSound (after tree (make key (new_row what) mask))
@@ -167,10 +141,7 @@ made_sound tree key what mask sound free_is parent some few =
           | known ob ↦ sound.one_name a b x y k oa ob same (kind_back tree row x.child k (sound.children a x oa) kind) only
         ]
       ];
-      no_loop = λ n below. elim (below_before tree key to sound refl n n below) [
-        | inl past ↦ no_below_new tree key to sound (parent_within tree key parent) n n below past
-        | inr old ↦ sound.no_loop n old
-      ];
+      no_loop = no_loop_put tree.edges key to (λ k t old. not_new tree k.directory (sound.parents k t old)) (not_new tree key.directory parent) sound.no_loop;
       removed = λ from x there. elim (comes tree.edges key to from x there) [
         | fresh same new ↦ stays_in tree.edges key to from.directory free.absent (ap (λ (k : EdgeKey). is_removed tree.edges k.directory) same ∙ not_removed tree.edges key free_is)
         | known old ↦ stays_in tree.edges key to from.directory free.absent (sound.removed from x old)
@@ -181,11 +152,6 @@ made_sound tree key what mask sound free_is parent some few =
   where
     new_twice : (tree : Tree) (row : NodeRow) → {n : ℕ} → length tree.nodes + 1 ≡ n → IsSome (row_of tree.nodes n) → ⊥
     new_twice tree row {n} is there = let few = number_few tree row n there in omega (arith, is, few)
-
-    parent_within : (tree : Tree) (key : EdgeKey) → kind_of tree key.directory ≡ Some Directory → key.directory ≤ length tree.nodes
-    parent_within tree key parent =
-        let r = mapped (λ (r : NodeRow). r.kind) (row_of tree.nodes key.directory) Directory parent in
-        (row_within tree.nodes key.directory r.0 r.1).few
 
     more_names : (edges : Edges) (key : EdgeKey) (to : EdgeTo) → finite.get edges key ≡ None → finite.len edges < limit.MAX_NAMES → finite.len (finite.insert edges key to) ≤ limit.MAX_NAMES
     more_names edges key to absent few =

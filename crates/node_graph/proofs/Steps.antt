@@ -18,6 +18,7 @@ use Rattle.node_graph.proofs.States.{cases, same, other}
 use Rattle.node_graph.proofs.Ordered.{edges_total, comes, fresh, known}
 use Rattle.node_graph.proofs.Linked.{get-edges_of, edges_of-insert, link_count-put, one_if, count_some, linked_by, linked_counted}
 use Rattle.node_graph.proofs.Seats.{changed, kept, at_new, apart_still}
+use Rattle.node_graph.proofs.Loops.{NoLoop, no_loop_put}
 
 pub weaken : (nodes : Slab Cell) (ends : Ends) (made : ℕ) (spare : ℕ → Type 0) → AreRows nodes ends made → AreAlmost nodes ends made spare
 weaken nodes ends made spare rows = record {
@@ -30,6 +31,7 @@ weaken nodes ends made spare rows = record {
   parents = rows.parents;
   one_name = rows.one_name;
   ways_up = rows.ways_up;
+  no_loop = rows.no_loop;
   few = rows.few;
   room = rows.room;
 }
@@ -48,6 +50,7 @@ settle nodes ends made place cell rows at needed = record {
   parents = rows.parents;
   one_name = rows.one_name;
   ways_up = rows.ways_up;
+  no_loop = rows.no_loop;
   few = rows.few;
   room = rows.room;
 }
@@ -98,6 +101,7 @@ cell_changes old new ends made place was is u before number kind links parent ro
         let up = rows.ways_up key to c there directory was_at in
         (up.0, sits_on u before number c.parent.place c.parent.number (λ a. a.kind ≡ Directory) (λ k. kind ∙ k) up.1)
   ];
+  no_loop = rows.no_loop;
   few = rows.few;
   room = rows.room;
 }
@@ -171,6 +175,7 @@ forgotten old new ends made place rows (drops cell at spare u count) =
             sits_else c.parent.place c.parent.number _ up.1 (λ e.
                 not_parent key to there (rows.apart parent.0 c.parent.place parent.1.0 up.1.0 parent.1.1 up.1.1 (parent.1.2 ∙ sym up.0 ∙ sym up.1.2) ∙ e)),
           );
+      no_loop = rows.no_loop;
       few = rows.few;
       room = rows.room;
     }
@@ -288,6 +293,7 @@ made_rows old new ends made key to is rows m = record {
         let up = rows.ways_up k t c was directory (child.1 ∙ ap Some same_cell) in
         (up.0, sits_still c.parent.place c.parent.number _ up.1)
   ];
+  no_loop = subst NoLoop (sym (edges_of-insert ends key to)) (no_loop_put (edges_of ends) key (end_of to) no_parent elsewhere rows.no_loop);
   few = more_names;
   room = let room = m.room in omega (arith, room);
 }
@@ -309,6 +315,15 @@ made_rows old new ends made key to is rows m = record {
 
     too_far : (p : ℕ) (c : Cell) → get old p ≡ Some c → c.number ≡ made + 1 → ⊥
     too_far p c there far = let range = rows.numbers p c there in omega (arith, range.1, far)
+
+    no_parent : (k : EdgeKey) (t : EdgeTo) → finite.get (edges_of ends) k ≡ Some t → k.directory ≢ to.node.number
+    no_parent k t there e =
+        let one = mapped end_of (finite.get ends k) t (sym (get-edges_of ends k) ∙ there) in
+        let parent = rows.parents k one.0 one.1 in
+        too_far parent.0 parent.1.0 parent.1.1 (parent.1.2 ∙ e ∙ m.to_number)
+
+    elsewhere : key.directory ≢ to.node.number
+    elsewhere e = too_far is.parent.place m.up.0 m.up.1 (m.up.2 ∙ m.up_number ∙ e ∙ m.to_number)
 
     counted : (n : ℕ) → link_count (edges_of (finite.insert ends key to)) n ≡ link_count (edges_of ends) n + one_if (to.node.number == n)
     counted n = ap (λ (edges : Edges). link_count edges n) (edges_of-insert ends key to) ∙ link_count-put (edges_of ends) key (end_of to) n (get-edges_of ends key ∙ ap (option_map end_of) m.absent)

@@ -1,6 +1,6 @@
 -- Ways up from a node to a directory above it: climbing finds just those.
-use Rattle.std.proofs.Common.{◌≡◌, ◌≢◌, ℕ, zero, suc, ◌+◌, ◌<◌, ◌≤◌, List, [], ◌∷◌, map, Option, Some, None, refl, ap, sym, ◌∙◌, subst, arith, cond, Bool, true, false, ◌⊎◌, inl, inr, eqb-true, T}
-use Rattle.std.specs.Prelude.{◌==◌, ◌||◌, filter, is_some}
+use Rattle.std.proofs.Common.{◌≡◌, ℕ, zero, suc, ◌+◌, ◌≤◌, List, [], ◌∷◌, Some, None, refl, ap, sym, ◌∙◌, subst, arith, cond, Bool, true, false, ◌⊎◌, inl, inr, eqb-true, T}
+use Rattle.std.specs.Prelude.{◌==◌, ◌||◌, is_some}
 use Rattle.std.specs.List.{list_any}
 use Rattle.std.specs.declared.cmp.Ordering.TheVariants.{Less, Equal, Greater}
 use Rattle.std.specs.FinMap as finite
@@ -8,10 +8,11 @@ use Rattle.std.specs.FinMap.Entries as entry
 use Rattle.node_graph.specs.Tree.{EdgeKey, EdgeTo, Edges, edge_cmp, Below, child, deeper, Tree, IsSound}
 use Rattle.node_graph.specs.Refusals.{parents_of, lies_within}
 use Rattle.node_graph.proofs.RowLists.{same_some}
-use Rattle.node_graph.proofs.Ordered.{edges_total, Standing, standing, earlier, alike, later, Same, same_or_other, same, other, stays, both_true, get-cut_here, get-cut_other}
+use Rattle.node_graph.proofs.Ordered.{edges_total, standing, earlier, alike, later, same_or_other, same, other, comes, fresh, known, stays, both_true, get-cut_here, get-cut_other}
 use Rattle.node_graph.proofs.Linked.{below_found, put_back}
 use Rattle.node_graph.proofs.Steps.{equal_numbers}
 use Rattle.node_graph.proofs.Climbs.{parents_in, parents_cons}
+use Rattle.node_graph.proofs.Loops.{NoLoop, no_loop_cut}
 
 -- so many edges lead from a directory down to a node
 abbrev pub Ways : ℕ → Edges → ℕ → ℕ → Type 0
@@ -52,17 +53,13 @@ one_fewer edges key to there =
     ap (λ (e : Edges). finite.len e) (sym (put_back edges key to there))
     ∙ finite.len-insert edges_total (finite.remove edges key) key to ∙ ap (λ b. cond b (finite.len (finite.remove edges key)) (finite.len (finite.remove edges key) + 1)) (ap is_some (get-cut_here edges key))
 
-pub below_cut : (edges : Edges) (key : EdgeKey) (x d : ℕ) → Below (finite.remove edges key) x d → Below edges x d
-below_cut edges key _ _ (child from to there) = child from to (stays edges key from to there).1
-below_cut edges key _ _ (deeper from to d there below) = deeper from to d (stays edges key from to there).1 (below_cut edges key from.directory d below)
-
 -- without a loop no way is longer than there are edges
-short : (m : ℕ) (edges : Edges) → ((n : ℕ) → ¬ (Below edges n n)) → (x d : ℕ) → Ways m edges x d → m ≤ finite.len edges
+short : (m : ℕ) (edges : Edges) → NoLoop edges → (x d : ℕ) → Ways m edges x d → m ≤ finite.len edges
 short zero edges no_loop x d way = omega arith
 short (suc m) edges no_loop x d (from, to, there, is, rest) =
     elim (avoids edges from to there m from.directory d rest) [
       | inl left ↦
-          let fewer = short m (finite.remove edges from) (λ n below. no_loop n (below_cut edges from n n below)) from.directory d left in
+          let fewer = short m (finite.remove edges from) (no_loop_cut edges from no_loop) from.directory d left in
           let count = one_fewer edges from to there in
           omega (arith, fewer, count)
       | inr around ↦ absurd (no_loop to.child (below_of around.0 edges to.child to.child (from, to, there, refl, around.1)))
@@ -101,7 +98,7 @@ lies (suc k) (suc m) edges x d few (from, to, there, is, rest) =
     or_true true = refl
     or_true false = refl
 
-pub way_found : (edges : Edges) → ((n : ℕ) → ¬ (Below edges n n)) → (m x d : ℕ) → Ways m edges x d → lies_within (finite.len edges) edges x d ≡ true
+pub way_found : (edges : Edges) → NoLoop edges → (m x d : ℕ) → Ways m edges x d → lies_within (finite.len edges) edges x d ≡ true
 way_found edges no_loop m x d way = lies (finite.len edges) m edges x d (short m edges no_loop x d way) way
 
 pub below_found_up : (tree : Tree) (x d : ℕ) → IsSound tree → Below tree.edges x d → lies_within (finite.len tree.edges) tree.edges x d ≡ true
@@ -176,3 +173,38 @@ found_below k edges x d found = by_cases (found_way k edges x d found)
     by_cases : ((m : ℕ) × Ways m edges x d) → (x ≡ d) ⊎ Below edges x d
     by_cases (zero, e) = inl e
     by_cases (suc m, way) = inr (below_of m edges x d way)
+
+-- ---- a name moves
+
+-- ways without a name are ways with it
+pub way_cut : (count : ℕ) (edges : Edges) (key : EdgeKey) (x d : ℕ) → Ways count (finite.remove edges key) x d → Ways count edges x d
+way_cut zero edges key x d e = e
+way_cut (suc count) edges key x d (k, t, there, is, rest) = (k, t, (stays edges key k t there).1, is, way_cut count edges key k.directory d rest)
+
+module _ (edges : Edges) (from key : EdgeKey) (to : EdgeTo) (loop_free : NoLoop edges) (not_within : (count : ℕ) → ¬ (Ways count edges key.directory to.child)) where
+  abbrev edges_new : Edges
+  edges_new = finite.insert (finite.remove edges from) key to
+
+  -- ways up after the move take the moved edge, or were there
+  splits : (n x d : ℕ) → Ways n edges_new x d → Ways n edges x d ⊎ ((j : ℕ) × (l : ℕ) × Ways j edges x to.child × Ways l edges_new key.directory d)
+  splits zero x d e = inl e
+  splits (suc n) x d (k, t, there, is, rest) = elim (comes (finite.remove edges from) key to k t there) [
+    | fresh e new ↦ inr (0, n, sym is ∙ ap (λ (t : EdgeTo). t.child) (sym new), (let P : EdgeKey → Type 0 = λ k. Ways n edges_new k.directory d in subst P e rest))
+    | known apart left ↦
+        let was = (stays edges from k t left).1 in
+        elim (splits n k.directory d rest) [
+          | inl old ↦ inl (k, t, was, is, old)
+          | inr (j, l, first, second) ↦ inr (suc j, l, (k, t, was, is, first), second)
+        ]
+  ]
+
+  pub no_loop_move : NoLoop edges_new
+  no_loop_move n below =
+      let way = way_of edges_new n n below in
+      elim (splits (suc way.0) n n way.1) [
+        | inl old ↦ loop_free n (below_of way.0 edges n n old)
+        | inr (j, l, first, second) ↦ elim (splits l key.directory n second) [
+          | inl old ↦ let whole = join l j edges key.directory n to.child old first in not_within whole.0 whole.1
+          | inr (i, l2, again, third) ↦ not_within i again
+        ]
+      ]

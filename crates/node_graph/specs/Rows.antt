@@ -7,7 +7,7 @@ use Rattle.fidl_names.specs.declared.limits.TheConstants as limit
 use Rattle.node_graph.specs.declared.nodes.NodeKind.TheVariants.{Directory}
 use Rattle.node_graph.specs.declared.edges.Target.{Target}
 use Rattle.node_graph.specs.Cell.{Cell}
-use Rattle.node_graph.specs.Tree.{EdgeKey, link_count, has_one_name}
+use Rattle.node_graph.specs.Tree.{Below, EdgeKey, link_count, has_one_name}
 use Rattle.node_graph.specs.Graph.{Seat, Kept}
 use Rattle.node_graph.specs.Ends.{Ends, edges_of}
 
@@ -52,6 +52,8 @@ pub record AreAlmost (nodes : Slab Cell) (ends : Ends) (made : ℕ) (spare : ℕ
   pub one_name : (place : ℕ) (cell : Cell) → get nodes place ≡ Some cell → has_one_name cell.kind ≡ true → cell.links ≤ 1
   pub ways_up : (key : EdgeKey) (to : Target) (cell : Cell) → finite.get ends key ≡ Some to → to.kind ≡ Directory → get nodes to.node.place ≡ Some cell
       → (cell.parent.number ≡ key.directory) × Sits nodes cell.parent.place cell.parent.number (λ above. above.kind ≡ Directory)
+  -- no directory is below itself
+  pub no_loop : (number : ℕ) → ¬ (Below (edges_of ends) number number)
   pub few : finite.len ends ≤ limit.MAX_NAMES
   pub room : made ≤ 2 ^ 63
 

@@ -23,8 +23,3 @@ pub use listing::{NameView, Names};
 pub use moves::Moved;
 pub use names::NameBuf;
 pub use nodes::{Entry, NodeKind, NodeRef};
-
-#[cfg(test)]
-mod name_tests;
-#[cfg(test)]
-mod tests;

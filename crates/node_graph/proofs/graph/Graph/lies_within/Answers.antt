@@ -1,4 +1,4 @@
-use Rattle.std.proofs.Common.{◌≡◌, ◌∙◌, ap, arith, suc, ◌+◌, ◌-◌, ◌<◌, [], ◌∷◌}
+use Rattle.std.proofs.Common.{◌≡◌, ◌∙◌, ap, arith, suc, ◌+◌, ◌-◌, [], ◌∷◌}
 use Rattle.std.specs.Option.{option_map, option_to_list}
 use Rattle.node_graph.specs.Refusals.{parents_of}
 use Rattle.node_graph.specs.Graph.{number_of}

@@ -1,5 +1,5 @@
-use Rattle.std.proofs.Common.{◌≡◌, ◌∙◌, sym, ap, subst, refl, Ok, Err, Option, None, arith, ◌≤◌, ◌<◌}
-use Rattle.std.specs.Prelude.{ℕ, ⊤}
+use Rattle.std.proofs.Common.{◌∙◌, sym, subst, refl, Ok, Err, Option, arith}
+use Rattle.std.specs.Prelude.{⊤}
 use Rattle.slab.specs.Slab.{with_value}
 use Rattle.node_graph.specs.declared.faults.GraphFault.{GraphFault}
 use Rattle.node_graph.specs.declared.faults.GraphFault.TheVariants as fault

@@ -1,9 +1,9 @@
-use Rattle.std.proofs.Common.{◌≡◌, ◌≢◌, ◌∙◌, sym, ap, subst, [], ◌∷◌, Some}
+use Rattle.std.proofs.Common.{◌≡◌, ◌∙◌, sym, ap, subst, [], ◌∷◌, Some}
 use Rattle.node_graph.specs.declared.nodes.NodeKind.TheVariants.{Directory}
 use Rattle.node_graph.specs.declared.nodes.NodeRef.{NodeRef}
 use Rattle.node_graph.specs.Graph.{Names, kind_at}
 use Rattle.node_graph.proofs.Seats.{present}
-use Rattle.node_graph.proofs.Climbs.{top, Above, above, above_named, above_directory}
+use Rattle.node_graph.proofs.Climbs.{top, above, above_named, above_directory}
 use Rattle.node_graph.proofs.graph.Graph.parent.Goals as goal
 
 pub index-row-requires : goal.index-row-requires

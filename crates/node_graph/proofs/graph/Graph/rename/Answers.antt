@@ -1,4 +1,4 @@
-use Rattle.std.proofs.Common.{◌≡◌, ◌∙◌, sym, ap, subst, refl, Ok, Err, Option, None, true, false}
+use Rattle.std.proofs.Common.{◌∙◌, sym, ap, subst, refl, Ok, Err, Option, None, true, false}
 use Rattle.std.specs.Prelude.{if◌then◌else◌}
 use Rattle.slab.specs.Slab.{with_value}
 use Rattle.node_graph.specs.declared.faults.GraphFault.{GraphFault}
@@ -10,8 +10,8 @@ use Rattle.node_graph.specs.Graph.{Answers, StandsFor}
 use Rattle.node_graph.specs.Ends.{name_in}
 use Rattle.node_graph.specs.Rows.{kept_of}
 use Rattle.node_graph.proofs.Creates.{reached_here}
-use Rattle.node_graph.proofs.Readings.{linked_here, behind, rename_none, rename_moving, rename_same, rename_other, replace_none, replace_some, behind_none, move_removed, replace_bare, only_memory}
-use Rattle.node_graph.proofs.Shifts.{two_keys, rows_free, turns_free, present_left, rows_over, turns_over}
+use Rattle.node_graph.proofs.Readings.{linked_here, behind, rename_none, rename_moving, rename_same, rename_other, replace_none, replace_some, behind_none, move_loop, move_removed, replace_bare, only_memory}
+use Rattle.node_graph.proofs.Shifts.{not_within, two_keys, rows_free, turns_free, present_left, rows_over, turns_over}
 use Rattle.node_graph.proofs.graph.Graph.rename.Goals as goal
 
 pub returns-in_default-clause-answer : goal.returns-in_default-clause-answer
@@ -36,7 +36,7 @@ returns-in_err-shift-clause-answer c tree stands =
 
 pub invariant_of-self-in_default-find : goal.invariant_of-self-in_default-find
 invariant_of-self-in_default-find c =
-    rows_free c.self.inside.nodes c.self.inside.edges c.shift.new.self c.self.inside.made c.args.self.now (name_in c.args.dir.number c.args.src.now) (name_in c.args.into.number c.args.dst.now) c.args.into c.in-Some.from c.index_mut-row.result.now c.set_parent.new.self c.self.view_is c.self.invariant (sym c.find.ensures.found ∙ c.in-Some.is) (sym c.find-2.ensures.found ∙ c.in_default-find.is) (reached_here c.self.inside.nodes c.self.inside.edges c.self.inside.made c.args.self.now c.args.into c.self.view_is c.self.invariant c.requires.named_into c.requires.directory_into (move_removed _ _ _ (sym c.move_fault.ensures ∙ c.in_default-move_fault.is))) refl c.index_mut-row.ensures.value c.set_parent.ensures c.in_ok-shift.ensures.shifted
+    rows_free c.self.inside.nodes c.self.inside.edges c.shift.new.self c.self.inside.made c.args.self.now (name_in c.args.dir.number c.args.src.now) (name_in c.args.into.number c.args.dst.now) c.args.into c.in-Some.from c.index_mut-row.result.now c.set_parent.new.self c.self.view_is c.self.invariant (sym c.find.ensures.found ∙ c.in-Some.is) (sym c.find-2.ensures.found ∙ c.in_default-find.is) (reached_here c.self.inside.nodes c.self.inside.edges c.self.inside.made c.args.self.now c.args.into c.self.view_is c.self.invariant c.requires.named_into c.requires.directory_into (move_removed _ _ _ (sym c.move_fault.ensures ∙ c.in_default-move_fault.is))) refl c.index_mut-row.ensures.value c.set_parent.ensures c.in_ok-shift.ensures.shifted (not_within c.self.inside.nodes c.self.inside.edges c.self.inside.made c.args.self.now c.self.view_is c.self.invariant (name_in c.args.dir.number c.args.src.now) (name_in c.args.into.number c.args.dst.now) c.in-Some.from (sym c.find.ensures.found ∙ c.in-Some.is) c.args.into.place (reached_here c.self.inside.nodes c.self.inside.edges c.self.inside.made c.args.self.now c.args.into c.self.view_is c.self.invariant c.requires.named_into c.requires.directory_into (move_removed _ _ _ (sym c.move_fault.ensures ∙ c.in_default-move_fault.is))) (move_loop _ _ _ (sym c.move_fault.ensures ∙ c.in_default-move_fault.is)))
 
 pub returns-in_default-find-clause-answer : goal.returns-in_default-find-clause-answer
 returns-in_default-find-clause-answer c tree stands =
@@ -80,7 +80,7 @@ index_mut-row-requires-2 c =
 
 pub invariant_of-self-2 : goal.invariant_of-self-2
 invariant_of-self-2 c =
-    rows_over c.self.inside.nodes c.lose_name.new.nodes c.self.inside.edges c.shift-2.new.self c.self.inside.made c.args.self.now (name_in c.args.dir.number c.args.src.now) (name_in c.args.into.number c.args.dst.now) c.args.into c.in-Some.from c.in-Some-find.to c.index_mut-row-2.result.now c.set_parent-2.new.self c.self.view_is c.self.invariant (sym c.find.ensures.found ∙ c.in-Some.is) (sym c.find-2.ensures.found ∙ c.in-Some-find.is) (two_keys (name_in c.args.dir.number c.args.src.now) (name_in c.args.into.number c.args.dst.now) (sym c.is_same_name.ensures ∙ c.if-is_same_name.false)) (reached_here c.self.inside.nodes c.self.inside.edges c.self.inside.made c.args.self.now c.args.into c.self.view_is c.self.invariant c.requires.named_into c.requires.directory_into (move_removed _ _ _ (sym c.move_fault.ensures ∙ c.in_default-move_fault.is))) refl (replace_bare _ _ _ _ (sym c.replace_fault.ensures ∙ c.in_default-replace_fault.is)) c.lose_name.ensures c.index_mut-row-2.ensures.value c.set_parent-2.ensures c.in_ok-shift-2.ensures.shifted
+    rows_over c.self.inside.nodes c.lose_name.new.nodes c.self.inside.edges c.shift-2.new.self c.self.inside.made c.args.self.now (name_in c.args.dir.number c.args.src.now) (name_in c.args.into.number c.args.dst.now) c.args.into c.in-Some.from c.in-Some-find.to c.index_mut-row-2.result.now c.set_parent-2.new.self c.self.view_is c.self.invariant (sym c.find.ensures.found ∙ c.in-Some.is) (sym c.find-2.ensures.found ∙ c.in-Some-find.is) (two_keys (name_in c.args.dir.number c.args.src.now) (name_in c.args.into.number c.args.dst.now) (sym c.is_same_name.ensures ∙ c.if-is_same_name.false)) (reached_here c.self.inside.nodes c.self.inside.edges c.self.inside.made c.args.self.now c.args.into c.self.view_is c.self.invariant c.requires.named_into c.requires.directory_into (move_removed _ _ _ (sym c.move_fault.ensures ∙ c.in_default-move_fault.is))) refl (replace_bare _ _ _ _ (sym c.replace_fault.ensures ∙ c.in_default-replace_fault.is)) c.lose_name.ensures c.index_mut-row-2.ensures.value c.set_parent-2.ensures c.in_ok-shift-2.ensures.shifted (not_within c.self.inside.nodes c.self.inside.edges c.self.inside.made c.args.self.now c.self.view_is c.self.invariant (name_in c.args.dir.number c.args.src.now) (name_in c.args.into.number c.args.dst.now) c.in-Some.from (sym c.find.ensures.found ∙ c.in-Some.is) c.args.into.place (reached_here c.self.inside.nodes c.self.inside.edges c.self.inside.made c.args.self.now c.args.into c.self.view_is c.self.invariant c.requires.named_into c.requires.directory_into (move_removed _ _ _ (sym c.move_fault.ensures ∙ c.in_default-move_fault.is))) (move_loop _ _ _ (sym c.move_fault.ensures ∙ c.in_default-move_fault.is)))
 
 pub returns-clause-answer : goal.returns-clause-answer
 returns-clause-answer c tree stands =

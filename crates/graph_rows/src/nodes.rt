@@ -1,13 +1,15 @@
+//! Nodes that are kept, files, listings and limits.
 ghost use Rattle.std.specs.Prelude.{◌≡◌, ◌≤◌, ◌<◌, ◌^◌, ℕ, Some, length, OnOk, IfOk};
 ghost use Rattle.node_graph.specs.declared.nodes.NodeKind.TheVariants.{Directory, File};
 ghost use Rattle.node_graph.specs.Graph.{number_of, Names, kind_at, holds_at, SameHolds};
 
-use crate::{
+use fidl_names::{MAX_FILE, MAX_NAME};
+use io_rights::{Operation, Rights};
+use node_graph::{
     Graph, GraphFault, NameBuf, NodeKind, NodeRef, changes_keep_trees_sound,
     climbing_finds_what_is_above,
 };
-use fidl_names::{MAX_FILE, MAX_NAME};
-use io_rights::{Operation, Rights};
+use std::alloc::Global;
 use std::process::Abort;
 use std::test::Fail;
 
@@ -87,6 +89,21 @@ fn a_node_is_kept_while_it_is_held(rt: HostRuntime) -> Result<(), Fail> {
         assert_eq!(rt; round(&rt, &mut graph, &mut counts)?, times + 4);
         assert_eq!(rt; counts, [2, 2, 1]);
     }
+    Ok(())
+}
+
+#[test]
+fn a_held_file_without_a_name_is_written(rt: HostRuntime) -> Result<(), Fail> {
+    let mut graph = Graph::new(rt.alloc())?;
+    let node = make(&rt, &mut graph, b"f", NodeKind::File)?;
+    graph.hold(node);
+    let root = graph.root();
+    graph.unlink(root, b"f", false)?;
+    assert_eq!(rt; (graph.links(node), graph.names(), graph.kept()), (0, 0, 2));
+    graph.write_at(node, 2, b"ab")?;
+    assert!(rt; graph.bytes(node) == b"\0\0ab".as_slice());
+    graph.release(node);
+    assert_eq!(rt; (graph.kept(), graph.made()), (1, 2));
     Ok(())
 }
 
@@ -184,15 +201,36 @@ fn a_walk_ends_with_a_create(rt: HostRuntime) -> Result<(), Fail> {
     Ok(())
 }
 
+// A graph with as many names as there may be.
+fn full(rt: &impl Abort, alloc: Global) -> Result<Graph, GraphFault> {
+    let mut graph = Graph::new(alloc)?;
+    for number in 0..4096u32 {
+        make(rt, &mut graph, &number.to_le_bytes(), NodeKind::File)?;
+    }
+    Ok(graph)
+}
+
 #[test]
 fn there_is_room_for_so_many_names(rt: HostRuntime) -> Result<(), Fail> {
-    let mut graph = Graph::new(rt.alloc())?;
-    for number in 0..4096u32 {
-        make(&rt, &mut graph, &number.to_le_bytes(), NodeKind::File)?;
-    }
+    let mut graph = full(&rt, rt.alloc())?;
     let more = make(&rt, &mut graph, b"more", NodeKind::File);
     assert_eq!(rt; more, Err(GraphFault::NoSpace));
     assert_eq!(rt; (graph.names(), graph.made()), (4096, 4097));
+    Ok(())
+}
+
+#[test]
+fn a_second_name_wants_room(rt: HostRuntime) -> Result<(), Fail> {
+    let mut graph = full(&rt, rt.alloc())?;
+    let root = graph.root();
+    assert_eq!(rt;
+        graph.link(root, &[7, 0, 0, 0], root, b"more"),
+        Err(GraphFault::NoSpace)
+    );
+    graph.unlink(root, &[8, 0, 0, 0], false)?;
+    let root = graph.root();
+    graph.link(root, &[7, 0, 0, 0], root, b"more")?;
+    assert_eq!(rt; (graph.names(), graph.kept()), (4096, 4096));
     Ok(())
 }
 

@@ -3,9 +3,9 @@ ghost use Rattle.std.specs.Prelude.{◌≡◌, ◌≤◌, ◌<◌, ◌^◌, ℕ,
 ghost use Rattle.node_graph.specs.declared.nodes.NodeKind.TheVariants.{Directory};
 ghost use Rattle.node_graph.specs.Graph.{number_of, Names, kind_at, holds_at, SameHolds};
 
-use crate::{Graph, GraphFault, Moved, NodeKind, NodeRef};
 use fidl_names::MAX_NAME;
 use io_rights::{Operation, Rights};
+use node_graph::{Graph, GraphFault, Moved, NodeKind, NodeRef};
 use std::alloc::Global;
 use std::process::Abort;
 use std::test::Fail;

@@ -1,5 +1,5 @@
 use Rattle.std.proofs.Common.{◌∙◌}
-use Rattle.node_graph.proofs.name_tests.tree.Goals as goal
+use Rattle.graph_rows.proofs.names.tree.Goals as goal
 
 pub returns : goal.returns
 returns g c n =
