@@ -24,6 +24,12 @@ declare -A bytes=(
         6e6f706500000000'
     [missing]='04000000 01 00 0000 18000000  00000000 02000001 ffffffffffffffff e7ffffff 00000000
         04000000 02 00 0000 00000000'
+    # An Open of `m/m/m/g` with the new endpoint 2 and a Read of 10 bytes there, and the text `remote`.
+    [through]='01000000 01 01 0000 48000000 02000000  00000000 02000001 d6547cffbb4fbc2f
+        0700000000000000 ffffffffffffffff 0200000000000000 0000000000000000 ffffffffffffffff ffffffff 00000000
+        6d2f6d2f6d2f6700  02000000 01 00 0000 18000000  03000000 02000001 4c01b891c67ff240 0a00000000000000'
+    [remote]='02000000 01 00 0000 38000000  03000000 02000001 4c01b891c67ff240
+        0100000000000000 18000000 0000 0000  0600000000000000 ffffffffffffffff 72656d6f74650000'
     # A refusal, a message of four bytes and a Close frame, and their lines.
     [refusal]='01000000 05 00 0000 04000000  f5ffffff'
     [four]='01000000 01 00 0000 04000000  61626364'
@@ -71,8 +77,12 @@ an input over a tree cut short  | serve examples/trees/small.toml auto | open fr
 a session over a refused tree   | serve @wrong auto                 | open        | nothing      | 2 | tree refused: rule 2 item 0
 a session over no tree          | serve @none auto                  | open        | nothing      | 5 | file failed
 a session over too large a tree | serve @large auto                 | open        | nothing      | 5 | file too large
-a tree that isn't served yet    | serve examples/trees/mounted_pair.toml auto | open | nothing    | 11 | not built at 0
-a mode that isn't there yet     | serve examples/trees/small.toml given | open    | nothing      | 1 | $usage
+an Open over two servers        | serve examples/trees/mounted_pair.toml auto | open | missing    | 0 |
+an Open through three mounts    | serve examples/trees/every_kind.toml auto | through | remote    | 0 |
+mode given                      | serve examples/trees/mounted_pair.toml given | open stray | refused missing | 0 |
+a bad frame in mode given       | serve examples/trees/mounted_pair.toml given | open kind | missing | 6 | bad frame at 88: kind
+an end in a frame in mode given | serve examples/trees/mounted_pair.toml given | open front | missing | 7 | input ends inside the frame at 88
+a mode that is none             | serve examples/trees/small.toml once | open     | nothing      | 1 | $usage
 a tree that stands              | check examples/trees/mounted_pair.toml | nothing | ok servers 2 nodes 2 mounts 2 clients 1 | 0 |
 a tree of the largest size      | check @tree                       | nothing     | ok servers 1 nodes 2 mounts 0 clients 1 | 0 |
 a tree that breaks a rule       | check @wrong                      | nothing     | nothing      | 2 | tree refused: rule 2 item 0
@@ -181,6 +191,7 @@ exec {from}<&-
 
 # What make run shows.
 same_text 'the session' examples/session.expected examples/exchange.sh "$program" examples/session.hex serve examples/trees/small.toml auto
+same_text 'the turns' examples/turns.expected examples/exchange.sh "$program" examples/turns.hex serve examples/trees/mounted_pair.toml given
 same_text 'the exchange' examples/exchange.expected examples/exchange.sh "$program" examples/exchange.hex file examples/hello
 same_text 'the trees' examples/trees.expected examples/trees.sh "$program"
 

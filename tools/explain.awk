@@ -49,7 +49,7 @@ function status_of(digits) {
 
 function frame(number,    kind, handles, size, digits) {
     printf "%s %d\n", name, number
-    digits = take(4); line(digits, "endpoint " number_of(digits))
+    digits = take(4); line(digits, (byte[place] == "03" ? "server " : "endpoint ") number_of(digits))
     digits = take(1); kind = number_of(digits)
     line(digits, "kind " kind (kind in kinds ? ", " kinds[kind] : ""))
     digits = take(1); handles = number_of(digits); line(digits, handles (handles == 1 ? " handle" : " handles"))
@@ -57,8 +57,13 @@ function frame(number,    kind, handles, size, digits) {
     digits = take(4); size = number_of(digits); line(digits, size " bytes follow")
     for (; handles > 0; handles--) { digits = take(4); line(digits, "handle " number_of(digits)) }
     if (kind == 5 && size == 4) { digits = take(4); line(digits, status_of(digits)); return }
+    if (kind == 3 && size == 4) { digits = take(4); line(digits, servings(number_of(digits))); return }
     if (kind != 1 || size < 16) { if (size > 0) line(take(size), "bytes"); return }
     message(place + size)
+}
+
+function servings(n) {
+    return "at most " n (n == 1 ? " serving" : " servings")
 }
 
 function message(end,    digits, ordinal) {

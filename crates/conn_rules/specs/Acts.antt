@@ -1,6 +1,5 @@
--- What one request does: a function of the connection's birth and position, the numbers in use, one server's rows, the directory that
--- the request's token names there, and the request.
-use Rattle.std.specs.Prelude.{ℕ, Bool, true, false, not, List, [], ◌∷◌, Option}
+-- What one request does: a function of what it is served in, and the request.
+use Rattle.std.specs.Prelude.{Bool, true, false, not, List, [], ◌∷◌, Option}
 use Rattle.std.specs.Option.{option_map_or}
 use Rattle.fidl_names.specs.declared.methods.Method.{Method}
 use Rattle.fidl_names.specs.declared.methods.Method.TheVariants as method
@@ -15,11 +14,10 @@ use Rattle.io_messages.specs.declared.protocols.Protocol.TheVariants as protocol
 use Rattle.io_messages.specs.Protocols.{home_of}
 use Rattle.io_messages.specs.Replies.{done, payload, attributes}
 use Rattle.io_rights.specs.Needs.{needed_by}
-use Rattle.node_graph.specs.Tree.{Tree}
-use Rattle.conn_rules.specs.declared.births.Room.{Room}
-use Rattle.conn_rules.specs.Births.{Birth, Position}
+use Rattle.conn_rules.specs.Births.{Birth}
 use Rattle.conn_rules.specs.Answers.{Act, only, replies, closes, binds}
 use Rattle.conn_rules.specs.Built.{Built}
+use Rattle.conn_rules.specs.Contexts.{Context}
 use Rattle.conn_rules.specs.FileRows.{read_act, read_at_act, write_act, write_at_act, seek_act, resize_act}
 use Rattle.conn_rules.specs.Listings.{listing_act, rewind_act}
 use Rattle.conn_rules.specs.NameRows.{unlink_act, link_act, rename_act, token_act, watch_act}
@@ -31,39 +29,35 @@ use Rattle.conn_rules.specs.Refusals.{unless, lacks}
 -- ---- the rows of every node's methods
 
 -- the endpoint is bound like this connection, with a fresh position
-abbrev pub clone_act : Birth → Position → Room → Asked → Act
-clone_act birth position room request =
-    unless (first_of (cause_if (is_full room) status.NoResources ∷ [])) position request (only position (binds birth false))
+abbrev pub clone_act : Context → Act
+clone_act context =
+    unless (first_of (cause_if (is_full context.room) status.NoResources ∷ [])) context.position method.Clone
+    (only context.position (binds context.birth false))
 
 -- ---- all rows
 
-abbrev pub row_act : Built → Birth → Position → Room → Tree → Option ℕ → Asked → Act
-row_act built birth position room tree target (asks.clone endpoint) = clone_act birth position room (asks.clone endpoint)
-row_act built birth position room tree target asks.close = only position closes
-row_act built birth position room tree target asks.query = only position (replies (payload method.Query (protocol_name birth.protocol)))
-row_act built birth position room tree target (asks.get_attributes bits) = only position (replies (attributes (attributes_of tree birth.node bits)))
-row_act built birth position room tree target asks.sync = only position (replies (done method.Sync))
-row_act built birth position room tree target (asks.open_path path flags given object) =
-    open_act built birth position room tree (asks.open_path path flags given object) path flags
-row_act built birth position room tree target (asks.read_dirents most) = listing_act birth position tree (asks.read_dirents most) most
-row_act built birth position room tree target asks.rewind = rewind_act position
-row_act built birth position room tree target asks.get_token = token_act position asks.get_token room.token
-row_act built birth position room tree target (asks.rename src token dst) =
-    rename_act birth position tree target (asks.rename src token dst) src dst
-row_act built birth position room tree target (asks.link src token dst) = link_act birth position tree target (asks.link src token dst) src dst
-row_act built birth position room tree target (asks.unlink name flags) = unlink_act birth position tree (asks.unlink name flags) name flags
-row_act built birth position room tree target (asks.watch mask options watcher) =
-    watch_act position room (asks.watch mask options watcher) mask options
-row_act built birth position room tree target (asks.read count) = read_act birth position tree (asks.read count) count
-row_act built birth position room tree target (asks.read_at count offset) =
-    read_at_act birth position tree (asks.read_at count offset) count offset
-row_act built birth position room tree target (asks.write bytes) = write_act birth position tree (asks.write bytes) bytes
-row_act built birth position room tree target (asks.write_at bytes offset) =
-    write_at_act birth position tree (asks.write_at bytes offset) bytes offset
-row_act built birth position room tree target (asks.seek origin offset) =
-    seek_act birth position tree (asks.seek origin offset) origin offset
-row_act built birth position room tree target (asks.resize size) = resize_act birth position tree (asks.resize size) size
-row_act built birth position room tree target (asks.echo_string value) = only position (replies (payload method.EchoString value))
+abbrev pub row_act : Context → Asked → Act
+row_act context (asks.clone endpoint) = clone_act context
+row_act context asks.close = only context.position closes
+row_act context asks.query = only context.position (replies (payload method.Query (protocol_name context.birth.protocol)))
+row_act context (asks.get_attributes bits) =
+    only context.position (replies (attributes (attributes_of context.tree context.birth.node bits)))
+row_act context asks.sync = only context.position (replies (done method.Sync))
+row_act context (asks.open_path path flags given object) = open_act context path flags
+row_act context (asks.read_dirents most) = listing_act context most
+row_act context asks.rewind = rewind_act context
+row_act context asks.get_token = token_act context
+row_act context (asks.rename src token dst) = rename_act context src token dst
+row_act context (asks.link src token dst) = link_act context src token dst
+row_act context (asks.unlink name flags) = unlink_act context name flags
+row_act context (asks.watch mask options watcher) = watch_act context mask options
+row_act context (asks.read count) = read_act context count
+row_act context (asks.read_at count offset) = read_at_act context count offset
+row_act context (asks.write bytes) = write_act context bytes
+row_act context (asks.write_at bytes offset) = write_at_act context bytes offset
+row_act context (asks.seek origin offset) = seek_act context origin offset
+row_act context (asks.resize size) = resize_act context size
+row_act context (asks.echo_string value) = only context.position (replies (payload method.EchoString value))
 
 -- ---- before the rows
 
@@ -89,7 +83,7 @@ method_refusals built birth method =
     ∷ []
 
 -- what one request does: its method is refused, or its row says it
-unfoldable pub act_of : Built → Birth → Position → Room → Tree → Option ℕ → Asked → Act
-act_of built birth position room tree target request =
-    unless (first_of (method_refusals built birth (method_of request))) position request
-    (row_act built birth position room tree target request)
+unfoldable pub act_of : Context → Asked → Act
+act_of context request =
+    unless (first_of (method_refusals context.built context.birth (method_of request))) context.position (method_of request)
+    (row_act context request)

@@ -1,7 +1,7 @@
 -- What the serving of one request does.
-use Rattle.std.specs.Prelude.{ℕ, Bool, List, Option, None, if◌then◌else◌}
+use Rattle.std.specs.Prelude.{ℕ, Bool, List, [], ◌∷◌, Option, Some, None, if◌then◌else◌}
+use Rattle.fidl_names.specs.declared.methods.Method.{Method}
 use Rattle.fidl_names.specs.declared.statuses.Status.{Status}
-use Rattle.io_messages.specs.Asked.{Asked, method_of}
 use Rattle.io_messages.specs.Replies.{Answered, fails}
 use Rattle.io_messages.specs.Shapes.{is_one_way}
 use Rattle.node_graph.specs.Tree.{EdgeKey, Change, stay}
@@ -27,26 +27,31 @@ pub data Answer : Type 0 where
   -- nothing is written
   silent : Answer
 
--- what the watchers of directories are told: a name is gone, a name is new, a directory is gone
-pub record Told : Type 0 where
-  pub removed : Option EdgeKey
-  pub added : Option EdgeKey
-  pub deleted : Option ℕ
+-- what the watchers of a directory are told: a name is gone from it, a name is new in it, it is gone itself
+pub data Happening : Type 0 where
+  removed : (name : EdgeKey) → Happening
+  added : (name : EdgeKey) → Happening
+  deleted : (directory : ℕ) → Happening
 
-abbrev pub nothing_told : Told
-nothing_told = record { removed = None; added = None; deleted = None }
+abbrev pub nothing_told : List Happening
+nothing_told = []
 
--- an answer, the position that it leaves, the change of the server's tree, and what watchers are told of it
+-- a directory is gone, if there is one
+abbrev pub gone : Option ℕ → List Happening
+gone None = []
+gone (Some directory) = deleted directory ∷ []
+
+-- an answer, the position that it leaves, the change of the server's tree, and what watchers are told of it, in this order
 pub record Act : Type 0 where
   pub answer : Answer
   pub position : Position
   pub change : Change
-  pub told : Told
+  pub told : List Happening
 
 -- an answer that leaves this position, and changes nothing else
 abbrev pub only : Position → Answer → Act
 only position answer = record { answer = answer; position = position; change = stay; told = nothing_told }
 
--- how a request fails: on the endpoint that it carries where it has no reply, else in its reply
-abbrev pub failure_of : Asked → Status → Answer
-failure_of request status = if is_one_way (method_of request) then refuses status else replies (fails (method_of request) status)
+-- how a request of a method fails: on the endpoint that it carries where the method has no reply, else in its reply
+abbrev pub failure_of : Method → Status → Answer
+failure_of method status = if is_one_way method then refuses status else replies (fails method status)

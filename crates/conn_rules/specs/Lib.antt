@@ -2,6 +2,7 @@ pub mod Births
 pub mod Codes
 pub mod Answers
 pub mod Built
+pub mod Contexts
 pub mod Refusals
 pub mod Nodes
 pub mod Walks

@@ -5,14 +5,14 @@ use Rattle.std.specs.Str.{bytes_eq}
 use Rattle.fidl_names.specs.declared.methods.Method.TheVariants as method
 use Rattle.fidl_names.specs.declared.statuses.Status.TheVariants as status
 use Rattle.fidl_names.specs.Numbers.{number_bytes}
-use Rattle.io_messages.specs.Asked.{Asked}
 use Rattle.io_messages.specs.Replies.{payload, settled}
 use Rattle.node_graph.specs.declared.nodes.NodeKind.{NodeKind}
 use Rattle.node_graph.specs.declared.nodes.NodeKind.TheVariants.{Directory, File, Service, Mount}
 use Rattle.node_graph.specs.Graph.{listed_after}
 use Rattle.node_graph.specs.Tree.{Tree}
 use Rattle.path_walk.specs.Names.{dot}
-use Rattle.conn_rules.specs.Births.{Birth, Place, start, after_dot, after_name, Position}
+use Rattle.conn_rules.specs.Births.{Place, start, after_dot, after_name, Position}
+use Rattle.conn_rules.specs.Contexts.{Context}
 use Rattle.conn_rules.specs.Answers.{Act, only, replies}
 use Rattle.conn_rules.specs.FileRows.{is_too_much}
 use Rattle.conn_rules.specs.Nodes.{kind_here}
@@ -74,19 +74,21 @@ fits_none entries room = not (length entries == 0) && (length (fitting entries r
 abbrev pub at_place : Position → Place → Position
 at_place position place = record position { place = place }
 
+-- the listing of the directory from the position on
+abbrev pub listing_here : Context → List Dirent
+listing_here context = listing context.tree context.birth.node context.position.place
+
 -- the entries behind the position that fit; the position goes behind them
-abbrev pub listing_act : Birth → Position → Tree → Asked → ℕ → Act
-listing_act birth position tree request most =
+abbrev pub listing_act : Context → ℕ → Act
+listing_act context most =
     unless
     (first_of
-    (cause_if (is_too_much most) status.InvalidArgs
-    ∷ cause_if (fits_none (listing tree birth.node position.place) most) status.BufferTooSmall
-    ∷ []))
-    position request
+    (cause_if (is_too_much most) status.InvalidArgs ∷ cause_if (fits_none (listing_here context) most) status.BufferTooSmall ∷ []))
+    context.position method.ReadDirents
     (only
-    (at_place position (place_after position.place (fitting (listing tree birth.node position.place) most)))
-    (replies (payload method.ReadDirents (flat_map dirent_bytes (fitting (listing tree birth.node position.place) most)))))
+    (at_place context.position (place_after context.position.place (fitting (listing_here context) most)))
+    (replies (payload method.ReadDirents (flat_map dirent_bytes (fitting (listing_here context) most)))))
 
 -- the listing begins anew
-abbrev pub rewind_act : Position → Act
-rewind_act position = only (at_place position start) (replies (settled method.Rewind))
+abbrev pub rewind_act : Context → Act
+rewind_act context = only (at_place context.position start) (replies (settled method.Rewind))

@@ -2,13 +2,13 @@
 use Rattle.std.specs.Prelude.{ℕ, ◌==◌, Bool, true, false, if◌then◌else◌, List, [], length, Option, Some, None, unwrap_or, codes}
 use Rattle.std.specs.Int.{bit_at}
 use Rattle.std.specs.Option.{option_map_or}
-use Rattle.std.specs.FinMap as finite
 use Rattle.io_messages.specs.declared.protocols.Protocol.{Protocol}
 use Rattle.io_messages.specs.declared.protocols.Protocol.TheVariants as protocol
 use Rattle.io_messages.specs.declared.replies.Attributes.{Attributes}
 use Rattle.node_graph.specs.declared.nodes.NodeKind.{NodeKind}
 use Rattle.node_graph.specs.declared.nodes.NodeKind.TheVariants.{Directory, File, Service, Mount}
-use Rattle.node_graph.specs.Tree.{Tree, EdgeKey, EdgeTo, row_of, kind_of, link_count, names_in}
+pub use Rattle.node_graph.specs.Refusals.{edge_at, is_directory, is_mount}
+use Rattle.node_graph.specs.Tree.{Tree, EdgeTo, row_of, kind_of, link_count}
 
 -- a file's bytes
 abbrev pub bytes_of : Tree → ℕ → List ℕ
@@ -18,10 +18,6 @@ bytes_of tree number = option_map_or (λ row. row.bytes) (row_of tree.nodes numb
 abbrev pub kind_here : Tree → ℕ → NodeKind
 kind_here tree number = unwrap_or (kind_of tree number) Directory
 
-abbrev pub is_directory : NodeKind → Bool
-is_directory Directory = true
-is_directory _ = false
-
 abbrev pub is_file : NodeKind → Bool
 is_file File = true
 is_file _ = false
@@ -30,25 +26,9 @@ abbrev pub is_service : NodeKind → Bool
 is_service Service = true
 is_service _ = false
 
-abbrev pub is_mount : NodeKind → Bool
-is_mount (Mount index) = true
-is_mount _ = false
-
--- where a name leads to
-abbrev pub edge_at : Tree → EdgeKey → Option EdgeTo
-edge_at tree key = finite.get tree.edges key
-
 -- the kind of the node that an edge leads to
 abbrev pub kind_behind : Tree → EdgeTo → NodeKind
 kind_behind tree edge = kind_here tree edge.child
-
--- there is such a name, and what it leads to passes the test
-abbrev pub leads_to : (NodeKind → Bool) → Tree → EdgeKey → Bool
-leads_to test tree key = option_map_or (λ edge. test (kind_behind tree edge)) (edge_at tree key) false
-
--- a directory without a name in it
-abbrev pub is_empty_directory : Tree → ℕ → Bool
-is_empty_directory tree number = length (names_in tree.edges number) == 0
 
 -- ---- attributes
 

@@ -1,9 +1,10 @@
 -- Open: the node at a path is bound to the endpoint that the request carries, or made first, or the Open goes on behind a mount.
-use Rattle.std.specs.Prelude.{ℕ, ◌+◌, ◌&&◌, ◌||◌, Bool, not, nat_le, is_some, if◌then◌else◌, List, [], ◌∷◌, length, Option, Some, None}
+use Rattle.std.specs.Prelude.{ℕ, ◌+◌, ◌&&◌, ◌||◌, Bool, not, nat_le, is_some, if◌then◌else◌, List, [], ◌∷◌, length, Option}
 use Rattle.std.specs.FinMap as finite
 use Rattle.std.specs.Option.{option_map}
 use Rattle.std.specs.Str.{bytes_eq}
 use Rattle.fidl_names.specs.declared.limits.TheConstants as limit
+use Rattle.fidl_names.specs.declared.methods.Method.TheVariants as method
 use Rattle.fidl_names.specs.declared.statuses.Status.{Status}
 use Rattle.fidl_names.specs.declared.statuses.Status.TheVariants as status
 use Rattle.io_flags.specs.declared.names.Flag.{Flag}
@@ -11,7 +12,6 @@ use Rattle.io_flags.specs.declared.names.Flag.TheVariants as flag
 use Rattle.io_flags.specs.Faults.{flag_fault, status_of}
 use Rattle.io_flags.specs.Grants.{explicit_rights, asked_rights, granted, granted_kind, onward}
 use Rattle.io_flags.specs.Words.{has, has_protocol, is_alone, creates}
-use Rattle.io_messages.specs.Asked.{Asked}
 use Rattle.io_messages.specs.declared.protocols.Protocol.{Protocol}
 use Rattle.io_messages.specs.declared.protocols.Protocol.TheVariants as protocol
 use Rattle.io_rights.specs.declared.operations.Operation.TheVariants as op
@@ -23,8 +23,9 @@ use Rattle.path_walk.specs.Names.{dot}
 use Rattle.path_walk.specs.Paths.{path_fault, names_of}
 use Rattle.conn_rules.specs.declared.births.Room.{Room}
 use Rattle.conn_rules.specs.Births.{Birth, Position}
-use Rattle.conn_rules.specs.Answers.{Answer, binds, forwards, Act, only, failure_of, nothing_told}
+use Rattle.conn_rules.specs.Answers.{Answer, binds, forwards, added, Act, only, failure_of, nothing_told}
 use Rattle.conn_rules.specs.Built.{Built}
+use Rattle.conn_rules.specs.Contexts.{Context}
 use Rattle.conn_rules.specs.Nodes.{kind_here, is_file, is_service}
 use Rattle.fidl_names.specs.First.{cause_if, first_of}
 use Rattle.conn_rules.specs.Refusals.{unless, lacks}
@@ -130,23 +131,23 @@ making position tree word limit key =
       answer = binding word limit (length tree.nodes + 1) (kind_made word);
       position = position;
       change = make key (new_row (kind_made word)) all;
-      told = record { removed = None; added = Some key; deleted = None };
+      told = added key ∷ [];
     }
 
 -- ---- the whole
 
-abbrev pub by_walk : Built → Birth → Position → Room → Tree → Asked → ℕ → Walk → Act
-by_walk built birth position room tree request word (arrives node masks) =
-    unless (first_of (arrival_refusals built room word (kind_here tree node))) position request
-    (arrival position word (limit_of birth.rights masks) node (kind_here tree node))
-by_walk built birth position room tree request word (missing directory name masks) =
-    unless (first_of (making_refusals tree room word directory)) position request
-    (making position tree word (limit_of birth.rights masks) (record { directory = directory; name = name }))
-by_walk built birth position room tree request word (crosses mount rest masks) =
-    only position (forwards mount (onward word (limit_of birth.rights masks)) rest)
-by_walk built birth position room tree request word (stops status) = only position (failure_of request status)
+abbrev pub by_walk : Context → ℕ → Walk → Act
+by_walk context word (arrives node masks) =
+    unless (first_of (arrival_refusals context.built context.room word (kind_here context.tree node))) context.position method.OpenPath
+    (arrival context.position word (limit_of context.birth.rights masks) node (kind_here context.tree node))
+by_walk context word (missing directory name masks) =
+    unless (first_of (making_refusals context.tree context.room word directory)) context.position method.OpenPath
+    (making context.position context.tree word (limit_of context.birth.rights masks) (record { directory = directory; name = name }))
+by_walk context word (crosses mount rest masks) =
+    only context.position (forwards mount (onward word (limit_of context.birth.rights masks)) rest)
+by_walk context word (stops status) = only context.position (failure_of method.OpenPath status)
 
-abbrev pub open_act : Built → Birth → Position → Room → Tree → Asked → List ℕ → ℕ → Act
-open_act built birth position room tree request path word =
-    unless (first_of (entry_refusals built birth word path)) position request
-    (by_walk built birth position room tree request word (walk tree word (names_of path) birth.node))
+abbrev pub open_act : Context → List ℕ → ℕ → Act
+open_act context path word =
+    unless (first_of (entry_refusals context.built context.birth word path)) context.position method.OpenPath
+    (by_walk context word (walk context.tree word (names_of path) context.birth.node))

@@ -4,7 +4,7 @@ ghost use Rattle.std.specs.Prelude.{◌≡◌, ◌≢◌, ◌<◌, ◌≤◌, �
 ghost use Rattle.fidl_names.specs.declared.methods.Method.TheVariants as method;
 ghost use Rattle.fidl_wire.specs.Numbers.{padded};
 ghost use Rattle.fidl_wire.specs.Written.{Written};
-ghost use Rattle.io_messages.specs.Asked.{Asked, asked, method_of};
+ghost use Rattle.io_messages.specs.Asked.{asked, method_of};
 ghost use Rattle.io_messages.specs.Asked as asks;
 ghost use Rattle.io_messages.specs.Protocols.{home_of};
 ghost use Rattle.io_messages.specs.Replies.{answered, payload};
@@ -19,6 +19,7 @@ ghost use Rattle.conn_rules.specs.Acts.{clone_act, is_of_every_node, row_act};
 ghost use Rattle.conn_rules.specs.Answers.{closes, failure_of, replies};
 ghost use Rattle.conn_rules.specs.Births.{Position, born};
 ghost use Rattle.conn_rules.specs.Built.{Built};
+ghost use Rattle.conn_rules.specs.Contexts.{context_with};
 ghost use Rattle.conn_rules.specs.Nodes.{attributes_of, protocol_name};
 ghost use Rattle.conn_rules.specs.Served.{Gives, HasNothing};
 ghost use Rattle.conn_rules.specs.Shared.{can_fail, IsCloneOf};
@@ -50,7 +51,7 @@ pub fn fail(ordinals: &Ordinals, txid: u32, method: Method, status: Status, out:
     requires txid { has_txid (is_one_way method) txid ≡ true }
     requires form { can_fail method ≡ true }
     requires status { status ≢ Status.Ok }
-    ensures gives { (request : Asked) → method_of request ≡ method → Gives (failure_of request status) txid result out.new }
+    ensures gives { Gives (failure_of method status) txid result out.new }
 {
     match method {
         Method::Clone | Method::OpenPath => Served::Refused(status),
@@ -71,8 +72,8 @@ fn serve_close(ordinals: &Ordinals, txid: u32, out: &mut Out) -> Served
 /// Serves Clone: the endpoint that it carries is bound like the connection, unless the server has
 /// as many connections as it may.
 fn serve_clone(birth: &Birth, room: Room) -> Served
-    ensures gives { (position : Position) (endpoint txid : ℕ) (out : Written) →
-        HasNothing out → Gives (clone_act (born birth.now) position room (asks.clone endpoint)).answer txid result out }
+    ensures gives { (built : Built) (position : Position) (tree : Tree) (directory : ℕ → Option ℕ) (txid : ℕ) (out : Written) →
+        HasNothing out → Gives (clone_act (context_with built (born birth.now) position room tree directory)).answer txid result out }
     ensures bound { (found : code.Birth) → result ≡ Served.Bind found → IsCloneOf birth.now found }
     ensures kind { result ≢ Served.Reply × (result ≢ Served.ReplyEnd × result ≢ Served.NoMemory) }
 {
@@ -113,8 +114,8 @@ pub fn serve_node(
     requires home { is_of_every_node (home_of (method_of (asked request.now))) ≡ true }
     requires txid { has_txid (is_one_way (method_of (asked request.now))) txid ≡ true }
     requires empty { HasNothing out.old }
-    ensures gives { (tree : Tree) → StandsFor graph.now tree → (built : Built) (position : Position) (target : Option ℕ) →
-        Gives (row_act built (born birth.now) position room tree target (asked request.now)).answer txid result out.new }
+    ensures gives { (tree : Tree) → StandsFor graph.now tree → (built : Built) (position : Position) (directory : ℕ → Option ℕ) →
+        Gives (row_act (context_with built (born birth.now) position room tree directory) (asked request.now)).answer txid result out.new }
     ensures bound { (found : code.Birth) → result ≡ Served.Bind found → IsCloneOf birth.now found × (method_of (asked request.now) ≡ method.Clone) }
     ensures ends { result ≡ Served.ReplyEnd → asked request.now ≡ asks.close }
     ensures memory { result ≢ Served.NoMemory }

@@ -1,14 +1,11 @@
 -- What an Open does, by where its walk leads, and that it changes nothing.
 use Rattle.std.proofs.Common.{◌≡◌, ℕ, Bool, true, false, not, ◌||◌, List, Option, Some, None, refl, ap, sym, ◌∙◌, rules}
-use Rattle.std.specs.Prelude.{if◌then◌else◌}
 use Rattle.fidl_names.specs.declared.methods.Method.TheVariants as method
 use Rattle.fidl_names.specs.declared.statuses.Status.{Status}
 use Rattle.fidl_names.specs.declared.statuses.Status.TheVariants as status
 use Rattle.io_flags.specs.declared.names.Flag.TheVariants as flag
 use Rattle.io_flags.specs.Words.{has, creates}
 use Rattle.io_messages.specs.Asked.{Asked, method_of}
-use Rattle.io_messages.specs.Replies.{fails}
-use Rattle.io_messages.specs.Shapes.{is_one_way}
 use Rattle.node_graph.specs.Tree.{Tree}
 use Rattle.path_walk.specs.Paths.{names_of}
 use Rattle.conn_rules.specs.declared.births.Room.{Room}
@@ -18,6 +15,7 @@ use Rattle.conn_rules.specs.Answers.{Answer, Act, failure_of, refuses, replies, 
 use Rattle.conn_rules.specs.Served.{HasNothing}
 use Rattle.conn_rules.specs.Births.{Birth, Position}
 use Rattle.conn_rules.specs.Built.{first_methods, is_first_word}
+use Rattle.conn_rules.specs.Contexts.{Context, context_with}
 use Rattle.conn_rules.specs.Nodes.{kind_here}
 use Rattle.conn_rules.specs.Opens.{arrival_refusals, arrival, by_walk, entry_refusals, making, making_refusals, open_act}
 use Rattle.fidl_names.specs.First.{first_of}
@@ -29,14 +27,9 @@ use Rattle.dir_conn.specs.Reaches.{reach}
 use Rattle.dir_conn.specs.Served.{DirGives, Sends}
 
 -- an Open has no reply, so it fails on the endpoint that it carries
-pub open_fails : (request : Asked) (status : Status) → method_of request ≡ method.OpenPath → failure_of request status ≡ refuses status
-open_fails request status e =
-    ap (λ m. if is_one_way m then refuses status else replies (fails m status)) e
-
-pub unless_answer : (position : Position) (request : Asked) → method_of request ≡ method.OpenPath →
-    (o : Option Status) (act : Act) → (unless o position request act).answer ≡ refused_or o act.answer
-unless_answer position request e (Some status) act = open_fails request status e
-unless_answer position request e None act = refl
+pub unless_answer : (position : Position) (o : Option Status) (act : Act) → (unless o position method.OpenPath act).answer ≡ refused_or o act.answer
+unless_answer position (Some status) act = refl
+unless_answer position None act = refl
 
 not_or : (a b : Bool) → not (a || b) ≡ true → a ≡ false
 not_or true b e = sym e
@@ -60,36 +53,35 @@ pub making_none : (tree : Tree) (room : Room) (word directory : ℕ) → is_firs
 making_none tree room word directory e =
     rw (creates_none word e) refl
 
-pub answer_of_walk : (birth : Birth) (position : Position) (room : Room) (tree : Tree) (request : Asked) (word : ℕ) →
-    method_of request ≡ method.OpenPath → is_first_word word ≡ true → (w : Walk) →
-    (by_walk first_methods birth position room tree request word w).answer ≡ answer_at room tree word (reach birth.rights w)
-answer_of_walk birth position room tree request word e built (arrives node masks) =
-    unless_answer position request e (first_of (arrival_refusals first_methods room word (kind_here tree node)))
+pub answer_of_walk : (birth : Birth) (position : Position) (room : Room) (tree : Tree) (directory : ℕ → Option ℕ) (word : ℕ) → is_first_word word ≡ true → (w : Walk) →
+    (by_walk (context_with first_methods birth position room tree directory) word w).answer ≡ answer_at room tree word (reach birth.rights w)
+answer_of_walk birth position room tree directory word built (arrives node masks) =
+    unless_answer position (first_of (arrival_refusals first_methods room word (kind_here tree node)))
     (arrival position word (limit_of birth.rights masks) node (kind_here tree node))
-answer_of_walk birth position room tree request word e built (missing directory name masks) =
-    unless_answer position request e (first_of (making_refusals tree room word directory))
-    (making position tree word (limit_of birth.rights masks) (record { directory = directory; name = name }))
-    ∙ ap (λ o. refused_or o (making position tree word (limit_of birth.rights masks) (record { directory = directory; name = name })).answer) (making_none tree room word directory built)
-answer_of_walk birth position room tree request word e built (crosses mount rest masks) = refl
-answer_of_walk birth position room tree request word e built (stops status) = open_fails request status e
+answer_of_walk birth position room tree directory word built (missing parent name masks) =
+    unless_answer position (first_of (making_refusals tree room word parent))
+    (making position tree word (limit_of birth.rights masks) (record { directory = parent; name = name }))
+    ∙ ap (λ o. refused_or o (making position tree word (limit_of birth.rights masks) (record { directory = parent; name = name })).answer) (making_none tree room word parent built)
+answer_of_walk birth position room tree directory word built (crosses mount rest masks) = refl
+answer_of_walk birth position room tree directory word built (stops status) = refl
 
-pub answer_of_open : (birth : Birth) (position : Position) (room : Room) (tree : Tree) (request : Asked) (path : List ℕ) (word : ℕ) →
-    method_of request ≡ method.OpenPath → is_first_word word ≡ true → first_of (entry_refusals first_methods birth word path) ≡ None →
-    (open_act first_methods birth position room tree request path word).answer
+pub answer_of_open : (birth : Birth) (position : Position) (room : Room) (tree : Tree) (directory : ℕ → Option ℕ) (path : List ℕ) (word : ℕ) →
+    is_first_word word ≡ true → first_of (entry_refusals first_methods birth word path) ≡ None →
+    (open_act (context_with first_methods birth position room tree directory) path word).answer
     ≡ answer_at room tree word (reach birth.rights (walk tree word (names_of path) birth.node))
-answer_of_open birth position room tree request path word e built none =
-    unless_answer position request e (first_of (entry_refusals first_methods birth word path))
-    (by_walk first_methods birth position room tree request word (walk tree word (names_of path) birth.node))
-    ∙ ap (λ o. refused_or o (by_walk first_methods birth position room tree request word (walk tree word (names_of path) birth.node)).answer) none
-    ∙ answer_of_walk birth position room tree request word e built (walk tree word (names_of path) birth.node)
+answer_of_open birth position room tree directory path word built none =
+    let here = context_with first_methods birth position room tree directory in
+    unless_answer position (first_of (entry_refusals first_methods birth word path)) (by_walk here word (walk tree word (names_of path) birth.node))
+    ∙ ap (λ o. refused_or o (by_walk here word (walk tree word (names_of path) birth.node)).answer) none
+    ∙ answer_of_walk birth position room tree directory word built (walk tree word (names_of path) birth.node)
 
-pub sends_of_open : (birth : Birth) (position : Position) (room : Room) (tree : Tree) (request : Asked) (path : List ℕ) (word flags : ℕ) (names : List (List ℕ)) (result : DirServed) →
-    method_of request ≡ method.OpenPath → is_first_word word ≡ true → None ≡ first_of (entry_refusals first_methods birth word path) →
+pub sends_of_open : (birth : Birth) (position : Position) (room : Room) (tree : Tree) (directory : ℕ → Option ℕ) (path : List ℕ) (word flags : ℕ) (names : List (List ℕ)) (result : DirServed) →
+    is_first_word word ≡ true → None ≡ first_of (entry_refusals first_methods birth word path) →
     flags ≡ word → names ≡ names_of path →
     Sends (answer_at room tree flags (reach birth.rights (walk tree flags names birth.node))) result →
-    Sends (open_act first_methods birth position room tree request path word).answer result
-sends_of_open birth position room tree request path word flags names result e built none same named sends =
-    rw (answer_of_open birth position room tree request path word e built (sym none)) (rw (same, named) at sends)
+    Sends (open_act (context_with first_methods birth position room tree directory) path word).answer result
+sends_of_open birth position room tree directory path word flags names result built none same named sends =
+    rw (answer_of_open birth position room tree directory path word built (sym none)) (rw (same, named) at sends)
 
 -- an answer without a message is that of the call, where the output is empty
 pub dir_gives : (answer : Answer) (txid : ℕ) (result : DirServed) (out : Written) → Sends answer result → HasNothing out → DirGives answer txid result out
@@ -105,14 +97,14 @@ dir_gives silent txid result out sends empty = (sends, empty)
 
 -- ---- what a method's refusal does
 
-pub act_refused : (birth : Birth) (position : Position) (room : Room) (tree : Tree) (target : Option ℕ) (request : Asked) (status : Status) →
-    first_of (method_refusals first_methods birth (method_of request)) ≡ Some status →
-    (act_of first_methods birth position room tree target request).answer ≡ failure_of request status
+pub act_refused : (context : Context) (request : Asked) (status : Status) →
+    first_of (method_refusals context.built context.birth (method_of request)) ≡ Some status →
+    (act_of context request).answer ≡ failure_of (method_of request) status
 unfolding act_of
-act_refused birth position room tree target request status e = rw e refl
+act_refused context request status e = rw e refl
 
-pub act_row : (birth : Birth) (position : Position) (room : Room) (tree : Tree) (target : Option ℕ) (request : Asked) →
-    first_of (method_refusals first_methods birth (method_of request)) ≡ None →
-    act_of first_methods birth position room tree target request ≡ row_act first_methods birth position room tree target request
+pub act_row : (context : Context) (request : Asked) →
+    first_of (method_refusals context.built context.birth (method_of request)) ≡ None →
+    act_of context request ≡ row_act context request
 unfolding act_of
-act_row birth position room tree target request e = rw e refl
+act_row context request e = rw e refl

@@ -4,15 +4,13 @@ use Rattle.std.proofs.lemmas.List.Elements.{All-nil, All-cons, All-head, All-tai
 use Rattle.std.specs.Prelude.{All, IsTrue, ◌↔◌, ◌&&◌, is_some, if◌then◌else◌}
 use Rattle.std.specs.Option.{option_map}
 use Rattle.std.specs.Str.{bytes_eq}
+use Rattle.fidl_names.specs.declared.methods.Method.TheVariants as method
 use Rattle.fidl_names.specs.declared.statuses.Status.{Status}
 use Rattle.fidl_names.specs.declared.statuses.Status.TheVariants as status
 use Rattle.io_flags.specs.Faults.{flag_fault, status_of}
 use Rattle.path_walk.specs.Names.{dot}
 use Rattle.io_flags.specs.Grants.{explicit_rights, asked_rights, granted, granted_kind, grant_of}
 use Rattle.io_flags.specs.Words.{creates}
-use Rattle.io_messages.specs.Asked.{Asked, method_of}
-use Rattle.io_messages.specs.Replies.{Answered, fails}
-use Rattle.io_messages.specs.Shapes.{is_one_way}
 use Rattle.io_rights.specs.declared.operations.Operation.{Operation}
 use Rattle.io_rights.specs.declared.operations.Operation.TheVariants as op
 use Rattle.io_rights.specs.Operations.{OperationSet, has, none, single, meet, join, is_within}
@@ -20,10 +18,9 @@ use Rattle.node_graph.specs.declared.nodes.NodeKind.{NodeKind}
 use Rattle.node_graph.specs.declared.nodes.NodeKind.TheVariants.{Directory, File, Service, Mount}
 use Rattle.node_graph.specs.Tree.{Tree, EdgeTo}
 use Rattle.path_walk.specs.Paths.{names_of, path_fault}
-use Rattle.conn_rules.specs.declared.births.Room.{Room}
-use Rattle.conn_rules.specs.Answers.{Answer, Act, binds, refuses, replies}
+use Rattle.conn_rules.specs.Answers.{Answer, Act, binds}
 use Rattle.conn_rules.specs.Births.{Birth, Position}
-use Rattle.conn_rules.specs.Built.{Built}
+use Rattle.conn_rules.specs.Contexts.{Context}
 use Rattle.conn_rules.specs.Nodes.{edge_at, kind_here, kind_behind}
 use Rattle.conn_rules.specs.Opens.{arrival_refusals, arrival, by_walk, entry_refusals, making, making_refusals}
 use Rattle.fidl_names.specs.First.{cause_if, first_of}
@@ -169,15 +166,10 @@ abbrev rights_in : Answer → OperationSet
 rights_in (binds birth announced) = birth.rights
 rights_in _ = none
 
-fails_by_case : (b : Bool) (status : Status) (a : Answered) (found : Birth) (announced : Bool) → (if b then refuses status else replies a) ≡ binds found announced → ⊥
-fails_by_case true status a found announced e = search rules
-fails_by_case false status a found announced e = search rules
-
-unless_binds : (position : Position) (request : Asked) (o : Option Status) (act : Act) (found : Birth) (announced : Bool) →
-    (unless o position request act).answer ≡ binds found announced → (o ≡ None) × (act.answer ≡ binds found announced)
-unless_binds position request (Some status) act found announced e =
-    absurd (fails_by_case (is_one_way (method_of request)) status (fails (method_of request) status) found announced e)
-unless_binds position request None act found announced e = (refl, e)
+unless_binds : (position : Position) (o : Option Status) (act : Act) (found : Birth) (announced : Bool) →
+    (unless o position method.OpenPath act).answer ≡ binds found announced → (o ≡ None) × (act.answer ≡ binds found announced)
+unless_binds position (Some status) act found announced e = search rules
+unless_binds position None act found announced e = (refl, e)
 
 fifth_passes : (a b c d : Option Status) (x : Bool) (status : Status) → first_of (a ∷ b ∷ c ∷ d ∷ cause_if (not x) status ∷ []) ≡ None → x ≡ true
 fifth_passes (Some s) b c d x status e = search rules
@@ -193,32 +185,31 @@ granted_narrow law grants word rights masks h =
     from_limit law _ rights masks
     (grants word (limit_of rights masks) _ (grant_within word (limit_of rights masks) (into_limit law (explicit_rights word) rights masks h)))
 
-walk_binds : Greatest → GrantsWithin → (built : Built) (birth : Birth) (position : Position) (room : Room) (tree : Tree) (request : Asked) (word : ℕ) (w : Walk) (found : Birth) (announced : Bool) →
-    IsWithinAll (explicit_rights word) birth.rights (masks_of w) →
-    (by_walk built birth position room tree request word w).answer ≡ binds found announced → IsWithinAll found.rights birth.rights (masks_of w)
-walk_binds law grants built birth position room tree request word (arrives node masks) found announced h e =
-    let act = (unless_binds position request (first_of (arrival_refusals built room word (kind_here tree node)))
-    (arrival position word (limit_of birth.rights masks) node (kind_here tree node)) found announced e).1 in
-    subst (λ rights. IsWithinAll rights birth.rights masks) (ap rights_in act) (granted_narrow law grants word birth.rights masks h)
-walk_binds law grants built birth position room tree request word (missing directory name masks) found announced h e =
-    let act = (unless_binds position request (first_of (making_refusals tree room word directory))
-    (making position tree word (limit_of birth.rights masks) (record { directory = directory; name = name })) found announced e).1 in
-    subst (λ rights. IsWithinAll rights birth.rights masks) (ap rights_in act) (granted_narrow law grants word birth.rights masks h)
-walk_binds law grants built birth position room tree request word (crosses mount rest masks) found announced h e = search rules
-walk_binds law grants built birth position room tree request word (stops status) found announced h e =
-    absurd (fails_by_case (is_one_way (method_of request)) status (fails (method_of request) status) found announced e)
+walk_binds : Greatest → GrantsWithin → (context : Context) (word : ℕ) (w : Walk) (found : Birth) (announced : Bool) →
+    IsWithinAll (explicit_rights word) context.birth.rights (masks_of w) →
+    (by_walk context word w).answer ≡ binds found announced → IsWithinAll found.rights context.birth.rights (masks_of w)
+walk_binds law grants context word (arrives node masks) found announced h e =
+    let act = (unless_binds context.position (first_of (arrival_refusals context.built context.room word (kind_here context.tree node)))
+    (arrival context.position word (limit_of context.birth.rights masks) node (kind_here context.tree node)) found announced e).1 in
+    subst (λ rights. IsWithinAll rights context.birth.rights masks) (ap rights_in act) (granted_narrow law grants word context.birth.rights masks h)
+walk_binds law grants context word (missing directory name masks) found announced h e =
+    let act = (unless_binds context.position (first_of (making_refusals context.tree context.room word directory))
+    (making context.position context.tree word (limit_of context.birth.rights masks) (record { directory = directory; name = name })) found announced e).1 in
+    subst (λ rights. IsWithinAll rights context.birth.rights masks) (ap rights_in act) (granted_narrow law grants word context.birth.rights masks h)
+walk_binds law grants context word (crosses mount rest masks) found announced h e = search rules
+walk_binds law grants context word (stops status) found announced h e = search rules
 
 pub opens_narrow : ByOperation → Greatest → GrantsWithin → OpensOnlyNarrow
-opens_narrow operation law grants built birth position room tree request path word found announced e =
-    let h = unless_binds position request (first_of (entry_refusals built birth word path))
-    (by_walk built birth position room tree request word (walk tree word (names_of path) birth.node)) found announced e in
+opens_narrow operation law grants context path word found announced e =
+    let h = unless_binds context.position (first_of (entry_refusals context.built context.birth word path))
+    (by_walk context word (walk context.tree word (names_of path) context.birth.node)) found announced e in
     let asked =
-    fifth_passes (option_map status_of (flag_fault word)) (cause_if (not (built.words word)) status.NotSupported)
+    fifth_passes (option_map status_of (flag_fault word)) (cause_if (not (context.built.words word)) status.NotSupported)
     (cause_if (is_some (path_fault path)) status.InvalidArgs)
-    (cause_if (not (bytes_eq path dot) && lacks birth.rights (single op.Traverse)) status.AccessDenied)
-    (is_within (asked_rights word) birth.rights) status.AccessDenied h.0 in
-    walk_binds law grants built birth position room tree request word (walk tree word (names_of path) birth.node) found announced (
-      within_trans operation (explicit_rights word) (asked_rights word) birth.rights (named_in_asked operation word) asked,
-      walk_masks operation tree word (names_of path) birth.node,
+    (cause_if (not (bytes_eq path dot) && lacks context.birth.rights (single op.Traverse)) status.AccessDenied)
+    (is_within (asked_rights word) context.birth.rights) status.AccessDenied h.0 in
+    walk_binds law grants context word (walk context.tree word (names_of path) context.birth.node) found announced (
+      within_trans operation (explicit_rights word) (asked_rights word) context.birth.rights (named_in_asked operation word) asked,
+      walk_masks operation context.tree word (names_of path) context.birth.node,
     )
     h.1

@@ -13,6 +13,7 @@ ghost use Rattle.conn_rules.specs.Acts.{act_of, row_act};
 ghost use Rattle.conn_rules.specs.Answers.{Answer, nothing_told};
 ghost use Rattle.conn_rules.specs.Births.{Position, born, fresh};
 ghost use Rattle.conn_rules.specs.Built.{first_methods, is_first_method};
+ghost use Rattle.conn_rules.specs.Contexts.{context_of, context_with};
 ghost use Rattle.conn_rules.specs.Served.{Gives, HasNothing};
 ghost use Rattle.conn_rules.specs.Shared.{IsCloneOf};
 ghost use Rattle.dir_conn.specs.Opened.{IsBound};
@@ -82,16 +83,16 @@ impl DirConn {
         requires txid { has_txid (is_one_way (method_of (asked request))) txid ≡ true }
         requires empty { HasNothing out.old }
         // The answer is that of the rows, for every tree that the graph stands for.
-        ensures answer { (tree : Tree) → StandsFor graph.now tree → (target : Option ℕ) →
-            DirGives (act_of first_methods (born self.old.birth) self.old.position room tree target (asked request.entry)).answer txid result out.new }
-        ensures position { (tree : Tree) → StandsFor graph.now tree → (target : Option ℕ) →
-            self.new.position ≡ (act_of first_methods (born self.old.birth) self.old.position room tree target (asked request.entry)).position }
+        ensures answer { (tree : Tree) → StandsFor graph.now tree → (directory : ℕ → Option ℕ) →
+            DirGives (act_of (context_of first_methods self.old room tree directory) (asked request.entry)).answer txid result out.new }
+        ensures position { (tree : Tree) → StandsFor graph.now tree → (directory : ℕ → Option ℕ) →
+            self.new.position ≡ (act_of (context_of first_methods self.old room tree directory) (asked request.entry)).position }
         ensures birth { self.new.birth ≡ self.old.birth }
         // Nothing of the tree changes, and watchers are told nothing.
-        ensures change { (tree : Tree) → StandsFor graph.now tree → (target : Option ℕ) →
-            (act_of first_methods (born self.old.birth) self.old.position room tree target (asked request.entry)).change ≡ stay }
-        ensures told { (tree : Tree) → StandsFor graph.now tree → (target : Option ℕ) →
-            (act_of first_methods (born self.old.birth) self.old.position room tree target (asked request.entry)).told ≡ nothing_told }
+        ensures change { (tree : Tree) → StandsFor graph.now tree → (directory : ℕ → Option ℕ) →
+            (act_of (context_of first_methods self.old room tree directory) (asked request.entry)).change ≡ stay }
+        ensures told { (tree : Tree) → StandsFor graph.now tree → (directory : ℕ → Option ℕ) →
+            (act_of (context_of first_methods self.old room tree directory) (asked request.entry)).told ≡ nothing_told }
         // What is bound is a kept node, under a protocol of its kind, with no more rights than the connection has.
         ensures bound { (found : Birth) → result ≡ DirServed.Bind found → IsBound graph.now self.old.birth.rights found }
         // Only an Open or a Clone binds, and a Clone binds its connection's like.
@@ -125,8 +126,8 @@ fn serve_row<'a>(
     requires built { is_first_method (method_of (asked request)) ≡ true }
     requires txid { has_txid (is_one_way (method_of (asked request))) txid ≡ true }
     requires empty { HasNothing out.old }
-    ensures answer { (tree : Tree) → StandsFor graph.now tree → (position : Position) (target : Option ℕ) →
-        DirGives (row_act first_methods (born birth.now) position room tree target (asked request.entry)).answer txid result out.new }
+    ensures answer { (tree : Tree) → StandsFor graph.now tree → (position : Position) (directory : ℕ → Option ℕ) →
+        DirGives (row_act (context_with first_methods (born birth.now) position room tree directory) (asked request.entry)).answer txid result out.new }
     ensures bound { (found : Birth) → result ≡ DirServed.Bind found → IsBound graph.now birth.now.rights found }
     ensures binds { (found : Birth) → result ≡ DirServed.Bind found → method_of (asked request.entry) ≢ method.OpenPath →
         IsCloneOf birth.now found × (method_of (asked request.entry) ≡ method.Clone) }

@@ -13,6 +13,3 @@ mod walk;
 pub use conn::DirConn;
 pub use laws::opens_only_narrow;
 pub use served::DirServed;
-
-#[cfg(test)]
-mod tests;

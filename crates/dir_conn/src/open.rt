@@ -1,15 +1,14 @@
 //! Open.
 
-ghost use Rattle.std.specs.Prelude.{◌≡◌, ℕ, true, Some, IsTrue};
-ghost use Rattle.fidl_names.specs.declared.methods.Method.TheVariants as method;
+ghost use Rattle.std.specs.Prelude.{◌≡◌, ℕ, true, Option, Some, IsTrue};
 ghost use Rattle.io_flags.specs.Grants.{explicit_rights, onward};
-ghost use Rattle.io_messages.specs.Asked.{Asked, method_of};
 ghost use Rattle.io_rights.specs.Operations.{is_within};
 ghost use Rattle.node_graph.specs.declared.nodes.NodeKind.TheVariants.{Directory};
 ghost use Rattle.node_graph.specs.Graph.{Names, StandsFor, kind_at, number_of};
 ghost use Rattle.node_graph.specs.Tree.{Tree};
 ghost use Rattle.conn_rules.specs.Births.{Position, born};
 ghost use Rattle.conn_rules.specs.Built.{first_methods, is_first_word};
+ghost use Rattle.conn_rules.specs.Contexts.{context_with};
 ghost use Rattle.conn_rules.specs.Opens.{open_act};
 ghost use Rattle.conn_rules.specs.Walks.{walk};
 ghost use Rattle.dir_conn.specs.Opened.{IsBound, answer_at};
@@ -38,8 +37,8 @@ pub(crate) fn open<'a>(
 ) -> DirServed<'a>
     requires kept { Names graph.now birth.now.node }
     requires kind { kind_at graph.now (number_of birth.now.node) ≡ Some Directory }
-    ensures sends { (tree : Tree) → StandsFor graph.now tree → (position : Position) (request : Asked) → method_of request ≡ method.OpenPath →
-        Sends (open_act first_methods (born birth.now) position room tree request text.now word).answer result }
+    ensures sends { (tree : Tree) → StandsFor graph.now tree → (position : Position) (directory : ℕ → Option ℕ) →
+        Sends (open_act (context_with first_methods (born birth.now) position room tree directory) text.now word).answer result }
     ensures bound { (found : Birth) → result ≡ DirServed.Bind found → IsBound graph.now birth.now.rights found }
     ensures unwritten { IsUnwritten result }
 {

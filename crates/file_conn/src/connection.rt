@@ -12,6 +12,7 @@ ghost use Rattle.conn_rules.specs.Acts.{act_of, row_act, method_refusals};
 ghost use Rattle.conn_rules.specs.Answers.{nothing_told};
 ghost use Rattle.conn_rules.specs.Births.{born, fresh};
 ghost use Rattle.conn_rules.specs.Built.{first_methods};
+ghost use Rattle.conn_rules.specs.Contexts.{context_of};
 ghost use Rattle.conn_rules.specs.FileRows.{read_act};
 ghost use Rattle.fidl_names.specs.First.{first_of};
 ghost use Rattle.conn_rules.specs.Served.{Gives, HasNothing};
@@ -85,15 +86,15 @@ impl FileConn {
         requires method { has_method Protocol.File (method_of (asked request)) ≡ true }
         requires txid { has_txid (is_one_way (method_of (asked request))) txid ≡ true }
         requires empty { HasNothing out.old }
-        ensures answer { (tree : Tree) (target : Option ℕ) → StandsFor graph.now tree →
-            Gives (act_of first_methods (born self.old.birth) self.old.position room tree target (asked request.entry)).answer txid result out.new }
-        ensures position { (tree : Tree) (target : Option ℕ) → StandsFor graph.now tree →
-            self.new.position ≡ (act_of first_methods (born self.old.birth) self.old.position room tree target (asked request.entry)).position }
+        ensures answer { (tree : Tree) (directory : ℕ → Option ℕ) → StandsFor graph.now tree →
+            Gives (act_of (context_of first_methods self.old room tree directory) (asked request.entry)).answer txid result out.new }
+        ensures position { (tree : Tree) (directory : ℕ → Option ℕ) → StandsFor graph.now tree →
+            self.new.position ≡ (act_of (context_of first_methods self.old room tree directory) (asked request.entry)).position }
         ensures birth { self.new.birth ≡ self.old.birth }
-        ensures change { (tree : Tree) (target : Option ℕ) →
-            (act_of first_methods (born self.old.birth) self.old.position room tree target (asked request.entry)).change ≡ stay }
-        ensures told { (tree : Tree) (target : Option ℕ) →
-            (act_of first_methods (born self.old.birth) self.old.position room tree target (asked request.entry)).told ≡ nothing_told }
+        ensures change { (tree : Tree) (directory : ℕ → Option ℕ) →
+            (act_of (context_of first_methods self.old room tree directory) (asked request.entry)).change ≡ stay }
+        ensures told { (tree : Tree) (directory : ℕ → Option ℕ) →
+            (act_of (context_of first_methods self.old room tree directory) (asked request.entry)).told ≡ nothing_told }
         ensures bound { (found : code.Birth) → result ≡ Served.Bind found → IsCloneOf self.old.birth found }
         ensures kept { (found : code.Birth) → result ≡ Served.Bind found → CanBeBound graph.now found }
         ensures binds { (found : code.Birth) → result ≡ Served.Bind found → method_of (asked request.entry) ≡ method.Clone }
@@ -124,10 +125,10 @@ impl FileConn {
         requires txid { has_txid (is_one_way (method_of (asked request.now))) txid ≡ true }
         requires empty { HasNothing out.old }
         requires served { first_of (method_refusals first_methods (born self.old.birth) (method_of (asked request.now))) ≡ None }
-        ensures answer { (tree : Tree) (target : Option ℕ) → StandsFor graph.now tree →
-            Gives (row_act first_methods (born self.old.birth) self.old.position room tree target (asked request.now)).answer txid result out.new }
-        ensures position { (tree : Tree) (target : Option ℕ) → StandsFor graph.now tree →
-            self.new.position ≡ (row_act first_methods (born self.old.birth) self.old.position room tree target (asked request.now)).position }
+        ensures answer { (tree : Tree) (directory : ℕ → Option ℕ) → StandsFor graph.now tree →
+            Gives (row_act (context_of first_methods self.old room tree directory) (asked request.now)).answer txid result out.new }
+        ensures position { (tree : Tree) (directory : ℕ → Option ℕ) → StandsFor graph.now tree →
+            self.new.position ≡ (row_act (context_of first_methods self.old room tree directory) (asked request.now)).position }
         ensures birth { self.new.birth ≡ self.old.birth }
         ensures bound { (found : code.Birth) → result ≡ Served.Bind found → IsCloneOf self.old.birth found }
         ensures binds { (found : code.Birth) → result ≡ Served.Bind found → method_of (asked request.now) ≡ method.Clone }
@@ -153,10 +154,10 @@ impl FileConn {
         requires kind { kind_at graph.now (number_of self.old.birth.node) ≡ Some NodeKind.File }
         requires txid { 0 < txid }
         requires empty { HasNothing out.old }
-        ensures answer { (tree : Tree) → StandsFor graph.now tree →
-            Gives (read_act (born self.old.birth) self.old.position tree (asks.read count) count).answer txid result out.new }
-        ensures position { (tree : Tree) → StandsFor graph.now tree →
-            self.new.position ≡ (read_act (born self.old.birth) self.old.position tree (asks.read count) count).position }
+        ensures answer { (room : Room) (tree : Tree) (directory : ℕ → Option ℕ) → StandsFor graph.now tree →
+            Gives (read_act (context_of first_methods self.old room tree directory) count).answer txid result out.new }
+        ensures position { (room : Room) (tree : Tree) (directory : ℕ → Option ℕ) → StandsFor graph.now tree →
+            self.new.position ≡ (read_act (context_of first_methods self.old room tree directory) count).position }
         ensures birth { self.new.birth ≡ self.old.birth }
         ensures kind { result ≡ Served.Reply }
     {

@@ -5,6 +5,3 @@ mod connection;
 mod reading;
 
 pub use connection::FileConn;
-
-#[cfg(test)]
-mod tests;

@@ -1,6 +1,7 @@
 -- What acts answer: an Open binds, is refused or goes on; only GetToken gives a token, the next one.
 use Rattle.std.proofs.Common.{◌≡◌, ℕ, ◌<◌, Bool, true, false, cond, not, nat_lt, is_some, if◌then◌else◌, List, [], ◌∷◌, ◌++◌, length, Option, Some, None, refl, ap, ◌∙◌, subst, arith}
-use Rattle.std.specs.Option.{option_map}
+use Rattle.std.specs.Option.{option_map, option_map_or}
+use Rattle.fidl_names.specs.declared.methods.Method.{Method}
 use Rattle.fidl_names.specs.declared.methods.Method.TheVariants as method
 use Rattle.fidl_names.specs.declared.statuses.Status.{Status}
 use Rattle.fidl_names.specs.declared.statuses.Status.TheVariants as status
@@ -10,27 +11,29 @@ use Rattle.io_flags.specs.Words.{has}
 use Rattle.io_flags.specs.declared.names.Flag.TheVariants as flag
 use Rattle.io_messages.specs.Asked.{Asked, method_of}
 use Rattle.io_messages.specs.Asked as asks
-use Rattle.io_messages.specs.Replies.{Answered, done, fails, counted, payload, settled, attributes, unknown}
+use Rattle.io_messages.specs.Replies.{Answered}
 use Rattle.io_messages.specs.Replies as answered
 use Rattle.io_rights.specs.Operations.{OperationSet, is_within}
 use Rattle.node_graph.specs.declared.nodes.NodeKind.{NodeKind}
 use Rattle.node_graph.specs.declared.nodes.NodeKind.TheVariants.{Directory, File, Service, Mount}
-use Rattle.fidl_names.specs.declared.limits.TheConstants as limit
-use Rattle.node_graph.specs.Graph.{write_change}
-use Rattle.node_graph.specs.Tree.{Tree, EdgeTo, Change, make, fill, stay}
+use Rattle.node_graph.specs.Graph.{resize_refusal, write_change}
+use Rattle.node_graph.specs.Refusals.{is_same_name}
+use Rattle.node_graph.specs.Tree.{Tree, EdgeTo, Change, add, make, move, fill, stay}
+use Rattle.node_graph.specs.declared.faults.GraphFault.{GraphFault}
 use Rattle.path_walk.specs.Paths.{path_fault, names_of}
 use Rattle.conn_rules.specs.declared.births.Room.{Room}
 use Rattle.conn_rules.specs.Acts.{act_of, row_act, method_refusals}
 use Rattle.conn_rules.specs.Answers.{Answer, replies, closes, binds, watches, forwards, refuses, Act, only, failure_of}
 use Rattle.conn_rules.specs.Births.{Birth, Position}
 use Rattle.conn_rules.specs.Built.{Built}
+use Rattle.conn_rules.specs.Contexts.{Context}
 use Rattle.conn_rules.specs.FileRows.{write_start, is_too_much, reading_refusal, is_no_position, seek_sum}
 use Rattle.conn_rules.specs.Listings.{fits_none, listing}
-use Rattle.conn_rules.specs.NameRows.{unlink_refusals, watch_refusals, token_act, link_into, linked, name_in, rename_into, is_same_name, replacing_refusals, moving}
+use Rattle.conn_rules.specs.NameRows.{unlink_refusals, watch_refusals, token_answer, link_into, name_in, rename_into}
 use Rattle.conn_rules.specs.Nodes.{bytes_of, edge_at, kind_here, kind_behind}
 use Rattle.conn_rules.specs.Opens.{is_full, open_act, by_walk, entry_refusals, arrival_refusals, making_refusals}
 use Rattle.fidl_names.specs.First.{cause_if, first_of}
-use Rattle.conn_rules.specs.Refusals.{unless}
+use Rattle.conn_rules.specs.Refusals.{as_status, unless}
 use Rattle.conn_rules.specs.Walks.{Walk, arrives, missing, crosses, stops, behind, passing, last_by_kind, last_step, inner_rights, inner_by_kind, inner_step, walk, limit_of}
 
 -- ---- a walk that crosses a mount
@@ -107,17 +110,26 @@ crossing tree word (name ∷ next ∷ names) directory mount rest masks e =
 -- ---- refusals
 
 -- what holds of a failure and of the act holds of the act where nothing refuses
-pub unless_holds : (P : Act → Type 0) (o : Option Status) (position : Position) (request : Asked) (act : Act) → ((s : Status) → P (only position (failure_of request s))) → (o ≡ None → P act) → P (unless o position request act)
-unless_holds P None position request act refused passes = passes refl
-unless_holds P (Some s) position request act refused passes = refused s
+pub unless_holds : (P : Act → Type 0) (o : Option Status) (position : Position) (method : Method) (act : Act) → ((s : Status) → P (only position (failure_of method s))) → (o ≡ None → P act) → P (unless o position method act)
+unless_holds P None position method act refused passes = passes refl
+unless_holds P (Some s) position method act refused passes = refused s
 
-pub first_none : (o : Option Status) (rest : List (Option Status)) → first_of (o ∷ rest) ≡ None → first_of rest ≡ None
+pub first_none : {X : Type 0} (o : Option X) (rest : List (Option X)) → first_of (o ∷ rest) ≡ None → first_of rest ≡ None
 first_none None rest e = e
 first_none (Some s) rest e = absurd (cc)
 
-pub not_refused : (b : Bool) (s : Status) (rest : List (Option Status)) → first_of (cause_if b s ∷ rest) ≡ None → b ≡ false
+pub not_refused : {X : Type 0} (b : Bool) (s : X) (rest : List (Option X)) → first_of (cause_if b s ∷ rest) ≡ None → b ≡ false
 not_refused true s rest e = absurd (cc)
 not_refused false s rest e = refl
+
+-- what the graph refuses is refused
+pub graph_allows : (o : Option GraphFault) → as_status o ≡ None → o ≡ None
+graph_allows None e = refl
+graph_allows (Some fault) e = absurd (cc)
+
+pub only_none : {X : Type 0} (o : Option X) → first_of (o ∷ []) ≡ None → o ≡ None
+only_none None e = refl
+only_none (Some s) e = absurd (cc)
 
 pub none_there : {X : Type 0} (o : Option X) → is_some o ≡ false → o ≡ None
 none_there None e = refl
@@ -162,21 +174,21 @@ made : (b : Bool) → IsMade (if b then Directory else File)
 made true = tt
 made false = tt
 
-by_walk_answers : (built : Built) (birth : Birth) (position : Position) (room : Room) (tree : Tree) (path : List ℕ) (word : ℕ) (given : Option ℕ) (object : ℕ) → path_fault path ≡ None → (w : Walk) →
-    walk tree word (names_of path) birth.node ≡ w → IsOpenAct tree path word (by_walk built birth position room tree (asks.open_path path word given object) word w)
-by_walk_answers built birth position room tree path word given object good (arrives node masks) is =
-    unless_holds (IsOpenAct tree path word) (first_of (arrival_refusals built room word (kind_here tree node))) position (asks.open_path path word given object) _ (λ s. (tt, tt)) (λ e. (tt, fills (has word flag.FileTruncate) node))
-by_walk_answers built birth position room tree path word given object good (missing directory name masks) is =
-    unless_holds (IsOpenAct tree path word) (first_of (making_refusals tree room word directory)) position (asks.open_path path word given object) _ (λ s. (tt, tt)) (λ e. (tt, made (has word flag.ProtocolDirectory)))
-by_walk_answers built birth position room tree path word given object good (crosses mount rest masks) is =
-    (record { good = good; walked = crossing tree word (names_of path) birth.node mount rest masks is; limit = limit_of birth.rights masks; left = refl }, tt)
-by_walk_answers built birth position room tree path word given object good (stops status) is = (tt, tt)
+by_walk_answers : (context : Context) (path : List ℕ) (word : ℕ) → path_fault path ≡ None → (w : Walk) →
+    walk context.tree word (names_of path) context.birth.node ≡ w → IsOpenAct context.tree path word (by_walk context word w)
+by_walk_answers context path word good (arrives node masks) is =
+    unless_holds (IsOpenAct context.tree path word) (first_of (arrival_refusals context.built context.room word (kind_here context.tree node))) context.position method.OpenPath _ (λ s. (tt, tt)) (λ e. (tt, fills (has word flag.FileTruncate) node))
+by_walk_answers context path word good (missing directory name masks) is =
+    unless_holds (IsOpenAct context.tree path word) (first_of (making_refusals context.tree context.room word directory)) context.position method.OpenPath _ (λ s. (tt, tt)) (λ e. (tt, made (has word flag.ProtocolDirectory)))
+by_walk_answers context path word good (crosses mount rest masks) is =
+    (record { good = good; walked = crossing context.tree word (names_of path) context.birth.node mount rest masks is; limit = limit_of context.birth.rights masks; left = refl }, tt)
+by_walk_answers context path word good (stops status) is = (tt, tt)
 
-open_answers : (built : Built) (birth : Birth) (position : Position) (room : Room) (tree : Tree) (path : List ℕ) (word : ℕ) (given : Option ℕ) (object : ℕ) →
-    IsOpenAct tree path word (open_act built birth position room tree (asks.open_path path word given object) path word)
-open_answers built birth position room tree path word given object =
-    unless_holds (IsOpenAct tree path word) (first_of (entry_refusals built birth word path)) position (asks.open_path path word given object) _ (λ s. (tt, tt))
-    (λ f. by_walk_answers built birth position room tree path word given object (path_passes built birth word path f) (walk tree word (names_of path) birth.node) refl)
+open_answers : (context : Context) (path : List ℕ) (word : ℕ) →
+    IsOpenAct context.tree path word (open_act context path word)
+open_answers context path word =
+    unless_holds (IsOpenAct context.tree path word) (first_of (entry_refusals context.built context.birth word path)) context.position method.OpenPath _ (λ s. (tt, tt))
+    (λ f. by_walk_answers context path word (path_passes context.built context.birth word path f) (walk context.tree word (names_of path) context.birth.node) refl)
 
 -- ---- what every request is answered
 
@@ -232,56 +244,54 @@ written : (node : ℕ) (bytes : List ℕ) (offset : ℕ) (data' : List ℕ) → 
 written node bytes offset [] = tt
 written node bytes offset (byte ∷ data') = tt
 
-token_answers : (position : Position) (next : Option ℕ) → IsToken next (token_act position asks.get_token next).answer × KeepsMounts (token_act position asks.get_token next).change
-token_answers position None = (tt, tt)
-token_answers position (Some number) = (refl, tt)
+token_answers : (next : Option ℕ) → IsToken next (token_answer next)
+token_answers None = tt
+token_answers (Some number) = refl
 
-link_answers : (birth : Birth) (position : Position) (tree : Tree) (src : List ℕ) (token : ℕ) (dst : List ℕ) (target : Option ℕ) → IsPlain (link_into birth position tree (asks.link src token dst) src dst target)
-link_answers birth position tree src token dst None = (tt, tt)
-link_answers birth position tree src token dst (Some target) =
-    unless_holds IsPlain _ position (asks.link src token dst) _ (λ s. (tt, tt)) (λ e. by_edge (edge_at tree (name_in birth.node src))) where
-      by_edge : (o : Option EdgeTo) → IsPlain (linked position (asks.link src token dst) (name_in target dst) o)
-      by_edge None = (tt, tt)
-      by_edge (Some edge) = (tt, tt)
+link_answers : (context : Context) (src dst : List ℕ) (target : Option ℕ) → IsPlain (link_into context src dst target)
+link_answers context src dst None = (tt, tt)
+link_answers context src dst (Some target) =
+    unless_holds IsPlain _ context.position method.Link _ (λ s. (tt, tt)) (λ e. (tt, by_edge (edge_at context.tree (name_in context.birth.node src)))) where
+      by_edge : (o : Option EdgeTo) → KeepsMounts (option_map_or (λ edge. add (name_in target dst) edge) o stay)
+      by_edge None = tt
+      by_edge (Some edge) = tt
 
-rename_answers : (birth : Birth) (position : Position) (tree : Tree) (src : List ℕ) (token : ℕ) (dst : List ℕ) (target : Option ℕ) → IsPlain (rename_into birth position tree (asks.rename src token dst) src dst target)
-rename_answers birth position tree src token dst None = (tt, tt)
-rename_answers birth position tree src token dst (Some target) =
-    unless_holds IsPlain _ position (asks.rename src token dst) _ (λ s. (tt, tt)) (λ e. by_same (is_same_name (name_in birth.node src) (name_in target dst))) where
-      by_same : (b : Bool) → IsPlain (if b then only position (replies (done method.Rename)) else unless (first_of (replacing_refusals tree (name_in birth.node src) (name_in target dst))) position (asks.rename src token dst) (moving position tree (name_in birth.node src) (name_in target dst)))
-      by_same true = (tt, tt)
-      by_same false =
-          unless_holds IsPlain (first_of (replacing_refusals tree (name_in birth.node src) (name_in target dst))) position (asks.rename src token dst)
-          (moving position tree (name_in birth.node src) (name_in target dst)) (λ s. (tt, tt)) (λ e. (tt, tt))
+rename_answers : (context : Context) (src dst : List ℕ) (target : Option ℕ) → IsPlain (rename_into context src dst target)
+rename_answers context src dst None = (tt, tt)
+rename_answers context src dst (Some target) =
+    unless_holds IsPlain _ context.position method.Rename _ (λ s. (tt, tt)) (λ e. (tt, by_same (is_same_name (name_in context.birth.node src) (name_in target dst)))) where
+      by_same : (b : Bool) → KeepsMounts (if b then stay else move (name_in context.birth.node src) (name_in target dst))
+      by_same true = tt
+      by_same false = tt
 
-row_answers : (built : Built) (birth : Birth) (position : Position) (room : Room) (tree : Tree) (target : Option ℕ) (request : Asked) → IsAct room tree request (row_act built birth position room tree target request)
-row_answers built birth position room tree target (asks.clone endpoint) = unless_holds (IsAct room tree (asks.clone endpoint)) (first_of (cause_if (is_full room) status.NoResources ∷ [])) position (asks.clone endpoint) _ (λ s. (tt, tt)) (λ e. (tt, tt))
-row_answers built birth position room tree target asks.close = (tt, tt)
-row_answers built birth position room tree target asks.query = (tt, tt)
-row_answers built birth position room tree target (asks.get_attributes bits) = (tt, tt)
-row_answers built birth position room tree target asks.sync = (tt, tt)
-row_answers built birth position room tree target (asks.open_path path flags given object) = open_answers built birth position room tree path flags given object
-row_answers built birth position room tree target (asks.read_dirents most) = unless_holds IsPlain (first_of (cause_if (is_too_much most) status.InvalidArgs ∷ cause_if (fits_none (listing tree birth.node position.place) most) status.BufferTooSmall ∷ [])) position (asks.read_dirents most) _ (λ s. (tt, tt)) (λ e. (tt, tt))
-row_answers built birth position room tree target asks.rewind = (tt, tt)
-row_answers built birth position room tree target asks.get_token = token_answers position room.token
-row_answers built birth position room tree target (asks.rename src token dst) =
-    unless_holds IsPlain _ position (asks.rename src token dst) _ (λ s. (tt, tt)) (λ e. rename_answers birth position tree src token dst target)
-row_answers built birth position room tree target (asks.link src token dst) =
-    unless_holds IsPlain _ position (asks.link src token dst) _ (λ s. (tt, tt)) (λ e. link_answers birth position tree src token dst target)
-row_answers built birth position room tree target (asks.unlink name flags) = unless_holds IsPlain (first_of (unlink_refusals tree (name_in birth.node name) flags)) position (asks.unlink name flags) _ (λ s. (tt, tt)) (λ e. (tt, tt))
-row_answers built birth position room tree target (asks.watch mask options watcher) =
-    unless_holds (IsAct room tree (asks.watch mask options watcher)) (first_of (watch_refusals room mask options)) position (asks.watch mask options watcher) _ (λ s. (tt, tt)) (λ e. (tt, tt))
-row_answers built birth position room tree target (asks.read count) = unless_holds IsPlain (reading_refusal count) position (asks.read count) _ (λ s. (tt, tt)) (λ e. (tt, tt))
-row_answers built birth position room tree target (asks.read_at count offset) = unless_holds IsPlain (reading_refusal count) position (asks.read_at count offset) _ (λ s. (tt, tt)) (λ e. (tt, tt))
-row_answers built birth position room tree target (asks.write bytes) =
-    unless_holds IsPlain _ position (asks.write bytes) _ (λ s. (tt, tt)) (λ e. (tt, written birth.node (bytes_of tree birth.node) (write_start birth position tree) bytes))
-row_answers built birth position room tree target (asks.write_at bytes offset) =
-    unless_holds IsPlain _ position (asks.write_at bytes offset) _ (λ s. (tt, tt)) (λ e. (tt, written birth.node (bytes_of tree birth.node) offset bytes))
-row_answers built birth position room tree target (asks.seek origin offset) = unless_holds IsPlain (first_of (cause_if (nat_lt 2 origin) status.InvalidArgs ∷ cause_if (is_no_position (seek_sum birth position tree origin offset)) status.OutOfRange ∷ [])) position (asks.seek origin offset) _ (λ s. (tt, tt)) (λ e. (tt, tt))
-row_answers built birth position room tree target (asks.resize size) = unless_holds IsPlain (first_of (cause_if (nat_lt limit.MAX_FILE size) status.FileBig ∷ [])) position (asks.resize size) _ (λ s. (tt, tt)) (λ e. (tt, tt))
-row_answers built birth position room tree target (asks.echo_string value) = (tt, tt)
+row_answers : (context : Context) (request : Asked) → IsAct context.room context.tree request (row_act context request)
+row_answers context (asks.clone endpoint) = unless_holds (IsAct context.room context.tree (asks.clone endpoint)) (first_of (cause_if (is_full context.room) status.NoResources ∷ [])) context.position method.Clone _ (λ s. (tt, tt)) (λ e. (tt, tt))
+row_answers context asks.close = (tt, tt)
+row_answers context asks.query = (tt, tt)
+row_answers context (asks.get_attributes bits) = (tt, tt)
+row_answers context asks.sync = (tt, tt)
+row_answers context (asks.open_path path flags given object) = open_answers context path flags
+row_answers context (asks.read_dirents most) = unless_holds IsPlain (first_of (cause_if (is_too_much most) status.InvalidArgs ∷ cause_if (fits_none (listing context.tree context.birth.node context.position.place) most) status.BufferTooSmall ∷ [])) context.position method.ReadDirents _ (λ s. (tt, tt)) (λ e. (tt, tt))
+row_answers context asks.rewind = (tt, tt)
+row_answers context asks.get_token = (token_answers context.room.token, tt)
+row_answers context (asks.rename src token dst) =
+    unless_holds IsPlain _ context.position method.Rename _ (λ s. (tt, tt)) (λ e. rename_answers context src dst (context.directory token))
+row_answers context (asks.link src token dst) =
+    unless_holds IsPlain _ context.position method.Link _ (λ s. (tt, tt)) (λ e. link_answers context src dst (context.directory token))
+row_answers context (asks.unlink name flags) = unless_holds IsPlain (first_of (unlink_refusals context.tree (name_in context.birth.node name) flags)) context.position method.Unlink _ (λ s. (tt, tt)) (λ e. (tt, tt))
+row_answers context (asks.watch mask options watcher) =
+    unless_holds (IsAct context.room context.tree (asks.watch mask options watcher)) (first_of (watch_refusals context.room mask options)) context.position method.Watch _ (λ s. (tt, tt)) (λ e. (tt, tt))
+row_answers context (asks.read count) = unless_holds IsPlain (reading_refusal count) context.position method.Read _ (λ s. (tt, tt)) (λ e. (tt, tt))
+row_answers context (asks.read_at count offset) = unless_holds IsPlain (reading_refusal count) context.position method.ReadAt _ (λ s. (tt, tt)) (λ e. (tt, tt))
+row_answers context (asks.write bytes) =
+    unless_holds IsPlain _ context.position method.Write _ (λ s. (tt, tt)) (λ e. (tt, written context.birth.node (bytes_of context.tree context.birth.node) (write_start context) bytes))
+row_answers context (asks.write_at bytes offset) =
+    unless_holds IsPlain _ context.position method.WriteAt _ (λ s. (tt, tt)) (λ e. (tt, written context.birth.node (bytes_of context.tree context.birth.node) offset bytes))
+row_answers context (asks.seek origin offset) = unless_holds IsPlain (first_of (cause_if (nat_lt 2 origin) status.InvalidArgs ∷ cause_if (is_no_position (seek_sum context origin offset)) status.OutOfRange ∷ [])) context.position method.Seek _ (λ s. (tt, tt)) (λ e. (tt, tt))
+row_answers context (asks.resize size) = unless_holds IsPlain (as_status (resize_refusal size)) context.position method.Resize _ (λ s. (tt, tt)) (λ e. (tt, tt))
+row_answers context (asks.echo_string value) = (tt, tt)
 
-refused_answers : (room : Room) (tree : Tree) (position : Position) (request : Asked) (s : Status) → IsAct room tree request (only position (failure_of request s))
+refused_answers : (room : Room) (tree : Tree) (position : Position) (request : Asked) (s : Status) → IsAct room tree request (only position (failure_of (method_of request) s))
 refused_answers room tree position (asks.clone endpoint) s = (tt, tt)
 refused_answers room tree position asks.close s = (tt, tt)
 refused_answers room tree position asks.query s = (tt, tt)
@@ -303,8 +313,8 @@ refused_answers room tree position (asks.seek origin offset) s = (tt, tt)
 refused_answers room tree position (asks.resize size) s = (tt, tt)
 refused_answers room tree position (asks.echo_string value) s = (tt, tt)
 
-pub act_answers : (built : Built) (birth : Birth) (position : Position) (room : Room) (tree : Tree) (target : Option ℕ) (request : Asked) → IsAct room tree request (act_of built birth position room tree target request)
+pub act_answers : (context : Context) (request : Asked) → IsAct context.room context.tree request (act_of context request)
 unfolding act_of
-act_answers built birth position room tree target request =
-    unless_holds (IsAct room tree request) (first_of (method_refusals built birth (method_of request))) position request (row_act built birth position room tree target request)
-    (refused_answers room tree position request) (λ e. row_answers built birth position room tree target request)
+act_answers context request =
+    unless_holds (IsAct context.room context.tree request) (first_of (method_refusals context.built context.birth (method_of request))) context.position (method_of request) (row_act context request)
+    (refused_answers context.room context.tree context.position request) (λ e. row_answers context request)

@@ -7,6 +7,7 @@ use Rattle.std.proofs.lemmas.List.Elements.{All-nil, All-cons, All-append, All-c
 use Rattle.endpoint_link.specs.Numbering.{among}
 use Rattle.fidl_names.specs.First.{cause_if, first_of}
 use Rattle.fidl_names.specs.declared.methods.Method.{Method}
+use Rattle.fidl_names.specs.declared.methods.Method.TheVariants as method
 use Rattle.fidl_names.specs.declared.statuses.Status.{Status}
 use Rattle.fidl_names.specs.declared.statuses.Status.TheVariants as status
 use Rattle.io_flags.specs.Faults.{flag_fault, status_of}
@@ -31,6 +32,7 @@ use Rattle.conn_rules.specs.Acts.{act_of, lacks_right, is_beyond, method_refusal
 use Rattle.conn_rules.specs.Answers.{Answer, replies, closes, binds, watches, forwards, refuses, ends, hangs_up, silent, Act, only, failure_of, nothing_told}
 use Rattle.conn_rules.specs.Births.{Birth, Position}
 use Rattle.conn_rules.specs.Built.{first_methods, is_first_kind, is_first_method, is_first_word}
+use Rattle.conn_rules.specs.Contexts.{context_with}
 use Rattle.conn_rules.specs.FileRows.{reading_refusal}
 use Rattle.conn_rules.specs.Nodes.{edge_at, is_file, is_mount, kind_behind, kind_here}
 use Rattle.conn_rules.specs.Opens.{arrival, arrival_refusals, by_walk, entry_refusals, is_full, is_other_kind, making_refusals, marks_file, other_kind_status, protocol_of}
@@ -41,7 +43,7 @@ use Rattle.vfs_journal.specs.Lawful.{Lawful}
 use Rattle.vfs_journal.specs.Lawful as lawful
 use Rattle.vfs_journal.specs.Outcomes.{Asker, Forwarded, Given, Outcome, bound_of, outcome_with, token_of}
 use Rattle.vfs_journal.specs.Past.{behind as behind_entry, event_of, history_of}
-use Rattle.vfs_journal.specs.Serving.{Moment, Read, asker_of, moment_of, object_of, outcome_at, outcome_of, outcome_of_message, outcome_of_read, outcome_of_sending, read_by, request_act, token_of as asked_token}
+use Rattle.vfs_journal.specs.Serving.{Moment, Read, asker_of, moment_of, object_of, outcome_at, outcome_of, outcome_of_message, outcome_of_read, outcome_of_sending, read_by, request_act}
 use Rattle.vfs_journal.specs.Session.{sent_behind, with_forward}
 use Rattle.vfs_journal.specs.Starts.{Bound, Start}
 use Rattle.vfs_journal.specs.Tokens.{all_given}
@@ -159,9 +161,9 @@ record IsFew (tree : Tree) (act : Act) : Type 0 where
 few : (tree : Tree) (position : Position) (answer : Answer) → IsFewAnswer tree answer → IsFew tree (only position answer)
 few tree position answer h = record { answer = h; change = refl; told = refl }
 
-refused_few : (tree : Tree) (position : Position) (request : Asked) (s : Status) → IsFew tree (only position (failure_of request s))
-refused_few tree position request s = few tree position (failure_of request s) (by_way (is_one_way (method_of request))) where
-  by_way : (b : Bool) → IsFewAnswer tree (if b then refuses s else replies (fails (method_of request) s))
+refused_few : (tree : Tree) (position : Position) (m : Method) (s : Status) → IsFew tree (only position (failure_of m s))
+refused_few tree position m s = few tree position (failure_of m s) (by_way (is_one_way m)) where
+  by_way : (b : Bool) → IsFewAnswer tree (if b then refuses s else replies (fails m s))
   by_way true = tt
   by_way false = tt
 
@@ -171,10 +173,10 @@ first_kind word File plain built here = ap (λ (b : Bool). is_first_protocol (if
 first_kind word Service plain built here = absurd (true≢false (sym built))
 first_kind word (Mount index) plain built here = absurd (true≢false here)
 
-walk_few : (birth : Birth) (position : Position) (room : Room) (tree : Tree) (path : List ℕ) (word : ℕ) (given : Option ℕ) (object : ℕ) → is_mount (kind_here tree birth.node) ≡ false → IsPlainWord word → (w : Walk) → walk tree word (names_of path) birth.node ≡ w →
-    IsFew tree (by_walk first_methods birth position room tree (asks.open_path path word given object) word w)
-walk_few birth position room tree path word given object here plain (arrives node masks) is =
-    unless_holds (IsFew tree) (first_of (arrival_refusals first_methods room word (kind_here tree node))) position (asks.open_path path word given object) (arrival position word (limit_of birth.rights masks) node (kind_here tree node)) (refused_few tree position (asks.open_path path word given object))
+walk_few : (birth : Birth) (position : Position) (room : Room) (tree : Tree) (directory : ℕ → Option ℕ) (path : List ℕ) (word : ℕ) → is_mount (kind_here tree birth.node) ≡ false → IsPlainWord word → (w : Walk) → walk tree word (names_of path) birth.node ≡ w →
+    IsFew tree (by_walk (context_with first_methods birth position room tree directory) word w)
+walk_few birth position room tree directory path word here plain (arrives node masks) is =
+    unless_holds (IsFew tree) (first_of (arrival_refusals first_methods room word (kind_here tree node))) position method.OpenPath (arrival position word (limit_of birth.rights masks) node (kind_here tree node)) (refused_few tree position method.OpenPath)
     (λ e.
     let there = arrives_at tree word (names_of path) birth.node node masks here is in
     record {
@@ -182,44 +184,44 @@ walk_few birth position room tree path word given object here plain (arrives nod
       change = ap (λ (b : Bool). if b then fill node [] else stay) plain.cuts;
       told = refl;
     })
-walk_few birth position room tree path word given object here plain (missing directory name masks) is =
-    unless_holds (IsFew tree) (first_of (making_refusals tree room word directory)) position (asks.open_path path word given object) _ (refused_few tree position (asks.open_path path word given object))
+walk_few birth position room tree directory path word here plain (missing parent name masks) is =
+    unless_holds (IsFew tree) (first_of (making_refusals tree room word parent)) position method.OpenPath _ (refused_few tree position method.OpenPath)
     (λ e. absurd (true≢false (sym (not_not (creates word) (not_refused (not (creates word)) status.NotFound _ e)) ∙ plain.makes)))
-walk_few birth position room tree path word given object here plain (crosses mount rest masks) is = record { answer = tt; change = refl; told = refl }
-walk_few birth position room tree path word given object here plain (stops status) is = refused_few tree position (asks.open_path path word given object) status
+walk_few birth position room tree directory path word here plain (crosses mount rest masks) is = record { answer = tt; change = refl; told = refl }
+walk_few birth position room tree directory path word here plain (stops status) is = refused_few tree position method.OpenPath status
 
-row_few : (birth : Birth) (position : Position) (room : Room) (tree : Tree) (target : Option ℕ) → is_first_protocol birth.protocol ≡ true → is_mount (kind_here tree birth.node) ≡ false →
-    (request : Asked) → is_first_method (method_of request) ≡ true → IsFew tree (row_act first_methods birth position room tree target request)
-row_few birth position room tree target p here (asks.clone endpoint) built =
-    unless_holds (IsFew tree) (first_of (cause_if (is_full room) status.NoResources ∷ [])) position (asks.clone endpoint) _ (refused_few tree position (asks.clone endpoint)) (λ e. few tree position (binds birth false) (p, here))
-row_few birth position room tree target p here asks.close built = few tree position closes tt
-row_few birth position room tree target p here asks.query built = record { answer = tt; change = refl; told = refl }
-row_few birth position room tree target p here (asks.get_attributes bits) built = record { answer = tt; change = refl; told = refl }
-row_few birth position room tree target p here asks.sync built = record { answer = tt; change = refl; told = refl }
-row_few birth position room tree target p here (asks.open_path path flags given object) built =
-    unless_holds (IsFew tree) (first_of (entry_refusals first_methods birth flags path)) position (asks.open_path path flags given object) _ (refused_few tree position (asks.open_path path flags given object))
-    (λ e. walk_few birth position room tree path flags given object here (word_parts flags (words_pass birth flags path e)) (walk tree flags (names_of path) birth.node) refl)
-row_few birth position room tree target p here (asks.read count) built =
-    unless_holds (IsFew tree) (reading_refusal count) position (asks.read count) _ (refused_few tree position (asks.read count)) (λ e. record { answer = tt; change = refl; told = refl })
-row_few birth position room tree target p here (asks.read_dirents most) built = absurd (true≢false (sym built))
-row_few birth position room tree target p here asks.rewind built = absurd (true≢false (sym built))
-row_few birth position room tree target p here asks.get_token built = absurd (true≢false (sym built))
-row_few birth position room tree target p here (asks.rename src token dst) built = absurd (true≢false (sym built))
-row_few birth position room tree target p here (asks.link src token dst) built = absurd (true≢false (sym built))
-row_few birth position room tree target p here (asks.unlink name flags) built = absurd (true≢false (sym built))
-row_few birth position room tree target p here (asks.watch mask options watcher) built = absurd (true≢false (sym built))
-row_few birth position room tree target p here (asks.read_at count offset) built = absurd (true≢false (sym built))
-row_few birth position room tree target p here (asks.write bytes) built = absurd (true≢false (sym built))
-row_few birth position room tree target p here (asks.write_at bytes offset) built = absurd (true≢false (sym built))
-row_few birth position room tree target p here (asks.seek origin offset) built = absurd (true≢false (sym built))
-row_few birth position room tree target p here (asks.resize size) built = absurd (true≢false (sym built))
-row_few birth position room tree target p here (asks.echo_string value) built = absurd (true≢false (sym built))
+row_few : (birth : Birth) (position : Position) (room : Room) (tree : Tree) (directory : ℕ → Option ℕ) → is_first_protocol birth.protocol ≡ true → is_mount (kind_here tree birth.node) ≡ false →
+    (request : Asked) → is_first_method (method_of request) ≡ true → IsFew tree (row_act (context_with first_methods birth position room tree directory) request)
+row_few birth position room tree directory p here (asks.clone endpoint) built =
+    unless_holds (IsFew tree) (first_of (cause_if (is_full room) status.NoResources ∷ [])) position method.Clone _ (refused_few tree position method.Clone) (λ e. few tree position (binds birth false) (p, here))
+row_few birth position room tree directory p here asks.close built = few tree position closes tt
+row_few birth position room tree directory p here asks.query built = record { answer = tt; change = refl; told = refl }
+row_few birth position room tree directory p here (asks.get_attributes bits) built = record { answer = tt; change = refl; told = refl }
+row_few birth position room tree directory p here asks.sync built = record { answer = tt; change = refl; told = refl }
+row_few birth position room tree directory p here (asks.open_path path flags given object) built =
+    unless_holds (IsFew tree) (first_of (entry_refusals first_methods birth flags path)) position method.OpenPath _ (refused_few tree position method.OpenPath)
+    (λ e. walk_few birth position room tree directory path flags here (word_parts flags (words_pass birth flags path e)) (walk tree flags (names_of path) birth.node) refl)
+row_few birth position room tree directory p here (asks.read count) built =
+    unless_holds (IsFew tree) (reading_refusal count) position method.Read _ (refused_few tree position method.Read) (λ e. record { answer = tt; change = refl; told = refl })
+row_few birth position room tree directory p here (asks.read_dirents most) built = absurd (true≢false (sym built))
+row_few birth position room tree directory p here asks.rewind built = absurd (true≢false (sym built))
+row_few birth position room tree directory p here asks.get_token built = absurd (true≢false (sym built))
+row_few birth position room tree directory p here (asks.rename src token dst) built = absurd (true≢false (sym built))
+row_few birth position room tree directory p here (asks.link src token dst) built = absurd (true≢false (sym built))
+row_few birth position room tree directory p here (asks.unlink name flags) built = absurd (true≢false (sym built))
+row_few birth position room tree directory p here (asks.watch mask options watcher) built = absurd (true≢false (sym built))
+row_few birth position room tree directory p here (asks.read_at count offset) built = absurd (true≢false (sym built))
+row_few birth position room tree directory p here (asks.write bytes) built = absurd (true≢false (sym built))
+row_few birth position room tree directory p here (asks.write_at bytes offset) built = absurd (true≢false (sym built))
+row_few birth position room tree directory p here (asks.seek origin offset) built = absurd (true≢false (sym built))
+row_few birth position room tree directory p here (asks.resize size) built = absurd (true≢false (sym built))
+row_few birth position room tree directory p here (asks.echo_string value) built = absurd (true≢false (sym built))
 
-act_few : (birth : Birth) (position : Position) (room : Room) (tree : Tree) (target : Option ℕ) (request : Asked) → is_first_protocol birth.protocol ≡ true → is_mount (kind_here tree birth.node) ≡ false → IsFew tree (act_of first_methods birth position room tree target request)
+act_few : (birth : Birth) (position : Position) (room : Room) (tree : Tree) (directory : ℕ → Option ℕ) (request : Asked) → is_first_protocol birth.protocol ≡ true → is_mount (kind_here tree birth.node) ≡ false → IsFew tree (act_of (context_with first_methods birth position room tree directory) request)
 unfolding act_of
-act_few birth position room tree target request p here =
-    unless_holds (IsFew tree) (first_of (method_refusals first_methods birth (method_of request))) position request (row_act first_methods birth position room tree target request) (refused_few tree position request)
-    (λ e. row_few birth position room tree target p here request (methods_pass birth (method_of request) e))
+act_few birth position room tree directory request p here =
+    unless_holds (IsFew tree) (first_of (method_refusals first_methods birth (method_of request))) position (method_of request) (row_act (context_with first_methods birth position room tree directory) request) (refused_few tree position (method_of request))
+    (λ e. row_few birth position room tree directory p here request (methods_pass birth (method_of request) e))
 
 -- ---- what outcomes have
 
@@ -269,7 +271,7 @@ little moment asker act at h = record {
 read_little : (moment : Moment) (r : Read) → IsOfToday moment.tree moment.bound → DoesLittle moment (outcome_of_read first_methods moment r)
 read_little moment (Ok (txid, a)) h =
     little moment (asker_of moment.bound txid (object_of a)) (request_act first_methods moment a) refl
-    (act_few moment.bound.birth moment.position moment.room moment.tree (moment.directory (asked_token a)) a h.protocol h.node)
+    (act_few moment.bound.birth moment.position moment.room moment.tree moment.directory a h.protocol h.node)
 read_little moment (Err (Malformed fault)) h = little moment (asker_of moment.bound 0 0) (only moment.position (ends status.InvalidArgs)) refl (few moment.tree moment.position (ends status.InvalidArgs) tt)
 read_little moment (Err UnknownStrict) h = little moment (asker_of moment.bound 0 0) (only moment.position (ends status.NotSupported)) refl (few moment.tree moment.position (ends status.NotSupported) tt)
 read_little moment (Err UnknownOneWay) h = little moment (asker_of moment.bound 0 0) (only moment.position silent) refl (few moment.tree moment.position silent tt)

@@ -47,6 +47,4 @@ pub mod Orderly
 pub mod Placed
 pub mod OnTrees
 pub mod SoundTrees
-pub mod Climbing
-pub mod Renaming
 pub mod Rooms

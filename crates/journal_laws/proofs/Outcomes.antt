@@ -18,7 +18,7 @@ use Rattle.conn_rules.specs.Built.{Built}
 use Rattle.vfs_journal.specs.Entries.{Sent, Sending, message, hang_up, handles_of}
 use Rattle.vfs_journal.specs.History.{History, bound_at, trees_of, tree_at}
 use Rattle.vfs_journal.specs.Outcomes.{Asker, Forwarded, Given, Outcome, bound_of, forward_of, ends_of, token_of, onward_bytes}
-use Rattle.vfs_journal.specs.Serving.{Read, Moment, moment_of, read_by, object_of, asker_of, request_act, outcome_of_read, outcome_of_message, outcome_of_sending, outcome_at, outcome_of, token_of as asked_token}
+use Rattle.vfs_journal.specs.Serving.{context_at, Read, Moment, moment_of, read_by, object_of, asker_of, request_act, outcome_of_read, outcome_of_message, outcome_of_sending, outcome_at, outcome_of}
 use Rattle.vfs_journal.specs.Starts.{Bound, Start}
 use Rattle.vfs_journal.specs.Tokens.{next_token, tokens_out, all_given}
 use Rattle.journal_laws.proofs.Acts.{IsAnswer, IsReply, IsNoToken, IsClone, IsWatch, IsToken, IsClose, IsOpenAnswer, GoesOn, KeepsMounts, act_answers}
@@ -265,7 +265,7 @@ request_parts tree room bound bytes handles txid (asks.echo_string value) answer
 read_outcome : Below → (built : Built) (moment : Moment) (bytes handles : List ℕ) → (r : Read) → read_by moment.bound.birth.protocol bytes handles ≡ r →
     IsOutcome moment.room.token moment.tree moment.bound (message bytes handles) (outcome_of_read built moment r)
 read_outcome below built moment bytes handles (Ok (txid, a)) read =
-    let act = act_answers built moment.bound.birth moment.position moment.room moment.tree (moment.directory (asked_token a)) a in
+    let act = act_answers (context_at built moment) a in
     (request_parts moment.tree moment.room moment.bound bytes handles txid a (request_act built moment a).answer read (carries below.spelled moment.bound.birth.protocol bytes handles txid a read) act.0, act.1)
 read_outcome below built moment bytes handles (Err (Malformed fault)) read = (own_ended moment.room.token moment.tree moment.bound (message bytes handles), tt)
 read_outcome below built moment bytes handles (Err UnknownStrict) read = (own_ended moment.room.token moment.tree moment.bound (message bytes handles), tt)
@@ -304,7 +304,7 @@ opened_by : Below → (built : Built) (moment : Moment) (bytes handles : List �
 opened_by below built moment bytes handles txid path word given object r is c =
     subst (λ (x : Read). (n : ℕ) → among n (outcome_of_read built moment x).ends ≡ true → IsCarried n handles) (sym is)
     (open_ends moment.tree moment.bound handles txid path word object (request_act built moment (asks.open_path path word given object)).answer c
-    (act_answers built moment.bound.birth moment.position moment.room moment.tree (moment.directory 0) (asks.open_path path word given object)).0)
+    (act_answers (context_at built moment) (asks.open_path path word given object)).0)
 
 pub opened_ends : Below → (built : Built) (start : Start) (past : History) (one : Sent) (bound : Bound) (bytes handles : List ℕ) (txid : ℕ) (path : List ℕ) (word : ℕ) (given : Option ℕ) (object : ℕ) →
     bound_at start past one.endpoint ≡ Some bound → bound.birth.protocol ≡ protocol.Directory → one.sending ≡ message bytes handles →

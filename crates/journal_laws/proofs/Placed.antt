@@ -1,9 +1,8 @@
 -- What acts bind stands on a node, and the changes that they make are orderly.
-use Rattle.std.proofs.Common.{◌≡◌, ℕ, ◌||◌, Bool, true, false, not, nat_lt, is_some, is_none, unwrap_or, if◌then◌else◌, List, [], ◌∷◌, map, Option, Some, None, Ok, Err, refl, sym, ap, ◌∙◌, subst}
+use Rattle.std.proofs.Common.{◌≡◌, ℕ, ◌==◌, ◌||◌, Bool, true, false, not, nat_lt, is_some, is_none, unwrap_or, if◌then◌else◌, List, [], ◌∷◌, map, Option, Some, None, Ok, Err, refl, sym, ap, ◌∙◌, subst}
 use Rattle.std.specs.Option.{option_map, option_map_or}
 use Rattle.std.proofs.lemmas.Bool.{true≢false}
 use Rattle.fidl_names.specs.First.{cause_if, first_of}
-use Rattle.fidl_names.specs.declared.limits.TheConstants as limit
 use Rattle.fidl_names.specs.declared.methods.Method.{Method}
 use Rattle.fidl_names.specs.declared.methods.Method.TheVariants as method
 use Rattle.fidl_names.specs.declared.statuses.Status.{Status}
@@ -27,29 +26,31 @@ use Rattle.io_messages.specs.declared.protocols.Protocol.{Protocol}
 use Rattle.io_messages.specs.declared.protocols.Protocol.TheVariants as protocol
 use Rattle.io_messages.specs.declared.requests.RequestFault.TheVariants.{Malformed, UnknownStrict, UnknownOneWay, UnknownTwoWay}
 use Rattle.io_rights.specs.Operations.{OperationSet, is_within}
-use Rattle.node_graph.specs.Graph.{write_change}
-use Rattle.node_graph.specs.Tree.{Tree, EdgeKey, EdgeTo, Change, after, fill, is_removed, kind_of, new_row, stay}
+use Rattle.node_graph.specs.Graph.{resize_refusal, write_change}
+use Rattle.node_graph.specs.Refusals.{is_loop, is_same_name, leads_to, link_change, link_refusal, rename_change, rename_refusal, replace_refusal, unlink_refusal}
+use Rattle.node_graph.specs.Tree.{Tree, EdgeKey, EdgeTo, Change, add, after, fill, is_removed, kind_of, move, new_row, stay}
+use Rattle.node_graph.specs.declared.faults.GraphFault.TheVariants as fault
 use Rattle.node_graph.specs.declared.nodes.NodeKind.{NodeKind}
 use Rattle.node_graph.specs.declared.nodes.NodeKind.TheVariants.{Directory, File, Service, Mount}
 use Rattle.path_walk.specs.Paths.{names_of}
-use Rattle.conn_rules.specs.declared.births.Room.{Room}
 use Rattle.conn_rules.specs.Acts.{act_of, is_beyond, is_of_every_node, method_refusals, row_act}
 use Rattle.conn_rules.specs.Answers.{Answer, replies, closes, binds, watches, forwards, refuses, ends, hangs_up, silent, Act, only, failure_of}
 use Rattle.conn_rules.specs.Births.{Birth, Position}
 use Rattle.conn_rules.specs.Built.{Built}
+use Rattle.conn_rules.specs.Contexts.{Context}
 use Rattle.conn_rules.specs.FileRows.{is_no_position, is_too_much, reading_refusal, seek_sum, write_start, writing_refusal}
 use Rattle.conn_rules.specs.Listings.{fits_none, listing}
-use Rattle.conn_rules.specs.NameRows.{is_bad_name, is_same_name, link_into, link_refusals, linked, move_refusals, moving, name_in, rename_into, replacing, replacing_refusals, token_act, two_names_refusal, unlink_refusals, watch_refusals}
-use Rattle.conn_rules.specs.Nodes.{bytes_of, edge_at, is_directory, is_mount, kind_behind, kind_here, leads_to}
+use Rattle.conn_rules.specs.NameRows.{is_bad_name, link_into, linked, name_in, rename_into, renamed, token_answer, two_names_refusal, unlink_refusals, watch_refusals}
+use Rattle.conn_rules.specs.Nodes.{bytes_of, edge_at, is_directory, is_mount, kind_behind, kind_here}
 use Rattle.conn_rules.specs.Opens.{arrival, arrival_refusals, by_walk, entry_refusals, is_full, kind_made, making, making_refusals, protocol_of, truncation}
-use Rattle.conn_rules.specs.Refusals.{unless}
+use Rattle.conn_rules.specs.Refusals.{as_status}
 use Rattle.conn_rules.specs.Walks.{Walk, arrives, missing, crosses, stops, behind, passing, last_by_kind, last_step, inner_rights, inner_by_kind, inner_step, walk, limit_of}
 use Rattle.vfs_journal.specs.Entries.{Sending, message, hang_up}
 use Rattle.vfs_journal.specs.Outcomes.{Given, Outcome, bound_of, outcome_with, token_of, watcher_birth}
-use Rattle.vfs_journal.specs.Serving.{Moment, Read, asker_of, object_of, outcome_of_message, outcome_of_read, outcome_of_sending, read_by, request_act, token_of as asked_token}
+use Rattle.vfs_journal.specs.Serving.{context_at, Moment, Read, asker_of, object_of, outcome_of_message, outcome_of_read, outcome_of_sending, read_by, request_act}
 use Rattle.vfs_journal.specs.Starts.{Bound}
 use Rattle.journal_laws.specs.Trees.{suits}
-use Rattle.journal_laws.proofs.Acts.{IsMade, first_none, none_there, not_refused, unless_holds}
+use Rattle.journal_laws.proofs.Acts.{IsMade, first_none, graph_allows, none_there, not_refused, only_none, unless_holds}
 use Rattle.journal_laws.proofs.Edges.{row_of-push_same}
 use Rattle.journal_laws.proofs.Orderly.{HasChildren, IsOrderly, NoMountAt, kind_stays}
 use Rattle.journal_laws.proofs.Requests.{what_is_read}
@@ -126,9 +127,9 @@ record IsPlaced (tree : Tree) (birth : Birth) (act : Act) : Type 0 where
 placed : (tree : Tree) (birth : Birth) (position : Position) (answer : Answer) → IsPlacedAnswer tree tree birth answer → IsPlaced tree birth (only position answer)
 placed tree birth position answer h = record { orderly = tt; answer = h }
 
-refused_placed : (tree : Tree) (birth : Birth) (position : Position) (request : Asked) (s : Status) → IsPlaced tree birth (only position (failure_of request s))
-refused_placed tree birth position request s = placed tree birth position (failure_of request s) (by_way (is_one_way (method_of request))) where
-  by_way : (b : Bool) → IsPlacedAnswer tree tree birth (if b then refuses s else replies (fails (method_of request) s))
+refused_placed : (tree : Tree) (birth : Birth) (position : Position) (m : Method) (s : Status) → IsPlaced tree birth (only position (failure_of m s))
+refused_placed tree birth position m s = placed tree birth position (failure_of m s) (by_way (is_one_way m)) where
+  by_way : (b : Bool) → IsPlacedAnswer tree tree birth (if b then refuses s else replies (fails m s))
   by_way true = tt
   by_way false = tt
 
@@ -162,69 +163,76 @@ made_kind word = by_test (has word flag.ProtocolDirectory) where
   by_test true = tt
   by_test false = tt
 
-walk_placed : (built : Built) (birth : Birth) (position : Position) (room : Room) (tree : Tree) (path : List ℕ) (word : ℕ) (given : Option ℕ) (object : ℕ) (w : Walk) → LeadsToNode tree w →
-    IsPlaced tree birth (by_walk built birth position room tree (asks.open_path path word given object) word w)
-walk_placed built birth position room tree path word given object (arrives node masks) there =
-    unless_holds (IsPlaced tree birth) (first_of (arrival_refusals built room word (kind_here tree node))) position (asks.open_path path word given object) (arrival position word (limit_of birth.rights masks) node (kind_here tree node)) (refused_placed tree birth position (asks.open_path path word given object))
+walk_placed : (context : Context) (word : ℕ) (w : Walk) → LeadsToNode context.tree w →
+    IsPlaced context.tree context.birth (by_walk context word w)
+walk_placed context word (arrives node masks) there =
+    unless_holds (IsPlaced context.tree context.birth) (first_of (arrival_refusals context.built context.room word (kind_here context.tree node))) context.position method.OpenPath (arrival context.position word (limit_of context.birth.rights masks) node (kind_here context.tree node)) (refused_placed context.tree context.birth context.position method.OpenPath)
     (λ e. record {
-      orderly = truncated (has word flag.FileTruncate) tree node;
-      answer = (kind_here tree node, kind_stays tree (truncation word node) node (kind_here tree node) (kind_there tree node there), suited word (kind_here tree node));
+      orderly = truncated (has word flag.FileTruncate) context.tree node;
+      answer = (kind_here context.tree node, kind_stays context.tree (truncation word node) node (kind_here context.tree node) (kind_there context.tree node there), suited word (kind_here context.tree node));
     })
-walk_placed built birth position room tree path word given object (missing directory name masks) there =
-    unless_holds (IsPlaced tree birth) (first_of (making_refusals tree room word directory)) position (asks.open_path path word given object) (making position tree word (limit_of birth.rights masks) (record { directory = directory; name = name })) (refused_placed tree birth position (asks.open_path path word given object))
+walk_placed context word (missing directory name masks) there =
+    unless_holds (IsPlaced context.tree context.birth) (first_of (making_refusals context.tree context.room word directory)) context.position method.OpenPath (making context.position context.tree word (limit_of context.birth.rights masks) (record { directory = directory; name = name })) (refused_placed context.tree context.birth context.position method.OpenPath)
     (λ e. record {
       orderly = (there, made_kind word);
-      answer = (kind_made word, ap (option_map (λ row. row.kind)) (row_of-push_same tree.nodes (new_row (kind_made word))), suited word (kind_made word));
+      answer = (kind_made word, ap (option_map (λ row. row.kind)) (row_of-push_same context.tree.nodes (new_row (kind_made word))), suited word (kind_made word));
     })
-walk_placed built birth position room tree path word given object (crosses mount rest masks) there = record { orderly = tt; answer = tt }
-walk_placed built birth position room tree path word given object (stops status) there = refused_placed tree birth position (asks.open_path path word given object) status
+walk_placed context word (crosses mount rest masks) there = record { orderly = tt; answer = tt }
+walk_placed context word (stops status) there = refused_placed context.tree context.birth context.position method.OpenPath status
 
 -- ---- names
 
 no_mount_at : (tree : Tree) (key : EdgeKey) → leads_to is_mount tree key ≡ false → NoMountAt tree key
-no_mount_at tree key h to e = sym (ap (λ (o : Option EdgeTo). option_map_or (λ edge. is_mount (kind_behind tree edge)) o false) e) ∙ h
+no_mount_at tree key h to e = by_kind (kind_of tree to.child) (sym (ap (λ (o : Option EdgeTo). option_map_or (λ to. option_map_or is_mount (kind_of tree to.child) false) o false) e) ∙ h) where
+  by_kind : (o : Option NodeKind) → option_map_or is_mount o false ≡ false → is_mount (unwrap_or o Directory) ≡ false
+  by_kind None none = refl
+  by_kind (Some kind) none = none
 
-unlink_placed : (birth : Birth) (position : Position) (tree : Tree) (name : List ℕ) (flags : ℕ) → first_of (unlink_refusals tree (name_in birth.node name) flags) ≡ None → NoMountAt tree (name_in birth.node name)
-unlink_placed birth position tree name flags e =
-    let key = name_in birth.node name in
-    no_mount_at tree key
-    (not_refused (leads_to is_mount tree key) status.NotSupported _
-    (first_none (cause_if (is_none (edge_at tree key)) status.NotFound) _ (first_none (cause_if (is_bad_name key.name || nat_lt 1 flags) status.InvalidArgs) _ e)))
+unlink_placed : (context : Context) (name : List ℕ) (flags : ℕ) → first_of (unlink_refusals context.tree (name_in context.birth.node name) flags) ≡ None → NoMountAt context.tree (name_in context.birth.node name)
+unlink_placed context name flags e =
+    let key = name_in context.birth.node name in
+    let allowed = graph_allows (unlink_refusal context.tree key (flags == 1)) (only_none _ (first_none (cause_if (is_bad_name key.name || nat_lt 1 flags) status.InvalidArgs) _ e)) in
+    no_mount_at context.tree key (not_refused (leads_to is_mount context.tree key) fault.Unsupported _ (first_none (cause_if (is_none (edge_at context.tree key)) fault.NotFound) _ allowed))
 
-linked_placed : (birth : Birth) (position : Position) (tree : Tree) (request : Asked) (from to : EdgeKey) → HasChildren tree → NoMountAt tree from → edge_at tree to ≡ None → (o : Option EdgeTo) → edge_at tree from ≡ o → IsPlaced tree birth (linked position request to o)
-linked_placed birth position tree request from to children none free None e = refused_placed tree birth position request status.NotFound
-linked_placed birth position tree request from to children none free (Some edge) e = record { orderly = (free, children from edge e, none edge e); answer = tt }
+link_orderly : (tree : Tree) (from to : EdgeKey) → HasChildren tree → link_refusal tree from to ≡ None → IsOrderly tree (link_change tree from to)
+link_orderly tree from to children e =
+    let second = first_none (cause_if (is_none (edge_at tree from)) fault.NotFound) _ e in
+    let third = first_none (cause_if (leads_to is_mount tree from) fault.Unsupported) _ second in
+    let fourth = first_none (cause_if (leads_to is_directory tree from) fault.NotFile) _ third in
+    let fifth = first_none (cause_if (is_removed tree.edges to.directory) fault.Removed) _ fourth in
+    let none = no_mount_at tree from (not_refused (leads_to is_mount tree from) fault.Unsupported _ second) in
+    let free = none_there (edge_at tree to) (not_refused (is_some (edge_at tree to)) fault.Exists _ fifth) in
+    by_edge none free (edge_at tree from) refl where
+      by_edge : NoMountAt tree from → edge_at tree to ≡ None → (o : Option EdgeTo) → edge_at tree from ≡ o → IsOrderly tree (option_map_or (λ edge. add to edge) o stay)
+      by_edge none free None at = tt
+      by_edge none free (Some edge) at = (free, children from edge at, none edge at)
 
-link_placed : (birth : Birth) (position : Position) (tree : Tree) (request : Asked) (src dst : List ℕ) → HasChildren tree → (target : Option ℕ) → IsPlaced tree birth (link_into birth position tree request src dst target)
-link_placed birth position tree request src dst children None = refused_placed tree birth position request status.NotFound
-link_placed birth position tree request src dst children (Some target) =
-    let from = name_in birth.node src in
+link_placed : (context : Context) (src dst : List ℕ) → HasChildren context.tree → (target : Option ℕ) → IsPlaced context.tree context.birth (link_into context src dst target)
+link_placed context src dst children None = refused_placed context.tree context.birth context.position method.Link status.NotFound
+link_placed context src dst children (Some target) =
+    let from = name_in context.birth.node src in
     let to = name_in target dst in
-    unless_holds (IsPlaced tree birth) (first_of (link_refusals tree from to)) position request (linked position request to (edge_at tree from)) (refused_placed tree birth position request)
-    (λ e.
-    let second = first_none (cause_if (is_none (edge_at tree from)) status.NotFound) _ e in
-    let third = first_none (cause_if (leads_to is_mount tree from) status.NotSupported) _ second in
-    let fourth = first_none (cause_if (leads_to is_directory tree from) status.NotFile) _ third in
-    let fifth = first_none (cause_if (is_removed tree.edges to.directory) status.BadState) _ fourth in
-    linked_placed birth position tree request from to children (no_mount_at tree from (not_refused (leads_to is_mount tree from) status.NotSupported _ second))
-    (none_there (edge_at tree to) (not_refused (is_some (edge_at tree to)) status.AlreadyExists _ fifth)) (edge_at tree from) refl)
+    unless_holds (IsPlaced context.tree context.birth) (as_status (link_refusal context.tree from to)) context.position method.Link (linked context from to) (refused_placed context.tree context.birth context.position method.Link)
+    (λ e. record { orderly = link_orderly context.tree from to children (graph_allows (link_refusal context.tree from to) e); answer = tt })
 
-replacing_placed : (birth : Birth) (position : Position) (tree : Tree) (request : Asked) (from to : EdgeKey) → NoMountAt tree from → IsPlaced tree birth (replacing position tree request from to)
-replacing_placed birth position tree request from to none = by_same (is_same_name from to) where
-  by_same : (b : Bool) → IsPlaced tree birth (if b then only position (replies (done method.Rename)) else unless (first_of (replacing_refusals tree from to)) position request (moving position tree from to))
-  by_same true = placed tree birth position (replies (done method.Rename)) tt
-  by_same false =
-      unless_holds (IsPlaced tree birth) (first_of (replacing_refusals tree from to)) position request (moving position tree from to) (refused_placed tree birth position request)
-      (λ e. record { orderly = (none, no_mount_at tree to (not_refused (leads_to is_mount tree to) status.NotSupported _ e)); answer = tt })
+rename_orderly : (tree : Tree) (from to : EdgeKey) → rename_refusal tree from to ≡ None → IsOrderly tree (rename_change from to)
+rename_orderly tree from to e =
+    let second = first_none (cause_if (is_none (edge_at tree from)) fault.NotFound) _ e in
+    let third = first_none (cause_if (leads_to is_mount tree from) fault.Unsupported) _ second in
+    let fourth = first_none (cause_if (is_removed tree.edges to.directory) fault.Removed) _ third in
+    let fifth = first_none (cause_if (is_loop tree from to.directory) fault.Loop) _ fourth in
+    by_same (no_mount_at tree from (not_refused (leads_to is_mount tree from) fault.Unsupported _ second)) (is_same_name from to) (only_none _ fifth) where
+      by_same : NoMountAt tree from → (b : Bool) → (if b then None else replace_refusal tree from to) ≡ None → IsOrderly tree (if b then stay else move from to)
+      by_same none true e = tt
+      by_same none false e = (none, no_mount_at tree to (not_refused (leads_to is_mount tree to) fault.Unsupported _ e))
 
-rename_placed : (birth : Birth) (position : Position) (tree : Tree) (request : Asked) (src dst : List ℕ) (target : Option ℕ) → IsPlaced tree birth (rename_into birth position tree request src dst target)
-rename_placed birth position tree request src dst None = refused_placed tree birth position request status.NotFound
-rename_placed birth position tree request src dst (Some target) =
-    let from = name_in birth.node src in
+rename_placed : (context : Context) (src dst : List ℕ) (target : Option ℕ) → IsPlaced context.tree context.birth (rename_into context src dst target)
+rename_placed context src dst None = refused_placed context.tree context.birth context.position method.Rename status.NotFound
+rename_placed context src dst (Some target) =
+    let from = name_in context.birth.node src in
     let to = name_in target dst in
-    unless_holds (IsPlaced tree birth) (first_of (move_refusals tree from to)) position request (replacing position tree request from to) (refused_placed tree birth position request)
-    (λ e. replacing_placed birth position tree request from to
-    (no_mount_at tree from (not_refused (leads_to is_mount tree from) status.NotSupported _ (first_none (cause_if (is_none (edge_at tree from)) status.NotFound) _ e))))
+    unless_holds (IsPlaced context.tree context.birth) (as_status (rename_refusal context.tree from to)) context.position method.Rename (renamed context from to) (refused_placed context.tree context.birth context.position method.Rename)
+    (λ e. record { orderly = rename_orderly context.tree from to (graph_allows (rename_refusal context.tree from to) e); answer = tt })
 
 -- ---- protocols
 
@@ -248,57 +256,57 @@ on_directory tree birth kind m at suited' home has beyond =
 
 -- ---- all rows
 
-module _ (built : Built) (birth : Birth) (position : Position) (room : Room) (tree : Tree) (target : Option ℕ) (kind : NodeKind) (children : HasChildren tree) (at : kind_of tree birth.node ≡ Some kind) (suited' : suits birth.protocol kind ≡ true) where
-  written_orderly : (node : ℕ) (bytes : List ℕ) (offset : ℕ) (more : List ℕ) → IsOrderly tree (write_change node bytes offset more)
+module _ (context : Context) (kind : NodeKind) (children : HasChildren context.tree) (at : kind_of context.tree context.birth.node ≡ Some kind) (suited' : suits context.birth.protocol kind ≡ true) where
+  written_orderly : (node : ℕ) (bytes : List ℕ) (offset : ℕ) (more : List ℕ) → IsOrderly context.tree (write_change node bytes offset more)
   written_orderly node bytes offset [] = tt
   written_orderly node bytes offset (byte ∷ more) = tt
 
-  token_placed : kind_of tree birth.node ≡ Some Directory → (o : Option ℕ) → IsPlaced tree birth (token_act position asks.get_token o)
-  token_placed dir None = refused_placed tree birth position asks.get_token status.NoResources
+  token_placed : kind_of context.tree context.birth.node ≡ Some Directory → (o : Option ℕ) → IsPlaced context.tree context.birth (only context.position (token_answer o))
+  token_placed dir None = refused_placed context.tree context.birth context.position method.GetToken status.NoResources
   token_placed dir (Some number) = record { orderly = tt; answer = dir }
 
-  row_placed : (request : Asked) → has_method birth.protocol (method_of request) ≡ true → is_beyond birth.protocol (method_of request) ≡ false → IsPlaced tree birth (row_act built birth position room tree target request)
+  row_placed : (request : Asked) → has_method context.birth.protocol (method_of request) ≡ true → is_beyond context.birth.protocol (method_of request) ≡ false → IsPlaced context.tree context.birth (row_act context request)
   row_placed (asks.clone endpoint) has beyond =
-      unless_holds (IsPlaced tree birth) (first_of (cause_if (is_full room) status.NoResources ∷ [])) position (asks.clone endpoint) _ (refused_placed tree birth position (asks.clone endpoint)) (λ e. record { orderly = tt; answer = (kind, at, suited') })
+      unless_holds (IsPlaced context.tree context.birth) (first_of (cause_if (is_full context.room) status.NoResources ∷ [])) context.position method.Clone _ (refused_placed context.tree context.birth context.position method.Clone) (λ e. record { orderly = tt; answer = (kind, at, suited') })
   row_placed asks.close has beyond = record { orderly = tt; answer = tt }
   row_placed asks.query has beyond = record { orderly = tt; answer = tt }
   row_placed (asks.get_attributes bits) has beyond = record { orderly = tt; answer = tt }
   row_placed asks.sync has beyond = record { orderly = tt; answer = tt }
   row_placed (asks.open_path path flags given object) has beyond =
-      unless_holds (IsPlaced tree birth) (first_of (entry_refusals built birth flags path)) position (asks.open_path path flags given object) _ (refused_placed tree birth position (asks.open_path path flags given object))
-      (λ e. walk_placed built birth position room tree path flags given object (walk tree flags (names_of path) birth.node) (leads_to_node tree flags (names_of path) birth.node children (kind, at)))
+      unless_holds (IsPlaced context.tree context.birth) (first_of (entry_refusals context.built context.birth flags path)) context.position method.OpenPath _ (refused_placed context.tree context.birth context.position method.OpenPath)
+      (λ e. walk_placed context flags (walk context.tree flags (names_of path) context.birth.node) (leads_to_node context.tree flags (names_of path) context.birth.node children (kind, at)))
   row_placed (asks.read_dirents most) has beyond =
-      unless_holds (IsPlaced tree birth) (first_of (cause_if (is_too_much most) status.InvalidArgs ∷ cause_if (fits_none (listing tree birth.node position.place) most) status.BufferTooSmall ∷ [])) position (asks.read_dirents most) _ (refused_placed tree birth position (asks.read_dirents most)) (λ e. record { orderly = tt; answer = tt })
+      unless_holds (IsPlaced context.tree context.birth) (first_of (cause_if (is_too_much most) status.InvalidArgs ∷ cause_if (fits_none (listing context.tree context.birth.node context.position.place) most) status.BufferTooSmall ∷ [])) context.position method.ReadDirents _ (refused_placed context.tree context.birth context.position method.ReadDirents) (λ e. record { orderly = tt; answer = tt })
   row_placed asks.rewind has beyond = record { orderly = tt; answer = tt }
-  row_placed asks.get_token has beyond = token_placed (on_directory tree birth kind method.GetToken at suited' refl has beyond) room.token
+  row_placed asks.get_token has beyond = token_placed (on_directory context.tree context.birth kind method.GetToken at suited' refl has beyond) context.room.token
   row_placed (asks.rename src token dst) has beyond =
-      unless_holds (IsPlaced tree birth) (two_names_refusal src dst target) position (asks.rename src token dst) _ (refused_placed tree birth position (asks.rename src token dst)) (λ e. rename_placed birth position tree (asks.rename src token dst) src dst target)
+      unless_holds (IsPlaced context.tree context.birth) (two_names_refusal src dst (context.directory token)) context.position method.Rename _ (refused_placed context.tree context.birth context.position method.Rename) (λ e. rename_placed context src dst (context.directory token))
   row_placed (asks.link src token dst) has beyond =
-      unless_holds (IsPlaced tree birth) (two_names_refusal src dst target) position (asks.link src token dst) _ (refused_placed tree birth position (asks.link src token dst)) (λ e. link_placed birth position tree (asks.link src token dst) src dst children target)
+      unless_holds (IsPlaced context.tree context.birth) (two_names_refusal src dst (context.directory token)) context.position method.Link _ (refused_placed context.tree context.birth context.position method.Link) (λ e. link_placed context src dst children (context.directory token))
   row_placed (asks.unlink name flags) has beyond =
-      unless_holds (IsPlaced tree birth) (first_of (unlink_refusals tree (name_in birth.node name) flags)) position (asks.unlink name flags) _ (refused_placed tree birth position (asks.unlink name flags)) (λ e. record { orderly = unlink_placed birth position tree name flags e; answer = tt })
+      unless_holds (IsPlaced context.tree context.birth) (first_of (unlink_refusals context.tree (name_in context.birth.node name) flags)) context.position method.Unlink _ (refused_placed context.tree context.birth context.position method.Unlink) (λ e. record { orderly = unlink_placed context name flags e; answer = tt })
   row_placed (asks.watch mask options watcher) has beyond =
-      unless_holds (IsPlaced tree birth) (first_of (watch_refusals room mask options)) position (asks.watch mask options watcher) _ (refused_placed tree birth position (asks.watch mask options watcher))
-      (λ e. record { orderly = tt; answer = on_directory tree birth kind method.Watch at suited' refl has beyond })
-  row_placed (asks.read count) has beyond = unless_holds (IsPlaced tree birth) (reading_refusal count) position (asks.read count) _ (refused_placed tree birth position (asks.read count)) (λ e. record { orderly = tt; answer = tt })
-  row_placed (asks.read_at count offset) has beyond = unless_holds (IsPlaced tree birth) (reading_refusal count) position (asks.read_at count offset) _ (refused_placed tree birth position (asks.read_at count offset)) (λ e. record { orderly = tt; answer = tt })
+      unless_holds (IsPlaced context.tree context.birth) (first_of (watch_refusals context.room mask options)) context.position method.Watch _ (refused_placed context.tree context.birth context.position method.Watch)
+      (λ e. record { orderly = tt; answer = on_directory context.tree context.birth kind method.Watch at suited' refl has beyond })
+  row_placed (asks.read count) has beyond = unless_holds (IsPlaced context.tree context.birth) (reading_refusal count) context.position method.Read _ (refused_placed context.tree context.birth context.position method.Read) (λ e. record { orderly = tt; answer = tt })
+  row_placed (asks.read_at count offset) has beyond = unless_holds (IsPlaced context.tree context.birth) (reading_refusal count) context.position method.ReadAt _ (refused_placed context.tree context.birth context.position method.ReadAt) (λ e. record { orderly = tt; answer = tt })
   row_placed (asks.write bytes) has beyond =
-      unless_holds (IsPlaced tree birth) (writing_refusal (write_start birth position tree) bytes) position (asks.write bytes) _ (refused_placed tree birth position (asks.write bytes))
-      (λ e. record { orderly = written_orderly birth.node (bytes_of tree birth.node) (write_start birth position tree) bytes; answer = tt })
+      unless_holds (IsPlaced context.tree context.birth) (writing_refusal (write_start context) bytes) context.position method.Write _ (refused_placed context.tree context.birth context.position method.Write)
+      (λ e. record { orderly = written_orderly context.birth.node (bytes_of context.tree context.birth.node) (write_start context) bytes; answer = tt })
   row_placed (asks.write_at bytes offset) has beyond =
-      unless_holds (IsPlaced tree birth) (writing_refusal offset bytes) position (asks.write_at bytes offset) _ (refused_placed tree birth position (asks.write_at bytes offset))
-      (λ e. record { orderly = written_orderly birth.node (bytes_of tree birth.node) offset bytes; answer = tt })
+      unless_holds (IsPlaced context.tree context.birth) (writing_refusal offset bytes) context.position method.WriteAt _ (refused_placed context.tree context.birth context.position method.WriteAt)
+      (λ e. record { orderly = written_orderly context.birth.node (bytes_of context.tree context.birth.node) offset bytes; answer = tt })
   row_placed (asks.seek origin offset) has beyond =
-      unless_holds (IsPlaced tree birth) (first_of (cause_if (nat_lt 2 origin) status.InvalidArgs ∷ cause_if (is_no_position (seek_sum birth position tree origin offset)) status.OutOfRange ∷ [])) position (asks.seek origin offset) _ (refused_placed tree birth position (asks.seek origin offset)) (λ e. record { orderly = tt; answer = tt })
+      unless_holds (IsPlaced context.tree context.birth) (first_of (cause_if (nat_lt 2 origin) status.InvalidArgs ∷ cause_if (is_no_position (seek_sum context origin offset)) status.OutOfRange ∷ [])) context.position method.Seek _ (refused_placed context.tree context.birth context.position method.Seek) (λ e. record { orderly = tt; answer = tt })
   row_placed (asks.resize size) has beyond =
-      unless_holds (IsPlaced tree birth) (first_of (cause_if (nat_lt limit.MAX_FILE size) status.FileBig ∷ [])) position (asks.resize size) _ (refused_placed tree birth position (asks.resize size)) (λ e. record { orderly = tt; answer = tt })
+      unless_holds (IsPlaced context.tree context.birth) (as_status (resize_refusal size)) context.position method.Resize _ (refused_placed context.tree context.birth context.position method.Resize) (λ e. record { orderly = tt; answer = tt })
   row_placed (asks.echo_string value) has beyond = record { orderly = tt; answer = tt }
 
-  act_placed : (request : Asked) → has_method birth.protocol (method_of request) ≡ true → IsPlaced tree birth (act_of built birth position room tree target request)
+  act_placed : (request : Asked) → has_method context.birth.protocol (method_of request) ≡ true → IsPlaced context.tree context.birth (act_of context request)
   unfolding act_of
   act_placed request has =
-      unless_holds (IsPlaced tree birth) (first_of (method_refusals built birth (method_of request))) position request (row_act built birth position room tree target request) (refused_placed tree birth position request)
-      (λ e. row_placed request has (not_refused (is_beyond birth.protocol (method_of request)) status.BadHandle _ e))
+      unless_holds (IsPlaced context.tree context.birth) (first_of (method_refusals context.built context.birth (method_of request))) context.position (method_of request) (row_act context request) (refused_placed context.tree context.birth context.position (method_of request))
+      (λ e. row_placed request has (not_refused (is_beyond context.birth.protocol (method_of request)) status.BadHandle _ e))
 
 -- ---- what outcomes have
 
@@ -399,7 +407,7 @@ pub record IsServedOn (tree : Tree) (bound : Bound) : Type 0 where
 read_placed : SpelledWhereRead → (built : Built) (moment : Moment) (bytes handles : List ℕ) → IsServedOn moment.tree moment.bound → (r : Read) → read_by moment.bound.birth.protocol bytes handles ≡ r → IsPlacedOutcome moment.tree moment.bound (outcome_of_read built moment r)
 read_placed law built moment bytes handles h (Ok (txid, a)) read =
     placed_outcome moment.tree moment.bound txid (object_of a) (request_act built moment a)
-    (act_placed built moment.bound.birth moment.position moment.room moment.tree (moment.directory (asked_token a)) h.kind h.children h.node h.suited a (has_read law moment.bound.birth.protocol bytes handles txid a read))
+    (act_placed (context_at built moment) h.kind h.children h.node h.suited a (has_read law moment.bound.birth.protocol bytes handles txid a read))
 read_placed law built moment bytes handles h (Err (Malformed fault)) read = placed_outcome moment.tree moment.bound 0 0 (only moment.position (ends status.InvalidArgs)) (placed moment.tree moment.bound.birth moment.position (ends status.InvalidArgs) tt)
 read_placed law built moment bytes handles h (Err UnknownStrict) read = placed_outcome moment.tree moment.bound 0 0 (only moment.position (ends status.NotSupported)) (placed moment.tree moment.bound.birth moment.position (ends status.NotSupported) tt)
 read_placed law built moment bytes handles h (Err UnknownOneWay) read = placed_outcome moment.tree moment.bound 0 0 (only moment.position silent) (placed moment.tree moment.bound.birth moment.position silent tt)

@@ -5,6 +5,7 @@ use Rattle.std.proofs.lemmas.List.Filters.{sum_by-filter_both}
 use Rattle.std.proofs.lemmas.List.Sums.{sum_by-append}
 use Rattle.fidl_names.specs.First.{cause_if, first_of}
 use Rattle.fidl_names.specs.declared.limits.TheConstants as limit
+use Rattle.fidl_names.specs.declared.methods.Method.TheVariants as method
 use Rattle.fidl_names.specs.declared.statuses.Status.{Status}
 use Rattle.fidl_names.specs.declared.statuses.Status.TheVariants as status
 use Rattle.endpoint_link.specs.Numbering.{among}
@@ -13,12 +14,11 @@ use Rattle.io_messages.specs.Asked as asks
 use Rattle.io_messages.specs.declared.protocols.Protocol.{Protocol}
 use Rattle.io_messages.specs.declared.protocols.Protocol.TheVariants as protocol
 use Rattle.io_messages.specs.declared.requests.RequestFault.TheVariants.{Malformed, UnknownStrict, UnknownOneWay, UnknownTwoWay}
-use Rattle.node_graph.specs.Tree.{Tree}
 use Rattle.conn_rules.specs.declared.births.Room.{Room}
 use Rattle.conn_rules.specs.Acts.{act_of, method_refusals, row_act}
 use Rattle.conn_rules.specs.Answers.{Act, Answer, replies, closes, binds, watches, forwards, refuses, ends, hangs_up, silent}
-use Rattle.conn_rules.specs.Births.{Birth, Position}
 use Rattle.conn_rules.specs.Built.{Built}
+use Rattle.conn_rules.specs.Contexts.{Context}
 use Rattle.conn_rules.specs.NameRows.{watch_refusals}
 use Rattle.conn_rules.specs.Nodes.{kind_here}
 use Rattle.conn_rules.specs.Opens.{arrival_refusals, by_walk, entry_refusals, is_full, making_refusals}
@@ -30,7 +30,7 @@ use Rattle.vfs_journal.specs.Lawful.{Lawful}
 use Rattle.vfs_journal.specs.Lawful as lawful
 use Rattle.vfs_journal.specs.Outcomes.{Asker, Forwarded, Outcome, bound_of}
 use Rattle.vfs_journal.specs.Past.{behind, event_of, history_of}
-use Rattle.vfs_journal.specs.Serving.{Moment, Read, asker_of, moment_of, object_of, outcome_at, outcome_of, outcome_of_message, outcome_of_read, outcome_of_sending, read_by, request_act, token_of as asked_token}
+use Rattle.vfs_journal.specs.Serving.{context_at, Moment, Read, asker_of, moment_of, object_of, outcome_at, outcome_of, outcome_of_message, outcome_of_read, outcome_of_sending, read_by, request_act}
 use Rattle.vfs_journal.specs.Session.{sent_behind, with_forward}
 use Rattle.vfs_journal.specs.Starts.{Bound, Start}
 use Rattle.journal_laws.specs.Laws.{but_for, newly_living}
@@ -98,46 +98,46 @@ not_told false s e = refl
 abbrev HasRoomFor : Room → Act → Type 0
 HasRoomFor room act = RoomFor room act.answer
 
-walk_room : (built : Built) (birth : Birth) (position : Position) (room : Room) (tree : Tree) (path : List ℕ) (word : ℕ) (given : Option ℕ) (object : ℕ) (w : Walk) → HasRoomFor room (by_walk built birth position room tree (asks.open_path path word given object) word w)
-walk_room built birth position room tree path word given object (arrives node masks) =
-    unless_holds (HasRoomFor room) (first_of (arrival_refusals built room word (kind_here tree node))) position (asks.open_path path word given object) _ (λ s. tt)
-    (λ e. not_told (is_full room) status.NoResources (last_none (arrival_refusals built room word (kind_here tree node)) e))
-walk_room built birth position room tree path word given object (missing directory name masks) =
-    unless_holds (HasRoomFor room) (first_of (making_refusals tree room word directory)) position (asks.open_path path word given object) _ (λ s. tt)
-    (λ e. not_told (is_full room) status.NoResources (last_none (making_refusals tree room word directory) e))
-walk_room built birth position room tree path word given object (crosses mount rest masks) = tt
-walk_room built birth position room tree path word given object (stops status) = tt
+walk_room : (context : Context) (word : ℕ) (w : Walk) → HasRoomFor context.room (by_walk context word w)
+walk_room context word (arrives node masks) =
+    unless_holds (HasRoomFor context.room) (first_of (arrival_refusals context.built context.room word (kind_here context.tree node))) context.position method.OpenPath _ (λ s. tt)
+    (λ e. not_told (is_full context.room) status.NoResources (last_none (arrival_refusals context.built context.room word (kind_here context.tree node)) e))
+walk_room context word (missing directory name masks) =
+    unless_holds (HasRoomFor context.room) (first_of (making_refusals context.tree context.room word directory)) context.position method.OpenPath _ (λ s. tt)
+    (λ e. not_told (is_full context.room) status.NoResources (last_none (making_refusals context.tree context.room word directory) e))
+walk_room context word (crosses mount rest masks) = tt
+walk_room context word (stops status) = tt
 
-binding_room : (built : Built) (birth : Birth) (position : Position) (room : Room) (tree : Tree) (target : Option ℕ) (request : Asked) → HasRoomFor room (act_of built birth position room tree target request)
+binding_room : (context : Context) (request : Asked) → HasRoomFor context.room (act_of context request)
 unfolding act_of
-binding_room built birth position room tree target (asks.clone endpoint) =
-    unless_holds (HasRoomFor room) (first_of (method_refusals built birth (method_of (asks.clone endpoint)))) position (asks.clone endpoint) (row_act built birth position room tree target (asks.clone endpoint)) (λ s. tt)
-    (λ e. unless_holds (HasRoomFor room) (first_of (cause_if (is_full room) status.NoResources ∷ [])) position (asks.clone endpoint) _ (λ s. tt) (λ f. not_told (is_full room) status.NoResources (last_none (cause_if (is_full room) status.NoResources ∷ []) f)))
-binding_room built birth position room tree target (asks.open_path path word given object) =
-    unless_holds (HasRoomFor room) (first_of (method_refusals built birth (method_of (asks.open_path path word given object)))) position (asks.open_path path word given object) (row_act built birth position room tree target (asks.open_path path word given object)) (λ s. tt)
-    (λ e. unless_holds (HasRoomFor room) (first_of (entry_refusals built birth word path)) position (asks.open_path path word given object) _ (λ s. tt)
-    (λ f. walk_room built birth position room tree path word given object (walk tree word (names_of path) birth.node)))
-binding_room built birth position room tree target (asks.watch mask options watcher) =
-    unless_holds (HasRoomFor room) (first_of (method_refusals built birth (method_of (asks.watch mask options watcher)))) position (asks.watch mask options watcher) (row_act built birth position room tree target (asks.watch mask options watcher)) (λ s. tt)
-    (λ e. unless_holds (HasRoomFor room) (first_of (watch_refusals room mask options)) position (asks.watch mask options watcher) _ (λ s. tt)
-    (λ f. (or_parts (nat_le limit.MAX_WATCHERS room.watchers) (is_full room) (not_told (nat_le limit.MAX_WATCHERS room.watchers || is_full room) status.NoResources (last_none (watch_refusals room mask options) f))).1))
-binding_room built birth position room tree target asks.close = close_room room _ (act_answers built birth position room tree target asks.close).0
-binding_room built birth position room tree target asks.get_token = token_room room room.token _ (act_answers built birth position room tree target asks.get_token).0
-binding_room built birth position room tree target asks.query = reply_room room _ (act_answers built birth position room tree target asks.query).0
-binding_room built birth position room tree target (asks.get_attributes bits) = reply_room room _ (act_answers built birth position room tree target (asks.get_attributes bits)).0
-binding_room built birth position room tree target asks.sync = reply_room room _ (act_answers built birth position room tree target asks.sync).0
-binding_room built birth position room tree target (asks.read_dirents most) = reply_room room _ (act_answers built birth position room tree target (asks.read_dirents most)).0
-binding_room built birth position room tree target asks.rewind = reply_room room _ (act_answers built birth position room tree target asks.rewind).0
-binding_room built birth position room tree target (asks.rename src token dst) = reply_room room _ (act_answers built birth position room tree target (asks.rename src token dst)).0
-binding_room built birth position room tree target (asks.link src token dst) = reply_room room _ (act_answers built birth position room tree target (asks.link src token dst)).0
-binding_room built birth position room tree target (asks.unlink name flags) = reply_room room _ (act_answers built birth position room tree target (asks.unlink name flags)).0
-binding_room built birth position room tree target (asks.read count) = reply_room room _ (act_answers built birth position room tree target (asks.read count)).0
-binding_room built birth position room tree target (asks.read_at count offset) = reply_room room _ (act_answers built birth position room tree target (asks.read_at count offset)).0
-binding_room built birth position room tree target (asks.write bytes) = reply_room room _ (act_answers built birth position room tree target (asks.write bytes)).0
-binding_room built birth position room tree target (asks.write_at bytes offset) = reply_room room _ (act_answers built birth position room tree target (asks.write_at bytes offset)).0
-binding_room built birth position room tree target (asks.seek origin offset) = reply_room room _ (act_answers built birth position room tree target (asks.seek origin offset)).0
-binding_room built birth position room tree target (asks.resize size) = reply_room room _ (act_answers built birth position room tree target (asks.resize size)).0
-binding_room built birth position room tree target (asks.echo_string value) = reply_room room _ (act_answers built birth position room tree target (asks.echo_string value)).0
+binding_room context (asks.clone endpoint) =
+    unless_holds (HasRoomFor context.room) (first_of (method_refusals context.built context.birth (method_of (asks.clone endpoint)))) context.position method.Clone (row_act context (asks.clone endpoint)) (λ s. tt)
+    (λ e. unless_holds (HasRoomFor context.room) (first_of (cause_if (is_full context.room) status.NoResources ∷ [])) context.position method.Clone _ (λ s. tt) (λ f. not_told (is_full context.room) status.NoResources (last_none (cause_if (is_full context.room) status.NoResources ∷ []) f)))
+binding_room context (asks.open_path path word given object) =
+    unless_holds (HasRoomFor context.room) (first_of (method_refusals context.built context.birth (method_of (asks.open_path path word given object)))) context.position method.OpenPath (row_act context (asks.open_path path word given object)) (λ s. tt)
+    (λ e. unless_holds (HasRoomFor context.room) (first_of (entry_refusals context.built context.birth word path)) context.position method.OpenPath _ (λ s. tt)
+    (λ f. walk_room context word (walk context.tree word (names_of path) context.birth.node)))
+binding_room context (asks.watch mask options watcher) =
+    unless_holds (HasRoomFor context.room) (first_of (method_refusals context.built context.birth (method_of (asks.watch mask options watcher)))) context.position method.Watch (row_act context (asks.watch mask options watcher)) (λ s. tt)
+    (λ e. unless_holds (HasRoomFor context.room) (first_of (watch_refusals context.room mask options)) context.position method.Watch _ (λ s. tt)
+    (λ f. (or_parts (nat_le limit.MAX_WATCHERS context.room.watchers) (is_full context.room) (not_told (nat_le limit.MAX_WATCHERS context.room.watchers || is_full context.room) status.NoResources (last_none (watch_refusals context.room mask options) f))).1))
+binding_room context asks.close = close_room context.room _ (act_answers context asks.close).0
+binding_room context asks.get_token = token_room context.room context.room.token _ (act_answers context asks.get_token).0
+binding_room context asks.query = reply_room context.room _ (act_answers context asks.query).0
+binding_room context (asks.get_attributes bits) = reply_room context.room _ (act_answers context (asks.get_attributes bits)).0
+binding_room context asks.sync = reply_room context.room _ (act_answers context asks.sync).0
+binding_room context (asks.read_dirents most) = reply_room context.room _ (act_answers context (asks.read_dirents most)).0
+binding_room context asks.rewind = reply_room context.room _ (act_answers context asks.rewind).0
+binding_room context (asks.rename src token dst) = reply_room context.room _ (act_answers context (asks.rename src token dst)).0
+binding_room context (asks.link src token dst) = reply_room context.room _ (act_answers context (asks.link src token dst)).0
+binding_room context (asks.unlink name flags) = reply_room context.room _ (act_answers context (asks.unlink name flags)).0
+binding_room context (asks.read count) = reply_room context.room _ (act_answers context (asks.read count)).0
+binding_room context (asks.read_at count offset) = reply_room context.room _ (act_answers context (asks.read_at count offset)).0
+binding_room context (asks.write bytes) = reply_room context.room _ (act_answers context (asks.write bytes)).0
+binding_room context (asks.write_at bytes offset) = reply_room context.room _ (act_answers context (asks.write_at bytes offset)).0
+binding_room context (asks.seek origin offset) = reply_room context.room _ (act_answers context (asks.seek origin offset)).0
+binding_room context (asks.resize size) = reply_room context.room _ (act_answers context (asks.resize size)).0
+binding_room context (asks.echo_string value) = reply_room context.room _ (act_answers context (asks.echo_string value)).0
 
 -- ---- what a serving binds
 
@@ -163,7 +163,7 @@ bound_room room asker hangs_up h new e = absurd (cc)
 bound_room room asker silent h new e = absurd (cc)
 
 read_room : (built : Built) (moment : Moment) (r : Read) → IsRoomy moment (outcome_of_read built moment r)
-read_room built moment (Ok (txid, a)) = λ new e. bound_room moment.room (asker_of moment.bound txid (object_of a)) (request_act built moment a).answer (binding_room built moment.bound.birth moment.position moment.room moment.tree (moment.directory (asked_token a)) a) new e
+read_room built moment (Ok (txid, a)) = λ new e. bound_room moment.room (asker_of moment.bound txid (object_of a)) (request_act built moment a).answer (binding_room (context_at built moment) a) new e
 read_room built moment (Err (Malformed fault)) = λ new e. absurd (cc)
 read_room built moment (Err UnknownStrict) = λ new e. absurd (cc)
 read_room built moment (Err UnknownOneWay) = λ new e. absurd (cc)

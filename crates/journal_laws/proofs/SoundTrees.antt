@@ -1,8 +1,8 @@
 -- Whatever is served leaves a tree sound.
-use Rattle.std.proofs.Common.{◌≡◌, ℕ, zero, suc, ◌+◌, ◌≤◌, ◌==◌, ◌&&◌, ◌||◌, Bool, true, false, not, find, nat_lt, nat_le, is_some, if◌then◌else◌, List, [], ◌∷◌, length, Option, Some, None, Ok, Err, All, refl, sym, ap, ◌∙◌, subst, arith}
+use Rattle.std.proofs.Common.{◌≡◌, ℕ, zero, suc, ◌==◌, ◌&&◌, ◌||◌, Bool, true, false, not, find, nat_lt, nat_le, is_some, if◌then◌else◌, List, [], ◌∷◌, length, Option, Some, None, Ok, Err, All, refl, sym, ap, ◌∙◌, subst, arith}
 use Rattle.std.specs.FinMap as finite
 use Rattle.std.specs.Option.{option_map_or}
-use Rattle.std.proofs.lemmas.Bool.{eqb-true, ne_eqb, or_parts, or_right, true≢false}
+use Rattle.std.proofs.lemmas.Bool.{eqb-true, or_parts, or_right, true≢false}
 use Rattle.std.proofs.lemmas.List.Elements.{All-contains, All-head, All-set, All-tail}
 use Rattle.fidl_names.specs.First.{cause_if, first_of}
 use Rattle.fidl_names.specs.declared.limits.TheConstants as limit
@@ -21,8 +21,8 @@ use Rattle.io_messages.specs.declared.protocols.Protocol.{Protocol}
 use Rattle.io_messages.specs.declared.protocols.Protocol.TheVariants as protocol
 use Rattle.io_messages.specs.declared.requests.RequestFault.TheVariants.{Malformed, UnknownStrict, UnknownOneWay, UnknownTwoWay}
 use Rattle.io_rights.specs.Operations.{OperationSet, all, is_within}
-use Rattle.node_graph.specs.Graph.{create_refusal, write_refusal}
-use Rattle.node_graph.specs.Tree.{IsSound, NodeRow, Tree, Edges, EdgeKey, EdgeTo, after, fill, is_removed, kind_of, row_of, stay, add, move, Change}
+use Rattle.node_graph.specs.Graph.{create_refusal, link_refusal, rename_refusal, resize_refusal, unlink_refusal, write_refusal}
+use Rattle.node_graph.specs.Tree.{IsSound, NodeRow, Tree, Edges, EdgeKey, EdgeTo, after, fill, is_removed, kind_of, row_of, stay}
 use Rattle.node_graph.specs.declared.faults.GraphFault.TheVariants as fault
 use Rattle.node_graph.specs.declared.nodes.NodeKind.{NodeKind}
 use Rattle.node_graph.specs.declared.nodes.NodeKind.TheVariants.{Directory, File, Service, Mount}
@@ -31,14 +31,13 @@ use Rattle.node_graph.proofs.Soundness.{bare_sound, filled_sound, made_sound, re
 use Rattle.path_walk.specs.Names.{IsName, name_fault}
 use Rattle.path_walk.specs.Paths.{names_of}
 use Rattle.path_walk.proofs.PartLemmas.{name_short}
-use Rattle.conn_rules.specs.declared.births.Room.{Room}
 use Rattle.conn_rules.specs.Acts.{act_of, is_beyond, is_of_every_node, method_refusals, row_act}
-use Rattle.conn_rules.specs.Answers.{Act, only, replies}
-use Rattle.conn_rules.specs.Births.{Birth, Position}
+use Rattle.conn_rules.specs.Answers.{Act}
 use Rattle.conn_rules.specs.Built.{Built}
-use Rattle.conn_rules.specs.FileRows.{is_no_position, is_too_far, is_too_much, reading_refusal, seek_sum, write_start, writing_refusal}
+use Rattle.conn_rules.specs.Contexts.{Context}
+use Rattle.conn_rules.specs.FileRows.{is_no_position, is_too_much, reading_refusal, seek_sum, write_start, writing_refusal}
 use Rattle.conn_rules.specs.Listings.{fits_none, listing}
-use Rattle.conn_rules.specs.NameRows.{token_act, watch_refusals, is_bad_name, is_same_name, link_into, link_refusals, linked, move_refusals, moving, name_in, rename_into, replacing, replacing_refusals, two_names_refusal, unlink_refusals}
+use Rattle.conn_rules.specs.NameRows.{watch_refusals, is_bad_name, link_into, linked, name_in, rename_into, renamed, two_names_refusal, unlink_refusals}
 use Rattle.conn_rules.specs.Nodes.{bytes_of, edge_at, is_file, kind_behind, kind_here}
 use Rattle.conn_rules.specs.Opens.{arrival, arrival_refusals, by_walk, entry_refusals, is_full, is_other_kind, kind_made, making, making_refusals, marks_file, other_kind_status}
 use Rattle.conn_rules.specs.Walks.{Walk, arrives, missing, crosses, stops, behind, passing, last_by_kind, last_step, inner_rights, inner_by_kind, inner_step, walk, limit_of}
@@ -48,12 +47,12 @@ use Rattle.vfs_journal.specs.Lawful.{Lawful}
 use Rattle.vfs_journal.specs.Lawful as lawful
 use Rattle.vfs_journal.specs.Outcomes.{Forwarded, Outcome, Given}
 use Rattle.vfs_journal.specs.Past.{behind as behind_entry, event_of, history_of}
-use Rattle.vfs_journal.specs.Serving.{Moment, Read, moment_of, outcome_at, outcome_of, outcome_of_message, outcome_of_read, outcome_of_sending, read_by, token_of as asked_token}
+use Rattle.vfs_journal.specs.Serving.{context_at, Moment, Read, moment_of, outcome_at, outcome_of, outcome_of_message, outcome_of_read, outcome_of_sending, read_by}
 use Rattle.vfs_journal.specs.Session.{head, sent_behind, with_forward}
 use Rattle.vfs_journal.specs.Starts.{Bound, Start}
 use Rattle.journal_laws.specs.Soundness.{IsStart}
 use Rattle.journal_laws.specs.Trees.{IsOnNode, NamesDirectory, suits}
-use Rattle.journal_laws.proofs.Acts.{first_none, not_refused, path_passes, unless_holds, none_there}
+use Rattle.journal_laws.proofs.Acts.{first_none, graph_allows, not_refused, only_none, path_passes, unless_holds, none_there}
 use Rattle.journal_laws.proofs.Below.{Below}
 use Rattle.journal_laws.proofs.Edges.{mapped}
 use Rattle.journal_laws.proofs.Kept.{is_serving, lawful_kept}
@@ -63,11 +62,8 @@ use Rattle.journal_laws.proofs.Orderly.{HasChildren}
 use Rattle.journal_laws.proofs.Placed.{IsNode, LeadsToNode, has_read, kind_there, leads_to_node, on_directory}
 use Rattle.journal_laws.proofs.Stepping.{stepped}
 use Rattle.journal_laws.proofs.Steps.{refusals_change_nothing, sendings_wait_last, servings_take_effect}
-use Rattle.io_messages.specs.Replies.{done}
-use Rattle.node_graph.specs.Refusals.{link_change}
-use Rattle.conn_rules.specs.Refusals.{unless}
+use Rattle.conn_rules.specs.Refusals.{as_status}
 use Rattle.vfs_journal.specs.Tokens.{all_given, directory_among}
-use Rattle.journal_laws.proofs.Renaming.{link_agrees, other_name, rename_agrees, unlink_agrees}
 
 -- ---- a name that a walk misses
 
@@ -151,38 +147,32 @@ create_passes edges key removed free few = by_parts (is_removed edges key.direct
   by_parts false true c p q r = absurd (true≢false q)
   by_parts false false true p q r = absurd (true≢false r)
 
-walk_sound : (built : Built) (birth : Birth) (position : Position) (room : Room) (tree : Tree) (path : List ℕ) (word : ℕ) (given : Option ℕ) (object : ℕ) → IsSound tree → (w : Walk) → LeadsToNode tree w → MissesName tree w →
-    IsLeftSound tree (by_walk built birth position room tree (asks.open_path path word given object) word w)
-walk_sound built birth position room tree path word given object sound (arrives node masks) there misses =
-    unless_holds (IsLeftSound tree) (first_of (arrival_refusals built room word (kind_here tree node))) position (asks.open_path path word given object) (arrival position word (limit_of birth.rights masks) node (kind_here tree node)) (λ s. sound)
-    (λ e. cut_by tree node (has word flag.FileTruncate)
-    (λ cuts. kind_there tree node there ∙ ap Some (is_file_kind (kind_here tree node)
-    (both_false (marks_file word) (is_file (kind_here tree node))
-    (not_refused (marks_file word && not (is_file (kind_here tree node))) status.NotFile _ (first_none (cause_if (is_other_kind word (kind_here tree node)) (other_kind_status word)) _ (first_none (cause_if (has word flag.MustCreate) status.AlreadyExists) _ e)))
+walk_sound : (context : Context) (word : ℕ) → IsSound context.tree → (w : Walk) → LeadsToNode context.tree w → MissesName context.tree w →
+    IsLeftSound context.tree (by_walk context word w)
+walk_sound context word sound (arrives node masks) there misses =
+    unless_holds (IsLeftSound context.tree) (first_of (arrival_refusals context.built context.room word (kind_here context.tree node))) context.position method.OpenPath (arrival context.position word (limit_of context.birth.rights masks) node (kind_here context.tree node)) (λ s. sound)
+    (λ e. cut_by context.tree node (has word flag.FileTruncate)
+    (λ cuts. kind_there context.tree node there ∙ ap Some (is_file_kind (kind_here context.tree node)
+    (both_false (marks_file word) (is_file (kind_here context.tree node))
+    (not_refused (marks_file word && not (is_file (kind_here context.tree node))) status.NotFile _ (first_none (cause_if (is_other_kind word (kind_here context.tree node)) (other_kind_status word)) _ (first_none (cause_if (has word flag.MustCreate) status.AlreadyExists) _ e)))
     (or_right (has word flag.FileAppend) (has word flag.FileTruncate) cuts))))
     sound)
-walk_sound built birth position room tree path word given object sound (missing directory name masks) free misses =
-    unless_holds (IsLeftSound tree) (first_of (making_refusals tree room word directory)) position (asks.open_path path word given object) (making position tree word (limit_of birth.rights masks) (record { directory = directory; name = name })) (λ s. sound)
+walk_sound context word sound (missing directory name masks) free misses =
+    unless_holds (IsLeftSound context.tree) (first_of (making_refusals context.tree context.room word directory)) context.position method.OpenPath (making context.position context.tree word (limit_of context.birth.rights masks) (record { directory = directory; name = name })) (λ s. sound)
     (λ e.
     let second = first_none (cause_if (not (creates word)) status.NotFound) _ e in
-    let third = first_none (cause_if (is_removed tree.edges directory) status.BadState) _ second in
+    let third = first_none (cause_if (is_removed context.tree.edges directory) status.BadState) _ second in
     let short = name_short name misses.1 in
-    made_sound tree (record { directory = directory; name = name }) (kind_made word) all sound
-    (create_passes tree.edges (record { directory = directory; name = name }) (not_refused (is_removed tree.edges directory) status.BadState _ second) free (not_refused (nat_le limit.MAX_NAMES (finite.len tree.edges)) status.NoSpace _ third))
+    made_sound context.tree (record { directory = directory; name = name }) (kind_made word) all sound
+    (create_passes context.tree.edges (record { directory = directory; name = name }) (not_refused (is_removed context.tree.edges directory) status.BadState _ second) free (not_refused (nat_le limit.MAX_NAMES (finite.len context.tree.edges)) status.NoSpace _ third))
     misses.0 short.0 short.1)
-walk_sound built birth position room tree path word given object sound (crosses mount rest masks) there misses = sound
-walk_sound built birth position room tree path word given object sound (stops status) there misses = sound
+walk_sound context word sound (crosses mount rest masks) there misses = sound
+walk_sound context word sound (stops status) there misses = sound
 
 -- ---- what is written
 
 write_passes : (offset : ℕ) (bytes : List ℕ) → writing_refusal offset bytes ≡ None → write_refusal offset bytes ≡ None
-write_passes offset [] e = refl
-write_passes offset (byte ∷ bytes) e = by_far (nat_lt limit.MAX_FILE (offset + length (byte ∷ bytes))) (not_refused (is_too_far offset (byte ∷ bytes)) status.FileBig _ (first_none (cause_if (is_too_much (length (byte ∷ bytes))) status.OutOfRange) _ e)) where
-  by_far : (b : Bool) → (not (length (byte ∷ bytes) == 0) && b) ≡ false → cause_if b fault.FileBig ≡ None
-  by_far false h = refl
-  by_far true h = absurd (true≢false (sym (some (length bytes)) ∙ h)) where
-    some : (n : ℕ) → (not (suc n == 0) && true) ≡ true
-    some n = ap (λ (b : Bool). not b && true) (ne_eqb (suc n) 0 (λ e. omega arith))
+write_passes offset bytes e = graph_allows (write_refusal offset bytes) (only_none _ (first_none (cause_if (is_too_much (length bytes)) status.OutOfRange) _ e))
 
 -- ---- names
 
@@ -190,36 +180,25 @@ second_name : (src dst : List ℕ) (target : Option ℕ) → two_names_refusal s
 second_name src dst target e =
     none_there (name_fault dst) (or_parts (is_bad_name src) (is_bad_name dst) (not_refused (is_bad_name src || is_bad_name dst) status.InvalidArgs _ e)).1
 
-linked_sound : (position : Position) (tree : Tree) (request : Asked) (from to : EdgeKey) → IsSound tree → IsSound (after tree (link_change tree from to)) → (o : Option EdgeTo) → edge_at tree from ≡ o → IsLeftSound tree (linked position request to o)
-linked_sound position tree request from to sound new None e = sound
-linked_sound position tree request from to sound new (Some edge) e = subst (λ (c : Change). IsSound (after tree c)) (ap (λ (o : Option EdgeTo). option_map_or (λ edge. add to edge) o stay) e) new
-
-into_sound : (birth : Birth) (position : Position) (tree : Tree) (request : Asked) (src dst : List ℕ) → IsSound tree → IsName dst → (target : Option ℕ) → ((d : ℕ) → target ≡ Some d → kind_of tree d ≡ Some Directory) →
-    IsLeftSound tree (link_into birth position tree request src dst target)
-into_sound birth position tree request src dst sound valid None is = sound
-into_sound birth position tree request src dst sound valid (Some target) is =
-    let from = name_in birth.node src in
+into_sound : (context : Context) (src dst : List ℕ) → IsSound context.tree → IsName dst → (target : Option ℕ) → ((d : ℕ) → target ≡ Some d → kind_of context.tree d ≡ Some Directory) →
+    IsLeftSound context.tree (link_into context src dst target)
+into_sound context src dst sound valid None is = sound
+into_sound context src dst sound valid (Some target) is =
+    let from = name_in context.birth.node src in
     let to = name_in target dst in
     let short = name_short dst valid in
-    unless_holds (IsLeftSound tree) (first_of (link_refusals tree from to)) position request (linked position request to (edge_at tree from)) (λ s. sound)
-    (λ e. linked_sound position tree request from to sound (link_sound tree from to sound (link_agrees tree from to sound e) (is target refl) short.0 short.1) (edge_at tree from) refl)
+    unless_holds (IsLeftSound context.tree) (as_status (link_refusal context.tree from to)) context.position method.Link (linked context from to) (λ s. sound)
+    (λ e. link_sound context.tree from to sound (graph_allows (link_refusal context.tree from to) e) (is target refl) short.0 short.1)
 
-replacing_sound : (position : Position) (tree : Tree) (request : Asked) (from to : EdgeKey) → IsSound tree → first_of (move_refusals tree from to) ≡ None → kind_of tree to.directory ≡ Some Directory → 1 ≤ length to.name → length to.name ≤ limit.MAX_NAME →
-    (b : Bool) → is_same_name from to ≡ b → IsLeftSound tree (if b then only position (replies (done method.Rename)) else unless (first_of (replacing_refusals tree from to)) position request (moving position tree from to))
-replacing_sound position tree request from to sound e dir some few true same = sound
-replacing_sound position tree request from to sound e dir some few false apart =
-    unless_holds (IsLeftSound tree) (first_of (replacing_refusals tree from to)) position request (moving position tree from to) (λ s. sound)
-    (λ f. subst (λ (b : Bool). IsSound (after tree (if b then stay else move from to))) (other_name from to apart) (rename_sound tree from to sound (rename_agrees tree from to sound e apart f) dir some few))
-
-renamed_sound : (birth : Birth) (position : Position) (tree : Tree) (request : Asked) (src dst : List ℕ) → IsSound tree → IsName dst → (target : Option ℕ) → ((d : ℕ) → target ≡ Some d → kind_of tree d ≡ Some Directory) →
-    IsLeftSound tree (rename_into birth position tree request src dst target)
-renamed_sound birth position tree request src dst sound valid None is = sound
-renamed_sound birth position tree request src dst sound valid (Some target) is =
-    let from = name_in birth.node src in
+renamed_sound : (context : Context) (src dst : List ℕ) → IsSound context.tree → IsName dst → (target : Option ℕ) → ((d : ℕ) → target ≡ Some d → kind_of context.tree d ≡ Some Directory) →
+    IsLeftSound context.tree (rename_into context src dst target)
+renamed_sound context src dst sound valid None is = sound
+renamed_sound context src dst sound valid (Some target) is =
+    let from = name_in context.birth.node src in
     let to = name_in target dst in
     let short = name_short dst valid in
-    unless_holds (IsLeftSound tree) (first_of (move_refusals tree from to)) position request (replacing position tree request from to) (λ s. sound)
-    (λ e. replacing_sound position tree request from to sound e (is target refl) short.0 short.1 (is_same_name from to) refl)
+    unless_holds (IsLeftSound context.tree) (as_status (rename_refusal context.tree from to)) context.position method.Rename (renamed context from to) (λ s. sound)
+    (λ e. rename_sound context.tree from to sound (graph_allows (rename_refusal context.tree from to) e) (is target refl) short.0 short.1)
 
 -- the directory that a token names, where it is of this server
 named_directory : (trees : List Tree) (tokens : List Given) (server token d : ℕ) → All (NamesDirectory trees) tokens → directory_among tokens server token ≡ Some d → kind_of (tree_at trees server) d ≡ Some Directory
@@ -243,62 +222,58 @@ file_protocol protocol.Echo m home has' beyond = absurd (true≢false (sym has' 
 file_protocol protocol.Watcher m home has' beyond = absurd (true≢false (sym has' ∙ ap (has_home protocol.Watcher) home))
 file_protocol protocol.Node m home has' beyond = absurd (true≢false (ap (λ (h : Home). not (is_of_every_node h)) (sym home) ∙ beyond))
 
-module _ (below : Below) (built : Built) (birth : Birth) (position : Position) (room : Room) (tree : Tree) (target : Option ℕ) (kind : NodeKind) (sound : IsSound tree) (at : kind_of tree birth.node ≡ Some kind) (suited : suits birth.protocol kind ≡ true) (target_is : (d : ℕ) → target ≡ Some d → kind_of tree d ≡ Some Directory) where
-  on_file : (m : Method) → home_of m ≡ homes.Files → has_method birth.protocol m ≡ true → is_beyond birth.protocol m ≡ false → kind_of tree birth.node ≡ Some File
-  on_file m home has' beyond = at ∙ ap Some (is_file_kind kind (ap (λ (p : Protocol). suits p kind) (sym (file_protocol birth.protocol m home has' beyond)) ∙ suited))
+module _ (below : Below) (context : Context) (kind : NodeKind) (sound : IsSound context.tree) (at : kind_of context.tree context.birth.node ≡ Some kind) (suited : suits context.birth.protocol kind ≡ true) (target_is : (token d : ℕ) → context.directory token ≡ Some d → kind_of context.tree d ≡ Some Directory) where
+  on_file : (m : Method) → home_of m ≡ homes.Files → has_method context.birth.protocol m ≡ true → is_beyond context.birth.protocol m ≡ false → kind_of context.tree context.birth.node ≡ Some File
+  on_file m home has' beyond = at ∙ ap Some (is_file_kind kind (ap (λ (p : Protocol). suits p kind) (sym (file_protocol context.birth.protocol m home has' beyond)) ∙ suited))
 
-  token_sound : (o : Option ℕ) → IsLeftSound tree (token_act position asks.get_token o)
-  token_sound None = sound
-  token_sound (Some number) = sound
-
-  row_sound : (request : Asked) → has_method birth.protocol (method_of request) ≡ true → is_beyond birth.protocol (method_of request) ≡ false → IsLeftSound tree (row_act built birth position room tree target request)
-  row_sound (asks.clone endpoint) has' beyond = unless_holds (IsLeftSound tree) (first_of (cause_if (is_full room) status.NoResources ∷ [])) position (asks.clone endpoint) _ (λ s. sound) (λ e. sound)
+  row_sound : (request : Asked) → has_method context.birth.protocol (method_of request) ≡ true → is_beyond context.birth.protocol (method_of request) ≡ false → IsLeftSound context.tree (row_act context request)
+  row_sound (asks.clone endpoint) has' beyond = unless_holds (IsLeftSound context.tree) (first_of (cause_if (is_full context.room) status.NoResources ∷ [])) context.position method.Clone _ (λ s. sound) (λ e. sound)
   row_sound asks.close has' beyond = sound
   row_sound asks.query has' beyond = sound
   row_sound (asks.get_attributes bits) has' beyond = sound
   row_sound asks.sync has' beyond = sound
   row_sound (asks.open_path path flags given object) has' beyond =
-      unless_holds (IsLeftSound tree) (first_of (entry_refusals built birth flags path)) position (asks.open_path path flags given object) _ (λ s. sound)
+      unless_holds (IsLeftSound context.tree) (first_of (entry_refusals context.built context.birth flags path)) context.position method.OpenPath _ (λ s. sound)
       (λ e.
-      let here = on_directory tree birth kind method.OpenPath at suited refl has' beyond in
-      let valid = (below.sound path (path_passes built birth flags path e)).valid in
-      walk_sound built birth position room tree path flags given object sound (walk tree flags (names_of path) birth.node)
-      (leads_to_node tree flags (names_of path) birth.node (sound_children tree sound) (Directory, here)) (misses_name tree flags (names_of path) birth.node (sound_children tree sound) here valid))
+      let here = on_directory context.tree context.birth kind method.OpenPath at suited refl has' beyond in
+      let valid = (below.sound path (path_passes context.built context.birth flags path e)).valid in
+      walk_sound context flags sound (walk context.tree flags (names_of path) context.birth.node)
+      (leads_to_node context.tree flags (names_of path) context.birth.node (sound_children context.tree sound) (Directory, here)) (misses_name context.tree flags (names_of path) context.birth.node (sound_children context.tree sound) here valid))
   row_sound (asks.read_dirents most) has' beyond =
-      unless_holds (IsLeftSound tree) (first_of (cause_if (is_too_much most) status.InvalidArgs ∷ cause_if (fits_none (listing tree birth.node position.place) most) status.BufferTooSmall ∷ [])) position (asks.read_dirents most) _ (λ s. sound) (λ e. sound)
+      unless_holds (IsLeftSound context.tree) (first_of (cause_if (is_too_much most) status.InvalidArgs ∷ cause_if (fits_none (listing context.tree context.birth.node context.position.place) most) status.BufferTooSmall ∷ [])) context.position method.ReadDirents _ (λ s. sound) (λ e. sound)
   row_sound asks.rewind has' beyond = sound
-  row_sound asks.get_token has' beyond = token_sound room.token
+  row_sound asks.get_token has' beyond = sound
   row_sound (asks.rename src token dst) has' beyond =
-      unless_holds (IsLeftSound tree) (two_names_refusal src dst target) position (asks.rename src token dst) _ (λ s. sound)
-      (λ e. renamed_sound birth position tree (asks.rename src token dst) src dst sound (second_name src dst target e) target target_is)
+      unless_holds (IsLeftSound context.tree) (two_names_refusal src dst (context.directory token)) context.position method.Rename _ (λ s. sound)
+      (λ e. renamed_sound context src dst sound (second_name src dst (context.directory token) e) (context.directory token) (target_is token))
   row_sound (asks.link src token dst) has' beyond =
-      unless_holds (IsLeftSound tree) (two_names_refusal src dst target) position (asks.link src token dst) _ (λ s. sound)
-      (λ e. into_sound birth position tree (asks.link src token dst) src dst sound (second_name src dst target e) target target_is)
+      unless_holds (IsLeftSound context.tree) (two_names_refusal src dst (context.directory token)) context.position method.Link _ (λ s. sound)
+      (λ e. into_sound context src dst sound (second_name src dst (context.directory token) e) (context.directory token) (target_is token))
   row_sound (asks.unlink name flags) has' beyond =
-      unless_holds (IsLeftSound tree) (first_of (unlink_refusals tree (name_in birth.node name) flags)) position (asks.unlink name flags) _ (λ s. sound)
-      (λ e. cut_sound tree (name_in birth.node name) false sound (unlink_agrees tree (name_in birth.node name) flags sound e))
-  row_sound (asks.watch mask options watcher) has' beyond = unless_holds (IsLeftSound tree) (first_of (watch_refusals room mask options)) position (asks.watch mask options watcher) _ (λ s. sound) (λ e. sound)
-  row_sound (asks.read count) has' beyond = unless_holds (IsLeftSound tree) (reading_refusal count) position (asks.read count) _ (λ s. sound) (λ e. sound)
-  row_sound (asks.read_at count offset) has' beyond = unless_holds (IsLeftSound tree) (reading_refusal count) position (asks.read_at count offset) _ (λ s. sound) (λ e. sound)
+      unless_holds (IsLeftSound context.tree) (first_of (unlink_refusals context.tree (name_in context.birth.node name) flags)) context.position method.Unlink _ (λ s. sound)
+      (λ e. cut_sound context.tree (name_in context.birth.node name) (flags == 1) sound (graph_allows (unlink_refusal context.tree (name_in context.birth.node name) (flags == 1)) (only_none _ (first_none (cause_if (is_bad_name name || nat_lt 1 flags) status.InvalidArgs) _ e))))
+  row_sound (asks.watch mask options watcher) has' beyond = unless_holds (IsLeftSound context.tree) (first_of (watch_refusals context.room mask options)) context.position method.Watch _ (λ s. sound) (λ e. sound)
+  row_sound (asks.read count) has' beyond = unless_holds (IsLeftSound context.tree) (reading_refusal count) context.position method.Read _ (λ s. sound) (λ e. sound)
+  row_sound (asks.read_at count offset) has' beyond = unless_holds (IsLeftSound context.tree) (reading_refusal count) context.position method.ReadAt _ (λ s. sound) (λ e. sound)
   row_sound (asks.write bytes) has' beyond =
-      unless_holds (IsLeftSound tree) (writing_refusal (write_start birth position tree) bytes) position (asks.write bytes) _ (λ s. sound)
-      (λ e. written_sound tree birth.node (bytes_of tree birth.node) (write_start birth position tree) bytes sound (file_row tree birth.node (on_file method.Write refl has' beyond)) (write_passes (write_start birth position tree) bytes e))
+      unless_holds (IsLeftSound context.tree) (writing_refusal (write_start context) bytes) context.position method.Write _ (λ s. sound)
+      (λ e. written_sound context.tree context.birth.node (bytes_of context.tree context.birth.node) (write_start context) bytes sound (file_row context.tree context.birth.node (on_file method.Write refl has' beyond)) (write_passes (write_start context) bytes e))
   row_sound (asks.write_at bytes offset) has' beyond =
-      unless_holds (IsLeftSound tree) (writing_refusal offset bytes) position (asks.write_at bytes offset) _ (λ s. sound)
-      (λ e. written_sound tree birth.node (bytes_of tree birth.node) offset bytes sound (file_row tree birth.node (on_file method.WriteAt refl has' beyond)) (write_passes offset bytes e))
+      unless_holds (IsLeftSound context.tree) (writing_refusal offset bytes) context.position method.WriteAt _ (λ s. sound)
+      (λ e. written_sound context.tree context.birth.node (bytes_of context.tree context.birth.node) offset bytes sound (file_row context.tree context.birth.node (on_file method.WriteAt refl has' beyond)) (write_passes offset bytes e))
   row_sound (asks.seek origin offset) has' beyond =
-      unless_holds (IsLeftSound tree) (first_of (cause_if (nat_lt 2 origin) status.InvalidArgs ∷ cause_if (is_no_position (seek_sum birth position tree origin offset)) status.OutOfRange ∷ [])) position (asks.seek origin offset) _ (λ s. sound) (λ e. sound)
+      unless_holds (IsLeftSound context.tree) (first_of (cause_if (nat_lt 2 origin) status.InvalidArgs ∷ cause_if (is_no_position (seek_sum context origin offset)) status.OutOfRange ∷ [])) context.position method.Seek _ (λ s. sound) (λ e. sound)
   row_sound (asks.resize size) has' beyond =
-      unless_holds (IsLeftSound tree) (first_of (cause_if (nat_lt limit.MAX_FILE size) status.FileBig ∷ [])) position (asks.resize size) _ (λ s. sound)
-      (λ e. resized_sound tree birth.node (bytes_of tree birth.node) size sound (file_row tree birth.node (on_file method.Resize refl has' beyond)) (ap (λ (b : Bool). cause_if b fault.FileBig) (not_refused (nat_lt limit.MAX_FILE size) status.FileBig _ e)))
+      unless_holds (IsLeftSound context.tree) (as_status (resize_refusal size)) context.position method.Resize _ (λ s. sound)
+      (λ e. resized_sound context.tree context.birth.node (bytes_of context.tree context.birth.node) size sound (file_row context.tree context.birth.node (on_file method.Resize refl has' beyond)) (graph_allows (resize_refusal size) e))
   row_sound (asks.echo_string value) has' beyond = sound
 
-  act_sound : (request : Asked) → has_method birth.protocol (method_of request) ≡ true → IsLeftSound tree (act_of built birth position room tree target request)
+  act_sound : (request : Asked) → has_method context.birth.protocol (method_of request) ≡ true → IsLeftSound context.tree (act_of context request)
   unfolding act_of
   act_sound request has' =
-      unless_holds (IsLeftSound tree) (first_of (method_refusals built birth (method_of request))) position request (row_act built birth position room tree target request) (λ s. sound)
+      unless_holds (IsLeftSound context.tree) (first_of (method_refusals context.built context.birth (method_of request))) context.position (method_of request) (row_act context request) (λ s. sound)
       (λ e.
-      row_sound request has' (not_refused (is_beyond birth.protocol (method_of request)) status.BadHandle _ e))
+      row_sound request has' (not_refused (is_beyond context.birth.protocol (method_of request)) status.BadHandle _ e))
 
 -- ---- what servings leave
 
@@ -309,7 +284,7 @@ TokensName moment = (token d : ℕ) → moment.directory token ≡ Some d → ki
 read_sound : Below → (built : Built) → (moment : Moment) (bytes handles : List ℕ) (kind : NodeKind) → IsSound moment.tree → kind_of moment.tree moment.bound.birth.node ≡ Some kind → suits moment.bound.birth.protocol kind ≡ true → TokensName moment → (r : Read) → read_by moment.bound.birth.protocol bytes handles ≡ r →
     IsSound (after moment.tree (outcome_of_read built moment r).change)
 read_sound below built moment bytes handles kind sound at suited tokens (Ok (txid, a)) read =
-    act_sound below built moment.bound.birth moment.position moment.room moment.tree (moment.directory (asked_token a)) kind sound at suited (tokens (asked_token a)) a (has_read below.spelled moment.bound.birth.protocol bytes handles txid a read)
+    act_sound below (context_at built moment) kind sound at suited tokens a (has_read below.spelled moment.bound.birth.protocol bytes handles txid a read)
 read_sound below built moment bytes handles kind sound at suited tokens (Err (Malformed fault)) read = sound
 read_sound below built moment bytes handles kind sound at suited tokens (Err UnknownStrict) read = sound
 read_sound below built moment bytes handles kind sound at suited tokens (Err UnknownOneWay) read = sound

@@ -5,7 +5,7 @@ use Rattle.fidl_names.specs.declared.methods.Handle.{Handle}
 use Rattle.fidl_names.specs.declared.methods.Handle.TheVariants.{Endpoint, Token}
 use Rattle.fidl_names.specs.HandleNumber.{number_of_handle}
 use Rattle.fidl_names.specs.HandleNumber.{handle_with}
-use Rattle.message_queues.specs.Parcels.{AreByNumber, numbers_of}
+use Rattle.vfs_journal.specs.Handles.{AreByNumber, numbers_of}
 
 either_number : (b : Bool) (n : ℕ) → number_of_handle (if b then Token n else Endpoint n) ≡ n
 either_number true n = refl

@@ -9,7 +9,7 @@ use Rattle.fidl_names.specs.declared.methods.Handle.{Handle}
 use Rattle.fidl_names.specs.HandleNumber.{number_of_handle}
 use Rattle.endpoint_link.specs.Numbering.{among}
 use Rattle.vfs_journal.specs.Entries.{Sent, endpoints_in}
-use Rattle.message_queues.specs.Parcels.{numbers_of}
+use Rattle.vfs_journal.specs.Handles.{numbers_of}
 use Rattle.message_queues.specs.Queues.{Queues, queue_of}
 use Rattle.message_queues.specs.Dying.{AreDeaths, HasAll, IsClosed}
 use Rattle.message_queues.specs.Steps.{Adds, IsSpread}

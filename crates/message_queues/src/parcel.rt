@@ -4,7 +4,8 @@ ghost use Rattle.std.specs.Prelude.{◌≡◌, ◌≤◌, ◌<◌, ℕ, List, []
 ghost use Rattle.endpoint_link.specs.Views.{handle_numbers};
 ghost use Rattle.fidl_names.specs.HandleNumber.{handle_with};
 ghost use Rattle.vfs_journal.specs.Entries.{message, hang_up, handles_of};
-ghost use Rattle.message_queues.specs.Parcels.{IsMessage, numbers_of};
+ghost use Rattle.vfs_journal.specs.Handles.{numbers_of};
+ghost use Rattle.message_queues.specs.Parcels.{IsMessage};
 
 use endpoint_link::{FrameView, HandleBytes};
 use fidl_names::{Handle, NoMemory};

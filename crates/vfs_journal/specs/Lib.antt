@@ -1,5 +1,6 @@
 -- What a session is: a reader of the contracts above believes each of these.
 pub mod Entries
+pub mod Handles
 pub mod Starts
 pub mod Outcomes
 pub mod History

@@ -6,7 +6,6 @@ use Rattle.fidl_names.specs.StatusNumber.{number_of}
 use Rattle.fidl_wire.specs.Epitaphs.{epitaph_bytes}
 use Rattle.endpoint_link.specs.Frames.{Frame, frame_with}
 use Rattle.endpoint_link.specs.declared.kinds.FrameKind.TheVariants as kind
-use Rattle.io_messages.specs.Asked.{Asked}
 use Rattle.io_messages.specs.Asked as asks
 use Rattle.io_messages.specs.declared.protocols.Protocol.{Protocol}
 use Rattle.io_messages.specs.declared.protocols.Protocol.TheVariants as protocol
@@ -19,7 +18,7 @@ use Rattle.io_rights.specs.Operations.{none}
 use Rattle.node_graph.specs.Tree.{Change, stay}
 use Rattle.path_walk.specs.Paths.{text_of}
 use Rattle.tree_file.specs.Numbering.{end_of_mount}
-use Rattle.conn_rules.specs.Answers.{Answer, replies, closes, binds, watches, forwards, refuses, ends, hangs_up, silent, Told, nothing_told, Act}
+use Rattle.conn_rules.specs.Answers.{Answer, replies, closes, binds, watches, forwards, refuses, ends, hangs_up, silent, Happening, nothing_told, Act}
 use Rattle.conn_rules.specs.Births.{Birth, Position, fresh}
 use Rattle.vfs_journal.specs.Starts.{Bound}
 
@@ -55,7 +54,7 @@ pub record Outcome : Type 0 where
   -- the server whose tree changes, how, and what watchers are told of it
   pub server : ℕ
   pub change : Change
-  pub told : Told
+  pub told : List Happening
   pub forward : Option Forwarded
   pub token : Option Given
   -- the endpoints that the answer ends

@@ -15,6 +15,7 @@ use Rattle.conn_rules.specs.Acts.{act_of}
 use Rattle.conn_rules.specs.Answers.{Answer, replies, ends, hangs_up, silent, Act, only}
 use Rattle.conn_rules.specs.Births.{Position}
 use Rattle.conn_rules.specs.Built.{Built}
+use Rattle.conn_rules.specs.Contexts.{Context, context_with}
 use Rattle.fidl_names.specs.HandleNumber.{handle_with}
 use Rattle.vfs_journal.specs.Entries.{Sending, message, hang_up, Sent}
 use Rattle.vfs_journal.specs.History.{History, bound_at, position_of, trees_of, tree_at, connections_at, watchers_of}
@@ -36,12 +37,6 @@ object_of (asks.open_path path flags attributes object) = object
 object_of (asks.watch mask options watcher) = watcher
 object_of _ = 0
 
--- the token that a request carries, 0 for none
-abbrev pub token_of : Asked → ℕ
-token_of (asks.rename src token dst) = token
-token_of (asks.link src token dst) = token
-token_of _ = 0
-
 -- what a serving sees: the endpoint that it serves and where that stands, what is in use, the tree of its server, and the directories
 -- there that tokens name
 pub record Moment : Type 0 where
@@ -53,10 +48,13 @@ pub record Moment : Type 0 where
 
 -- ---- what one entry is answered
 
+-- what the rows see of it
+abbrev pub context_at : Built → Moment → Context
+context_at built moment = context_with built moment.bound.birth moment.position moment.room moment.tree moment.directory
+
 -- a request, by the rows of its method
 abbrev pub request_act : Built → Moment → Asked → Act
-request_act built moment request =
-    act_of built moment.bound.birth moment.position moment.room moment.tree (moment.directory (token_of request)) request
+request_act built moment request = act_of (context_at built moment) request
 
 -- a message that is no request of the protocol: it is malformed, or its ordinal is unknown
 abbrev pub fault_answer : RequestFault → Answer

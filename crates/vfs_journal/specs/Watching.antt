@@ -1,13 +1,13 @@
 -- What the watchers of a directory are told.
-use Rattle.std.specs.Prelude.{ℕ, ◌+◌, ◌==◌, Bool, nat_le, if◌then◌else◌, List, [], ◌∷◌, ◌++◌, length, map, filter, Option}
+use Rattle.std.specs.Prelude.{ℕ, ◌+◌, ◌==◌, Bool, nat_le, if◌then◌else◌, List, [], ◌∷◌, ◌++◌, length, map, filter, flat_map}
 use Rattle.std.specs.Int.{bit_at}
-use Rattle.std.specs.Option.{option_map_or}
 use Rattle.fidl_names.specs.declared.limits.TheConstants as limit
 use Rattle.endpoint_link.specs.Frames.{Frame, frame_with}
 use Rattle.endpoint_link.specs.declared.kinds.FrameKind.TheVariants as kind
-use Rattle.node_graph.specs.Tree.{Tree, EdgeKey, names_in}
+use Rattle.node_graph.specs.Tree.{Tree, names_in}
 use Rattle.path_walk.specs.Names.{dot}
-use Rattle.conn_rules.specs.Answers.{Told}
+use Rattle.conn_rules.specs.Answers.{Happening}
+use Rattle.conn_rules.specs.Answers as news
 use Rattle.vfs_journal.specs.History.{watches_node}
 use Rattle.vfs_journal.specs.Starts.{Bound}
 
@@ -66,12 +66,12 @@ told_of living server directory event name =
     map (λ bound. watch_frame bound.endpoint (event_bytes event name))
     (filter (λ bound. asks_for bound.mask event) (filter (watches_node server directory) living))
 
-abbrev pub told_of_name : List Bound → ℕ → ℕ → Option EdgeKey → List Frame
-told_of_name living server event key = option_map_or (λ name. told_of living server name.directory event name.name) key []
+-- a name is told to the watchers of its directory, and that a directory is gone to its own
+abbrev pub told_by : List Bound → ℕ → Happening → List Frame
+told_by living server (news.removed name) = told_of living server name.directory removed name.name
+told_by living server (news.added name) = told_of living server name.directory added name.name
+told_by living server (news.deleted directory) = told_of living server directory deleted dot
 
--- removals, then additions, then that a directory is gone
-abbrev pub told_frames : List Bound → ℕ → Told → List Frame
-told_frames living server told =
-    told_of_name living server removed told.removed
-    ++ told_of_name living server added told.added
-    ++ option_map_or (λ directory. told_of living server directory deleted dot) told.deleted []
+-- one happening after the other
+abbrev pub told_frames : List Bound → ℕ → List Happening → List Frame
+told_frames living server told = flat_map (told_by living server) told

@@ -6,24 +6,23 @@ use Rattle.fidl_wire.specs.Names.{AreDistinct}
 use Rattle.host_io.specs.Causes.{Rose}
 use Rattle.host_io.specs.Told.{Told, Holds, IsAllOf, IsLongerThan}
 use Rattle.tree_file.specs.Items.{Lists}
-use Rattle.tree_file.specs.Rules.{first_failure, start_from}
+use Rattle.tree_file.specs.Rules.{first_failure}
 use Rattle.endpoint_link.specs.Frames.{Frame, Frames, Bad}
 use Rattle.endpoint_link.specs.declared.kinds.FrameReason.{FrameReason}
-use Rattle.endpoint_link.specs.declared.kinds.Mode.TheVariants as mode
 use Rattle.endpoint_link.specs.declared.kinds.Side.{Side}
 use Rattle.endpoint_link.specs.declared.kinds.Side.TheVariants.{Any, ToServers}
 use Rattle.vfs_journal.specs.Starts.{start_of}
 use Rattle.vfs_program.specs.declared.statuses.Status.{Status}
 use Rattle.vfs_program.specs.declared.statuses.Status.TheVariants as status
 use Rattle.vfs_program.specs.Answers.{Answers, HasTree, IsServable, NoFault, IsDoneOrNoMemory}
-use Rattle.vfs_program.specs.Causes.{After, AfterFile, AfterTree, AfterBuilt, Collides, HasNoFile, HasNoStart, IsUnbuilt}
+use Rattle.vfs_program.specs.Causes.{After, AfterFile, AfterTree, Collides, HasNoFile, HasNoStart}
 use Rattle.vfs_program.specs.Files.{IsFileFault, IsWithin}
 use Rattle.vfs_program.specs.OneFile.{file_course}
 use Rattle.vfs_program.specs.Outside.{FilesTold, Outside, Streams, SinkTold, sink_of}
 use Rattle.vfs_program.specs.Session.{Course, SessionAnswers, IsWhole, IsTooLong, IsTruncated, IsBad}
 use Rattle.vfs_program.specs.Shown.{lines_course}
 use Rattle.vfs_program.specs.Texts.{WritesText}
-use Rattle.vfs_program.specs.Trees.{Stands, IsBroken, IsBuilt, line_of}
+use Rattle.vfs_program.specs.Trees.{Stands, IsBroken, line_of}
 use Rattle.vfs_program.specs.TreeSession.{tree_course}
 use Rattle.vfs_program.specs.Words.{Asks, FileOf, ServeOf, CheckOf, ShowAll}
 
@@ -67,7 +66,6 @@ session_done side laws course before after same is source sink status.NoMemory a
 session_done side laws course before after same is source sink status.Usage a = a
 session_done side laws course before after same is source sink (status.TreeRefused rule item) a = a
 session_done side laws course before after same is source sink (status.Collision first second) a = a
-session_done side laws course before after same is source sink (status.Unbuilt at) a = a
 session_done side laws course before after same is source sink status.FileFault a = a
 session_done side laws course before after same is source sink status.FileTooLarge a = a
 session_done side laws course before after same is source sink status.ReadFault a = source a.rose
@@ -85,7 +83,6 @@ text_done text before after sink status.WriteFault a = sink a.1
 text_done text before after sink status.Usage a = a
 text_done text before after sink (status.TreeRefused rule item) a = a
 text_done text before after sink (status.Collision first second) a = a
-text_done text before after sink (status.Unbuilt at) a = a
 text_done text before after sink status.FileFault a = a
 text_done text before after sink status.FileTooLarge a = a
 text_done text before after sink status.ReadFault a = a
@@ -101,7 +98,6 @@ no_collision distinct status.NoMemory a = absurd a
 no_collision distinct status.WriteFault a = absurd a
 no_collision distinct status.Usage a = absurd a
 no_collision distinct (status.TreeRefused rule item) a = absurd a
-no_collision distinct (status.Unbuilt at) a = absurd a
 no_collision distinct status.FileFault a = absurd a
 no_collision distinct status.FileTooLarge a = absurd a
 no_collision distinct status.ReadFault a = absurd a
@@ -125,7 +121,6 @@ has_file most name before after file e few good status.WriteFault a = absurd a
 has_file most name before after file e few good status.Usage a = absurd a
 has_file most name before after file e few good (status.TreeRefused rule item) a = absurd a
 has_file most name before after file e few good (status.Collision first second) a = absurd a
-has_file most name before after file e few good (status.Unbuilt at) a = absurd a
 has_file most name before after file e few good status.ReadFault a = absurd a
 has_file most name before after file e few good status.InputTooLong a = absurd a
 has_file most name before after file e few good (status.Truncated at) a = absurd a
@@ -153,34 +148,10 @@ has_tree tree before after text lists e stands good status.Done a = absurd a
 has_tree tree before after text lists e stands good status.WriteFault a = absurd a
 has_tree tree before after text lists e stands good status.Usage a = absurd a
 has_tree tree before after text lists e stands good (status.Collision first second) a = absurd a
-has_tree tree before after text lists e stands good (status.Unbuilt at) a = absurd a
 has_tree tree before after text lists e stands good status.ReadFault a = absurd a
 has_tree tree before after text lists e stands good status.InputTooLong a = absurd a
 has_tree tree before after text lists e stands good (status.Truncated at) a = absurd a
 has_tree tree before after text lists e stands good (status.BadFrame at why) a = absurd a
-
--- the tree that stands is the one that is told
-one_tree : (told : Told) (text : List ℕ) (lists found : Lists) → told ≡ Holds text → Stands (Holds text) lists → Stands told found → lists ≡ found
-one_tree told text lists found e stands is =
-    let same : is.text ≡ text = subst (λ t. IsAllOf t is.text) e is.within.0 in
-    let whole : stands.text ≡ text = stands.within.0 in
-    let one : Some lists ≡ Some found = sym stands.is ∙ ap start_from (whole ∙ sym same) ∙ is.is in
-    cc
-
-is_built : (lists : Lists) → IsBuilt lists → (answer : Status) → IsUnbuilt lists answer → IsDoneOrNoMemory answer
-is_built lists built (status.Unbuilt at) a = a.1 built
-is_built lists built status.NoMemory a = absurd a
-is_built lists built status.FileFault a = absurd a
-is_built lists built status.FileTooLarge a = absurd a
-is_built lists built status.Done a = absurd a
-is_built lists built status.WriteFault a = absurd a
-is_built lists built status.Usage a = absurd a
-is_built lists built (status.TreeRefused rule item) a = absurd a
-is_built lists built (status.Collision first second) a = absurd a
-is_built lists built status.ReadFault a = absurd a
-is_built lists built status.InputTooLong a = absurd a
-is_built lists built (status.Truncated at) a = absurd a
-is_built lists built (status.BadFrame at why) a = absurd a
 
 -- causes that don't hold, and a rest that is done
 after_done : {X : Type 0} (stops : Status → Type 0) (same : Type 0) (Found : X → Type 0) (rest : X → Status → Type 0) (answer : Status)
@@ -197,15 +168,12 @@ complete laws any (FileOf name) before after S K answer a s n =
     (λ none distinct. after_done (HasNoFile limit.MAX_FILE name before.files after.files) (S × K) (IsWithin limit.MAX_FILE (before.files.told name)) session answer
     (has_file limit.MAX_FILE name before.files after.files s.1.0 s.1.1 s.1.2 n.file answer)
     (λ file within. session_done ToServers laws (file_course file) before.streams after.streams K s.2 n.source n.sink answer)) a
-complete laws any (ServeOf tree) before after S K answer a s n =
-    let session : Lists → Status → Type 0 = λ lists. SessionAnswers ToServers (tree_course (start_of lists) mode.Auto) before.streams after.streams K in
-    let built : Lists → Status → Type 0 = λ lists. AfterBuilt lists (S × K) (session lists) in
-    after_done Collides (S × K) (λ (none : Unit {0}). AreDistinct) (λ none. AfterTree tree before.files after.files (S × K) built) answer (no_collision s.0 answer)
-    (λ none distinct. after_done (HasNoStart tree before.files after.files) (S × K) (Stands (before.files.told tree)) built answer
+complete laws any (ServeOf tree by) before after S K answer a s n =
+    let session : Lists → Status → Type 0 = λ lists. SessionAnswers ToServers (tree_course (start_of lists) by) before.streams after.streams K in
+    after_done Collides (S × K) (λ (none : Unit {0}). AreDistinct) (λ none. AfterTree tree before.files after.files (S × K) session) answer (no_collision s.0 answer)
+    (λ none distinct. after_done (HasNoStart tree before.files after.files) (S × K) (Stands (before.files.told tree)) session answer
     (has_tree tree before.files after.files s.1.0 s.1.1 s.1.2 s.1.3 n.file answer)
-    (λ lists stands. after_done (IsUnbuilt lists) (S × K) (λ (none : Unit {0}). IsBuilt lists) (λ none. session lists) answer
-    (is_built lists (subst IsBuilt (one_tree (before.files.told tree) s.1.0 s.1.1 lists s.1.2 s.1.3 stands) s.1.4) answer)
-    (λ none is. session_done ToServers laws (tree_course (start_of lists) mode.Auto) before.streams after.streams K s.2 n.source n.sink answer))) a
+    (λ lists stands. session_done ToServers laws (tree_course (start_of lists) by) before.streams after.streams K s.2 n.source n.sink answer)) a
 complete laws any (CheckOf tree) before after S K answer a s n =
     after_done (HasNoStart tree before.files after.files) K (Stands (before.files.told tree))
     (λ lists. WritesText (line_of lists) ⊥ (sink_of before.streams) (sink_of after.streams)) answer

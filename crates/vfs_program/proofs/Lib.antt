@@ -11,3 +11,4 @@ pub mod Complete
 pub mod NoteLemmas
 pub mod SeenLemmas
 mod ShowLemmas
+pub mod OneMeaning

@@ -1,14 +1,14 @@
 -- The world of a session over a tree, frame by frame.
-use Rattle.std.proofs.Common.{◌≡◌, List, [], ◌∷◌, ◌++◌, ℕ, IsTrue, true, refl, sym, ap, ◌∙◌, subst, append_assoc}
+use Rattle.std.proofs.Common.{◌≡◌, List, [], ◌∷◌, ◌++◌, ℕ, IsTrue, true, Result, Ok, Err, OnOk, refl, sym, ap, ◌∙◌, subst, append_assoc}
 use Rattle.endpoint_link.specs.Frames.{Frame}
 use Rattle.endpoint_link.specs.declared.kinds.Mode.{Mode}
 use Rattle.endpoint_link.specs.declared.kinds.Mode.TheVariants as mode
 use Rattle.conn_rules.specs.Built.{first_methods}
 use Rattle.vfs_journal.specs.Entries.{Journal}
 use Rattle.vfs_journal.specs.Output.{output_of}
-use Rattle.vfs_journal.specs.Session.{arrives, drained, session}
+use Rattle.vfs_journal.specs.Session.{arrives, drained, session, steps}
 use Rattle.vfs_journal.specs.Starts.{Start}
-use Rattle.vfs_world.specs.World.{World, StandsFor, LeadsTo}
+use Rattle.vfs_session.specs.World.{World, StandsFor, LeadsTo}
 use Rattle.vfs_program.specs.Serving.{HeardOne, HeardEnd}
 use Rattle.vfs_program.specs.TreeSession.{tree_course, StandsBehind}
 use Rattle.vfs_program.proofs.Outputs.{session-append}
@@ -23,17 +23,33 @@ pub may_starve : (start : Start) (by : Mode) → IsTrue (tree_course start by).s
 unfolding tree_course
 may_starve start by = refl
 
--- a frame arrives, and all that waits then is served
-pub hears_one : (start : Start) (old mid new : World) (before : List Frame) (frame : Frame) (held held' held'' : List ℕ)
+-- in mode given a frame arrives
+pub hears_given : (start : Start) (by : Mode) → by ≡ mode.Given → (old new : World) (before : List Frame) (frame : Frame) (held held' : List ℕ)
+    → ((journal : Journal) → StandsFor start old journal → LeadsTo start (arrives first_methods start journal frame) new journal held held')
+    → StandsBehind start by old before → HeardOne (tree_course start by) (StandsBehind start by new) before frame held held'
+unfolding tree_course StandsBehind
+hears_given start by given old new before frame held held' arrive s =
+    let journal = session first_methods start by before in
+    let one = arrive journal s in
+    let is = session-append start by before (frame ∷ []) ∙ ap (λ (m : Mode). steps first_methods start m journal frame) given in
+    record {
+      stands = subst (StandsFor start new) (sym is) one.stands;
+      part = one.part;
+      more = ap (output_of first_methods start) is ∙ one.more;
+      appends = one.written;
+    }
+
+-- in mode auto all that waits then is served
+all_heard : (start : Start) (by : Mode) → by ≡ mode.Auto → (old mid new : World) (before : List Frame) (frame : Frame) (held held' held'' : List ℕ)
     → ((journal : Journal) → StandsFor start old journal → LeadsTo start (arrives first_methods start journal frame) mid journal held held')
     → ((journal : Journal) → StandsFor start mid journal → LeadsTo start (drained first_methods start journal) new journal held' held'')
-    → StandsBehind start mode.Auto old before → HeardOne (tree_course start mode.Auto) (StandsBehind start mode.Auto new) before frame held held''
+    → StandsBehind start by old before → HeardOne (tree_course start by) (StandsBehind start by new) before frame held held''
 unfolding tree_course StandsBehind
-hears_one start old mid new before frame held held' held'' arrive drain s =
-    let journal = session first_methods start mode.Auto before in
+all_heard start by auto old mid new before frame held held' held'' arrive drain s =
+    let journal = session first_methods start by before in
     let one = arrive journal s in
     let two = drain (arrives first_methods start journal frame) one.stands in
-    let is = session-append start mode.Auto before (frame ∷ []) in
+    let is = session-append start by before (frame ∷ []) ∙ ap (λ (m : Mode). steps first_methods start m journal frame) auto in
     record {
       stands = subst (StandsFor start new) (sym is) two.stands;
       part = one.part ++ two.part;
@@ -41,11 +57,19 @@ hears_one start old mid new before frame held held' held'' arrive drain s =
       appends = two.written ∙ ap (λ l. l ++ two.part) one.written ∙ append_assoc held one.part two.part;
     }
 
+pub hears_auto : {X E : Type 0} (answer : Result X E) (start : Start) (by : Mode) → by ≡ mode.Auto → (old mid new : World) (before : List Frame) (frame : Frame) (held held' held'' : List ℕ)
+    → ((journal : Journal) → StandsFor start old journal → LeadsTo start (arrives first_methods start journal frame) mid journal held held')
+    → ((journal : Journal) → StandsFor start mid journal → OnOk answer (LeadsTo start (drained first_methods start journal) new journal held' held''))
+    → StandsBehind start by old before → OnOk answer (HeardOne (tree_course start by) (StandsBehind start by new) before frame held held'')
+hears_auto (Ok x) start by auto old mid new before frame held held' held'' arrive drain s = all_heard start by auto old mid new before frame held held' held'' arrive drain s
+hears_auto (Err e) start by auto old mid new before frame held held' held'' arrive drain s = tt
+
 -- the last drain
-pub drains_last : (start : Start) (by : Mode) (old new : World) (before : List Frame) (held held' : List ℕ)
-    → ((journal : Journal) → StandsFor start old journal → LeadsTo start (drained first_methods start journal) new journal held held')
-    → StandsBehind start by old before → HeardEnd (tree_course start by) before held held'
+pub drains_last : {X E : Type 0} (answer : Result X E) (start : Start) (by : Mode) (old new : World) (before : List Frame) (held held' : List ℕ)
+    → ((journal : Journal) → StandsFor start old journal → OnOk answer (LeadsTo start (drained first_methods start journal) new journal held held'))
+    → StandsBehind start by old before → OnOk answer (HeardEnd (tree_course start by) before held held')
 unfolding tree_course StandsBehind
-drains_last start by old new before held held' drain s =
+drains_last (Ok x) start by old new before held held' drain s =
     let one = drain (session first_methods start by before) s in
     record { part = one.part; more = one.more; appends = one.written }
+drains_last (Err e) start by old new before held held' drain s = tt

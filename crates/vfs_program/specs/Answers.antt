@@ -5,12 +5,11 @@ use Rattle.host_io.specs.Causes.{Rose}
 use Rattle.host_io.specs.Told.{Holds}
 use Rattle.fidl_wire.specs.Names.{AreDistinct}
 use Rattle.tree_file.specs.Items.{Lists}
-use Rattle.endpoint_link.specs.declared.kinds.Mode.TheVariants as mode
 use Rattle.endpoint_link.specs.declared.kinds.Side.TheVariants as side
 use Rattle.vfs_journal.specs.Starts.{start_of}
 use Rattle.vfs_program.specs.declared.statuses.Status.{Status}
 use Rattle.vfs_program.specs.declared.statuses.Status.TheVariants as status
-use Rattle.vfs_program.specs.Causes.{AfterNames, AfterFile, AfterTree, AfterBuilt}
+use Rattle.vfs_program.specs.Causes.{AfterNames, AfterFile, AfterTree}
 use Rattle.vfs_program.specs.Files.{IsFileFault}
 use Rattle.vfs_program.specs.OneFile.{file_course}
 use Rattle.vfs_program.specs.Outside.{Outside, sink_of}
@@ -18,7 +17,7 @@ use Rattle.vfs_program.specs.Session.{SessionAnswers, IsWhole}
 use Rattle.vfs_program.specs.Shown.{lines_course}
 use Rattle.vfs_program.specs.Texts.{WritesText}
 use Rattle.vfs_program.specs.TreeSession.{tree_course}
-use Rattle.vfs_program.specs.Trees.{Stands, IsBuilt, line_of}
+use Rattle.vfs_program.specs.Trees.{Stands, line_of}
 use Rattle.vfs_program.specs.Words.{Asks, FileOf, ServeOf, CheckOf, ShowAll}
 
 -- what each command answers: its causes in their order, and then its work
@@ -27,11 +26,10 @@ Answers (FileOf name) before after source_same sink_same =
     AfterNames (source_same × sink_same)
     (AfterFile name before.files after.files (source_same × sink_same)
     (λ file. SessionAnswers side.ToServers (file_course file) before.streams after.streams sink_same))
-Answers (ServeOf tree) before after source_same sink_same =
+Answers (ServeOf tree by) before after source_same sink_same =
     AfterNames (source_same × sink_same)
     (AfterTree tree before.files after.files (source_same × sink_same)
-    (λ lists. AfterBuilt lists (source_same × sink_same)
-    (SessionAnswers side.ToServers (tree_course (start_of lists) mode.Auto) before.streams after.streams sink_same)))
+    (λ lists. SessionAnswers side.ToServers (tree_course (start_of lists) by) before.streams after.streams sink_same))
 Answers (CheckOf tree) before after source_same sink_same =
     λ status. source_same × AfterTree tree before.files after.files sink_same
     (λ lists. WritesText (line_of lists) ⊥ (sink_of before.streams) (sink_of after.streams)) status
@@ -42,22 +40,21 @@ Answers ShowAll before after source_same sink_same =
 abbrev pub HasFile : List ℕ → Outside → Type 0
 HasFile name before = (file : List ℕ) × (before.files.told name ≡ Holds file) × (length file ≤ limit.MAX_FILE)
 
--- the tree file is told, within its limit and breaks no rule, and what it has is such
-abbrev pub HasTree : List ℕ → Outside → (Lists → Type 0) → Type 0
-HasTree tree before Such =
-    (text : List ℕ) × (lists : Lists) × (before.files.told tree ≡ Holds text) × Stands (Holds text) lists × Such lists
+-- the tree file is told, within its limit and breaks no rule
+abbrev pub HasTree : List ℕ → Outside → Type 0
+HasTree tree before = (text : List ℕ) × (lists : Lists) × (before.files.told tree ≡ Holds text) × Stands (Holds text) lists
 
 -- the command has all that it needs
 abbrev pub IsServable : Asks → Outside → Type 0
 IsServable (FileOf name) before = AreDistinct × HasFile name before × IsWhole side.ToServers before.streams
-IsServable (ServeOf tree) before = AreDistinct × HasTree tree before IsBuilt × IsWhole side.ToServers before.streams
-IsServable (CheckOf tree) before = HasTree tree before (λ lists. Unit {0})
+IsServable (ServeOf tree by) before = AreDistinct × HasTree tree before × IsWhole side.ToServers before.streams
+IsServable (CheckOf tree) before = HasTree tree before
 IsServable ShowAll before = AreDistinct × IsWhole side.Any before.streams
 
 -- the file that a command names, and the source where it reads that, met a fault
 abbrev pub FileRose : Asks → Outside → Outside → Type 0
 FileRose (FileOf name) before after = IsFileFault name before.files after.files
-FileRose (ServeOf tree) before after = IsFileFault tree before.files after.files
+FileRose (ServeOf tree by) before after = IsFileFault tree before.files after.files
 FileRose (CheckOf tree) before after = IsFileFault tree before.files after.files
 FileRose ShowAll before after = ⊥
 

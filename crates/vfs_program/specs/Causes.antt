@@ -9,7 +9,7 @@ use Rattle.vfs_program.specs.declared.statuses.Status.{Status}
 use Rattle.vfs_program.specs.declared.statuses.Status.TheVariants as status
 use Rattle.vfs_program.specs.Outside.{FilesTold}
 use Rattle.vfs_program.specs.Files.{IsFileFault, IsFileTooLarge, IsWithin}
-use Rattle.vfs_program.specs.Trees.{IsBroken, Stands, IsBuilt}
+use Rattle.vfs_program.specs.Trees.{IsBroken, Stands}
 
 -- a cause stops the command, which changed nothing by then; or something is found, and with that the rest of the command answers
 abbrev pub After : {X : Type 0} → (Status → Type 0) → Type 0 → (X → Type 0) → (X → Status → Type 0) → Status → Type 0
@@ -43,11 +43,3 @@ HasNoStart tree before after status = HasNoFile limit.MAX_TEXT tree before after
 -- or the tree file, which breaks no rule
 abbrev pub AfterTree : List ℕ → FilesTold → FilesTold → Type 0 → (Lists → Status → Type 0) → Status → Type 0
 AfterTree tree before after same = After (HasNoStart tree before after) same (Stands (before.told tree))
-
--- what it has isn't built yet
-abbrev pub IsUnbuilt : Lists → Status → Type 0
-IsUnbuilt lists (status.Unbuilt at) = (at ≡ 0) × (IsBuilt lists → ⊥)
-IsUnbuilt lists _ = ⊥
-
-abbrev pub AfterBuilt : Lists → Type 0 → (Status → Type 0) → Status → Type 0
-AfterBuilt lists same rest = After (IsUnbuilt lists) same (λ (none : Unit {0}). IsBuilt lists) (λ none. rest)

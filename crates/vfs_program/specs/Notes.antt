@@ -16,7 +16,6 @@ exit_of status.FileTooLarge = 5
 exit_of status.InputTooLong = 8
 exit_of (status.Collision first second) = 9
 exit_of status.NoMemory = 10
-exit_of (status.Unbuilt at) = 11
 exit_of (status.BadFrame at why) = 6
 exit_of (status.Truncated at) = 7
 
@@ -40,6 +39,5 @@ note_of status.FileTooLarge = codes "file too large\n"
 note_of status.InputTooLong = codes "input too long\n"
 note_of (status.Collision first second) = codes "ordinals collide: " ++ decimal first ++ codes " " ++ decimal second ++ codes "\n"
 note_of status.NoMemory = codes "no memory\n"
-note_of (status.Unbuilt at) = codes "not built at " ++ decimal at ++ codes "\n"
 note_of (status.BadFrame at why) = codes "bad frame at " ++ decimal at ++ codes ": " ++ word_of why ++ codes "\n"
 note_of (status.Truncated at) = codes "input ends inside the frame at " ++ decimal at ++ codes "\n"

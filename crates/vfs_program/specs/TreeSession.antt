@@ -8,7 +8,7 @@ use Rattle.vfs_journal.specs.Output.{frames_of}
 use Rattle.vfs_journal.specs.Past.{history_of}
 use Rattle.vfs_journal.specs.Session.{session, ended}
 use Rattle.vfs_journal.specs.Starts.{Start}
-use Rattle.vfs_world.specs.World.{World, StandsFor}
+use Rattle.vfs_session.specs.World.{World, StandsFor}
 use Rattle.vfs_program.specs.Session.{Course}
 
 -- the frames that a journal stands for

@@ -1,5 +1,5 @@
 -- What a tree file is for a command.
-use Rattle.std.specs.Prelude.{◌≡◌, ℕ, List, [], ◌++◌, length, codes, decimal, Some, None}
+use Rattle.std.specs.Prelude.{◌≡◌, ℕ, List, ◌++◌, length, codes, decimal, Some, None}
 use Rattle.fidl_names.specs.declared.limits.TheConstants as limit
 use Rattle.host_io.specs.Told.{Told}
 use Rattle.tree_file.specs.Items.{Lists}
@@ -18,11 +18,6 @@ pub record IsBroken (told : Told) (rule item : ℕ) : Type 0 where
   pub text : List ℕ
   pub within : IsWithin limit.MAX_TEXT told text
   pub first : first_failure text ≡ Some (rule, item)
-
--- what is built today: one server, and no mounts
-pub record IsBuilt (lists : Lists) : Type 0 where
-  pub one : length lists.servers ≡ 1
-  pub no_mounts : lists.mounts ≡ []
 
 -- the line that tells how many servers, nodes, mounts and clients a tree has
 abbrev pub line_of : Lists → List ℕ

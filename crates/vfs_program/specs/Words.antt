@@ -1,5 +1,7 @@
 -- The words that the program is called with.
 use Rattle.std.specs.Prelude.{◌≡◌, ℕ, List, [], ◌∷◌, codes}
+use Rattle.endpoint_link.specs.declared.kinds.Mode.{Mode}
+use Rattle.endpoint_link.specs.declared.kinds.Mode.TheVariants as mode
 use Rattle.vfs_program.specs.declared.words.Command.{Command}
 use Rattle.vfs_program.specs.declared.words.Command.TheVariants.{File, Serve, Check, Show}
 
@@ -7,17 +9,22 @@ use Rattle.vfs_program.specs.declared.words.Command.TheVariants.{File, Serve, Ch
 pub data Asks : Type 0 where
   -- serve the file of this name on endpoint 1
   FileOf : (name : List ℕ) → Asks
-  -- serve the tree of the file of this name, in mode auto
-  ServeOf : (tree : List ℕ) → Asks
+  -- serve the tree of the file of this name, in this mode
+  ServeOf : (tree : List ℕ) (by : Mode) → Asks
   -- tell whether the tree file of this name stands
   CheckOf : (tree : List ℕ) → Asks
   -- print each frame of the source as a line
   ShowAll : Asks
 
+-- the word of a mode
+abbrev pub mode_word : Mode → List ℕ
+mode_word mode.Auto = codes "auto"
+mode_word mode.Given = codes "given"
+
 -- the words have this command's shape
 abbrev pub Means : List (List ℕ) → Asks → Type 0
 Means words (FileOf name) = words ≡ codes "file" ∷ name ∷ []
-Means words (ServeOf tree) = words ≡ codes "serve" ∷ tree ∷ codes "auto" ∷ []
+Means words (ServeOf tree by) = words ≡ codes "serve" ∷ tree ∷ mode_word by ∷ []
 Means words (CheckOf tree) = words ≡ codes "check" ∷ tree ∷ []
 Means words ShowAll = words ≡ codes "show" ∷ []
 
@@ -28,6 +35,6 @@ MeanNothing words = (asks : Asks) → Means words asks → ⊥
 -- a command without where its words lie in memory
 abbrev pub command_seen : Command → Asks
 command_seen (File name) = FileOf name.now
-command_seen (Serve tree) = ServeOf tree.now
+command_seen (Serve tree by) = ServeOf tree.now by
 command_seen (Check tree) = CheckOf tree.now
 command_seen Show = ShowAll

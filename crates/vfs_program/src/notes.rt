@@ -51,7 +51,6 @@ fn write_note<N: Sink>(notes: &mut N, status: Status) -> Result<(), Failed>
             )
         }
         Status::NoMemory => write_line(notes, "no memory\n"),
-        Status::Unbuilt { at } => write_number(notes, "not built at ", at),
         Status::BadFrame { at, reason } => write_reason(notes, at, reason),
         Status::Truncated { at } => write_number(notes, "input ends inside the frame at ", at),
     }

@@ -70,7 +70,7 @@ fn answer<F: Files, S: Source, K: Sink>(
 {
     match command_of(words) {
         Some(Command::File { name }) => serve_file(alloc, name, files, source, sink),
-        Some(Command::Serve { tree }) => serve_tree(alloc, tree, files, source, sink),
+        Some(Command::Serve { tree, mode }) => serve_tree(alloc, tree, mode, files, source, sink),
         Some(Command::Check { tree }) => check_tree(alloc, tree, files, sink),
         Some(Command::Show) => show(alloc, source, sink),
         None => Status::Usage,

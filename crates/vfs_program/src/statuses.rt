@@ -22,8 +22,6 @@ pub enum Status {
     /// The names of these two rows have equal ordinals.
     Collision { first: u32, second: u32 },
     NoMemory,
-    /// What is asked for isn't built yet, at this place.
-    Unbuilt { at: u64 },
     /// The first bad frame stands at this offset of the input, and is bad for this first reason.
     BadFrame { at: u64, reason: FrameReason },
     /// The input ended inside the frame that begins at this offset.
@@ -47,7 +45,6 @@ impl Status {
             Status::InputTooLong => 8,
             Status::Collision { .. } => 9,
             Status::NoMemory => 10,
-            Status::Unbuilt { .. } => 11,
         }
     }
 }

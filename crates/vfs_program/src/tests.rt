@@ -1,6 +1,9 @@
 // The program over objects in memory, as rows; and every prefix of an input.
 
-use crate::rows::ROWS;
+mod long;
+mod refusals;
+
+use crate::rows::{ROWS, WHOLE_TREE};
 use crate::run::run_words;
 use crate::statuses::Status;
 use host_io::{MemFiles, MemSink, MemSource};
@@ -23,31 +26,39 @@ struct Ran {
 fn runs_end_as_their_rows_say(rt: HostRuntime) -> Result<(), Fail> {
     let alloc = rt.alloc();
     for row in &rows(alloc, ROWS)? {
-        for piece in &row.numbers(alloc, 4)? {
-            let ran = run(alloc, row, &row.bytes(alloc, 3)?, *piece as usize)?;
-            assert_eq!(rt;
-                u64::from(ran.status.exit_code()),
-                row.number(9)?,
-                "{} by {piece}",
-                row.name()
-            );
-            assert_eq!(rt;
-                ran.notes.written(),
-                note(alloc, row)?.as_slice(),
-                "{} by {piece}",
-                row.name()
-            );
-            if row.cell(7)? != "?" {
-                assert_eq!(rt;
-                    ran.sink.written(),
-                    told(alloc, row, 7)?.as_slice(),
-                    "{} by {piece}",
-                    row.name()
-                );
-            }
-        }
+        let holds = runs_as_said(alloc, row)?;
+        assert!(rt; holds, "{}", row.name());
     }
     Ok(())
+}
+
+/// Whether runs by each of the pieces of a row end as it says.
+fn runs_as_said(alloc: Global, row: &Row<'_>) -> Result<bool, Fail> {
+    let input = row.bytes(alloc, 3)?;
+    for piece in &row.numbers(alloc, 4)? {
+        let ran = run(alloc, row, &input, *piece as usize)?;
+        if !is_said(alloc, row, &ran)? {
+            return Ok(false);
+        }
+    }
+    Ok(true)
+}
+
+/// Whether a row says what a run answered, told and wrote.
+fn is_said(alloc: Global, row: &Row<'_>, ran: &Ran) -> Result<bool, Fail> {
+    let ended = row.number(9)? == u64::from(ran.status.exit_code());
+    let noted = ran.notes.written() == note(alloc, row)?.as_slice();
+    let written = is_written(alloc, row, ran)?;
+    Ok(ended && noted && written)
+}
+
+/// Whether a row says what a run wrote. The output `?` is any.
+fn is_written(alloc: Global, row: &Row<'_>, ran: &Ran) -> Result<bool, Fail> {
+    if row.cell(7)? == "?" {
+        return Ok(true);
+    }
+    let output = told(alloc, row, 7)?;
+    Ok(ran.sink.written() == output.as_slice())
 }
 
 /// Runs the words of a row over an input, by pieces of at most so many bytes.
@@ -86,7 +97,11 @@ fn words(alloc: Global, row: &Row<'_>) -> Result<Vec<String>, Fail> {
 
 fn files(alloc: Global, row: &Row<'_>) -> Result<MemFiles, Fail> {
     let mut files = MemFiles::new(alloc);
-    files.put("held", &told(alloc, row, 2)?)?;
+    if row.cell(2)? == "whole tree" {
+        files.put("held", WHOLE_TREE.as_bytes())?;
+    } else {
+        files.put("held", &told(alloc, row, 2)?)?;
+    }
     for call in &failing(alloc, row, "file")? {
         files.fail_at(*call)?;
     }
@@ -159,31 +174,37 @@ prefixes | file held | 'hello world | - | - | - | 1000,1000
 prefixes as lines | show | 'hello world | - | - | - | 1000,1000
 "#;
 
-/// Where the frame begins that a place of it lies in, or `None` between frames.
-fn begun(at: usize) -> Option<u64> {
+/// The end of the first bytes of it, so many: inside the frame that begins at a place, or between frames.
+fn end_of(at: usize) -> Status {
     match at {
-        0 | 36 | 48 | 84 | 120 => None,
-        1..36 => Some(0),
-        36..48 => Some(36),
-        48..84 => Some(48),
-        _ => Some(84),
+        0 | 36 | 48 | 84 | 120 => Status::Done,
+        1..36 => Status::Truncated { at: 0 },
+        36..48 => Status::Truncated { at: 36 },
+        48..84 => Status::Truncated { at: 48 },
+        _ => Status::Truncated { at: 84 },
     }
 }
 
 #[test]
 fn every_prefix_is_done_or_truncated(rt: HostRuntime) -> Result<(), Fail> {
     let alloc = rt.alloc();
-    let Some(all) = bytes(alloc, MIXED)? else {
+    let Some(input) = bytes(alloc, MIXED)? else {
         return Err(Fail::from("digits"));
     };
     for row in &rows(alloc, PREFIXES)? {
-        for (at, _) in all.iter().enumerate() {
-            let status = run(alloc, row, &all[..at], 100)?.status;
-            match begun(at) {
-                None => assert_eq!(rt; status, Status::Done, "at {at}"),
-                Some(place) => assert_eq!(rt; status, Status::Truncated { at: place }, "at {at}"),
-            }
-        }
+        let holds = each_prefix_ends(alloc, row, &input)?;
+        assert!(rt; holds, "{}", row.name());
     }
     Ok(())
+}
+
+/// Whether each prefix of an input is done or truncated.
+fn each_prefix_ends(alloc: Global, row: &Row<'_>, input: &[u8]) -> Result<bool, Fail> {
+    for at in 0..input.len() {
+        let ran = run(alloc, row, &input[..at], 100)?;
+        if ran.status != end_of(at) {
+            return Ok(false);
+        }
+    }
+    Ok(true)
 }

@@ -1,11 +1,13 @@
 ghost use Rattle.std.specs.Prelude.{◌≡◌, ◌∷◌, [], codes, map, string_bytes, IfSome, IsNone, IsTrue, ◌↔◌};
 ghost use Rattle.vfs_program.specs.Words.{Means, MeanNothing, command_seen};
 
+use endpoint_link::Mode;
+
 /// What the words ask for.
 #[derive(Clone, Copy)]
 pub enum Command<'a> {
     File { name: &'a str },
-    Serve { tree: &'a str },
+    Serve { tree: &'a str, mode: Mode },
     Check { tree: &'a str },
     Show,
 }
@@ -22,6 +24,13 @@ pub fn command_of(words: &[String]) -> Option<Command<'_>>
         [first, tree, mode] if is_word(first, "serve") && is_word(mode, "auto") => {
             Some(Command::Serve {
                 tree: tree.as_str(),
+                mode: Mode::Auto,
+            })
+        }
+        [first, tree, mode] if is_word(first, "serve") && is_word(mode, "given") => {
+            Some(Command::Serve {
+                tree: tree.as_str(),
+                mode: Mode::Given,
             })
         }
         [first, tree] if is_word(first, "check") => Some(Command::Check {

@@ -13,14 +13,15 @@ use Rattle.node_graph.specs.Tree.{kind_of}
 use Rattle.conn_rules.specs.Acts.{act_of}
 use Rattle.conn_rules.specs.declared.births.Birth as code
 use Rattle.conn_rules.specs.Answers.{Answer, replies, closes, binds, watches, forwards, refuses, ends, hangs_up, silent}
-use Rattle.conn_rules.specs.Births.{Connection, born}
+use Rattle.conn_rules.specs.Births.{Connection}
 use Rattle.conn_rules.specs.Built.{first_methods}
+use Rattle.conn_rules.specs.Contexts.{context_of}
 use Rattle.conn_rules.specs.Shared.{CanBeBound, is_spoken_at}
 use Rattle.dir_conn.specs.declared.served.DirServed.{DirServed}
 use Rattle.dir_conn.specs.declared.served.DirServed.TheVariants as served
 use Rattle.dir_conn.specs.Served.{DirGives}
 use Rattle.vfs_journal.specs.Outcomes.{frames_of, token_of}
-use Rattle.vfs_journal.specs.Serving.{Moment, object_of, outcome_of_read, token_of as token_in}
+use Rattle.vfs_journal.specs.Serving.{Moment, object_of, outcome_of_read}
 use Rattle.vfs_server.specs.declared.asking.Asking.{Asking}
 use Rattle.vfs_server.specs.declared.conn.Conn.{Conn}
 use Rattle.vfs_server.specs.declared.fate.Fate.{Fate}
@@ -93,11 +94,11 @@ is_sight server asking connection moment asked = λ i. record {
 module _ (server : ℕ) (asking : Asking) (c : Conn) (kind : IsOfItsKind c) (can : CanBeBound asking.graph.now (connection_of c).birth) (moment : Moment) (asks : IsAskedAt server asking (connection_of c) moment)
     (row : kind_of moment.tree (number_of (connection_of c).birth.node) ≡ kind_at asking.graph.now (number_of (connection_of c).birth.node))
     (txid : ℕ) (request : Asked) (given : DirServed) (left : Written) (new : Connection)
-    (acts : Acts (act_of first_methods (born (connection_of c).birth) (connection_of c).position asking.room moment.tree (moment.directory (token_in request)) request) txid given left new)
+    (acts : Acts (act_of (context_of first_methods (connection_of c) asking.room moment.tree moment.directory) request) txid given left new)
     (bound : (found : code.Birth) → given ≡ served.Bind found → CanBeBound asking.graph.now found)
     (fate : Fate) (out : Written) (before after : List ℕ) (does : DoesGiven asking.endpoint (object_of request) given left fate out before after) where
-  today : IsOfToday asking.room moment.tree (act_of first_methods (born (connection_of c).birth) (connection_of c).position asking.room moment.tree (moment.directory (token_in request)) request).answer
-  today = conn_today asking.graph.now moment.tree c asking.room (moment.directory (token_in request)) request kind can row
+  today : IsOfToday asking.room moment.tree (act_of (context_of first_methods (connection_of c) asking.room moment.tree moment.directory) request).answer
+  today = conn_today asking.graph.now moment.tree c asking.room moment.directory request kind can row
 
   answered : Answers asking (sight server asking (connection_of c) moment) (outcome_of_read first_methods (sight server asking (connection_of c) moment) (Ok (txid, request))) fate out (connection_of c) new before after
   answered = record {

@@ -17,12 +17,13 @@ use Rattle.node_graph.specs.Graph.{Kept, HoldsNow, KeepsNames, Leads, StandsFor,
 use Rattle.node_graph.specs.Tree.{Tree, Change, after, stay}
 use Rattle.conn_rules.specs.declared.births.Birth as code
 use Rattle.conn_rules.specs.declared.births.Room.{Room}
-use Rattle.conn_rules.specs.Answers.{Told, nothing_told}
+use Rattle.conn_rules.specs.Answers.{Happening, nothing_told}
 use Rattle.conn_rules.specs.Births.{Connection, Position, fresh}
 use Rattle.conn_rules.specs.Built.{first_methods}
 use Rattle.conn_rules.specs.Opens.{is_full}
 use Rattle.conn_rules.specs.Shared.{CanBeBound}
 use Rattle.vfs_journal.specs.Entries.{message}
+use Rattle.vfs_journal.specs.Handles.{AreByNumber, numbers_of}
 use Rattle.vfs_journal.specs.Outcomes.{Outcome}
 use Rattle.vfs_journal.specs.Serving.{Moment, outcome_of_message, outcome_of_read, outcome_of_sending, read_by}
 use Rattle.vfs_journal.specs.Starts.{Bound}
@@ -35,7 +36,7 @@ use Rattle.vfs_server.specs.Binding.{Binds, Unbinds}
 use Rattle.vfs_server.specs.Effects.{effects_told}
 use Rattle.vfs_server.specs.Kept.{Connections}
 use Rattle.vfs_server.specs.Servers.{Server, bound_with, connected, in_use, seen_as}
-use Rattle.vfs_server.specs.Serving.{AreByNumber, IsMomentOf, Serves, frames_here, numbers_of}
+use Rattle.vfs_server.specs.Serving.{IsMomentOf, Serves, frames_here}
 use Rattle.vfs_server.specs.Steps.{Answers, IsAskedAt}
 use Rattle.vfs_server.proofs.Answering.{no_watcher, ok_map}
 use Rattle.vfs_server.proofs.Held.{as_long, longer, shorter}
@@ -118,7 +119,7 @@ no_first tree endpoint server (fates.Binds object birth) out o is = rw is refl
 no_first tree endpoint server (fates.Refuses object) out o is = rw is refl
 no_first tree endpoint server (fates.Forwards mount object) out o is = rw is refl
 
-none_told : (server : ℕ) (told : Told) → told ≡ nothing_told → told_frames [] server told ≡ []
+none_told : (server : ℕ) (told : List Happening) → told ≡ nothing_told → told_frames [] server told ≡ []
 none_told server told is = ap (told_frames [] server) is
 
 by_protocol : (moment : Moment) (p : Protocol) (bytes numbers : List ℕ) → p ≢ protocol.Watcher →

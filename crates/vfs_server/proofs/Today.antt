@@ -4,6 +4,7 @@ use Rattle.std.specs.Prelude.{if◌then◌else◌}
 use Rattle.std.specs.Option.{option_map, option_map_or}
 use Rattle.std.specs.Str.{bytes_eq}
 use Rattle.fidl_names.specs.declared.methods.Method.{Method}
+use Rattle.fidl_names.specs.declared.methods.Method.TheVariants as method
 use Rattle.fidl_names.specs.declared.statuses.Status.{Status}
 use Rattle.fidl_names.specs.declared.statuses.Status.TheVariants as status
 use Rattle.fidl_wire.specs.Written.{Written}
@@ -31,6 +32,7 @@ use Rattle.conn_rules.specs.Acts.{act_of, is_beyond, lacks_right, method_refusal
 use Rattle.conn_rules.specs.Answers.{Answer, replies, closes, binds, watches, forwards, refuses, ends, hangs_up, silent, Act, only, failure_of}
 use Rattle.conn_rules.specs.Births.{Birth, Position, born}
 use Rattle.conn_rules.specs.Built.{first_methods, is_first_kind, is_first_method, is_first_word}
+use Rattle.conn_rules.specs.Contexts.{context_of, context_with}
 use Rattle.conn_rules.specs.FileRows.{reading_refusal}
 use Rattle.conn_rules.specs.Nodes.{is_file, is_mount, kind_here}
 use Rattle.conn_rules.specs.Opens.{arrival, arrival_refusals, by_walk, connects_without_right, entry_refusals, is_full, is_other_kind, kind_made, making, making_refusals, marks_file, open_act, other_kind_status, protocol_of}
@@ -138,16 +140,16 @@ onward_is_mounted room tree silent txid what out mount h today on = absurd h.0
 
 -- ---- refusals
 
-either_today : (room : Room) (tree : Tree) (one_way : Bool) (request : Asked) (status : Status) → IsOfToday room tree (if one_way then refuses status else replies (fails (method_of request) status))
-either_today room tree true request status = tt
-either_today room tree false request status = tt
+either_today : (room : Room) (tree : Tree) (one_way : Bool) (m : Method) (status : Status) → IsOfToday room tree (if one_way then refuses status else replies (fails m status))
+either_today room tree true m status = tt
+either_today room tree false m status = tt
 
-failure_today : (room : Room) (tree : Tree) (request : Asked) (status : Status) → IsOfToday room tree (failure_of request status)
-failure_today room tree request status = either_today room tree (is_one_way (method_of request)) request status
+failure_today : (room : Room) (tree : Tree) (m : Method) (status : Status) → IsOfToday room tree (failure_of m status)
+failure_today room tree m status = either_today room tree (is_one_way m) m status
 
-unless_today : (room : Room) (tree : Tree) (o : Option Status) (position : Position) (request : Asked) (act : Act) → (o ≡ None → IsOfToday room tree act.answer) → IsOfToday room tree (unless o position request act).answer
-unless_today room tree (Some status) position request act h = failure_today room tree request status
-unless_today room tree None position request act h = h refl
+unless_today : (room : Room) (tree : Tree) (o : Option Status) (position : Position) (m : Method) (act : Act) → (o ≡ None → IsOfToday room tree act.answer) → IsOfToday room tree (unless o position m act).answer
+unless_today room tree (Some status) position m act h = failure_today room tree m status
+unless_today room tree None position m act h = h refl
 
 second_passes : (a : Option Status) (c : Bool) (status : Status) (rest : List (Option Status)) → first_of (a ∷ cause_if (not c) status ∷ rest) ≡ None → c ≡ true
 second_passes (Some s) c status rest e = search rules
@@ -228,62 +230,62 @@ made_spoken word plain =
     either_kind (has word flag.ProtocolDirectory) (λ kind. IsSpoken (protocol_of word kind))
     (protocol_spoken word Directory plain refl refl) (protocol_spoken word File plain refl refl)
 
-walk_today : (birth : Birth) (position : Position) (room : Room) (tree : Tree) (request : Asked) (word : ℕ) (w : Walk) →
-    has word flag.ProtocolNode ≡ false → ArrivesAtNone tree w → IsOfToday room tree (by_walk first_methods birth position room tree request word w).answer
-walk_today birth position room tree request word (arrives node masks) plain at =
-    unless_today room tree (first_of (arrival_refusals first_methods room word (kind_here tree node))) position request
+walk_today : (birth : Birth) (position : Position) (room : Room) (tree : Tree) (directory : ℕ → Option ℕ) (word : ℕ) (w : Walk) →
+    has word flag.ProtocolNode ≡ false → ArrivesAtNone tree w → IsOfToday room tree (by_walk (context_with first_methods birth position room tree directory) word w).answer
+walk_today birth position room tree directory word (arrives node masks) plain at =
+    unless_today room tree (first_of (arrival_refusals first_methods room word (kind_here tree node))) position method.OpenPath
     (arrival position word (limit_of birth.rights masks) node (kind_here tree node))
     (λ none. (protocol_spoken word (kind_here tree node) plain (arrives_built room word (kind_here tree node) none) at, has_room room (arrival_refusals first_methods room word (kind_here tree node)) refl none))
-walk_today birth position room tree request word (missing directory name masks) plain at =
-    unless_today room tree (first_of (making_refusals tree room word directory)) position request
-    (making position tree word (limit_of birth.rights masks) (record { directory = directory; name = name }))
-    (λ none. (made_spoken word plain, has_room room (making_refusals tree room word directory) refl none))
-walk_today birth position room tree request word (crosses mount rest masks) plain at = at
-walk_today birth position room tree request word (stops status) plain at = failure_today room tree request status
+walk_today birth position room tree directory word (missing parent name masks) plain at =
+    unless_today room tree (first_of (making_refusals tree room word parent)) position method.OpenPath
+    (making position tree word (limit_of birth.rights masks) (record { directory = parent; name = name }))
+    (λ none. (made_spoken word plain, has_room room (making_refusals tree room word parent) refl none))
+walk_today birth position room tree directory word (crosses mount rest masks) plain at = at
+walk_today birth position room tree directory word (stops status) plain at = failure_today room tree method.OpenPath status
 
-open_today : (birth : Birth) (position : Position) (room : Room) (tree : Tree) (request : Asked) (path : List ℕ) (word : ℕ) →
-    IsNoMount tree birth.node → IsOfToday room tree (open_act first_methods birth position room tree request path word).answer
-open_today birth position room tree request path word here =
-    unless_today room tree (first_of (entry_refusals first_methods birth word path)) position request
-    (by_walk first_methods birth position room tree request word (walk tree word (names_of path) birth.node))
-    (λ none. walk_today birth position room tree request word (walk tree word (names_of path) birth.node)
+open_today : (birth : Birth) (position : Position) (room : Room) (tree : Tree) (directory : ℕ → Option ℕ) (path : List ℕ) (word : ℕ) →
+    IsNoMount tree birth.node → IsOfToday room tree (open_act (context_with first_methods birth position room tree directory) path word).answer
+open_today birth position room tree directory path word here =
+    unless_today room tree (first_of (entry_refusals first_methods birth word path)) position method.OpenPath
+    (by_walk (context_with first_methods birth position room tree directory) word (walk tree word (names_of path) birth.node))
+    (λ none. walk_today birth position room tree directory word (walk tree word (names_of path) birth.node)
     (asks_no_reference word (opens_built birth word path none)) (walk_none tree word (names_of path) birth.node here))
 
 -- ---- all rows
 
-row_today : (birth : Birth) (position : Position) (room : Room) (tree : Tree) (target : Option ℕ) (request : Asked) → IsSpoken birth.protocol →
-    IsNoMount tree birth.node → is_first_method (method_of request) ≡ true → IsOfToday room tree (row_act first_methods birth position room tree target request).answer
-row_today birth position room tree target (asks.clone endpoint) spoken here built =
-    unless_today room tree (first_of (cause_if (is_full room) status.NoResources ∷ [])) position (asks.clone endpoint) (only position (binds birth false)) (λ none. (spoken, has_room room (cause_if (is_full room) status.NoResources ∷ []) refl none))
-row_today birth position room tree target asks.close spoken here built = tt
-row_today birth position room tree target asks.query spoken here built = tt
-row_today birth position room tree target (asks.get_attributes bits) spoken here built = tt
-row_today birth position room tree target asks.sync spoken here built = tt
-row_today birth position room tree target (asks.open_path path flags given object) spoken here built =
-    open_today birth position room tree (asks.open_path path flags given object) path flags here
-row_today birth position room tree target (asks.read_dirents most) spoken here built = search rules
-row_today birth position room tree target asks.rewind spoken here built = search rules
-row_today birth position room tree target asks.get_token spoken here built = search rules
-row_today birth position room tree target (asks.rename src number dst) spoken here built = search rules
-row_today birth position room tree target (asks.link src number dst) spoken here built = search rules
-row_today birth position room tree target (asks.unlink name flags) spoken here built = search rules
-row_today birth position room tree target (asks.watch mask options watcher) spoken here built = search rules
-row_today birth position room tree target (asks.read count) spoken here built =
-    unless_today room tree (reading_refusal count) position (asks.read count) _ (λ _. tt)
-row_today birth position room tree target (asks.read_at count offset) spoken here built = search rules
-row_today birth position room tree target (asks.write bytes) spoken here built = search rules
-row_today birth position room tree target (asks.write_at bytes offset) spoken here built = search rules
-row_today birth position room tree target (asks.seek origin offset) spoken here built = search rules
-row_today birth position room tree target (asks.resize size) spoken here built = search rules
-row_today birth position room tree target (asks.echo_string value) spoken here built = search rules
+row_today : (birth : Birth) (position : Position) (room : Room) (tree : Tree) (directory : ℕ → Option ℕ) (request : Asked) → IsSpoken birth.protocol →
+    IsNoMount tree birth.node → is_first_method (method_of request) ≡ true → IsOfToday room tree (row_act (context_with first_methods birth position room tree directory) request).answer
+row_today birth position room tree directory (asks.clone endpoint) spoken here built =
+    unless_today room tree (first_of (cause_if (is_full room) status.NoResources ∷ [])) position method.Clone (only position (binds birth false)) (λ none. (spoken, has_room room (cause_if (is_full room) status.NoResources ∷ []) refl none))
+row_today birth position room tree directory asks.close spoken here built = tt
+row_today birth position room tree directory asks.query spoken here built = tt
+row_today birth position room tree directory (asks.get_attributes bits) spoken here built = tt
+row_today birth position room tree directory asks.sync spoken here built = tt
+row_today birth position room tree directory (asks.open_path path flags given object) spoken here built =
+    open_today birth position room tree directory path flags here
+row_today birth position room tree directory (asks.read_dirents most) spoken here built = search rules
+row_today birth position room tree directory asks.rewind spoken here built = search rules
+row_today birth position room tree directory asks.get_token spoken here built = search rules
+row_today birth position room tree directory (asks.rename src number dst) spoken here built = search rules
+row_today birth position room tree directory (asks.link src number dst) spoken here built = search rules
+row_today birth position room tree directory (asks.unlink name flags) spoken here built = search rules
+row_today birth position room tree directory (asks.watch mask options watcher) spoken here built = search rules
+row_today birth position room tree directory (asks.read count) spoken here built =
+    unless_today room tree (reading_refusal count) position method.Read _ (λ _. tt)
+row_today birth position room tree directory (asks.read_at count offset) spoken here built = search rules
+row_today birth position room tree directory (asks.write bytes) spoken here built = search rules
+row_today birth position room tree directory (asks.write_at bytes offset) spoken here built = search rules
+row_today birth position room tree directory (asks.seek origin offset) spoken here built = search rules
+row_today birth position room tree directory (asks.resize size) spoken here built = search rules
+row_today birth position room tree directory (asks.echo_string value) spoken here built = search rules
 
-pub act_today : (birth : Birth) (position : Position) (room : Room) (tree : Tree) (target : Option ℕ) (request : Asked) → IsSpoken birth.protocol →
-    IsNoMount tree birth.node → IsOfToday room tree (act_of first_methods birth position room tree target request).answer
+pub act_today : (birth : Birth) (position : Position) (room : Room) (tree : Tree) (directory : ℕ → Option ℕ) (request : Asked) → IsSpoken birth.protocol →
+    IsNoMount tree birth.node → IsOfToday room tree (act_of (context_with first_methods birth position room tree directory) request).answer
 unfolding act_of
-act_today birth position room tree target request spoken here =
-    unless_today room tree (first_of (method_refusals first_methods birth (method_of request))) position request
-    (row_act first_methods birth position room tree target request)
-    (λ none. row_today birth position room tree target request spoken here (method_built birth (method_of request) none))
+act_today birth position room tree directory request spoken here =
+    unless_today room tree (first_of (method_refusals first_methods birth (method_of request))) position (method_of request)
+    (row_act (context_with first_methods birth position room tree directory) request)
+    (λ none. row_today birth position room tree directory request spoken here (method_built birth (method_of request) none))
 
 -- ---- a directory's or a file's node is no mount
 
@@ -311,9 +313,9 @@ speaks_now (conn.Directory c) kind = rw kind directory_spoken
 speaks_now (conn.File c) kind = rw kind file_spoken
 
 -- what a connection to a node that the graph keeps answers today
-pub conn_today : (graph : Kept) (tree : Tree) (c : Conn) (room : Room) (target : Option ℕ) (request : Asked) → IsOfItsKind c → CanBeBound graph (connection_of c).birth →
+pub conn_today : (graph : Kept) (tree : Tree) (c : Conn) (room : Room) (directory : ℕ → Option ℕ) (request : Asked) → IsOfItsKind c → CanBeBound graph (connection_of c).birth →
     kind_of tree (number_of (connection_of c).birth.node) ≡ kind_at graph (number_of (connection_of c).birth.node) →
-    IsOfToday room tree (act_of first_methods (born (connection_of c).birth) (connection_of c).position room tree target request).answer
-conn_today graph tree c room target request speaks can kind =
-    act_today (born (connection_of c).birth) (connection_of c).position room tree target request (speaks_now c speaks)
+    IsOfToday room tree (act_of (context_of first_methods (connection_of c) room tree directory) request).answer
+conn_today graph tree c room directory request speaks can kind =
+    act_today (born (connection_of c).birth) (connection_of c).position room tree directory request (speaks_now c speaks)
     (no_mount graph tree (connection_of c).birth (speaks_now c speaks) can kind)

@@ -1,8 +1,6 @@
 -- The serving of a message on an endpoint that is bound at a server.
-use Rattle.std.specs.Prelude.{◌≡◌, ℕ, ◌==◌, ◌++◌, List, [], length, filter, map, Option, Some}
+use Rattle.std.specs.Prelude.{◌≡◌, ℕ, ◌==◌, ◌++◌, List, [], length, filter, Option, Some}
 use Rattle.std.specs.Option.{option_map, option_map_or}
-use Rattle.fidl_names.specs.declared.methods.Handle.{Handle}
-use Rattle.fidl_names.specs.HandleNumber.{handle_with, number_of_handle}
 use Rattle.fidl_wire.specs.Written.{Written}
 use Rattle.endpoint_link.specs.Frames.{Frame, spellings}
 use Rattle.node_graph.specs.declared.nodes.NodeKind.TheVariants.{Mount}
@@ -21,15 +19,6 @@ use Rattle.vfs_server.specs.declared.fate.Fate.TheVariants as fates
 use Rattle.vfs_server.specs.Binding.{HasPlace}
 use Rattle.vfs_server.specs.Effects.{effects_of, effects_told}
 use Rattle.vfs_server.specs.Servers.{Server, in_use, seen}
-
--- ---- handles
-
-abbrev pub numbers_of : List Handle → List ℕ
-numbers_of handles = map number_of_handle handles
-
--- each handle is the one that its number stands for
-abbrev pub AreByNumber : List Handle → Type 0
-AreByNumber handles = map handle_with (numbers_of handles) ≡ handles
 
 -- ---- moments
 

@@ -18,6 +18,7 @@ use Rattle.conn_rules.specs.Shared.{CanBeBound}
 use Rattle.dir_conn.specs.Served.{DirGives}
 use Rattle.dir_conn.specs.declared.served.DirServed.{DirServed}
 use Rattle.dir_conn.specs.declared.served.DirServed.TheVariants as served
+use Rattle.vfs_journal.specs.Handles.{numbers_of}
 use Rattle.vfs_journal.specs.Outcomes.{Asker, Outcome, announcement, bound_of, close_frame, ending, ends_of, forward_of, frames_of, onward_bytes, token_of}
 use Rattle.vfs_journal.specs.Serving.{Moment, fault_answer, fault_txid}
 use Rattle.vfs_server.specs.declared.asking.Asking.{Asking}
@@ -27,7 +28,7 @@ use Rattle.vfs_server.specs.declared.fate.Fate.{Fate}
 use Rattle.vfs_server.specs.declared.fate.Fate.TheVariants as fates
 use Rattle.vfs_server.specs.Effects.{Effects, effects_of, effects_told, no_effects}
 use Rattle.vfs_server.specs.Servers.{bound_with}
-use Rattle.vfs_server.specs.Serving.{HasMount, numbers_of}
+use Rattle.vfs_server.specs.Serving.{HasMount}
 use Rattle.vfs_server.specs.Spoken.{speaks_protocol}
 
 -- ---- connections

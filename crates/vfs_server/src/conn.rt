@@ -10,8 +10,9 @@ ghost use Rattle.node_graph.specs.Graph.{StandsFor};
 ghost use Rattle.node_graph.specs.Tree.{Tree};
 ghost use Rattle.conn_rules.specs.Acts.{act_of};
 ghost use Rattle.conn_rules.specs.Answers.{Answer};
-ghost use Rattle.conn_rules.specs.Births.{born, fresh};
+ghost use Rattle.conn_rules.specs.Births.{fresh};
 ghost use Rattle.conn_rules.specs.Built.{first_methods};
+ghost use Rattle.conn_rules.specs.Contexts.{context_of};
 ghost use Rattle.conn_rules.specs.Served.{Gives, HasNothing};
 ghost use Rattle.conn_rules.specs.Shared.{CanBeBound};
 ghost use Rattle.dir_conn.specs.Served.{DirGives, as_dir};
@@ -82,8 +83,8 @@ impl Conn {
         requires method { has_method (connection_of self.old).birth.protocol (method_of (asked request)) ≡ true }
         requires txid { has_txid (is_one_way (method_of (asked request))) txid ≡ true }
         requires empty { HasNothing out.old }
-        ensures acts { (tree : Tree) (target : Option ℕ) → StandsFor asking.now.graph.now tree →
-            Acts (act_of first_methods (born (connection_of self.old).birth) (connection_of self.old).position asking.now.room tree target (asked request.entry)) txid result out.new (connection_of self.new) }
+        ensures acts { (tree : Tree) (directory : ℕ → Option ℕ) → StandsFor asking.now.graph.now tree →
+            Acts (act_of (context_of first_methods (connection_of self.old) asking.now.room tree directory) (asked request.entry)) txid result out.new (connection_of self.new) }
         ensures birth { (connection_of self.new).birth ≡ (connection_of self.old).birth }
         ensures kind { IsOfItsKind self.new }
         ensures bound { (found : Birth) → result ≡ DirServed.Bind found → CanBeBound asking.now.graph.now found }

@@ -3,13 +3,14 @@ ghost use Rattle.std.specs.FinMap as finite;
 ghost use Rattle.node_graph.specs.Graph.{holds_at};
 ghost use Rattle.conn_rules.specs.Built.{Built, first_methods};
 ghost use Rattle.vfs_journal.specs.Entries.{message};
+ghost use Rattle.vfs_journal.specs.Handles.{AreByNumber, numbers_of};
 ghost use Rattle.vfs_journal.specs.Serving.{Moment, outcome_of_sending};
 ghost use Rattle.vfs_journal.specs.Starts.{start_of};
 ghost use Rattle.vfs_journal.specs.View.{view_of};
 ghost use Rattle.vfs_server.specs.Binding.{Binds, HasPlace, Unbinds};
 ghost use Rattle.vfs_server.specs.Holding.{HoldsAt};
 ghost use Rattle.vfs_server.specs.Servers.{in_use, seen};
-ghost use Rattle.vfs_server.specs.Serving.{AreByNumber, IsMomentOf, Serves, numbers_of};
+ghost use Rattle.vfs_server.specs.Serving.{IsMomentOf, Serves};
 
 use crate::asking::Asking;
 use crate::beginning;
@@ -53,7 +54,8 @@ impl Server {
     /// of the mounts that go on here.
     pub fn begin(alloc: Global, start: &Start, index: u32) -> Result<Server, NoMemory>
         requires within { index < length start.now.servers }
-        ensures { (built : Built) → IfOk result (HoldsAt (view_of built (start_of start.now) [])) }
+        ensures holds { (built : Built) → IfOk result (HoldsAt (view_of built (start_of start.now) [])) }
+        ensures index { IfOk result (λ server. server.index ≡ index) }
     {
         beginning::begin(alloc, start, index)
     }

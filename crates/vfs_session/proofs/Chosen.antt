@@ -1,5 +1,5 @@
 -- The oldest of the queues is what is served next.
-use Rattle.std.proofs.Common.{◌≡◌, ℕ, ◌≤◌, ◌==◌, Bool, true, false, if◌then◌else◌, is_some, IsSome, List, [], filter, find, Option, Some, None, MatchOption, refl, sym, ap, ◌∙◌, subst}
+use Rattle.std.proofs.Common.{◌≡◌, ℕ, ◌≤◌, ◌==◌, Bool, true, false, if◌then◌else◌, cond, is_some, IsSome, List, [], ◌∷◌, filter, find, Option, Some, None, MatchOption, refl, sym, ap, ◌∙◌, subst}
 use Rattle.std.specs.Prelude.{slice_get}
 use Rattle.std.specs.Option.{option_map, option_map_or}
 use Rattle.std.proofs.lemmas.Bool.{eqb-true, eq-eqb, true≢false}
@@ -64,6 +64,20 @@ oldest_is view queues server endpoint sent fit h oldest waits =
 pub none_oldest : (view : View) (queues : Queues) (server : ℕ) → IsFit view → HoldsQueues view queues → NothingWaits queues (IsBoundAt queues server) → oldest_in view server ≡ None
 none_oldest view queues server fit h none =
     none_is view queues (is_bound_at_in view server) (IsBoundAt queues server) (oldest_in view server) h ((chosen_by_place view fit).oldest server) (λ n p. h.bound n ∙ at_bound_by (at_in view n) server p) none
+
+-- where none is found among what waits, nothing waits on an endpoint that passes
+none_kept : (passes : ℕ → Bool) (endpoint : ℕ) → passes endpoint ≡ true → (waiting : List Sent) → find (λ sent. passes sent.endpoint) waiting ≡ None → filter (λ sent. sent.endpoint == endpoint) waiting ≡ []
+none_kept passes endpoint p [] none = refl
+none_kept passes endpoint p (sent ∷ waiting) none = by_test (none_kept passes endpoint p waiting) (passes sent.endpoint) (sent.endpoint == endpoint) refl refl none where
+  by_test : (find (λ one. passes one.endpoint) waiting ≡ None → filter (λ one. one.endpoint == endpoint) waiting ≡ []) → (b : Bool) (on : Bool) → passes sent.endpoint ≡ b → (sent.endpoint == endpoint) ≡ on → cond b (Some sent) (find (λ one. passes one.endpoint) waiting) ≡ None →
+      cond on (sent ∷ filter (λ one. one.endpoint == endpoint) waiting) (filter (λ one. one.endpoint == endpoint) waiting) ≡ []
+  by_test rest true on e f g = absurd (none-some sent (sym g))
+  by_test rest false true e f g = absurd (true≢false (sym p ∙ sym (ap passes (eqb-true sent.endpoint endpoint f)) ∙ e))
+  by_test rest false false e f g = rest g
+
+pub waits_none : (view : View) (queues : Queues) (server : ℕ) → HoldsQueues view queues → oldest_in view server ≡ None → NothingWaits queues (IsBoundAt queues server)
+waits_none view queues server h none endpoint bound =
+    h.queue endpoint ∙ none_kept (is_bound_at_in view server) endpoint (bound_at_by (at_in view endpoint) server (sym (h.bound endpoint) ∙ bound)) view.waiting none
 
 pub next_is : (view : View) (queues : Queues) (endpoint : ℕ) (sent : Sent) → IsFit view → HoldsQueues view queues → IsOldest queues (IsBound queues) endpoint → head_of queues endpoint ≡ Some sent → next_in view ≡ Some sent
 next_is view queues endpoint sent fit h oldest waits =

@@ -82,7 +82,7 @@ server_low start journal endpoint pair apart sound lawful' e =
     (mapped_has view.living pair (found (λ (p : Bound × Position). p.0.endpoint == endpoint) view.living pair e).0) in
     (All-contains (IsOnNode (trees_of start past)) (living start past) pair.0 (stand_on_trees (below apart) first_methods start journal sound lawful').placed lives).server
 
-by_length : (servers : List Server) (i : ℕ) → i < length servers → (one : Server) × (slice_get servers i ≡ Some one)
+pub by_length : (servers : List Server) (i : ℕ) → i < length servers → (one : Server) × (slice_get servers i ≡ Some one)
 by_length [] i low = absurd (omega arith)
 by_length (one ∷ servers) zero low = (one, refl)
 by_length (one ∷ servers) (suc i) low = by_length servers i (omega arith)

@@ -14,8 +14,13 @@ pub mod Heard
 pub mod Lasting
 pub mod Chosen
 pub mod Times
+pub mod Counted
 pub mod Answered
 pub mod Ending
 pub mod Sorted
 pub mod Carried
 pub mod Serves
+pub mod Mounts
+pub mod Ready
+pub mod Halves
+pub mod OneMore

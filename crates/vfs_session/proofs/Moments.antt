@@ -9,9 +9,10 @@ use Rattle.io_messages.specs.Replies.{Answered}
 use Rattle.io_messages.specs.declared.protocols.Protocol.{Protocol}
 use Rattle.io_messages.specs.declared.protocols.Protocol.TheVariants as protocol
 use Rattle.node_graph.specs.Graph.{StandsFor}
-use Rattle.node_graph.specs.Tree.{EdgeKey, Tree}
+use Rattle.node_graph.specs.Tree.{Tree}
 use Rattle.path_walk.specs.Names.{dot}
-use Rattle.conn_rules.specs.Answers.{Answer, Told, binds, closes, ends, forwards, hangs_up, refuses, replies, silent, watches}
+use Rattle.conn_rules.specs.Answers.{Answer, Happening, binds, closes, ends, forwards, hangs_up, refuses, replies, silent, watches}
+use Rattle.conn_rules.specs.Answers as news
 use Rattle.conn_rules.specs.Births.{Position}
 use Rattle.conn_rules.specs.Built.{Built}
 use Rattle.conn_rules.specs.declared.births.Room.{Room}
@@ -22,7 +23,7 @@ use Rattle.vfs_journal.specs.Output.{close_frames, frames_of_serving}
 use Rattle.vfs_journal.specs.Serving.{Moment, Read, asker_of, fault_answer, fault_txid, object_of, outcome_of_message, outcome_of_read, outcome_of_sending, read_by, request_act}
 use Rattle.vfs_journal.specs.Starts.{Bound}
 use Rattle.vfs_journal.specs.View.{View, at_in, bounds_in, moment_in, next_token_in, room_in}
-use Rattle.vfs_journal.specs.Watching.{added, asks_for, deleted, event_bytes, first_frames, removed, told_frames, told_of, told_of_name, watch_frame}
+use Rattle.vfs_journal.specs.Watching.{added, asks_for, deleted, event_bytes, first_frames, removed, told_by, told_frames, told_of, watch_frame}
 use Rattle.journal_laws.proofs.Lists.{filter-filter}
 use Rattle.vfs_server.specs.Holding.{if_at, living_at}
 use Rattle.vfs_server.specs.Servers.{Server, in_use, seen}
@@ -143,18 +144,15 @@ told_same : (view : View) (index directory event : ℕ) (name : List ℕ) →
 told_same view index directory event name =
     ap (λ (bs : List Bound). map (λ (b : Bound). watch_frame b.endpoint (event_bytes event name)) (filter (λ (b : Bound). asks_for b.mask event) bs)) (watching_here view index directory)
 
-told_name_same : (view : View) (index event : ℕ) (key : Option EdgeKey) →
-    told_of_name (filter (λ bound. is_watcher bound.birth.protocol) (living_at view index)) index event key ≡ told_of_name (bounds_in view) index event key
-told_name_same view index event None = refl
-told_name_same view index event (Some name) = told_same view index name.directory event name.name
+told_by_same : (view : View) (index : ℕ) (one : Happening) →
+    told_by (filter (λ bound. is_watcher bound.birth.protocol) (living_at view index)) index one ≡ told_by (bounds_in view) index one
+told_by_same view index (news.removed name) = told_same view index name.directory removed name.name
+told_by_same view index (news.added name) = told_same view index name.directory added name.name
+told_by_same view index (news.deleted directory) = told_same view index directory deleted dot
 
-told_gone_same : (view : View) (index : ℕ) (gone : Option ℕ) →
-    option_map_or (λ directory. told_of (filter (λ bound. is_watcher bound.birth.protocol) (living_at view index)) index directory deleted dot) gone [] ≡ option_map_or (λ directory. told_of (bounds_in view) index directory deleted dot) gone []
-told_gone_same view index None = refl
-told_gone_same view index (Some directory) = told_same view index directory deleted dot
-
-told_all_same : (view : View) (index : ℕ) (told : Told) → told_frames (filter (λ bound. is_watcher bound.birth.protocol) (living_at view index)) index told ≡ told_frames (bounds_in view) index told
-told_all_same view index told = λ i. told_name_same view index removed told.removed i ++ told_name_same view index added told.added i ++ told_gone_same view index told.deleted i
+told_all_same : (view : View) (index : ℕ) (told : List Happening) → told_frames (filter (λ bound. is_watcher bound.birth.protocol) (living_at view index)) index told ≡ told_frames (bounds_in view) index told
+told_all_same view index [] = refl
+told_all_same view index (one ∷ more) = λ i. told_by_same view index one i ++ told_all_same view index more i
 
 -- what a server writes is all but the Close frames
 pub frames_same : (view : View) (one : Server) (pair : Bound × Position) (event : Event) → HoldsNumber view pair.0.server one → IsOn (moment_in view pair) event.outcome →

@@ -1,14 +1,14 @@
 -- A world that stands for a journal stands, behind the steps of a serving, for the journal behind it.
-use Rattle.std.proofs.Common.{◌≡◌, ◌≢◌, ℕ, ◌+◌, ◌<◌, ◌==◌, ◌⊎◌, Bool, true, false, is_some, if◌then◌else◌, List, [], ◌∷◌, ◌++◌, length, drop, filter, find, flat_map, fold, add-zero, All, AllPairs, Contains, Option, Some, None, inl, inr, refl, sym, ap, ◌∙◌, subst, arith}
+use Rattle.std.proofs.Common.{◌≡◌, ℕ, ◌+◌, ◌==◌, true, is_some, if◌then◌else◌, List, [], length, find, fold, add-zero, Contains, Option, Some, None, refl, sym, ap, ◌∙◌, subst, arith}
 use Rattle.std.specs.Prelude.{slice_get}
 use Rattle.std.specs.Option.{option_map}
-use Rattle.std.proofs.lemmas.Bool.{eqb-true, true≢false}
+use Rattle.std.proofs.lemmas.Bool.{eqb-true}
 use Rattle.std.proofs.lemmas.List.Elements.{All-contains, All-contains_itself, All-weaker}
 use Rattle.std.proofs.lemmas.Option.{none-some, same_Some}
 use Rattle.fidl_wire.specs.Written.{Written}
 use Rattle.endpoint_link.specs.Frames.{spellings}
 use Rattle.endpoint_link.specs.Numbering.{among}
-use Rattle.endpoint_link.specs.Standings.{Known, ended, gone, next_token_of}
+use Rattle.endpoint_link.specs.Standings.{Known, ended, next_token_of}
 use Rattle.conn_rules.specs.Births.{Position}
 use Rattle.conn_rules.specs.Built.{first_methods}
 use Rattle.vfs_journal.specs.Deaths.{first_deaths}
@@ -16,12 +16,10 @@ use Rattle.vfs_journal.specs.Entries.{Journal, Sent, endpoints_in}
 use Rattle.vfs_journal.specs.Fit.{IsFit}
 use Rattle.vfs_journal.specs.Lawful as lawful
 use Rattle.vfs_journal.specs.Outcomes.{Forwarded, Given}
-use Rattle.vfs_journal.specs.Output.{output_of}
 use Rattle.vfs_journal.specs.Past.{history_of}
 use Rattle.vfs_journal.specs.Session.{after_serving, head}
 use Rattle.vfs_journal.specs.Starts.{Bound, Start}
-use Rattle.vfs_journal.specs.View.{View, at_in, deaths_in, event_in, frames_in, head_in, is_bound_in, next_token_in, onward_in, outcome_in, queue_in, serving_in, then_in}
-use Rattle.journal_laws.specs.Behind.{later_of}
+use Rattle.vfs_journal.specs.View.{View, at_in, deaths_in, event_in, frames_in, head_in, onward_in, outcome_in, serving_in, then_in}
 use Rattle.journal_laws.specs.Choosing.{AreAllThatDie, IsListOf, queue_beside}
 use Rattle.journal_laws.specs.Knowing.{Knows, known_served, spent_in}
 use Rattle.journal_laws.specs.Today.{SessionsOfToday}
@@ -31,22 +29,21 @@ use Rattle.journal_laws.proofs.Dying.{deaths_are_least}
 use Rattle.journal_laws.proofs.Fits.{views_fit}
 use Rattle.journal_laws.proofs.KnowingBehind.{servings_keep}
 use Rattle.journal_laws.proofs.LeastPlaces.{first_of_kept}
-use Rattle.journal_laws.proofs.Lists.{eqb_sym}
 use Rattle.journal_laws.proofs.Members.{found}
 use Rattle.journal_laws.proofs.ViewLaws.{served_behind_viewed, serving_writes}
 use Rattle.journal_laws.proofs.ViewParts.{head_is_in, token_is}
-use Rattle.message_queues.specs.Dying.{AreDeaths, Buries}
-use Rattle.message_queues.specs.Queues.{Queues, Requeues, count, head_of, queue_of, server_of}
+use Rattle.message_queues.specs.Dying.{AreDeaths}
+use Rattle.message_queues.specs.Queues.{Queues, count, head_of, queue_of, server_of}
 use Rattle.message_queues.proofs.Counting.{counts_its_list}
 use Rattle.vfs_server.specs.declared.fate.Fate.{Fate}
 use Rattle.vfs_server.specs.declared.fate.Fate.TheVariants as fates
 use Rattle.vfs_server.specs.Servers.{Server}
-use Rattle.vfs_session.specs.Holding.{HoldsEach, HoldsQueues}
-use Rattle.vfs_session.specs.Steps.{Answers, AreApart, BindsTold, SendsOn, closed_for, end_told, first_told, is_sent_on, without_in}
+use Rattle.vfs_session.specs.Holding.{HoldsQueues}
+use Rattle.vfs_session.specs.Steps.{SendsOn, first_told, is_sent_on}
 use Rattle.vfs_session.specs.Servings.{ServesHead}
 use Rattle.vfs_session.specs.World.{Holds, LeadsTo, StandsFor, World}
 use Rattle.vfs_session.proofs.EachServer.{numbered}
-use Rattle.vfs_session.proofs.QueueSteps.{BindsOne, SendsOne, drop_one, queues_then}
+use Rattle.vfs_session.proofs.QueueSteps.{BindsOne, SendsOne, queue_taken, queues_then}
 use Rattle.vfs_session.proofs.Telling.{first_are_told, forward_told}
 use Rattle.vfs_session.proofs.Then.{Begun, Told, binds_one, frames_then, sends_one, servers_then, told}
 
@@ -86,7 +83,7 @@ ready_in view queues endpoint server sent h bound waits =
 
 -- ---- who dies
 
-all_die : (view : View) (sent : Sent) (q : Queues) (dying dead : List ℕ) → ((endpoint : ℕ) → queue_of q endpoint ≡ queue_beside view sent endpoint) → dying ≡ first_deaths sent (outcome_in view sent) → AreDeaths q dying dead →
+pub all_die : (view : View) (sent : Sent) (q : Queues) (dying dead : List ℕ) → ((endpoint : ℕ) → queue_of q endpoint ≡ queue_beside view sent endpoint) → dying ≡ first_deaths sent (outcome_in view sent) → AreDeaths q dying dead →
     AreAllThatDie (queue_beside view sent) (first_deaths sent (outcome_in view sent)) dead
 all_die view sent q dying dead same firsts died = record {
   first = λ n h. died.first n (ap (among n) firsts ∙ h);
@@ -142,18 +139,7 @@ module _ (laws : Laws) (start : Start) (journal : Journal) (old new : World) (se
   beside_is : (n : ℕ) → queue_of d.q2 n ≡ queue_beside (view_behind first_methods start journal) sent n
   beside_is n =
       (binds_one pair.0.server d.fate d.s1 d.s2 d.q1 d.q2 d.binds).waiting n
-      ∙ d.taken.waiting n
-      ∙ by_test (n == sent.endpoint) (sent.endpoint == n) refl (eqb_sym sent.endpoint n) where
-        by_test : (b c : Bool) → (n == sent.endpoint) ≡ b → (sent.endpoint == n) ≡ (n == sent.endpoint) →
-            (if b then drop 1 (queue_of old.queues sent.endpoint) else queue_of old.queues n) ≡ queue_beside (view_behind first_methods start journal) sent n
-        by_test true c e t =
-            ap (λ (m : ℕ). drop 1 (queue_of old.queues m)) (sym (eqb-true n sent.endpoint e))
-            ∙ ap (drop 1) (s.holds.queues.queue n)
-            ∙ drop_one (queue_in (view_behind first_methods start journal) n)
-            ∙ sym (ap (λ (b : Bool). if b then later_of (queue_in (view_behind first_methods start journal) n) else queue_in (view_behind first_methods start journal) n) (t ∙ e))
-        by_test false c e t =
-            s.holds.queues.queue n
-            ∙ sym (ap (λ (b : Bool). if b then later_of (queue_in (view_behind first_methods start journal) n) else queue_in (view_behind first_methods start journal) n) (t ∙ e))
+      ∙ queue_taken (view_behind first_methods start journal) sent old.queues d.q1 s.holds.queues d.taken n
 
   same : (n : ℕ) → among n d.dead ≡ among n (deaths_in (view_behind first_methods start journal) sent)
   same =

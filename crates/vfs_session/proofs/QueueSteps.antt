@@ -1,9 +1,9 @@
 -- What waits behind a serving, endpoint by endpoint, and where each endpoint is bound.
-use Rattle.std.proofs.Common.{◌≡◌, ℕ, ◌+◌, ◌==◌, Bool, true, false, if◌then◌else◌, List, [], ◌∷◌, ◌++◌, length, map, drop, Option, Some, None, append-nil, refl, sym, ap, ◌∙◌, length-set}
+use Rattle.std.proofs.Common.{◌≡◌, ℕ, ◌+◌, ◌==◌, Bool, true, false, if◌then◌else◌, List, [], ◌∷◌, ◌++◌, length, drop, Option, Some, None, refl, sym, ap, ◌∙◌, length-set}
 use Rattle.std.specs.Option.{option_map, option_map_or}
 use Rattle.std.proofs.lemmas.Bool.{eqb-true}
 use Rattle.endpoint_link.specs.Numbering.{among}
-use Rattle.node_graph.specs.Tree.{Tree, after}
+use Rattle.node_graph.specs.Tree.{after}
 use Rattle.conn_rules.specs.Births.{Position, fresh}
 use Rattle.vfs_journal.specs.Entries.{Sent}
 use Rattle.vfs_journal.specs.Fit.{IsFit}
@@ -12,6 +12,7 @@ use Rattle.vfs_journal.specs.Outcomes.{Forwarded}
 use Rattle.vfs_journal.specs.Starts.{Bound}
 use Rattle.vfs_journal.specs.View.{View, at_in, deaths_in, event_in, head_in, moved, onward_in, onward_sent, outcome_in, queue_in, serving_in, then_in}
 use Rattle.journal_laws.specs.Behind.{later_of}
+use Rattle.journal_laws.specs.Choosing.{queue_beside}
 use Rattle.journal_laws.proofs.Lists.{eqb_sym}
 use Rattle.journal_laws.proofs.LookedUp.{is_behind}
 use Rattle.message_queues.specs.Dying.{Buries}
@@ -58,6 +59,20 @@ if_mapped : {X Y : Type 0} (f : X → Y) (b : Bool) (x y : X) → f (if b then x
 if_mapped f true x y = refl
 if_mapped f false x y = refl
 
+-- the served endpoint's queue has lost its first entry
+pub queue_taken : (view : View) (sent : Sent) (q0 q1 : Queues) → HoldsQueues view q0 → Requeues q0 sent.endpoint (drop 1 (queue_of q0 sent.endpoint)) q1 → (n : ℕ) → queue_of q1 n ≡ queue_beside view sent n
+queue_taken view sent q0 q1 h taken n = taken.waiting n ∙ by_test (n == sent.endpoint) (sent.endpoint == n) refl (eqb_sym sent.endpoint n) where
+  by_test : (b c : Bool) → (n == sent.endpoint) ≡ b → (sent.endpoint == n) ≡ (n == sent.endpoint) →
+      (if b then drop 1 (queue_of q0 sent.endpoint) else queue_of q0 n) ≡ (if sent.endpoint == n then later_of (queue_in view n) else queue_in view n)
+  by_test true c e s =
+      ap (λ (m : ℕ). drop 1 (queue_of q0 m)) (sym (eqb-true n sent.endpoint e))
+      ∙ ap (drop 1) (h.queue n)
+      ∙ drop_one (queue_in view n)
+      ∙ sym (ap (λ (b : Bool). if b then later_of (queue_in view n) else queue_in view n) (s ∙ e))
+  by_test false c e s =
+      h.queue n
+      ∙ sym (ap (λ (b : Bool). if b then later_of (queue_in view n) else queue_in view n) (s ∙ e))
+
 pub queues_then : (view : View) (sent : Sent) (dead : List ℕ) (q0 q1 q2 q3 q4 : Queues) → IsFit view → head_in view sent.endpoint ≡ Some sent → HoldsQueues view q0 →
     Requeues q0 sent.endpoint (drop 1 (queue_of q0 sent.endpoint)) q1 → BindsOne q1 (outcome_in view sent).bound q2 → Buries q2 dead q3 → SendsOne view sent q3 (outcome_in view sent).forward q4 →
     ((endpoint : ℕ) → among endpoint dead ≡ among endpoint (deaths_in view sent)) → HoldsQueues (then_in view sent) q4
@@ -70,7 +85,7 @@ queues_then view sent dead q0 q1 q2 q3 q4 fit first h taken bound buried onward 
           ∙ ap (λ (xs : List Sent). xs ++ option_map_or (λ f. if f.endpoint == n then onward_sent (view.places + 1) sent f ∷ [] else []) o.forward [])
           (buried.waiting n
           ∙ ap (λ (b : Bool). if b then [] else queue_of q2 n) (same n)
-          ∙ ap (λ (xs : List Sent). if among n (deaths_in view sent) then [] else xs) (bound.waiting n ∙ left n))
+          ∙ ap (λ (xs : List Sent). if among n (deaths_in view sent) then [] else xs) (bound.waiting n ∙ queue_taken view sent q0 q1 h taken n))
           ∙ sym (behind.queue n);
       bound = λ n.
           onward.bound n
@@ -84,16 +99,4 @@ queues_then view sent dead q0 q1 q2 q3 q4 fit first h taken bound buried onward 
           ∙ sym (if_mapped (option_map (λ (pair : Bound × Position). pair.0.server)) (among n (deaths_in view sent)) None _)
           ∙ sym (ap (option_map (λ (pair : Bound × Position). pair.0.server)) (behind.at n));
       those = onward.those ∙ buried.those ∙ bound.those ∙ taken.those ∙ h.those ∙ sym (then_trees view sent);
-    } where
-      left : (n : ℕ) → queue_of q1 n ≡ (if sent.endpoint == n then later_of (queue_in view n) else queue_in view n)
-      left n = taken.waiting n ∙ by_test (n == sent.endpoint) (sent.endpoint == n) refl (eqb_sym sent.endpoint n) where
-        by_test : (b c : Bool) → (n == sent.endpoint) ≡ b → (sent.endpoint == n) ≡ (n == sent.endpoint) →
-            (if b then drop 1 (queue_of q0 sent.endpoint) else queue_of q0 n) ≡ (if sent.endpoint == n then later_of (queue_in view n) else queue_in view n)
-        by_test true c e s =
-            ap (λ (m : ℕ). drop 1 (queue_of q0 m)) (sym (eqb-true n sent.endpoint e))
-            ∙ ap (drop 1) (h.queue n)
-            ∙ drop_one (queue_in view n)
-            ∙ sym (ap (λ (b : Bool). if b then later_of (queue_in view n) else queue_in view n) (s ∙ e))
-        by_test false c e s =
-            h.queue n
-            ∙ sym (ap (λ (b : Bool). if b then later_of (queue_in view n) else queue_in view n) (s ∙ e))
+    }

@@ -1,6 +1,7 @@
 -- Servings by their steps, one after another, lead to the journals that the definitions of a session have behind them.
 use Rattle.std.proofs.Common.{◌≡◌, ℕ, zero, suc, ◌+◌, ◌-◌, ◌<◌, ◌≤◌, Bool, true, false, if◌then◌else◌, is_some, IsSome, List, [], Option, Some, None, refl, sym, ap, ◌∙◌, subst, arith}
 use Rattle.std.proofs.lemmas.Bool.{true≢false}
+use Rattle.std.proofs.lemmas.Option.{none-some}
 use Rattle.fidl_wire.specs.Names.{AreDistinct}
 use Rattle.conn_rules.specs.Built.{first_methods}
 use Rattle.vfs_journal.specs.Entries.{Journal, Sent}
@@ -18,13 +19,14 @@ use Rattle.journal_laws.proofs.LeastPlaces.{chosen_by_place}
 use Rattle.journal_laws.proofs.ViewParts.{head_is_in, next_is, oldest_is}
 use Rattle.message_queues.specs.Oldest.{IsBound, IsBoundAt, IsOldest, NothingWaits}
 use Rattle.message_queues.specs.Queues.{Queues, IsReady, head_of, server_of}
-use Rattle.vfs_session.specs.Servings.{IsDrain, IsOldestAt, IsOldestOfAll, IsPick, IsSame, IsTurn, ServesOne, ServesTimes}
+use Rattle.vfs_session.specs.Servings.{IsDrain, IsOldestAt, IsOldestOfAll, IsPick, IsSame, IsTurn, ServesOne, ServesTimes, served_in}
 use Rattle.vfs_session.specs.World.{LeadsTo, StandsFor, World}
 use Rattle.vfs_session.proofs.Chosen as chosen
+use Rattle.vfs_session.proofs.Counted.{one_more_served}
 use Rattle.vfs_session.proofs.Grounds.{below}
 use Rattle.vfs_session.proofs.HeadServed.{head_served}
 use Rattle.vfs_session.proofs.OneServed.{IsReadyIn, ready_in}
-use Rattle.vfs_session.proofs.Times.{Drains, Goes, drain_begins, drain_ends, drain_on, goes_ended, goes_first, goes_on, goes_whole, pick_none, pick_some, serving_some, stays}
+use Rattle.vfs_session.proofs.Times.{Drains, Goes, drain_begins, drain_ends, drain_on, goes_ended, goes_first, goes_on, goes_whole, pick_none, pick_some, serving_over, serving_some, stays}
 
 -- ---- one serving
 
@@ -68,6 +70,12 @@ none_left apart start journal world s none =
 
 -- ---- a Turn
 
+and_none : (n : ℕ) → n ≡ n + 0
+and_none n = omega arith
+
+and_more : (n more : ℕ) → suc n + more ≡ n + suc more
+and_more n more = omega arith
+
 module _ (apart : AreDistinct) (start : Start) (Chosen : Queues → ℕ → Type 0) (choice : History → Option Sent) (alike : AreAlike start Chosen choice) where
   pub served_times : (done left total : ℕ) (journal : Journal) (old new : World) (before after : List ℕ) → total ≡ done + left → StandsFor start old journal → ServesTimes Chosen done old new before after →
       Goes start choice left (serving total first_methods start choice journal) journal new before after
@@ -91,18 +99,55 @@ module _ (apart : AreDistinct) (start : Start) (Chosen : Queues → ℕ → Type
             ∙ ap (λ (n : ℕ). serving n first_methods start choice journal) is;
       }
 
+  -- and so many more are served then
+  pub counted_times : (done left total : ℕ) (journal : Journal) (old new : World) (before after : List ℕ) → total ≡ done + left → StandsFor start old journal → ServesTimes Chosen done old new before after →
+      ((later : Journal) → StandsFor start new later → 0 < left → choice (history_of first_methods start later) ≡ None) → served_in (serving total first_methods start choice journal) ≡ served_in journal + done
+  counted_times zero left total journal old new before after e s same none =
+      let is : total ≡ left = omega (arith, e) in
+      ap (λ (n : ℕ). served_in (serving n first_methods start choice journal)) is
+      ∙ ap served_in (serving_over left start choice journal (none journal (subst (λ (w : World). StandsFor start w journal) (sym same.0) s)))
+      ∙ and_none (served_in journal)
+  counted_times (suc more) left total journal old new before after e s serves none =
+      let one = serves.1.1.0 in
+      let leads = serves_one apart (Chosen old.queues) start journal old serves.0 before serves.1.0 s one in
+      let is : total ≡ suc (more + left) = omega (arith, e) in
+      ap (λ (n : ℕ). served_in (serving n first_methods start choice journal)) is
+      ∙ ap served_in (serving_some (more + left) start choice journal one.sent (alike journal old one.endpoint one.sent s one.one_of one.waits))
+      ∙ counted_times more left (more + left) (after_serving first_methods start journal one.sent) serves.0 new serves.1.0 after refl leads.stands serves.1.1.1 none
+      ∙ ap (λ (n : ℕ). n + more) (one_more_served start journal one.sent)
+      ∙ and_more (served_in journal) more
+
 turn_by : (start : Start) (choice : History → Option Sent) (left : ℕ) (whole journal : Journal) (world : World) (before after : List ℕ) (goes : Goes start choice left whole journal world before after) →
     (0 < left → choice (history_of first_methods start goes.now) ≡ None) → LeadsTo start whole world journal before after
 turn_by start choice zero whole journal world before after goes none = goes_whole start choice whole journal world before after goes
 turn_by start choice (suc left) whole journal world before after goes none = goes_ended start choice (suc left) whole journal world before after goes (none (omega arith))
 
-pub turn_leads : AreDistinct → (start : Start) (journal : Journal) (server times : ℕ) (old new : World) (before after : List ℕ) → StandsFor start old journal →
-    IsTurn server times old new before after → LeadsTo start (turned first_methods start server times journal) new journal before after
-turn_leads apart start journal server times old new before after s turn =
+pub turn_leads : AreDistinct → (start : Start) (journal : Journal) (server times done : ℕ) (old new : World) (before after : List ℕ) → StandsFor start old journal →
+    IsTurn server times done old new before after → LeadsTo start (turned first_methods start server times journal) new journal before after
+turn_leads apart start journal server times done old new before after s turn =
     let most = turn.most in
-    let goes = served_times apart start (IsOldestAt server) (λ history. oldest start history server) (oldest_alike apart start server) turn.done (times - turn.done) times journal old new before after (omega (arith, most)) s turn.serves in
-    turn_by start (λ history. oldest start history server) (times - turn.done) (turned first_methods start server times journal) journal new before after goes
+    let goes = served_times apart start (IsOldestAt server) (λ history. oldest start history server) (oldest_alike apart start server) done (times - done) times journal old new before after (omega (arith, most)) s turn.serves in
+    turn_by start (λ history. oldest start history server) (times - done) (turned first_methods start server times journal) journal new before after goes
     (λ some. none_at apart start goes.now new server goes.leads.stands (turn.last (omega (arith, some))))
+
+-- so many more are served
+pub turn_counts : AreDistinct → (start : Start) (journal : Journal) (server times done : ℕ) (old new : World) (before after : List ℕ) → StandsFor start old journal →
+    IsTurn server times done old new before after → served_in journal + done ≡ served_in (turned first_methods start server times journal)
+turn_counts apart start journal server times done old new before after s turn =
+    let most = turn.most in
+    sym
+    (counted_times apart start (IsOldestAt server) (λ history. oldest start history server) (oldest_alike apart start server) done (times - done) times journal old new before after (omega (arith, most)) s turn.serves
+    (λ later stands some. none_at apart start later new server stands (turn.last (omega (arith, some)))))
+
+-- and fewer than were asked for only where nothing is left there
+pub turn_ends : AreDistinct → (start : Start) (journal : Journal) (server times done : ℕ) (old new : World) (before after : List ℕ) → StandsFor start old journal →
+    IsTurn server times done old new before after → done < times → oldest start (history_of first_methods start (turned first_methods start server times journal)) server ≡ None
+turn_ends apart start journal server times done old new before after s turn fewer =
+    none_at apart start (turned first_methods start server times journal) new server (turn_leads apart start journal server times done old new before after s turn).stands (turn.last fewer)
+
+pub turn_idle : (start : Start) (journal : Journal) (world : World) (server : ℕ) → StandsFor start world journal → oldest start (history_of first_methods start journal) server ≡ None → NothingWaits world.queues (IsBoundAt world.queues server)
+turn_idle start journal world server s none =
+    chosen.waits_none (view_behind first_methods start journal) world.queues server s.holds.queues (sym (oldest_is first_methods start (history_of first_methods start journal) server) ∙ none)
 
 -- ---- a Pick
 
@@ -119,30 +164,52 @@ ready_or_not queues endpoint = by_parts (server_of queues endpoint) (head_of que
   by_parts (Some server) None a b = empty b
   by_parts (Some server) (Some sent) a b = ready server sent a b
 
-pub pick_leads : AreDistinct → (start : Start) (journal : Journal) (endpoint : ℕ) (old new : World) (before after : List ℕ) → StandsFor start old journal →
-    IsPick endpoint old new before after → LeadsTo start (picked first_methods start endpoint journal) new journal before after
-pick_leads apart start journal endpoint old new before after s pick = by_case (ready_or_not old.queues endpoint) where
+head_ready : (start : Start) (journal : Journal) (world : World) (endpoint server : ℕ) (sent : Sent) → StandsFor start world journal → server_of world.queues endpoint ≡ Some server → head_of world.queues endpoint ≡ Some sent →
+    head start (history_of first_methods start journal) endpoint ≡ Some sent
+head_ready start journal world endpoint server sent s bound waits =
+    let r : IsReadyIn (view_behind first_methods start journal) endpoint server sent = ready_in (view_behind first_methods start journal) world.queues endpoint server sent s.holds.queues bound waits in
+    ap (head start (history_of first_methods start journal)) (sym r.on) ∙ head_is_in first_methods start (history_of first_methods start journal) sent.endpoint ∙ r.first
+
+-- nothing can be picked where nothing is ready, and only there
+pub head_none : AreDistinct → (start : Start) (journal : Journal) (world : World) (endpoint : ℕ) → StandsFor start world journal → ¬ (IsReady world.queues endpoint) → head start (history_of first_methods start journal) endpoint ≡ None
+head_none apart start journal world endpoint s idle = by_case (ready_or_not world.queues endpoint) where
   on_view : head start (history_of first_methods start journal) endpoint ≡ (if is_bound_in (view_behind first_methods start journal) endpoint then first_on (view_behind first_methods start journal) endpoint else None)
   on_view =
       head_is_in first_methods start (history_of first_methods start journal) endpoint
-      ∙ (chosen_by_place (view_behind first_methods start journal) (fit_of apart start journal old s)).head endpoint
+      ∙ (chosen_by_place (view_behind first_methods start journal) (fit_of apart start journal world s)).head endpoint
 
+  by_case : IsReadyOrNot world.queues endpoint → head start (history_of first_methods start journal) endpoint ≡ None
+  by_case (ready server sent a b) = absurd (idle (subst IsSome (sym a) refl, subst IsSome (sym b) refl))
+  by_case (unbound a) =
+      on_view ∙ ap (λ (b : Bool). if b then first_on (view_behind first_methods start journal) endpoint else None) (chosen.unbound_in (view_behind first_methods start journal) world.queues endpoint s.holds.queues a)
+  by_case (empty b) =
+      on_view ∙ ap (λ (o : Option Sent). if is_bound_in (view_behind first_methods start journal) endpoint then o else None) (sym (chosen.head_is (view_behind first_methods start journal) world.queues endpoint s.holds.queues) ∙ b) ∙ chosen.either_none (is_bound_in (view_behind first_methods start journal) endpoint)
+
+pub pick_idle : (start : Start) (journal : Journal) (world : World) (endpoint : ℕ) → StandsFor start world journal → head start (history_of first_methods start journal) endpoint ≡ None → ¬ (IsReady world.queues endpoint)
+pick_idle start journal world endpoint s none = by_case (ready_or_not world.queues endpoint) where
+  by_case : IsReadyOrNot world.queues endpoint → IsReady world.queues endpoint → ⊥
+  by_case (ready server sent a b) r = none-some sent (sym none ∙ head_ready start journal world endpoint server sent s a b)
+  by_case (unbound a) r = true≢false (sym (subst IsSome a r.0))
+  by_case (empty b) r = true≢false (sym (subst IsSome b r.1))
+
+pub pick_leads : AreDistinct → (start : Start) (journal : Journal) (endpoint : ℕ) (old new : World) (before after : List ℕ) → StandsFor start old journal →
+    IsPick endpoint old new before after → LeadsTo start (picked first_methods start endpoint journal) new journal before after
+pick_leads apart start journal endpoint old new before after s pick = by_case (ready_or_not old.queues endpoint) where
   picks_one : (one : ServesOne (λ n. n ≡ endpoint) old new before after) → LeadsTo start (picked first_methods start endpoint journal) new journal before after
   picks_one one =
-      let r : IsReadyIn (view_behind first_methods start journal) one.endpoint one.server one.sent = ready_in (view_behind first_methods start journal) old.queues one.endpoint one.server one.sent s.holds.queues one.bound one.waits in
       pick_some start journal new endpoint one.sent before after
-      (ap (head start (history_of first_methods start journal)) (sym (r.on ∙ one.one_of)) ∙ head_is_in first_methods start (history_of first_methods start journal) one.sent.endpoint ∙ r.first)
+      (ap (head start (history_of first_methods start journal)) (sym one.one_of) ∙ head_ready start journal old one.endpoint one.server one.sent s one.bound one.waits)
       (serves_one apart (λ n. n ≡ endpoint) start journal old new before after s one)
 
-  nothing : head start (history_of first_methods start journal) endpoint ≡ None → ¬ (IsReady old.queues endpoint) → LeadsTo start (picked first_methods start endpoint journal) new journal before after
-  nothing none idle = same_leads start journal (picked first_methods start endpoint journal) old new before after (pick.idle idle) (pick_none start journal old endpoint before s none)
+  nothing : ¬ (IsReady old.queues endpoint) → LeadsTo start (picked first_methods start endpoint journal) new journal before after
+  nothing idle =
+      same_leads start journal (picked first_methods start endpoint journal) old new before after (pick.idle idle)
+      (pick_none start journal old endpoint before s (head_none apart start journal old endpoint s idle))
 
   by_case : IsReadyOrNot old.queues endpoint → LeadsTo start (picked first_methods start endpoint journal) new journal before after
   by_case (ready server sent a b) = picks_one (pick.served (subst IsSome (sym a) refl, subst IsSome (sym b) refl))
-  by_case (unbound a) =
-      nothing (on_view ∙ ap (λ (b : Bool). if b then first_on (view_behind first_methods start journal) endpoint else None) (chosen.unbound_in (view_behind first_methods start journal) old.queues endpoint s.holds.queues a)) (λ r. true≢false (sym (subst IsSome a r.0)))
-  by_case (empty b) =
-      nothing (on_view ∙ ap (λ (o : Option Sent). if is_bound_in (view_behind first_methods start journal) endpoint then o else None) (sym (chosen.head_is (view_behind first_methods start journal) old.queues endpoint s.holds.queues) ∙ b) ∙ chosen.either_none (is_bound_in (view_behind first_methods start journal) endpoint)) (λ r. true≢false (sym (subst IsSome b r.1)))
+  by_case (unbound a) = nothing (λ r. true≢false (sym (subst IsSome a r.0)))
+  by_case (empty b) = nothing (λ r. true≢false (sym (subst IsSome b r.1)))
 
 -- ---- a drain
 

@@ -1,5 +1,5 @@
 -- Servings one after another: a Turn, a Pick and a drain.
-use Rattle.std.proofs.Common.{◌≡◌, ℕ, zero, suc, List, [], ◌++◌, find, Option, Some, None, refl, sym, ap, ◌∙◌, subst, append-nil, append_assoc}
+use Rattle.std.proofs.Common.{◌≡◌, ℕ, zero, suc, ◌<◌, List, [], ◌++◌, find, Option, Some, None, refl, sym, ap, ◌∙◌, subst, append-nil, append_assoc, arith}
 use Rattle.conn_rules.specs.Built.{first_methods}
 use Rattle.vfs_journal.specs.Entries.{Journal, Sent}
 use Rattle.vfs_journal.specs.History.{History, is_bound, waiting}
@@ -42,6 +42,11 @@ serving_some more start choice journal sent some = ap (serving_one (serving more
 serving_zero : (start : Start) (choice : History → Option Sent) (journal : Journal) → serving 0 first_methods start choice journal ≡ journal
 unfolding serving
 serving_zero start choice journal = refl
+
+-- nothing more is served where none are left to serve, or nothing is chosen
+pub serving_over : (left : ℕ) (start : Start) (choice : History → Option Sent) (journal : Journal) → (0 < left → choice (history_of first_methods start journal) ≡ None) → serving left first_methods start choice journal ≡ journal
+serving_over zero start choice journal none = serving_zero start choice journal
+serving_over (suc left) start choice journal none = serving_none (suc left) start choice journal (none (omega arith))
 
 -- ---- a Pick
 

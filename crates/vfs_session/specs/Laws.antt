@@ -18,8 +18,8 @@ ServingsLeadOn =
 
 abbrev pub TurnsLeadOn : Type 0
 TurnsLeadOn =
-    (start : Start) (journal : Journal) (server times : ℕ) (old new : World) (before after : List ℕ) → StandsFor start old journal →
-    IsTurn server times old new before after → LeadsTo start (turned first_methods start server times journal) new journal before after
+    (start : Start) (journal : Journal) (server times done : ℕ) (old new : World) (before after : List ℕ) → StandsFor start old journal →
+    IsTurn server times done old new before after → LeadsTo start (turned first_methods start server times journal) new journal before after
 
 abbrev pub PicksLeadOn : Type 0
 PicksLeadOn =

@@ -5,4 +5,5 @@ pub mod Steps
 pub mod Running
 pub mod Codes
 pub mod Servings
+pub mod Heads
 pub mod Laws

@@ -1,15 +1,15 @@
--- What a world keeps, as a world that isn't spent. No public clause needs this.
+-- What a session keeps, as a world that isn't spent.
 use Rattle.std.specs.Prelude.{◌≡◌, ◌≤◌, ◌*◌, ◌^◌, ℕ, Bool, false}
-use Rattle.vfs_session.specs.declared.parts.Parts.{Parts}
+use Rattle.vfs_session.specs.declared.session.Session.{Session}
 use Rattle.vfs_session.specs.Steps.{IsRunning}
 use Rattle.vfs_session.specs.World.{World}
 
-abbrev pub whole : Parts → World
-whole parts = record {
-  servers = parts.servers.items;
-  queues = parts.queues;
-  known = parts.endpoints;
-  places = parts.places;
+abbrev pub whole : Session → World
+whole session = record {
+  servers = session.servers.items;
+  queues = session.queues;
+  known = session.endpoints;
+  places = session.places;
   spent = false;
   frames = 0;
 }

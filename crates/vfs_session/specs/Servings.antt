@@ -1,9 +1,10 @@
 -- Servings by their steps: what the steps of one say together, and servings one after another, as a Turn, a Pick and a drain make them.
-use Rattle.std.specs.Prelude.{◌≡◌, ◌≤◌, ◌<◌, ◌+◌, ◌++◌, ℕ, zero, suc, false, List, drop, fold, Some}
+use Rattle.std.specs.Prelude.{◌≡◌, ◌≤◌, ◌<◌, ◌+◌, ◌++◌, ℕ, zero, suc, false, is_some, List, drop, filter, fold, length, Some}
 use Rattle.fidl_wire.specs.Written.{Written}
 use Rattle.endpoint_link.specs.Frames.{spellings}
 use Rattle.endpoint_link.specs.Standings.{ended, next_token_of}
-use Rattle.vfs_journal.specs.Entries.{Sent}
+use Rattle.vfs_journal.specs.Entries.{Journal, Sent}
+use Rattle.vfs_journal.specs.History.{served_by}
 use Rattle.vfs_journal.specs.View.{View}
 use Rattle.message_queues.specs.Dying.{AreDeaths, Buries}
 use Rattle.message_queues.specs.Oldest.{IsBound, IsBoundAt, IsOldest, NothingWaits}
@@ -50,6 +51,10 @@ pub record ServesOne (These : ℕ → Type 0) (old new : World) (before after : 
   pub waits : head_of old.queues endpoint ≡ Some sent
   pub served : ServesHead old endpoint server sent new before after
 
+-- how many entries of a journal are servings
+abbrev pub served_in : Journal → ℕ
+served_in journal = length (filter (λ entry. is_some (served_by entry)) journal)
+
 -- ---- servings one after another
 
 abbrev pub IsSame : World → World → List ℕ → List ℕ → Type 0
@@ -68,9 +73,8 @@ IsOldestAt server queues endpoint = IsOldest queues (IsBoundAt queues server) en
 abbrev pub IsOldestOfAll : Queues → ℕ → Type 0
 IsOldestOfAll queues endpoint = IsOldest queues (IsBound queues) endpoint
 
--- a Turn: at most so many servings of a server's oldest entries, and fewer only where nothing is left there
-pub record IsTurn (server times : ℕ) (old new : World) (before after : List ℕ) : Type 0 where
-  pub done : ℕ
+-- a Turn: so many servings of a server's oldest entries, at most as many as were asked for, and fewer only where nothing is left there
+pub record IsTurn (server times done : ℕ) (old new : World) (before after : List ℕ) : Type 0 where
   pub most : done ≤ times
   pub serves : ServesTimes (IsOldestAt server) done old new before after
   pub last : done < times → NothingWaits new.queues (IsBoundAt new.queues server)

@@ -4,8 +4,11 @@
 mod answering;
 mod closing;
 mod deaths;
+mod heads;
 mod laws;
-mod parts;
+mod serving;
+mod session;
 mod settling;
 
 pub use laws::{drains_lead_on, picks_lead_on, servings_lead_on, turns_lead_on};
+pub use session::Session;

@@ -92,6 +92,7 @@ pub(crate) fn bury(
     ensures buried { IfOk result (λ dead. Buries queues.old dead.items queues.new) }
     ensures gone { (view : View) → AreApart view.living → HoldsEach view servers.old.items → IfOk result (λ dead. HoldsEach (without_in view dead.items) servers.new.items) }
     ensures known { IfOk result (λ dead. endpoints.new ≡ record (fold ended endpoints.old dead.items) { waiting = count queues.new }) }
+    ensures count { OnOk result (count queues.new ≤ count queues.old) }
 {
     let before = queues.len();
     let dead = queues.bury(alloc, dying)?;

@@ -9,9 +9,9 @@ pub on_ok : {T E P Q : Type 0} (r : Result T E) → (P → Q) → OnOk r P → O
 on_ok (Ok x) f h = f h
 on_ok (Err e) f h = h
 
-pub ok_anyway : {T E P : Type 0} (r : Result T E) → P → OnOk r P
-ok_anyway (Ok x) h = h
-ok_anyway (Err e) h = tt
+pub on_both : {T E P Q R : Type 0} (r : Result T E) → (P → Q → R) → OnOk r P → OnOk r Q → OnOk r R
+on_both (Ok x) f g h = f g h
+on_both (Err e) f g h = h
 
 -- ---- what admission answers
 

@@ -1,11 +1,4 @@
-pub mod Lists
-pub mod LookUps
-pub mod Positions
-pub mod Dying
-pub mod Written
-pub mod Served
-pub mod Heard
-pub mod Times
-pub mod Ready
 pub mod Answered
-pub mod Beginning
+pub mod Hearing
+pub mod Worlds
+pub mod Begun

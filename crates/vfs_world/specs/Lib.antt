@@ -1,3 +1,2 @@
-pub mod World
 pub mod Steps
-pub mod Codes
+pub mod Beginning

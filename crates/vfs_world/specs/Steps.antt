@@ -1,57 +1,32 @@
--- A step of what is kept, and the laws of journals that it stands on.
-use Rattle.std.specs.Prelude.{◌≡◌, ◌≤◌, ◌+◌, ◌*◌, ◌^◌, ℕ, Bool, false, List, ◌++◌, length}
-use Rattle.node_graph.specs.Graph.{Kept, StandsFor as GraphStandsFor}
-use Rattle.node_graph.specs.Tree.{Tree}
-use Rattle.conn_rules.specs.Built.{first_methods}
-use Rattle.vfs_journal.specs.Entries.{Journal}
-use Rattle.journal_laws.specs.Carrying.{ServingsBindWhatTheyCarry}
-use Rattle.journal_laws.specs.Knowing.{HangUpsAreKnown, KnowersAdmit, MessagesAreKnown, RefusalsAreKnown, ServingsAreKnown, ServingsEndTheirDeaths}
-use Rattle.journal_laws.specs.Laws.{RefusalsChangeNothing, SendingsWaitLast, ServingsTakeEffect, WhatIsSentWaits}
-use Rattle.vfs_journal.specs.Output.{output_of}
-use Rattle.journal_laws.specs.Soundness.{DrainsServeAll, EndpointsAreInTransit, EndpointsAreKnown}
-use Rattle.vfs_journal.specs.Starts.{Start}
-use Rattle.vfs_keeping.specs.Keeping.{Keeping}
-use Rattle.vfs_world.specs.World.{Keeps}
+-- Words of the steps of a frame. No public clause needs these.
+use Rattle.std.specs.Prelude.{◌≡◌, ◌≤◌, ◌<◌, ◌+◌, ◌^◌, ℕ, [], ◌∷◌, ◌++◌, None}
+use Rattle.fidl_names.specs.declared.limits.TheConstants as limit
+use Rattle.endpoint_link.specs.Admission.{Admits, admission, look_ups}
+use Rattle.endpoint_link.specs.Frames.{Frame}
+use Rattle.vfs_journal.specs.Entries.{Sending}
+use Rattle.message_queues.specs.Queues.{IsAbove, Requeues, count, queue_of}
+use Rattle.vfs_session.specs.Steps.{IsRunning}
+use Rattle.vfs_session.specs.World.{World}
 
--- from keeping one journal a step leads to keeping another, and writes exactly what that has more of output
-pub record Leads (start : Start) (later : Journal) (new : Keeping) (earlier : Journal) (before after : List ℕ) : Type 0 where
-  pub keeps : Keeps start new later
-  pub part : List ℕ
-  pub more : output_of first_methods start later ≡ output_of first_methods start earlier ++ part
-  pub written : after ≡ before ++ part
+-- a frame is admitted: what is known is as its admission leaves it, and all else is as it was
+pub record IsAdmitted (old : World) (frame : Frame) (new : World) : Type 0 where
+  pub none : admission (look_ups old.known) frame ≡ None
+  pub admits : Admits old.known frame new.known
+  pub same : new ≡ record old { known = new.known }
 
--- more is written behind what was
-abbrev pub Begins : List ℕ → List ℕ → Type 0
-Begins before after = (more : List ℕ) × (after ≡ before ++ more)
+-- it is admitted in a world that runs
+pub record Hears (most : ℕ) (frame : Frame) (world : World) : Type 0 where
+  pub before : World
+  pub running : IsRunning most before
+  pub admitted : IsAdmitted before frame world
 
-abbrev pub HasTree : Kept → Type 0
-HasTree graph = (tree : Tree) × GraphStandsFor graph tree
+-- one more can wait: the next place is above those of all that wait, of which there are fewer than may wait
+pub record CanWait (world : World) : Type 0 where
+  pub newest : IsAbove world.queues world.places
+  pub few : count world.queues < limit.MAX_WAITING
+  pub low : world.places ≤ 2 ^ 61
 
--- an entry may be served: there is a tree, and the places that are taken, with those that what waits will take, are no more than so many
-pub record IsReady (most : ℕ) (keeping : Keeping) : Type 0 where
-  pub tree : HasTree keeping.graph
-  pub few : keeping.places + length keeping.waiting ≤ most
-
--- each accepted frame takes two places at most, its own and that of its serving, so that places don't run out
-abbrev pub IsWithin : Keeping → Bool → ℕ → Type 0
-IsWithin keeping spent frames = spent ≡ false → IsReady (2 * frames) keeping × (frames ≤ 2 ^ 48)
-
--- what holds of one more entry, and of all lawful journals
-pub record JournalLaws : Type 0 where
-  pub refused : RefusalsChangeNothing
-  pub sent : SendingsWaitLast
-  pub served : ServingsTakeEffect
-  pub queued : WhatIsSentWaits
-  pub transit : EndpointsAreInTransit
-  pub known : EndpointsAreKnown
-  pub carried : ServingsBindWhatTheyCarry
-  pub drained : DrainsServeAll
-
--- what a server knows behind each entry
-pub record KnowingLaws : Type 0 where
-  pub admit : KnowersAdmit
-  pub refused : RefusalsAreKnown
-  pub sent : MessagesAreKnown
-  pub closed : HangUpsAreKnown
-  pub deaths : ServingsEndTheirDeaths
-  pub served : ServingsAreKnown
+-- it waits behind all that waits on its endpoint, and takes a place
+pub record WaitsLast (old : World) (endpoint : ℕ) (sending : Sending) (new : World) : Type 0 where
+  pub queued : Requeues old.queues endpoint (queue_of old.queues endpoint ++ record { place = old.places; endpoint = endpoint; sending = sending; origin = None } ∷ []) new.queues
+  pub same : new ≡ record old { queues = new.queues; places = old.places + 1 }

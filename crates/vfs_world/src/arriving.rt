@@ -1,70 +1,96 @@
 //! A frame that arrives: a refused one is answered, and for an admitted one what it asks is done.
 
-ghost use Rattle.std.specs.Prelude.{◌≡◌, ◌≤◌, ◌+◌, ◌^◌, ◌++◌, ℕ, OnOk, OnErr, length, None};
-ghost use Rattle.endpoint_link.specs.Admission.{admission, look_ups};
+ghost use Rattle.std.specs.Prelude.{◌≡◌, ◌≤◌, ◌<◌, ◌+◌, ◌^◌, ◌++◌, ℕ, OnOk, OnErr, length};
 ghost use Rattle.endpoint_link.specs.Frames.{IsFrame, spelling};
 ghost use Rattle.endpoint_link.specs.Numbers.{word_in};
-ghost use Rattle.endpoint_link.specs.Views.{frame_of};
+ghost use Rattle.endpoint_link.specs.Views.{frame_of, handle_numbers};
 ghost use Rattle.endpoint_link.specs.declared.kinds.Side.TheVariants as side;
 ghost use Rattle.conn_rules.specs.Built.{first_methods};
-ghost use Rattle.vfs_journal.specs.Entries.{Journal};
+ghost use Rattle.vfs_journal.specs.Entries.{Journal, message};
 ghost use Rattle.vfs_journal.specs.Output.{refused_frame};
 ghost use Rattle.vfs_journal.specs.Session.{arrives};
 ghost use Rattle.vfs_journal.specs.Starts.{Start};
-ghost use Rattle.vfs_keeping.specs.Admitting.{Hears};
-ghost use Rattle.vfs_keeping.specs.Keeping.{Keeping};
-ghost use Rattle.vfs_world.specs.Steps.{Begins, IsReady, Leads};
-ghost use Rattle.vfs_world.specs.World.{Keeps};
+ghost use Rattle.vfs_session.specs.Running.{whole};
+ghost use Rattle.vfs_session.specs.Steps.{Begins, IsRunning};
+ghost use Rattle.vfs_session.specs.World.{LeadsTo, StandsFor, World};
+ghost use Rattle.vfs_world.specs.Steps.{CanWait, Hears, IsAdmitted, WaitsLast};
 
-use crate::laws::{journal_laws, knowing_laws};
-use crate::serving::{pick, turn};
 use byteorder::{ByteOrder, LittleEndian};
 use endpoint_link::{AdmitFault, FrameKind, FrameView, Outbox, Refusal, write_frame};
 use fidl_names::NoMemory;
-use vfs_keeping::Keeper;
+use message_queues::{Parcel, Sent};
+use std::mem;
+use vfs_session::Session;
 
 /// Accepts a frame.
-pub fn arrive(
-    keeper: &mut Keeper,
+pub(crate) fn arrive(
+    session: &mut Session,
     frame: FrameView<'_>,
     outbox: &mut Outbox,
 ) -> Result<(), NoMemory>
     requires frame { IsFrame side.ToServers (frame_of frame) }
-    requires ready { IsReady (2 ^ 60) keeper.old }
-    ensures arrived { (start : Start) (journal : Journal) → Keeps start keeper.old journal →
-        OnOk result (Leads start (arrives first_methods start journal (frame_of frame.entry)) keeper.new journal outbox.old outbox.new) }
-    ensures ready { (most : ℕ) → IsReady most keeper.old → OnOk result (IsReady (most + 2) keeper.new) }
+    requires running { IsRunning (2 ^ 61) (whole session.old) }
+    ensures arrived { (start : Start) (journal : Journal) → StandsFor start (whole session.old) journal →
+        OnOk result (LeadsTo start (arrives first_methods start journal (frame_of frame.entry)) (whole session.new) journal outbox.old outbox.new) }
+    ensures running { (most : ℕ) → IsRunning most (whole session.old) → OnOk result (IsRunning (most + 4098) (whole session.new)) }
     ensures begins { Begins outbox.old outbox.new }
 {
-    journal_laws(keeper);
-    knowing_laws(keeper);
-    match keeper.admit(frame) {
+    match session.endpoints.admit(frame) {
+        Ok(()) => perform(session, frame, outbox),
+        Err(AdmitFault::Refused(why)) => refuse(session, frame.endpoint, why, outbox),
         Err(AdmitFault::NoMemory) => Err(NoMemory),
-        Err(AdmitFault::Refused(why)) => refuse(frame.endpoint, why, outbox),
-        Ok(()) => perform(keeper, frame, outbox),
     }
 }
 
-/// Does what an admitted frame asks, behind its admission: a Turn or a Pick is served, and anything else
-/// waits.
-fn perform(keeper: &mut Keeper, frame: FrameView<'_>, outbox: &mut Outbox) -> Result<(), NoMemory>
+/// Does what an admitted frame asks, behind its admission.
+fn perform(session: &mut Session, frame: FrameView<'_>, outbox: &mut Outbox) -> Result<(), NoMemory>
     requires frame { IsFrame side.ToServers (frame_of frame) }
-    requires ready { IsReady (2 ^ 61) keeper.old }
-    ensures arrived { (start : Start) (journal : Journal) (before : Keeping) → Keeps start before journal → Hears before (frame_of frame.entry) keeper.old →
-        admission (look_ups before.known) (frame_of frame.entry) ≡ None →
-        OnOk result (Leads start (arrives first_methods start journal (frame_of frame.entry)) keeper.new journal outbox.old outbox.new) }
-    ensures ready { (most : ℕ) → IsReady most keeper.old → OnOk result (IsReady most keeper.new) }
+    requires heard { Hears (2 ^ 61) (frame_of frame) (whole session.old) }
+    ensures arrived { (start : Start) (journal : Journal) (before : World) → StandsFor start before journal → IsAdmitted before (frame_of frame.entry) (whole session.old) →
+        OnOk result (LeadsTo start (arrives first_methods start journal (frame_of frame.entry)) (whole session.new) journal outbox.old outbox.new) }
+    ensures running { (most : ℕ) (before : World) → IsRunning most before → IsAdmitted before (frame_of frame.entry) (whole session.old) →
+        OnOk result (IsRunning (most + 4098) (whole session.new)) }
     ensures begins { Begins outbox.old outbox.new }
 {
-    journal_laws(keeper);
-    knowing_laws(keeper);
     match frame.kind {
-        FrameKind::Turn => turn(keeper, number_in(frame.bytes), outbox),
-        FrameKind::Pick => pick(keeper, frame.endpoint, outbox),
-        FrameKind::Message => Ok(()),
-        FrameKind::Close => Ok(()),
-        FrameKind::Refused => Ok(()),
+        FrameKind::Message => send_message(session, frame),
+        FrameKind::Close => send(session, frame.endpoint, Parcel::hang_up()),
+        FrameKind::Turn => {
+            session.turn(frame.endpoint, number_in(frame.bytes), outbox)?;
+            Ok(())
+        }
+        FrameKind::Pick => {
+            session.pick(frame.endpoint, outbox)?;
+            Ok(())
+        }
+        FrameKind::Refused => unreachable!(),
     }
+}
+
+/// Puts the message of a frame behind all that waits on its endpoint.
+fn send_message(session: &mut Session, frame: FrameView<'_>) -> Result<(), NoMemory>
+    requires room { CanWait (whole session.old) }
+    ensures { OnOk result (WaitsLast (whole session.old) frame.entry.endpoint (message frame.entry.bytes.now (handle_numbers frame.entry.handles)) (whole session.new)) }
+{
+    let room = mem::replace(&mut session.room, Vec::new(session.alloc));
+    let parcel = Parcel::of_message(session.alloc, room, frame)?;
+    send(session, frame.endpoint, parcel)
+}
+
+/// Puts what was sent behind all that waits on its endpoint. It takes a place.
+fn send(session: &mut Session, endpoint: u32, parcel: Parcel) -> Result<(), NoMemory>
+    requires room { CanWait (whole session.old) }
+    ensures { OnOk result (WaitsLast (whole session.old) endpoint parcel (whole session.new)) }
+{
+    let sent = Sent {
+        place: session.places,
+        endpoint,
+        parcel,
+        origin: None,
+    };
+    session.queues.push(sent)?;
+    session.places += 1;
+    Ok(())
 }
 
 /// The number of 32 bits that some bytes begin with.
@@ -76,9 +102,26 @@ fn number_in(bytes: &[u8]) -> u32
     LittleEndian::read_u32(bytes)
 }
 
-/// Answers a frame that is refused.
+/// Answers a frame that is refused. It takes a place.
+fn refuse(
+    session: &mut Session,
+    endpoint: u32,
+    why: Refusal,
+    outbox: &mut Outbox,
+) -> Result<(), NoMemory>
+    requires places { session.old.places ≤ 2 ^ 61 }
+    ensures place { OnOk result (whole session.new ≡ record (whole session.old) { places = session.old.places + 1 }) }
+    ensures written { OnOk result (outbox.new ≡ outbox.old ++ spelling (refused_frame endpoint why)) }
+    ensures begins { Begins outbox.old outbox.new }
+{
+    write_refusal(endpoint, why, outbox)?;
+    session.places += 1;
+    Ok(())
+}
+
+/// Writes that a frame is refused, or for want of memory nothing.
 #[tactic(auto, unfolding(fidl_names::specs::Numbers::number_bytes))]
-fn refuse(endpoint: u32, why: Refusal, outbox: &mut Outbox) -> Result<(), NoMemory>
+fn write_refusal(endpoint: u32, why: Refusal, outbox: &mut Outbox) -> Result<(), NoMemory>
     ensures written { OnOk result (outbox.new ≡ outbox.old ++ spelling (refused_frame endpoint why)) }
     ensures no_memory { OnErr result (outbox.new ≡ outbox.old) }
 {

@@ -1,11 +1,8 @@
-//! A session over one server: frames are accepted and served, and what is written is what the session's journal stands for.
+//! A session over all servers of a start: frames are accepted and served, and what is written is what the session's journal stands for.
 #![tactic(auto)]
 
 mod arriving;
-mod laws;
-mod serving;
-#[cfg(test)]
-mod tests;
+mod beginning;
 mod world;
 
-pub use world::{World, WorldFault};
+pub use world::{Picked, World, WorldFault};

@@ -1,4 +1,4 @@
-ghost use Rattle.std.specs.Prelude.{◌≡◌, ◌<◌, ◌+◌, ◌^◌, ℕ, true, false, [], IfOk, IfErr, OnOk, OnErr, Ok, Err, length};
+ghost use Rattle.std.specs.Prelude.{◌≡◌, ◌<◌, ◌+◌, ◌^◌, ℕ, true, false, [], None, IfOk, IfErr, OnOk, OnErr, Ok, Err, is_ok, if◌then◌else◌, length};
 ghost use Rattle.endpoint_link.specs.Frames.{IsFrame};
 ghost use Rattle.endpoint_link.specs.declared.kinds.Side.TheVariants as side;
 ghost use Rattle.endpoint_link.specs.Views.{frame_of};
@@ -6,20 +6,19 @@ ghost use Rattle.conn_rules.specs.Built.{first_methods};
 ghost use Rattle.vfs_journal.specs.Entries.{Journal};
 ghost use Rattle.vfs_journal.specs.History.{waiting};
 ghost use Rattle.vfs_journal.specs.Past.{history_of};
-ghost use Rattle.vfs_journal.specs.Session.{arrives, drained};
+ghost use Rattle.vfs_journal.specs.Session.{arrives, drained, head, oldest, picked, turned};
 ghost use Rattle.vfs_journal.specs.Starts.{Start, start_of};
-ghost use Rattle.vfs_world.specs.World.{LeadsTo, StandsFor};
+ghost use Rattle.vfs_session.specs.Servings.{served_in};
+ghost use Rattle.vfs_session.specs.World.{LeadsTo, StandsFor};
 
 use crate::arriving::arrive;
-use crate::serving::drain;
+use crate::beginning::begin;
 use endpoint_link::{FrameView, Outbox};
 use fidl_names::NoMemory;
 use fidl_wire::Ordinals;
-use journal_laws::{starts_are_known, starts_are_sound};
 use std::alloc::Global;
 use std::marker::Model;
-use vfs_keeping::Keeper;
-use vfs_start::begin;
+use vfs_session::Session;
 
 /// Why a call of a world did nothing.
 #[derive(Clone, Copy, Debug, PartialEq, Eq)]
@@ -30,54 +29,49 @@ pub enum WorldFault {
     Spent,
 }
 
-/// A session over one server.
+/// Whether a Pick served an entry.
+#[derive(Clone, Copy, Debug, PartialEq, Eq)]
+pub enum Picked {
+    Served,
+    /// Nothing of that endpoint can be served.
+    Idle,
+}
+
+/// A session over all servers of a start.
 #[derive(Drop)]
 pub struct World {
-    keeper: Keeper,
+    session: Session,
     spent: bool,
     frames: u64,
 }
 
 impl Model for World {
-    ghost use Rattle.vfs_world.specs.Codes.{world_code};
-    ghost use Rattle.vfs_world.specs.World.{World};
+    ghost use Rattle.vfs_session.specs.Codes.{world_code};
+    ghost use Rattle.vfs_session.specs.Running.{IsWithin, whole};
+    ghost use Rattle.vfs_session.specs.World as worlds;
 
-    ghost Value = { World };
+    ghost Value = { worlds.World };
 
     ghost coded = { world_code };
 
-    ghost view = { λ world. record { keeping = world.keeper; spent = world.spent; frames = world.frames } };
+    ghost view = { λ world. record (whole world.session) { spent = world.spent; frames = world.frames } };
 
-    ghost use Rattle.vfs_world.specs.Steps.{IsWithin};
-
-    ghost invariant = { λ world. IsWithin world.keeper world.spent world.frames };
+    ghost invariant = { λ world. IsWithin (whole world.session) world.spent world.frames };
 }
 
 impl World {
-    /// The session of a start with one server and no mounts, before its first frame.
+    /// The session of an accepted start, before its first frame.
     pub fn new(
         alloc: Global,
         ordinals: Ordinals,
         start: &tree_file::Start,
     ) -> Result<World, NoMemory>
-        requires one { length start.now.servers ≡ 1 }
-        requires mounts { start.now.mounts ≡ [] }
         ensures stands { IfOk result (λ world. StandsFor (start_of start.now) world []) }
         ensures frames { IfOk result (λ world. world.frames ≡ 0) }
     {
-        start.keeps_rules();
-        starts_are_sound();
-        starts_are_known();
-        let beginning = begin(alloc, start)?;
-        let keeper = Keeper::new(
-            alloc,
-            ordinals,
-            beginning.graph,
-            beginning.slots,
-            beginning.endpoints,
-        )?;
+        let session = begin(alloc, ordinals, start)?;
         Ok(World {
-            keeper,
+            session,
             spent: false,
             frames: 0,
         })
@@ -90,7 +84,7 @@ impl World {
         requires few { self.old.frames < 2 ^ 48 }
         ensures arrived { (start : Start) (journal : Journal) → StandsFor start self.old journal →
             OnOk result (LeadsTo start (arrives first_methods start journal (frame_of frame.entry)) self.new journal outbox.old outbox.new) }
-        ensures frames { OnOk result (self.new.frames ≡ self.old.frames + 1) }
+        ensures frames { self.new.frames ≡ (if is_ok result then self.old.frames + 1 else self.old.frames) }
         ensures able { OnOk result (self.new.spent ≡ false) }
         ensures memory { result ≡ Err WorldFault.NoMemory → (self.old.spent ≡ false) × (self.new.spent ≡ true) }
         ensures spent { self.old.spent ≡ true → (result ≡ Err WorldFault.Spent) × (self.new ≡ self.old) }
@@ -101,13 +95,74 @@ impl World {
             return Err(fault);
         }
         let begun = outbox.len();
-        if let Err(NoMemory) = arrive(&mut self.keeper, frame, outbox) {
+        if let Err(NoMemory) = arrive(&mut self.session, frame, outbox) {
             outbox.truncate(begun);
             self.spent = true;
             return Err(WorldFault::NoMemory);
         }
         self.frames += 1;
         Ok(())
+    }
+
+    /// Serves the oldest entries of a server's endpoints, at most `n`, and tells how many it served: fewer
+    /// only where nothing more of that server can be served. Its endpoints are those that are bound at it.
+    pub fn turn(&mut self, server: u32, n: u32, outbox: &mut Outbox) -> Result<u32, WorldFault>
+        requires server { server < self.old.queues.servers }
+        ensures turned { (start : Start) (journal : Journal) → StandsFor start self.old journal →
+            OnOk result (LeadsTo start (turned first_methods start server n journal) self.new journal outbox.old outbox.new) }
+        ensures number { (start : Start) (journal : Journal) → StandsFor start self.old journal →
+            IfOk result (λ done. served_in journal + done ≡ served_in (turned first_methods start server n journal)) }
+        ensures fewer { (start : Start) (journal : Journal) → StandsFor start self.old journal →
+            IfOk result (λ done. done < n → oldest start (history_of first_methods start (turned first_methods start server n journal)) server ≡ None) }
+        ensures idle { (start : Start) (journal : Journal) → StandsFor start self.old journal → oldest start (history_of first_methods start journal) server ≡ None → result ≡ Ok 0 }
+        ensures frames { self.new.frames ≡ self.old.frames }
+        ensures able { OnOk result (self.new.spent ≡ false) }
+        ensures memory { result ≡ Err WorldFault.NoMemory → (self.old.spent ≡ false) × (self.new.spent ≡ true) }
+        ensures spent { self.old.spent ≡ true → (result ≡ Err WorldFault.Spent) × (self.new ≡ self.old) }
+        ensures only_spent { result ≡ Err WorldFault.Spent → self.old.spent ≡ true }
+        ensures silent { OnErr result (outbox.new ≡ outbox.old) }
+    {
+        if let Err(fault) = self.able() {
+            return Err(fault);
+        }
+        let begun = outbox.len();
+        match self.session.turn(server, n, outbox) {
+            Ok(done) => Ok(done),
+            Err(NoMemory) => {
+                outbox.truncate(begun);
+                self.spent = true;
+                Err(WorldFault::NoMemory)
+            }
+        }
+    }
+
+    /// Serves the first entry of an endpoint, or tells that nothing of it can be served: it isn't bound, or
+    /// nothing waits on it.
+    pub fn pick(&mut self, endpoint: u32, outbox: &mut Outbox) -> Result<Picked, WorldFault>
+        ensures picked { (start : Start) (journal : Journal) → StandsFor start self.old journal →
+            OnOk result (LeadsTo start (picked first_methods start endpoint journal) self.new journal outbox.old outbox.new) }
+        ensures idle { (start : Start) (journal : Journal) → StandsFor start self.old journal → head start (history_of first_methods start journal) endpoint ≡ None → result ≡ Ok Picked.Idle }
+        ensures only_idle { (start : Start) (journal : Journal) → StandsFor start self.old journal → result ≡ Ok Picked.Idle → head start (history_of first_methods start journal) endpoint ≡ None }
+        ensures frames { self.new.frames ≡ self.old.frames }
+        ensures able { OnOk result (self.new.spent ≡ false) }
+        ensures memory { result ≡ Err WorldFault.NoMemory → (self.old.spent ≡ false) × (self.new.spent ≡ true) }
+        ensures spent { self.old.spent ≡ true → (result ≡ Err WorldFault.Spent) × (self.new ≡ self.old) }
+        ensures only_spent { result ≡ Err WorldFault.Spent → self.old.spent ≡ true }
+        ensures silent { OnErr result (outbox.new ≡ outbox.old) }
+    {
+        if let Err(fault) = self.able() {
+            return Err(fault);
+        }
+        let begun = outbox.len();
+        match self.session.pick(endpoint, outbox) {
+            Ok(true) => Ok(Picked::Served),
+            Ok(false) => Ok(Picked::Idle),
+            Err(NoMemory) => {
+                outbox.truncate(begun);
+                self.spent = true;
+                Err(WorldFault::NoMemory)
+            }
+        }
     }
 
     /// Serves all that can be served. Nothing waits then.
@@ -128,7 +183,7 @@ impl World {
             return Err(fault);
         }
         let begun = outbox.len();
-        if let Err(NoMemory) = drain(&mut self.keeper, outbox) {
+        if let Err(NoMemory) = self.session.drain(outbox) {
             outbox.truncate(begun);
             self.spent = true;
             return Err(WorldFault::NoMemory);
@@ -147,11 +202,18 @@ impl World {
         Ok(())
     }
 
+    /// How many servers there are.
+    pub fn servers(&self) -> u32
+        ensures { result ≡ self.now.queues.servers }
+    {
+        self.session.queues.servers()
+    }
+
     /// How many entries wait.
     pub fn waiting(&self) -> u32
         ensures waiting { (start : Start) (journal : Journal) → StandsFor start self.now journal → result ≡ length (waiting (history_of first_methods start journal)) }
     {
-        self.keeper.waiting()
+        self.session.queues.len()
     }
 
     /// How many frames were accepted.

@@ -1,4 +1,4 @@
-use Rattle.std.proofs.Common.{◌≡◌, ℕ, false, List, [], ◌∷◌, Some, None, refl}
+use Rattle.std.proofs.Common.{◌≡◌, ℕ, false, List, [], ◌∷◌, None, refl}
 use Rattle.std.specs.Prelude.{codes}
 use Rattle.fidl_names.specs.declared.methods.Method.TheVariants as method
 use Rattle.endpoint_link.specs.declared.kinds.Mode.TheVariants as mode
@@ -11,6 +11,7 @@ use Rattle.io_rights.specs.Operations.{all}
 use Rattle.node_graph.specs.declared.nodes.NodeKind.TheVariants.{File}
 use Rattle.node_graph.specs.Tree.{make, new_row, cut, fill}
 use Rattle.conn_rules.specs.Answers.{Act, only, replies, binds, nothing_told}
+use Rattle.conn_rules.specs.Answers as news
 use Rattle.conn_rules.specs.Births.{fresh}
 use Rattle.conn_rules.specs.NameRows.{name_in}
 use Rattle.vfs_journal.specs.History.{History}
@@ -75,7 +76,7 @@ module _
   request_2 = asks.unlink (codes "f") 0
 
   abbrev act_2 : Act
-  act_2 = record { answer = replies (done method.Unlink); position = fresh; change = cut (name_in 2 (codes "f")); told = record { removed = Some (name_in 2 (codes "f")); added = None; deleted = None } }
+  act_2 = record { answer = replies (done method.Unlink); position = fresh; change = cut (name_in 2 (codes "f")); told = news.removed (name_in 2 (codes "f")) ∷ [] }
 
   acts_2 : Does two_servers (was_sent (request_sent past_1 bound_3 unlinking []) ∷ past_1) bound_3 request_2 act_2
   unfolding looked_through
@@ -123,7 +124,7 @@ module _
   request_5 = asks.open_path (codes "d/f") 0x20800000012 None 4
 
   abbrev act_5 : Act
-  act_5 = record { answer = binds bound_4.birth false; position = fresh; change = make (name_in 2 (codes "f")) (new_row File) all; told = record { removed = None; added = Some (name_in 2 (codes "f")); deleted = None } }
+  act_5 = record { answer = binds bound_4.birth false; position = fresh; change = make (name_in 2 (codes "f")) (new_row File) all; told = news.added (name_in 2 (codes "f")) ∷ [] }
 
   acts_5 : Does two_servers (was_sent (request_sent past_4 root making (4 ∷ [])) ∷ past_4) root request_5 act_5
   unfolding looked_through

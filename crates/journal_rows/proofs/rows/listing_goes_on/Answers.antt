@@ -1,4 +1,4 @@
-use Rattle.std.proofs.Common.{◌≡◌, ℕ, List, [], ◌∷◌, ◌++◌, Some, None, refl}
+use Rattle.std.proofs.Common.{◌≡◌, ℕ, List, [], ◌∷◌, ◌++◌, refl}
 use Rattle.std.specs.Prelude.{codes}
 use Rattle.fidl_names.specs.declared.methods.Method.TheVariants as method
 use Rattle.endpoint_link.specs.declared.kinds.Mode.TheVariants as mode
@@ -8,6 +8,7 @@ use Rattle.io_messages.specs.declared.protocols.Protocol.TheVariants as protocol
 use Rattle.io_messages.specs.Replies.{done, payload}
 use Rattle.node_graph.specs.Tree.{cut}
 use Rattle.conn_rules.specs.Answers.{Act, only, replies}
+use Rattle.conn_rules.specs.Answers as news
 use Rattle.conn_rules.specs.Births.{after_name}
 use Rattle.conn_rules.specs.NameRows.{name_in}
 use Rattle.vfs_journal.specs.History.{History}
@@ -43,7 +44,7 @@ module _
   request_1 = asks.unlink (codes "echo") 0
 
   abbrev act_1 : Act
-  act_1 = record { answer = replies (done method.Unlink); position = record { offset = 0; place = after_name (codes "echo") }; change = cut (name_in 1 (codes "echo")); told = record { removed = Some (name_in 1 (codes "echo")); added = None; deleted = None } }
+  act_1 = record { answer = replies (done method.Unlink); position = record { offset = 0; place = after_name (codes "echo") }; change = cut (name_in 1 (codes "echo")); told = news.removed (name_in 1 (codes "echo")) ∷ [] }
 
   acts_1 : Does two_servers (was_sent (request_sent past_0 root unlinking []) ∷ past_0) root request_1 act_1
   unfolding looked_through

@@ -1,4 +1,4 @@
-use Rattle.std.proofs.Common.{◌≡◌, ℕ, false, List, [], ◌∷◌, Some, None, refl}
+use Rattle.std.proofs.Common.{◌≡◌, ℕ, false, List, [], ◌∷◌, None, refl}
 use Rattle.std.specs.Prelude.{codes}
 use Rattle.fidl_names.specs.declared.methods.Method.TheVariants as method
 use Rattle.endpoint_link.specs.declared.kinds.Mode.TheVariants as mode
@@ -9,6 +9,7 @@ use Rattle.io_messages.specs.Replies.{done, settled}
 use Rattle.io_rights.specs.declared.operations.Operation.TheVariants as op
 use Rattle.node_graph.specs.Tree.{cut}
 use Rattle.conn_rules.specs.Answers.{Act, only, replies, binds, watches, silent}
+use Rattle.conn_rules.specs.Answers as news
 use Rattle.conn_rules.specs.Births.{fresh}
 use Rattle.conn_rules.specs.Built.{everything}
 use Rattle.conn_rules.specs.NameRows.{name_in}
@@ -84,7 +85,7 @@ module _
   request_3 = asks.unlink (codes "f") 0
 
   abbrev act_3 : Act
-  act_3 = record { answer = replies (done method.Unlink); position = fresh; change = cut (name_in 2 (codes "f")); told = record { removed = Some (name_in 2 (codes "f")); added = None; deleted = None } }
+  act_3 = record { answer = replies (done method.Unlink); position = fresh; change = cut (name_in 2 (codes "f")); told = news.removed (name_in 2 (codes "f")) ∷ [] }
 
   acts_3 : Does two_servers (was_sent (request_sent past_2 bound_2 unlinking []) ∷ past_2) bound_2 request_3 act_3
   unfolding looked_through

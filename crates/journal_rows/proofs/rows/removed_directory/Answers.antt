@@ -1,4 +1,4 @@
-use Rattle.std.proofs.Common.{◌≡◌, ℕ, false, List, [], ◌∷◌, Some, None, refl}
+use Rattle.std.proofs.Common.{◌≡◌, ℕ, false, List, [], ◌∷◌, None, refl}
 use Rattle.std.specs.Prelude.{codes}
 use Rattle.fidl_names.specs.declared.methods.Method.TheVariants as method
 use Rattle.fidl_names.specs.declared.statuses.Status.TheVariants as status
@@ -11,6 +11,7 @@ use Rattle.io_rights.specs.declared.operations.Operation.TheVariants as op
 use Rattle.node_graph.specs.Tree.{cut}
 use Rattle.path_walk.specs.Names.{dot}
 use Rattle.conn_rules.specs.Answers.{Act, only, replies, binds, watches, refuses}
+use Rattle.conn_rules.specs.Answers as news
 use Rattle.conn_rules.specs.Births.{fresh, after_dot}
 use Rattle.conn_rules.specs.NameRows.{name_in}
 use Rattle.vfs_journal.specs.History.{History}
@@ -70,7 +71,7 @@ module _
   request_2 = asks.unlink (codes "f") 0
 
   abbrev act_2 : Act
-  act_2 = record { answer = replies (done method.Unlink); position = fresh; change = cut (name_in 2 (codes "f")); told = record { removed = Some (name_in 2 (codes "f")); added = None; deleted = None } }
+  act_2 = record { answer = replies (done method.Unlink); position = fresh; change = cut (name_in 2 (codes "f")); told = news.removed (name_in 2 (codes "f")) ∷ [] }
 
   acts_2 : Does two_servers (was_sent (request_sent past_1 bound_2 first []) ∷ past_1) bound_2 request_2 act_2
   unfolding looked_through
@@ -86,7 +87,7 @@ module _
   request_3 = asks.unlink (codes "d") 1
 
   abbrev act_3 : Act
-  act_3 = record { answer = replies (done method.Unlink); position = fresh; change = cut (name_in 1 (codes "d")); told = record { removed = Some (name_in 1 (codes "d")); added = None; deleted = Some 2 } }
+  act_3 = record { answer = replies (done method.Unlink); position = fresh; change = cut (name_in 1 (codes "d")); told = news.removed (name_in 1 (codes "d")) ∷ news.deleted 2 ∷ [] }
 
   acts_3 : Does two_servers (was_sent (request_sent past_2 root second []) ∷ past_2) root request_3 act_3
   unfolding looked_through

@@ -1,4 +1,4 @@
-use Rattle.std.proofs.Common.{◌≡◌, ℕ, false, List, [], ◌∷◌, Some, None, refl}
+use Rattle.std.proofs.Common.{◌≡◌, ℕ, false, List, [], ◌∷◌, None, refl}
 use Rattle.std.specs.Prelude.{codes}
 use Rattle.fidl_names.specs.declared.methods.Method.TheVariants as method
 use Rattle.fidl_names.specs.declared.statuses.Status.TheVariants as status
@@ -13,6 +13,7 @@ use Rattle.io_rights.specs.declared.operations.Operation.TheVariants as op
 use Rattle.node_graph.specs.Tree.{move}
 use Rattle.tree_file.specs.Numbering.{end_of_mount}
 use Rattle.conn_rules.specs.Answers.{Act, only, replies, binds, forwards, refuses}
+use Rattle.conn_rules.specs.Answers as news
 use Rattle.conn_rules.specs.Births.{fresh}
 use Rattle.conn_rules.specs.Built.{everything}
 use Rattle.conn_rules.specs.NameRows.{name_in}
@@ -229,7 +230,7 @@ module _
   request_8_0 = asks.rename (codes "g") 0x80000000 (codes "h")
 
   abbrev act_8_0 : Act
-  act_8_0 = record { answer = replies (done method.Rename); position = fresh; change = move (name_in 1 (codes "g")) (name_in 1 (codes "h")); told = record { removed = Some (name_in 1 (codes "g")); added = Some (name_in 1 (codes "h")); deleted = None } }
+  act_8_0 = record { answer = replies (done method.Rename); position = fresh; change = move (name_in 1 (codes "g")) (name_in 1 (codes "h")); told = news.removed (name_in 1 (codes "g")) ∷ news.added (name_in 1 (codes "h")) ∷ [] }
 
   acts_8_0 : Does two_servers past_7 bound_4 request_8_0 act_8_0
   unfolding looked_through

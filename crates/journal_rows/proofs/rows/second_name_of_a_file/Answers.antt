@@ -1,4 +1,4 @@
-use Rattle.std.proofs.Common.{◌≡◌, ℕ, false, List, [], ◌∷◌, Some, None, refl}
+use Rattle.std.proofs.Common.{◌≡◌, ℕ, false, List, [], ◌∷◌, None, refl}
 use Rattle.std.specs.Prelude.{codes}
 use Rattle.fidl_names.specs.declared.methods.Method.TheVariants as method
 use Rattle.endpoint_link.specs.declared.kinds.Mode.TheVariants as mode
@@ -10,6 +10,7 @@ use Rattle.io_rights.specs.declared.operations.Operation.TheVariants as op
 use Rattle.io_rights.specs.Operations.{all}
 use Rattle.node_graph.specs.Tree.{add, cut}
 use Rattle.conn_rules.specs.Answers.{Act, only, replies, binds}
+use Rattle.conn_rules.specs.Answers as news
 use Rattle.conn_rules.specs.Births.{fresh}
 use Rattle.conn_rules.specs.NameRows.{name_in}
 use Rattle.vfs_journal.specs.History.{History}
@@ -70,7 +71,7 @@ module _
   request_2 = asks.link (codes "f") 0x80000000 (codes "g")
 
   abbrev act_2 : Act
-  act_2 = record { answer = replies (settled method.Link); position = fresh; change = add (name_in 2 (codes "g")) (record { child = 3; mask = all }); told = record { removed = None; added = Some (name_in 2 (codes "g")); deleted = None } }
+  act_2 = record { answer = replies (settled method.Link); position = fresh; change = add (name_in 2 (codes "g")) (record { child = 3; mask = all }); told = news.added (name_in 2 (codes "g")) ∷ [] }
 
   acts_2 : Does two_servers (was_sent (request_sent past_1 bound_2 linking (0x80000000 ∷ [])) ∷ past_1) bound_2 request_2 act_2
   unfolding looked_through
@@ -86,7 +87,7 @@ module _
   request_3 = asks.unlink (codes "f") 0
 
   abbrev act_3 : Act
-  act_3 = record { answer = replies (done method.Unlink); position = fresh; change = cut (name_in 2 (codes "f")); told = record { removed = Some (name_in 2 (codes "f")); added = None; deleted = None } }
+  act_3 = record { answer = replies (done method.Unlink); position = fresh; change = cut (name_in 2 (codes "f")); told = news.removed (name_in 2 (codes "f")) ∷ [] }
 
   acts_3 : Does two_servers (was_sent (request_sent past_2 bound_2 unlinking []) ∷ past_2) bound_2 request_3 act_3
   unfolding looked_through

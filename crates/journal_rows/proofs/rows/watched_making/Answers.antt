@@ -1,4 +1,4 @@
-use Rattle.std.proofs.Common.{◌≡◌, ℕ, false, List, [], ◌∷◌, ◌++◌, Some, None, refl}
+use Rattle.std.proofs.Common.{◌≡◌, ℕ, false, List, [], ◌∷◌, ◌++◌, None, refl}
 use Rattle.std.specs.Prelude.{codes}
 use Rattle.fidl_names.specs.declared.methods.Method.TheVariants as method
 use Rattle.endpoint_link.specs.declared.kinds.Mode.TheVariants as mode
@@ -12,6 +12,7 @@ use Rattle.node_graph.specs.declared.nodes.NodeKind.TheVariants.{File}
 use Rattle.node_graph.specs.Tree.{make, new_row}
 use Rattle.path_walk.specs.Names.{dot}
 use Rattle.conn_rules.specs.Answers.{Act, only, binds, watches}
+use Rattle.conn_rules.specs.Answers as news
 use Rattle.conn_rules.specs.Births.{fresh}
 use Rattle.conn_rules.specs.NameRows.{name_in}
 use Rattle.vfs_journal.specs.History.{History}
@@ -74,7 +75,7 @@ module _
   request_2 = asks.open_path (codes "b") 0x20800000000 None 4
 
   abbrev act_2 : Act
-  act_2 = record { answer = binds bound_4.birth false; position = fresh; change = make (name_in 2 (codes "b")) (new_row File) all; told = record { removed = None; added = Some (name_in 2 (codes "b")); deleted = None } }
+  act_2 = record { answer = binds bound_4.birth false; position = fresh; change = make (name_in 2 (codes "b")) (new_row File) all; told = news.added (name_in 2 (codes "b")) ∷ [] }
 
   acts_2 : Does two_servers (was_sent (request_sent past_1 bound_2 making (4 ∷ [])) ∷ past_1) bound_2 request_2 act_2
   unfolding looked_through

@@ -1,4 +1,4 @@
-use Rattle.std.proofs.Common.{◌≡◌, ℕ, false, List, [], ◌∷◌, Some, None, refl}
+use Rattle.std.proofs.Common.{◌≡◌, ℕ, false, List, [], ◌∷◌, None, refl}
 use Rattle.std.specs.Prelude.{codes}
 use Rattle.fidl_names.specs.declared.methods.Method.TheVariants as method
 use Rattle.endpoint_link.specs.declared.kinds.Mode.TheVariants as mode
@@ -9,6 +9,7 @@ use Rattle.io_messages.specs.Replies.{done, settled, token}
 use Rattle.io_rights.specs.declared.operations.Operation.TheVariants as op
 use Rattle.node_graph.specs.Tree.{move}
 use Rattle.conn_rules.specs.Answers.{Act, only, replies, binds, watches}
+use Rattle.conn_rules.specs.Answers as news
 use Rattle.conn_rules.specs.Births.{fresh}
 use Rattle.conn_rules.specs.NameRows.{name_in}
 use Rattle.vfs_journal.specs.History.{History}
@@ -81,7 +82,7 @@ module _
   request_3 = asks.rename (codes "f") 0x80000000 (codes "g")
 
   abbrev act_3 : Act
-  act_3 = record { answer = replies (done method.Rename); position = fresh; change = move (name_in 2 (codes "f")) (name_in 2 (codes "g")); told = record { removed = Some (name_in 2 (codes "f")); added = Some (name_in 2 (codes "g")); deleted = None } }
+  act_3 = record { answer = replies (done method.Rename); position = fresh; change = move (name_in 2 (codes "f")) (name_in 2 (codes "g")); told = news.removed (name_in 2 (codes "f")) ∷ news.added (name_in 2 (codes "g")) ∷ [] }
 
   acts_3 : Does two_servers (was_sent (request_sent past_2 bound_2 renaming (0x80000000 ∷ [])) ∷ past_2) bound_2 request_3 act_3
   unfolding looked_through

@@ -1,7 +1,7 @@
 use Rattle.std.proofs.Common.{◌++◌, ap, sym, ◌∙◌, arith}
 use Rattle.std.proofs.lemmas.List.{take_all}
 use Rattle.vfs_journal.specs.Entries.{handles_of}
-use Rattle.message_queues.specs.Parcels.{numbers_of}
+use Rattle.vfs_journal.specs.Handles.{numbers_of}
 use Rattle.vfs_session.proofs.Carried.{carried_all, carried_of}
 use Rattle.vfs_session.proofs.deaths.add_carried.Goals as goal
 

@@ -1,5 +1,5 @@
 use Rattle.std.proofs.Common.{◌≡◌, ◌++◌, take}
-use Rattle.message_queues.specs.Parcels.{numbers_of}
+use Rattle.vfs_journal.specs.Handles.{numbers_of}
 use Rattle.vfs_session.proofs.Carried.{carried_of}
 use Rattle.vfs_session.proofs.deaths.add_carried.Given as goal
 

@@ -1,36 +1,75 @@
-use Rattle.std.proofs.Common.{ℕ, sym, subst}
-use Rattle.std.specs.Result.{OnOk}
-use Rattle.conn_rules.specs.Built.{first_methods}
+use Rattle.std.proofs.Common.{◌^◌, subst}
 use Rattle.endpoint_link.specs.Views.{frame_of}
-use Rattle.vfs_journal.specs.Entries.{Journal}
-use Rattle.vfs_journal.specs.Session.{turned}
-use Rattle.vfs_world.specs.Steps.{Leads}
-use Rattle.vfs_world.proofs.Heard.{hang_up_on, message_on, pick_is, pick_keeps, turn_is, turn_keeps}
+use Rattle.vfs_journal.specs.Entries.{Sending}
+use Rattle.vfs_session.specs.Running.{whole}
+use Rattle.vfs_world.specs.Steps.{WaitsLast}
+use Rattle.vfs_world.proofs.Answered.{on_ok}
+use Rattle.vfs_world.proofs.Hearing.{hang_up_can_wait, hang_up_lasts, hang_up_leads, message_can_wait, message_lasts, message_leads, pick_on, pick_same, runs_now, runs_on, turn_on, turn_same}
 use Rattle.vfs_world.proofs.arriving.perform.Goals as goal
+
+pub send_message-requires : goal.send_message-requires
+send_message-requires c = record { room = message_can_wait c.requires.heard.before (whole c.args.session.now) (frame_of c.args.frame) c.requires.heard.running c.requires.heard.admitted c.in-Message.is }
+
+pub send-requires : goal.send-requires
+send-requires c = record { room = hang_up_can_wait c.requires.heard.before (whole c.args.session.now) (frame_of c.args.frame) c.requires.heard.running c.requires.heard.admitted c.in-Close.is }
+
+pub turn-requires : goal.turn-requires
+turn-requires c =
+    let heard = c.requires.heard in
+    record { running = runs_now (2 ^ 61) heard.before (whole c.args.session.now) (turn_same heard.before (whole c.args.session.now) (frame_of c.args.frame) c.in-Turn.is heard.admitted) heard.running }
+
+pub pick-requires : goal.pick-requires
+pick-requires c =
+    let heard = c.requires.heard in
+    record { running = runs_now (2 ^ 61) heard.before (whole c.args.session.now) (pick_same heard.before (whole c.args.session.now) (frame_of c.args.frame) c.in-Pick.is heard.admitted) heard.running }
 
 pub returns-in-Message-clause-arrived : goal.returns-in-Message-clause-arrived
 returns-in-Message-clause-arrived c =
-    λ start journal before keeps hears admits.
-    message_on c.journal_laws.ensures c.knowing_laws.ensures start journal before (frame_of c.args.frame) c.args.keeper.now c.args.outbox.now keeps c.requires.frame c.in-Message.is admits hears
+    λ start journal before stands admitted.
+    on_ok c.send_message.result
+    (message_leads c.requires.heard.running.apart start journal before (whole c.args.session.now) (whole c.send_message.new.session) (frame_of c.args.frame) c.args.outbox.now stands c.requires.frame c.in-Message.is admitted)
+    c.send_message.ensures
+
+pub returns-in-Message-clause-running : goal.returns-in-Message-clause-running
+returns-in-Message-clause-running c =
+    λ most before runs admitted.
+    on_ok c.send_message.result
+    (message_lasts most before (whole c.args.session.now) (whole c.send_message.new.session) (frame_of c.args.frame) runs c.requires.frame c.in-Message.is admitted) c.send_message.ensures
 
 pub returns-in-Close-clause-arrived : goal.returns-in-Close-clause-arrived
 returns-in-Close-clause-arrived c =
-    λ start journal before keeps hears admits.
-    hang_up_on c.journal_laws.ensures c.knowing_laws.ensures start journal before (frame_of c.args.frame) c.args.keeper.now c.args.outbox.now keeps c.requires.frame c.in-Close.is admits hears
+    λ start journal before stands admitted.
+    on_ok c.send.result
+    (λ waits. hang_up_leads c.requires.heard.running.apart start journal before (whole c.args.session.now) (whole c.send.new.session) (frame_of c.args.frame) c.args.outbox.now stands c.requires.frame c.in-Close.is admitted
+    (subst (λ (sending : Sending). WaitsLast (whole c.args.session.now) c.args.frame.endpoint sending (whole c.send.new.session)) c.hang_up.ensures waits)) c.send.ensures
 
-pub returns-in-Turn-clause-arrived : goal.returns-in-Turn-clause-arrived
-returns-in-Turn-clause-arrived c =
-    λ start journal before keeps hears admits.
-    let frame = frame_of c.args.frame in
-    let turned_so = subst (λ (times : ℕ). OnOk c.turn.result (Leads start (turned first_methods start 0 times journal) c.turn.new.keeper journal c.args.outbox.now c.turn.new.outbox)) c.number_in.ensures
-    (c.turn.ensures.turned start journal (turn_keeps start journal before frame c.args.keeper.now keeps hears c.in-Turn.is)) in
-    subst (λ (later : Journal). OnOk c.turn.result (Leads start later c.turn.new.keeper journal c.args.outbox.now c.turn.new.outbox))
-    (sym (turn_is c.knowing_laws.ensures start journal before frame keeps c.in-Turn.is admits)) turned_so
+pub returns-in-Close-clause-running : goal.returns-in-Close-clause-running
+returns-in-Close-clause-running c =
+    λ most before runs admitted.
+    on_ok c.send.result
+    (λ waits. hang_up_lasts most before (whole c.args.session.now) (whole c.send.new.session) (frame_of c.args.frame) runs c.requires.frame c.in-Close.is admitted
+    (subst (λ (sending : Sending). WaitsLast (whole c.args.session.now) c.args.frame.endpoint sending (whole c.send.new.session)) c.hang_up.ensures waits)) c.send.ensures
 
-pub returns-in-Pick-clause-arrived : goal.returns-in-Pick-clause-arrived
-returns-in-Pick-clause-arrived c =
-    λ start journal before keeps hears admits.
-    let frame = frame_of c.args.frame in
-    subst (λ (later : Journal). OnOk c.pick.result (Leads start later c.pick.new.keeper journal c.args.outbox.now c.pick.new.outbox))
-    (sym (pick_is c.knowing_laws.ensures start journal before frame keeps c.in-Pick.is admits))
-    (c.pick.ensures.picked start journal (pick_keeps start journal before frame c.args.keeper.now keeps hears c.in-Pick.is))
+pub returns-in_ok-turn-in-Turn-clause-arrived : goal.returns-in_ok-turn-in-Turn-clause-arrived
+returns-in_ok-turn-in-Turn-clause-arrived c =
+    λ start journal before stands admitted.
+    turn_on c.requires.heard.running.apart start journal before (whole c.args.session.now) (whole c.turn.new.self) (frame_of c.args.frame) c.number_in.result _ c.args.outbox.now c.turn.new.outbox stands c.in-Turn.is admitted c.number_in.ensures
+    c.in_ok-turn-in-Turn.ensures.turned
+
+pub returns-in_ok-turn-in-Turn-clause-running : goal.returns-in_ok-turn-in-Turn-clause-running
+returns-in_ok-turn-in-Turn-clause-running c =
+    λ most before runs admitted.
+    runs_on most (whole c.turn.new.self)
+    (c.in_ok-turn-in-Turn.ensures.running most (runs_now most before (whole c.args.session.now) (turn_same before (whole c.args.session.now) (frame_of c.args.frame) c.in-Turn.is admitted) runs))
+
+pub returns-in_ok-pick-in-Pick-clause-arrived : goal.returns-in_ok-pick-in-Pick-clause-arrived
+returns-in_ok-pick-in-Pick-clause-arrived c =
+    λ start journal before stands admitted.
+    pick_on c.requires.heard.running.apart start journal before (whole c.args.session.now) (whole c.pick.new.self) (frame_of c.args.frame) c.args.outbox.now c.pick.new.outbox stands c.in-Pick.is admitted
+    c.in_ok-pick-in-Pick.ensures.picked
+
+pub returns-in_ok-pick-in-Pick-clause-running : goal.returns-in_ok-pick-in-Pick-clause-running
+returns-in_ok-pick-in-Pick-clause-running c =
+    λ most before runs admitted.
+    runs_on most (whole c.pick.new.self)
+    (c.in_ok-pick-in-Pick.ensures.running most (runs_now most before (whole c.args.session.now) (pick_same before (whole c.args.session.now) (frame_of c.args.frame) c.in-Pick.is admitted) runs))

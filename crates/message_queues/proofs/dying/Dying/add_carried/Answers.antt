@@ -4,7 +4,7 @@ use Rattle.std.proofs.Math.ListN.{length-map}
 use Rattle.std.proofs.lemmas.List.{take_all}
 use Rattle.fidl_names.specs.HandleNumber.{is_client, number_of_handle}
 use Rattle.vfs_journal.specs.Entries.{Sent, endpoints_in}
-use Rattle.message_queues.specs.Parcels.{numbers_of}
+use Rattle.vfs_journal.specs.Handles.{numbers_of}
 use Rattle.message_queues.specs.Steps.{Adds}
 use Rattle.message_queues.proofs.Spread.{adds_none, adds_passed, adds_failed}
 use Rattle.message_queues.proofs.dying.Dying.add_carried.Goals as goal

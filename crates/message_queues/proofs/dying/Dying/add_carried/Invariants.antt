@@ -1,7 +1,7 @@
 use Rattle.std.proofs.Common.{take}
 use Rattle.std.specs.Prelude.{filter}
 use Rattle.fidl_names.specs.HandleNumber.{is_client}
-use Rattle.message_queues.specs.Parcels.{numbers_of}
+use Rattle.vfs_journal.specs.Handles.{numbers_of}
 use Rattle.message_queues.specs.Steps.{Adds}
 use Rattle.message_queues.proofs.dying.Dying.add_carried.Given as goal
 

@@ -1,15 +1,16 @@
-use Rattle.std.proofs.Common.{rules, sym, subst, IsTrue, OnErr}
-use Rattle.endpoint_link.specs.declared.kinds.Mode.TheVariants as mode
+use Rattle.std.proofs.Common.{rules, sym, subst, IsTrue, OnOk}
+use Rattle.vfs_program.specs.Serving.{HeardEnd}
 use Rattle.vfs_program.specs.Session.{Course}
-use Rattle.vfs_program.specs.TreeSession.{tree_course}
-use Rattle.vfs_program.proofs.ServingLemmas.{retold_end}
 use Rattle.vfs_program.proofs.TreeLemmas.{drains_last, may_starve}
 use Rattle.vfs_program.proofs.tree_session.TreeSessionSession.finish.Goals as goal
 
 pub returns-clause-heard : goal.returns-clause-heard
 returns-clause-heard c = λ course frames behind.
-    retold_end course (tree_course behind.0 mode.Auto) behind.1 frames _ _
-    (drains_last behind.0 mode.Auto c.args.self.now.world c.drain.new.self frames c.args.self.now.outbox c.drain.new.outbox (c.in-Ok.ensures.drained behind.0) behind.2)
+    let by = c.args.self.now.mode in
+    subst (λ (k : Course). OnOk c.drain.result (HeardEnd k frames c.args.self.now.outbox c.drain.new.outbox)) (sym behind.1)
+    (drains_last c.drain.result behind.0 by c.args.self.now.world c.drain.new.world frames c.args.self.now.outbox c.drain.new.outbox (c.drain.ensures.drained behind.0) behind.2)
 
-pub returns-in_default-clause-memory : goal.returns-in_default-clause-memory
-returns-in_default-clause-memory c = λ course frames behind. subst (λ (k : Course). IsTrue k.starves) (sym behind.1) (may_starve behind.0 mode.Auto)
+pub returns-clause-memory : goal.returns-clause-memory
+returns-clause-memory c = λ course frames behind.
+    let may : IsTrue course.starves = subst (λ (k : Course). IsTrue k.starves) (sym behind.1) (may_starve behind.0 c.args.self.now.mode) in
+    search rules

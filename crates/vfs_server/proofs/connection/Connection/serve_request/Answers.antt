@@ -2,7 +2,7 @@ use Rattle.std.proofs.Common.{IfOk, Ok, subst, sym}
 use Rattle.io_messages.specs.Asked.{asked}
 use Rattle.conn_rules.specs.Shared.{CanBeBound}
 use Rattle.conn_rules.specs.Built.{first_methods}
-use Rattle.vfs_journal.specs.Serving.{outcome_of_read, token_of}
+use Rattle.vfs_journal.specs.Serving.{outcome_of_read}
 use Rattle.vfs_server.specs.Steps.{Answers, DoesGiven, IsAskedAt, connection_of}
 use Rattle.vfs_server.proofs.Answering.{binds_no_watcher, ok_map, request_answers}
 use Rattle.vfs_server.proofs.connection.Connection.serve_request.Goals as goal
@@ -21,7 +21,7 @@ returns-clause-answers c server moment asks =
     request_answers server c.args.asking.now c.self.inside.conn c.self.invariant can moment here
     (c.kept_nodes_are_rows.ensures c.args.asking.now.graph.now moment.tree _ here.tree can.named).kind
     c.args.txid (asked c.args.request) c.serve-served.result c.serve-served.new.out (connection_of c.serve-served.new.self)
-    (c.serve-served.ensures.acts moment.tree (moment.directory (token_of (asked c.args.request))) here.tree)
+    (c.serve-served.ensures.acts moment.tree moment.directory here.tree)
     c.serve-served.ensures.bound fate c.answer.new.out c.args.outbox.now c.answer.new.outbox
     (subst (λ object. DoesGiven c.args.asking.now.endpoint object c.serve-served.result c.serve-served.new.out fate c.answer.new.out c.args.outbox.now c.answer.new.outbox) c.object_of-object.ensures does))
     c.answer.ensures.does)

@@ -4,10 +4,11 @@ use Rattle.std.specs.FinMap as finite
 use Rattle.conn_rules.specs.Births.{Connection}
 use Rattle.conn_rules.specs.Built.{first_methods}
 use Rattle.vfs_journal.specs.Entries.{message}
+use Rattle.vfs_journal.specs.Handles.{numbers_of}
 use Rattle.vfs_journal.specs.Serving.{outcome_of_sending}
 use Rattle.vfs_server.specs.Kept.{IsSound}
 use Rattle.vfs_server.specs.Servers.{Server, seen}
-use Rattle.vfs_server.specs.Serving.{IsMomentOf, Serves, numbers_of}
+use Rattle.vfs_server.specs.Serving.{IsMomentOf, Serves}
 use Rattle.vfs_server.proofs.Held.{sound_served}
 use Rattle.vfs_server.proofs.Servings.{is_connected, server_of, serves_message, some_of}
 use Rattle.vfs_server.proofs.server.Server.serve.Goals as goal

@@ -1,0 +1,8 @@
+//! Outside values of connections to files and to directories, and the tests that read them.
+//! They stand in a crate of their own, since a crate with tests is proved a second time with them.
+#![tactic(auto)]
+
+#[cfg(test)]
+mod directories;
+#[cfg(test)]
+mod files;

@@ -1,0 +1,11 @@
+use Rattle.std.proofs.Common.{ℕ, ◌-◌, ◌^◌}
+use Rattle.vfs_session.specs.Running.{whole}
+use Rattle.vfs_session.specs.Servings.{IsOldestOfAll}
+use Rattle.vfs_session.proofs.OneMore.{AreDone}
+use Rattle.vfs_session.proofs.session.Session.drain.Given as goal
+
+abbrev pub invariant-loop-endpoint : goal.invariant-loop-endpoint
+invariant-loop-endpoint l = (done : ℕ) × AreDone IsOldestOfAll done (whole l.initial.self) (whole l.self) l.initial.outbox l.outbox
+
+abbrev pub decreases-loop-endpoint : goal.decreases-loop-endpoint
+decreases-loop-endpoint l = 2 ^ 61 - l.self.places

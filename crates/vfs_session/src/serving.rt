@@ -1,0 +1,66 @@
+//! Servings: of one entry, and one after another.
+
+ghost use Rattle.std.specs.Prelude.{◌≡◌, ◌^◌, ℕ, false, IfOk, OnOk, Ok};
+ghost use Rattle.message_queues.specs.Oldest.{IsBound, IsBoundAt, NothingWaits};
+ghost use Rattle.message_queues.specs.Queues.{IsReady};
+ghost use Rattle.vfs_session.specs.Running.{whole};
+ghost use Rattle.vfs_session.specs.Servings.{IsDrain, IsPick, IsTurn, ServesOne};
+ghost use Rattle.vfs_session.specs.Steps.{Begins, IsRunning};
+
+use crate::session::Session;
+use endpoint_link::Outbox;
+use fidl_names::NoMemory;
+
+impl Session {
+    /// Serves the oldest entries of a server's endpoints, at most so many, and tells how many it served.
+    /// Memory is wanting only where something can be served.
+    pub fn turn(&mut self, server: u32, times: u32, outbox: &mut Outbox) -> Result<u32, NoMemory>
+        requires running { IsRunning (2 ^ 61) (whole self.old) }
+        ensures turned { IfOk result (λ done. IsTurn server times done (whole self.old) (whole self.new) outbox.old outbox.new) }
+        ensures idle { NothingWaits self.old.queues (IsBoundAt self.old.queues server) → result ≡ Ok 0 }
+        ensures running { (most : ℕ) → IsRunning most (whole self.old) → OnOk result (IsRunning most (whole self.new)) }
+        ensures begins { Begins outbox.old outbox.new }
+    {
+        for done in 0..times {
+            let Some(endpoint) = self.queues.oldest(server) else {
+                return Ok(done);
+            };
+            self.serve_head(endpoint, outbox)?;
+        }
+        Ok(times)
+    }
+
+    /// Serves the first entry of an endpoint, if that is bound and something waits on it, and tells
+    /// whether it did. Memory is wanting only where there is one to serve.
+    pub fn pick(&mut self, endpoint: u32, outbox: &mut Outbox) -> Result<bool, NoMemory>
+        requires running { IsRunning (2 ^ 61) (whole self.old) }
+        ensures picked { OnOk result (IsPick endpoint (whole self.old) (whole self.new) outbox.old outbox.new) }
+        ensures idle { ¬ (IsReady self.old.queues endpoint) → result ≡ Ok false }
+        ensures only_idle { result ≡ Ok false → ¬ (IsReady self.old.queues endpoint) }
+        ensures running { (most : ℕ) → IsRunning most (whole self.old) → OnOk result (IsRunning most (whole self.new)) }
+        ensures begins { Begins outbox.old outbox.new }
+    {
+        match (self.queues.server_of(endpoint), self.queues.first(endpoint)) {
+            (Some(_), Some(_)) => {
+                self.serve_head(endpoint, outbox)?;
+                Ok(true)
+            }
+            _ => Ok(false),
+        }
+    }
+
+    /// Serves the oldest entries of all, until nothing is left that can be served. Memory is wanting only
+    /// where something can be served.
+    pub fn drain(&mut self, outbox: &mut Outbox) -> Result<(), NoMemory>
+        requires running { IsRunning (2 ^ 61) (whole self.old) }
+        ensures drained { OnOk result (IsDrain (whole self.old) (whole self.new) outbox.old outbox.new) }
+        ensures idle { NothingWaits self.old.queues (IsBound self.old.queues) → result ≡ Ok tt }
+        ensures running { (most : ℕ) → IsRunning most (whole self.old) → OnOk result (IsRunning most (whole self.new)) }
+        ensures begins { Begins outbox.old outbox.new }
+    {
+        while let Some(endpoint) = self.queues.next() {
+            self.serve_head(endpoint, outbox)?;
+        }
+        Ok(())
+    }
+}

@@ -1,0 +1,23 @@
+//! What a session keeps.
+
+use endpoint_link::Endpoints;
+use fidl_wire::{Ordinals, Out};
+use message_queues::Queues;
+use std::alloc::Global;
+use vfs_server::Server;
+
+/// The servers by their indexes, what waits, what is known of endpoints and tokens, and how many places of
+/// the journal are taken.
+#[derive(Drop)]
+pub struct Session {
+    pub alloc: Global,
+    pub ordinals: Ordinals,
+    pub servers: Vec<Server>,
+    pub queues: Queues,
+    pub endpoints: Endpoints,
+    pub places: u64,
+    /// Where an answer is put together, and an Open that goes on.
+    pub out: Out,
+    /// Where the bytes of the message were that was served last. The next one's go there.
+    pub room: Vec<u8>,
+}

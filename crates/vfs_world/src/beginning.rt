@@ -1,0 +1,112 @@
+//! What a session begins with: the servers of a start, and what is bound from the first on.
+
+ghost use Rattle.std.specs.Prelude.{◌≡◌, ◌++◌, [], IfOk, OnOk, map};
+ghost use Rattle.conn_rules.specs.Built.{first_methods};
+ghost use Rattle.tree_file.specs.Accepted.{AreAccepted};
+ghost use Rattle.vfs_journal.specs.Starts.{start_of};
+ghost use Rattle.vfs_journal.specs.View.{view_of};
+ghost use Rattle.journal_laws.specs.Knowing.{Knows};
+ghost use Rattle.vfs_session.specs.Holding.{HoldsEach, HoldsQueues};
+ghost use Rattle.vfs_session.specs.Running.{whole};
+ghost use Rattle.vfs_session.specs.World.{StandsFor};
+ghost use Rattle.vfs_world.specs.Beginning.{BindsJust};
+
+use endpoint_link::Endpoints;
+use fidl_names::{FIRST_MOUNT_END, NoMemory};
+use fidl_wire::{Ordinals, Out};
+use message_queues::Queues;
+use std::alloc::Global;
+use tree_file::Start;
+use vfs_server::Server;
+use vfs_session::Session;
+
+// The servers, by their indexes.
+fn begin_servers(alloc: Global, start: &Start) -> Result<Vec<Server>, NoMemory>
+    ensures { IfOk result (λ servers. HoldsEach (view_of first_methods (start_of start.now) []) servers.items) }
+{
+    let mut servers = Vec::new(alloc);
+    for index in 0..start.servers() {
+        let server = Server::begin(alloc, start, index)?;
+        servers.push(server)?;
+    }
+    Ok(servers)
+}
+
+// Binds the first connections, in the order of the file.
+fn bind_clients(start: &Start, queues: &mut Queues) -> Result<(), NoMemory>
+    requires accepted { AreAccepted start.now }
+    requires none { BindsJust (start_of start.now) [] queues.old }
+    ensures { OnOk result (BindsJust (start_of start.now) (start_of start.now).firsts queues.new) }
+{
+    for item in 0..start.clients() {
+        let client = start.client_at(item);
+        queues.bind(client.endpoint, client.server)?;
+    }
+    Ok(())
+}
+
+// Binds the ends of the mounts behind the first connections, each at its target.
+fn bind_mounts(start: &Start, queues: &mut Queues) -> Result<(), NoMemory>
+    requires accepted { AreAccepted start.now }
+    requires firsts { BindsJust (start_of start.now) (start_of start.now).firsts queues.old }
+    ensures { OnOk result (BindsJust (start_of start.now) ((start_of start.now).firsts ++ (start_of start.now).mounts) queues.new) }
+{
+    for item in 0..start.mounts() {
+        let mount = start.mount_at(item);
+        queues.bind(FIRST_MOUNT_END + item, mount.target)?;
+    }
+    Ok(())
+}
+
+// Nothing waits, and first connections and the ends of mounts are bound.
+fn begin_queues(alloc: Global, start: &Start) -> Result<Queues, NoMemory>
+    requires accepted { AreAccepted start.now }
+    ensures { IfOk result (HoldsQueues (view_of first_methods (start_of start.now) [])) }
+{
+    let mut queues = Queues::new(alloc, start.servers());
+    bind_clients(start, &mut queues)?;
+    bind_mounts(start, &mut queues)?;
+    Ok(queues)
+}
+
+// The endpoints of the first connections, in the order of the file.
+fn first_endpoints(alloc: Global, start: &Start) -> Result<Vec<u32>, NoMemory>
+    ensures { IfOk result (λ endpoints. endpoints.items ≡ map (λ bound. bound.endpoint) (start_of start.now).firsts) }
+{
+    let mut endpoints = Vec::new(alloc);
+    for item in 0..start.clients() {
+        let client = start.client_at(item);
+        endpoints.push(client.endpoint)?;
+    }
+    Ok(endpoints)
+}
+
+// What is known of endpoints: those of first connections and of mounts live.
+fn known_endpoints(alloc: Global, start: &Start) -> Result<Endpoints, NoMemory>
+    requires accepted { AreAccepted start.now }
+    ensures { IfOk result (Knows (start_of start.now) []) }
+{
+    let firsts = first_endpoints(alloc, start)?;
+    Endpoints::new(alloc, &firsts, start.mounts(), start.servers())
+}
+
+/// The session of an accepted start, before its first frame.
+pub(crate) fn begin(alloc: Global, ordinals: Ordinals, start: &Start) -> Result<Session, NoMemory>
+    ensures { IfOk result (λ session. StandsFor (start_of start.now) (whole session) []) }
+{
+    start.keeps_rules();
+    let servers = begin_servers(alloc, start)?;
+    let queues = begin_queues(alloc, start)?;
+    let endpoints = known_endpoints(alloc, start)?;
+    let out = Out::new(alloc)?;
+    Ok(Session {
+        alloc,
+        ordinals,
+        servers,
+        queues,
+        endpoints,
+        places: 0,
+        out,
+        room: Vec::new(alloc),
+    })
+}
