@@ -1,4 +1,4 @@
-//! Outside values of connections to files and to directories, and the tests that read them.
+//! Outside values of connections to files and to directories, of references and of the echo service, and the tests that read them.
 //! They stand in a crate of their own, since a crate with tests is proved a second time with them.
 #![tactic(auto)]
 
@@ -6,3 +6,5 @@
 mod directories;
 #[cfg(test)]
 mod files;
+#[cfg(test)]
+mod references;

@@ -35,3 +35,6 @@ fresh = record { offset = 0; place = start }
 pub record Connection : Type 0 where
   pub birth : code.Birth
   pub position : Position
+
+abbrev pub connection_with : code.Birth → Position → Connection
+connection_with birth position = record { birth = birth; position = position }

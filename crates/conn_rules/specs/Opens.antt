@@ -24,7 +24,6 @@ use Rattle.path_walk.specs.Paths.{path_fault, names_of}
 use Rattle.conn_rules.specs.declared.births.Room.{Room}
 use Rattle.conn_rules.specs.Births.{Birth, Position}
 use Rattle.conn_rules.specs.Answers.{Answer, binds, forwards, added, Act, only, failure_of, nothing_told}
-use Rattle.conn_rules.specs.Built.{Built}
 use Rattle.conn_rules.specs.Contexts.{Context}
 use Rattle.conn_rules.specs.Nodes.{kind_here, is_file, is_service}
 use Rattle.fidl_names.specs.First.{cause_if, first_of}
@@ -33,11 +32,10 @@ use Rattle.conn_rules.specs.Walks.{Walk, arrives, missing, crosses, stops, walk,
 
 -- ---- refusals
 
--- before the walk: a fault of the flags, what isn't built, a fault of the path, and rights that the connection lacks
-abbrev pub entry_refusals : Built → Birth → ℕ → List ℕ → List (Option Status)
-entry_refusals built birth word path =
+-- before the walk: a fault of the flags, a fault of the path, and rights that the connection lacks
+abbrev pub entry_refusals : Birth → ℕ → List ℕ → List (Option Status)
+entry_refusals birth word path =
     option_map status_of (flag_fault word)
-    ∷ cause_if (not (built.words word)) status.NotSupported
     ∷ cause_if (is_some (path_fault path)) status.InvalidArgs
     ∷ cause_if (not (bytes_eq path dot) && lacks birth.rights (single op.Traverse)) status.AccessDenied
     ∷ cause_if (lacks birth.rights (asked_rights word)) status.AccessDenied
@@ -73,12 +71,11 @@ abbrev pub is_full : Room → Bool
 is_full room = nat_le limit.MAX_CONNECTIONS room.connections
 
 -- of a node that is there
-abbrev pub arrival_refusals : Built → Room → ℕ → NodeKind → List (Option Status)
-arrival_refusals built room word kind =
+abbrev pub arrival_refusals : Room → ℕ → NodeKind → List (Option Status)
+arrival_refusals room word kind =
     cause_if (has word flag.MustCreate) status.AlreadyExists
     ∷ cause_if (is_other_kind word kind) (other_kind_status word)
     ∷ cause_if (marks_file word && not (is_file kind)) status.NotFile
-    ∷ cause_if (not (built.kinds kind)) status.NotSupported
     ∷ cause_if (connects_without_right word kind) status.AccessDenied
     ∷ cause_if (is_full room) status.NoResources
     ∷ []
@@ -138,7 +135,7 @@ making position tree word limit key =
 
 abbrev pub by_walk : Context → ℕ → Walk → Act
 by_walk context word (arrives node masks) =
-    unless (first_of (arrival_refusals context.built context.room word (kind_here context.tree node))) context.position method.OpenPath
+    unless (first_of (arrival_refusals context.room word (kind_here context.tree node))) context.position method.OpenPath
     (arrival context.position word (limit_of context.birth.rights masks) node (kind_here context.tree node))
 by_walk context word (missing directory name masks) =
     unless (first_of (making_refusals context.tree context.room word directory)) context.position method.OpenPath
@@ -149,5 +146,5 @@ by_walk context word (stops status) = only context.position (failure_of method.O
 
 abbrev pub open_act : Context → List ℕ → ℕ → Act
 open_act context path word =
-    unless (first_of (entry_refusals context.built context.birth word path)) context.position method.OpenPath
+    unless (first_of (entry_refusals context.birth word path)) context.position method.OpenPath
     (by_walk context word (walk context.tree word (names_of path) context.birth.node))

@@ -4,6 +4,8 @@
 #![tactic(auto)]
 
 mod births;
+mod changes;
+mod faults;
 mod laws;
 mod node_attributes;
 mod refusals;
@@ -11,6 +13,8 @@ mod rows;
 mod served;
 
 pub use births::{Birth, Room};
+pub use changes::{At, Changes};
+pub use faults::fault_status;
 pub use laws::kept_nodes_are_rows;
 pub use refusals::method_refusal;
 pub use rows::{fail, reply, serve_node};

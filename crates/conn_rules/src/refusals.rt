@@ -4,7 +4,7 @@ ghost use Rattle.std.specs.Prelude.{◌≡◌, ◌≢◌, true, IfSome};
 ghost use Rattle.io_messages.specs.Protocols.{has_method, home_of};
 ghost use Rattle.conn_rules.specs.Acts.{is_of_every_node, is_beyond, lacks_right, method_refusals};
 ghost use Rattle.conn_rules.specs.Births.{born};
-ghost use Rattle.conn_rules.specs.Built.{first_methods, is_first_method};
+ghost use Rattle.conn_rules.specs.Built.{today, is_method_of_today};
 ghost use Rattle.fidl_names.specs.First.{first_of};
 ghost use Rattle.conn_rules.specs.Shared.{can_fail};
 
@@ -16,7 +16,7 @@ use io_rights::needed;
 /// Why a method isn't served on a connection, whatever its arguments are: it is none of a node
 /// reference's, its right is wanting, or it isn't built yet; the first that holds.
 pub fn method_refusal(birth: &Birth, method: Method) -> Option<Status>
-    ensures first { result ≡ first_of (method_refusals first_methods (born birth.now) method) }
+    ensures first { result ≡ first_of (method_refusals today (born birth.now) method) }
     ensures status { IfSome result (λ status. status ≢ Status.Ok) }
     ensures form { birth.now.protocol ≢ Protocol.Echo → has_method birth.now.protocol method ≡ true → IfSome result (λ _. can_fail method ≡ true) }
 {
@@ -61,16 +61,15 @@ fn lacks_right(birth: &Birth, method: Method) -> bool
 
 /// The method is served today.
 fn is_built(method: Method) -> bool
-    ensures { result ≡ is_first_method method }
+    ensures { result ≡ is_method_of_today method }
 {
-    matches!(
+    !matches!(
         method,
-        Method::Clone
-            | Method::Close
-            | Method::Query
-            | Method::GetAttributes
-            | Method::Sync
-            | Method::OpenPath
-            | Method::Read
+        Method::ReadDirents
+            | Method::Rewind
+            | Method::GetToken
+            | Method::Rename
+            | Method::Link
+            | Method::Watch
     )
 }

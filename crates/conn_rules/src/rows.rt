@@ -5,24 +5,22 @@ ghost use Rattle.fidl_names.specs.declared.methods.Method.TheVariants as method;
 ghost use Rattle.fidl_wire.specs.Numbers.{padded};
 ghost use Rattle.fidl_wire.specs.Written.{Written};
 ghost use Rattle.io_messages.specs.Asked.{asked, method_of};
-ghost use Rattle.io_messages.specs.Asked as asks;
 ghost use Rattle.io_messages.specs.Protocols.{home_of};
 ghost use Rattle.io_messages.specs.Replies.{answered, payload};
 ghost use Rattle.io_messages.specs.ReplyWriting.{PayloadFits};
 ghost use Rattle.io_messages.specs.ReplyWriting as writing;
 ghost use Rattle.io_messages.specs.Requests.{has_txid};
 ghost use Rattle.io_messages.specs.Shapes.{is_one_way};
-ghost use Rattle.node_graph.specs.Graph.{Names, StandsFor, number_of};
+ghost use Rattle.node_graph.specs.Graph.{Kept, StandsFor};
 ghost use Rattle.node_graph.specs.Tree.{Tree};
-ghost use Rattle.conn_rules.specs.declared.births.Birth as code;
 ghost use Rattle.conn_rules.specs.Acts.{clone_act, is_of_every_node, row_act};
-ghost use Rattle.conn_rules.specs.Answers.{closes, failure_of, replies};
-ghost use Rattle.conn_rules.specs.Births.{Position, born};
+ghost use Rattle.conn_rules.specs.Answers.{closes, failure_of, only, replies};
+ghost use Rattle.conn_rules.specs.Births.{Connection, Position, born, connection_with};
 ghost use Rattle.conn_rules.specs.Built.{Built};
 ghost use Rattle.conn_rules.specs.Contexts.{context_with};
 ghost use Rattle.conn_rules.specs.Nodes.{attributes_of, protocol_name};
-ghost use Rattle.conn_rules.specs.Served.{Gives, HasNothing};
-ghost use Rattle.conn_rules.specs.Shared.{can_fail, IsCloneOf};
+ghost use Rattle.conn_rules.specs.Served.{HasNothing, IsAnswered};
+ghost use Rattle.conn_rules.specs.Shared.{CanBeBound, can_fail};
 
 use crate::births::{Birth, Room};
 use crate::node_attributes::attributes;
@@ -38,7 +36,9 @@ pub fn reply(ordinals: &Ordinals, txid: u32, reply: Reply<'_>, out: &mut Out) ->
     requires txid { 0 < txid }
     requires has { writing.HasReply (answered reply) }
     requires fits { PayloadFits (answered reply) }
-    ensures gives { Gives (replies (answered reply.entry)) txid result out.new }
+    ensures kind { result ≡ Served.Reply }
+    ensures served { (connection : Connection) (graph : Kept) →
+        IsAnswered (only connection.position (replies (answered reply.entry))) txid result out.new connection graph }
 {
     write_reply(ordinals, txid, reply, out);
     Served::Reply
@@ -51,7 +51,10 @@ pub fn fail(ordinals: &Ordinals, txid: u32, method: Method, status: Status, out:
     requires txid { has_txid (is_one_way method) txid ≡ true }
     requires form { can_fail method ≡ true }
     requires status { status ≢ Status.Ok }
-    ensures gives { Gives (failure_of method status) txid result out.new }
+    ensures served { (connection : Connection) (graph : Kept) →
+        IsAnswered (only connection.position (failure_of method status)) txid result out.new connection graph }
+    ensures memory { result ≢ Served.NoMemory }
+    ensures lives { (last : Status) → result ≢ Served.End last }
 {
     match method {
         Method::Clone | Method::OpenPath => Served::Refused(status),
@@ -63,7 +66,9 @@ pub fn fail(ordinals: &Ordinals, txid: u32, method: Method, status: Status, out:
 fn serve_close(ordinals: &Ordinals, txid: u32, out: &mut Out) -> Served
     requires empty { HasNothing out.old }
     requires txid { 0 < txid }
-    ensures gives { Gives closes txid result out.new }
+    ensures served { (connection : Connection) (graph : Kept) →
+        IsAnswered (only connection.position closes) txid result out.new connection graph }
+    ensures kind { result ≡ Served.ReplyEnd }
 {
     write_reply(ordinals, txid, Reply::Done(Method::Close), out);
     Served::ReplyEnd
@@ -72,10 +77,11 @@ fn serve_close(ordinals: &Ordinals, txid: u32, out: &mut Out) -> Served
 /// Serves Clone: the endpoint that it carries is bound like the connection, unless the server has
 /// as many connections as it may.
 fn serve_clone(birth: &Birth, room: Room) -> Served
-    ensures gives { (built : Built) (position : Position) (tree : Tree) (directory : ℕ → Option ℕ) (txid : ℕ) (out : Written) →
-        HasNothing out → Gives (clone_act (context_with built (born birth.now) position room tree directory)).answer txid result out }
-    ensures bound { (found : code.Birth) → result ≡ Served.Bind found → IsCloneOf birth.now found }
-    ensures kind { result ≢ Served.Reply × (result ≢ Served.ReplyEnd × result ≢ Served.NoMemory) }
+    ensures served { (built : Built) (position : Position) (tree : Tree) (directory : ℕ → Option ℕ) (txid : ℕ) (out : Written) (graph : Kept) →
+        HasNothing out → CanBeBound graph birth.now →
+        IsAnswered (clone_act (context_with built (born birth.now) position room tree directory)) txid result out (connection_with birth.now position) graph }
+    ensures memory { result ≢ Served.NoMemory }
+    ensures lives { (last : Status) → result ≢ Served.End last }
 {
     if room.is_full() {
         return Served::Refused(Status::NoResources);
@@ -90,7 +96,9 @@ fn serve_clone(birth: &Birth, room: Room) -> Served
 fn serve_query(ordinals: &Ordinals, txid: u32, protocol: Protocol, out: &mut Out) -> Served
     requires empty { HasNothing out.old }
     requires txid { 0 < txid }
-    ensures gives { Gives (replies (payload method.Query (protocol_name protocol))) txid result out.new }
+    ensures served { (connection : Connection) (graph : Kept) →
+        IsAnswered (only connection.position (replies (payload method.Query (protocol_name protocol)))) txid result out.new connection graph }
+    ensures kind { result ≡ Served.Reply }
 {
     reply(
         ordinals,
@@ -110,15 +118,14 @@ pub fn serve_node(
     request: &Request<'_>,
     out: &mut Out,
 ) -> Served
-    requires kept { Names graph.now birth.now.node }
+    requires can { CanBeBound graph.now birth.now }
     requires home { is_of_every_node (home_of (method_of (asked request.now))) ≡ true }
     requires txid { has_txid (is_one_way (method_of (asked request.now))) txid ≡ true }
     requires empty { HasNothing out.old }
-    ensures gives { (tree : Tree) → StandsFor graph.now tree → (built : Built) (position : Position) (directory : ℕ → Option ℕ) →
-        Gives (row_act (context_with built (born birth.now) position room tree directory) (asked request.now)).answer txid result out.new }
-    ensures bound { (found : code.Birth) → result ≡ Served.Bind found → IsCloneOf birth.now found × (method_of (asked request.now) ≡ method.Clone) }
-    ensures ends { result ≡ Served.ReplyEnd → asked request.now ≡ asks.close }
+    ensures served { (built : Built) (position : Position) (tree : Tree) (directory : ℕ → Option ℕ) → StandsFor graph.now tree →
+        IsAnswered (row_act (context_with built (born birth.now) position room tree directory) (asked request.now)) txid result out.new (connection_with birth.now position) graph.now }
     ensures memory { result ≢ Served.NoMemory }
+    ensures lives { (last : Status) → result ≢ Served.End last }
 {
     match request {
         Request::Clone { .. } => serve_clone(birth, room),

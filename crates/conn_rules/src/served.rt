@@ -12,6 +12,8 @@ pub enum Served {
     Bind(Birth),
     /// The endpoint that the request carries ends with this status.
     Refused(Status),
+    /// The connection's own endpoint ends with this status.
+    End(Status),
     /// Memory is wanting, and nothing was done.
     NoMemory,
 }

@@ -1,6 +1,6 @@
 pub mod Walking
-pub mod Limits
 pub mod Binding
-pub mod Acting
-pub mod Still
+pub mod Opening
+pub mod Making
+pub mod Unlinking
 pub mod Narrow

@@ -1,10 +1,15 @@
 -- Where a walk leads by its first name.
-use Rattle.std.proofs.Common.{◌≡◌, ◌≢◌, ℕ, List, [], ◌∷◌, drop, Some, None, refl, ap, ◌∙◌, rules}
-use Rattle.std.specs.List.{slice_get}
+use Rattle.std.proofs.Common.{◌≡◌, ◌≢◌, ℕ, Bool, true, false, ◌||◌, List, [], ◌∷◌, drop, map, Some, None, refl, ap, sym, ◌∙◌, arith, cond, rules}
+use Rattle.std.specs.Prelude.{◌==◌, unwrap_or}
+use Rattle.std.specs.List.{list_any, slice_get}
+use Rattle.std.specs.Ordering.{is_eq}
+use Rattle.std.specs.FinMap as finite
+use Rattle.std.specs.FinMap.Entries as entry
+use Rattle.std.proofs.lemmas.Bool.Decides.{nat_tests}
 use Rattle.fidl_names.specs.declared.statuses.Status.TheVariants as status
 use Rattle.io_rights.specs.Operations.{OperationSet}
 use Rattle.node_graph.specs.declared.nodes.NodeKind.{NodeKind}
-use Rattle.node_graph.specs.Tree.{Tree, EdgeTo}
+use Rattle.node_graph.specs.Tree.{Tree, EdgeKey, EdgeTo, Edges, edge_cmp, is_linked}
 use Rattle.conn_rules.specs.Nodes.{edge_at, kind_here}
 use Rattle.conn_rules.specs.Walks.{walk, last_step, inner_step, last_by_kind, inner_by_kind}
 use Rattle.dir_conn.specs.Reaches.{reach, at_node, at_nothing, nowhere}
@@ -26,7 +31,7 @@ walk_none tree word directory limit names e = rw e refl
 
 pub last_missing : (tree : Tree) (word directory : ℕ) (limit : OperationSet) (name : List ℕ) →
     edge_at tree (record { directory = directory; name = name }) ≡ None →
-    reach limit (walk tree word (name ∷ []) directory) ≡ at_nothing
+    reach limit (walk tree word (name ∷ []) directory) ≡ at_nothing directory name limit
 unfolding walk
 last_missing tree word directory limit name none =
     ap (λ edge. reach limit (last_step tree word directory name edge)) none
@@ -56,3 +61,27 @@ inner_found tree word directory limit name [] edge kind more found same = absurd
 inner_found tree word directory limit name (next ∷ rest) edge kind more found same =
     ap (λ edge. reach limit (inner_step tree word (next ∷ rest) edge (walk tree word (next ∷ rest)))) found
     ∙ ap (λ kind. reach limit (inner_by_kind word (next ∷ rest) edge kind (walk tree word (next ∷ rest) edge.child))) same
+
+-- ---- edges
+
+any_end : (number : ℕ) (key : EdgeKey) (to : EdgeTo) (es : List (EdgeKey × EdgeTo)) → entry.find edge_cmp key es ≡ Some to → to.child == number ≡ true →
+    list_any (λ (other : EdgeTo). other.child == number) (map (λ (e : EdgeKey × EdgeTo). e.1) es) ≡ true
+any_end number key to [] there is = absurd (cc)
+any_end number key to (e ∷ es) there is = by_test (is_eq (edge_cmp key e.0)) there (λ behind. any_end number key to es behind is)
+  where
+    or_true : (b : Bool) → (b || true) ≡ true
+    or_true true = refl
+    or_true false = refl
+
+    by_test : (b : Bool) → cond b (Some e.1) (entry.find edge_cmp key es) ≡ Some to →
+        (entry.find edge_cmp key es ≡ Some to → list_any (λ (other : EdgeTo). other.child == number) (map (λ (e : EdgeKey × EdgeTo). e.1) es) ≡ true) →
+        ((e.1.child == number) || list_any (λ (other : EdgeTo). other.child == number) (map (λ (e : EdgeKey × EdgeTo). e.1) es)) ≡ true
+    by_test true there rest = let same : e.1 ≡ to = ap (λ o. unwrap_or o to) there in rw (same, is) refl
+    by_test false there rest = rw (rest there) (or_true (e.1.child == number))
+
+-- where an edge ends a node is linked
+pub linked_by : (edges : Edges) (key : EdgeKey) (to : EdgeTo) → finite.get edges key ≡ Some to → is_linked edges to.child ≡ true
+linked_by edges key to there = any_end to.child key to (finite.entries edges) (sym (finite.get-entries edges key) ∙ there) (itself to.child)
+  where
+    itself : (n : ℕ) → n == n ≡ true
+    itself n = grind (arith, nat_tests)

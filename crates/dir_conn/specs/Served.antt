@@ -1,40 +1,48 @@
--- What a directory's connection answers, and what then stands in its output.
-use Rattle.std.specs.Prelude.{◌≡◌, ℕ}
+-- What a directory's connection answers, what then stands in its output, and what watchers are told.
+use Rattle.std.specs.Prelude.{◌≡◌, ℕ, List, Option, None}
 use Rattle.fidl_names.specs.declared.methods.Method.TheVariants as method
 use Rattle.fidl_wire.specs.Written.{Written}
-use Rattle.io_messages.specs.Replies.{done}
+use Rattle.io_messages.specs.Asked.{Asked}
+use Rattle.io_messages.specs.Asked as asks
+use Rattle.io_messages.specs.Replies.{done, settled}
+use Rattle.node_graph.specs.Graph.{Kept, Leads}
 use Rattle.conn_rules.specs.declared.births.Birth as code
-use Rattle.conn_rules.specs.Answers.{Answer, replies, closes, binds, forwards, refuses}
-use Rattle.conn_rules.specs.declared.served.Served.{Served}
-use Rattle.conn_rules.specs.declared.served.Served.TheVariants as node
-use Rattle.conn_rules.specs.Served.{HasReply, HasNothing, IsBirth}
+use Rattle.conn_rules.specs.declared.changes.Changes.{Changes}
+use Rattle.conn_rules.specs.Answers.{Act, Answer, Happening, nothing_told, replies, closes, binds, watches, forwards, refuses}
+use Rattle.conn_rules.specs.Births.{Connection}
+use Rattle.conn_rules.specs.Served.{HasReply, HasNothing, IsBirth, told_by}
+use Rattle.conn_rules.specs.Shared.{CanBeBound}
 use Rattle.dir_conn.specs.declared.served.DirServed.{DirServed}
 use Rattle.dir_conn.specs.declared.served.DirServed.TheVariants as served
 
--- the call gives this answer, in which no message is written
-abbrev pub Sends : Answer → DirServed → Type 0
-Sends (binds birth announced) result = (found : code.Birth) × (result ≡ served.Bind found) × IsBirth birth announced found
-Sends (forwards mount flags rest) result = result ≡ served.Forward mount flags rest
-Sends (refuses status) result = result ≡ served.Refused status
-Sends _ result = ⊥
-
--- an endpoint that the request carries is spoken of, and no message
-abbrev pub IsUnwritten : DirServed → Type 0
-IsUnwritten (served.Bind found) = Unit {0}
-IsUnwritten (served.Forward mount flags rest) = Unit {0}
-IsUnwritten (served.Refused status) = Unit {0}
-IsUnwritten _ = ⊥
-
 -- the call gives this answer to a request with this transaction id
 abbrev pub DirGives : Answer → ℕ → DirServed → Written → Type 0
-DirGives (replies a) txid result out = (result ≡ served.Reply) × HasReply txid a out
+DirGives (replies a) txid result out = ((changes : Changes) × (result ≡ served.Reply changes)) × HasReply txid a out
 DirGives closes txid result out = (result ≡ served.ReplyEnd) × HasReply txid (done method.Close) out
-DirGives answer txid result out = Sends answer result × HasNothing out
+DirGives (binds birth announced) txid result out =
+    ((found : code.Birth) × ((changes : Changes) × (result ≡ served.Bind found changes)) × IsBirth birth announced found) × HasNothing out
+DirGives (watches mask) txid result out = (result ≡ served.WatchBy mask) × HasReply txid (settled method.Watch) out
+DirGives (forwards mount flags rest) txid result out = (result ≡ served.Forward mount flags rest) × HasNothing out
+DirGives (refuses status) txid result out = (result ≡ served.Refused status) × HasNothing out
+DirGives _ txid result out = ⊥
 
--- what a connection of any kind of node answers is answered here too
-abbrev pub as_dir : Served → DirServed
-as_dir node.Reply = served.Reply
-as_dir node.ReplyEnd = served.ReplyEnd
-as_dir (node.Bind found) = served.Bind found
-as_dir (node.Refused status) = served.Refused status
-as_dir node.NoMemory = served.NoMemory
+-- what it tells for watchers
+abbrev pub told_with : DirServed → List Happening
+told_with (served.Reply changes) = told_by changes
+told_with (served.Bind birth changes) = told_by changes
+told_with _ = nothing_told
+
+-- a request is served as its act says: this is answered and told, the connection stands where the act leaves it, and the tree takes the
+-- act's change
+pub record IsDirServed (act : Act) (txid : ℕ) (result : DirServed) (out : Written) (new : Connection) (before after : Kept) : Type 0 where
+  pub answer : DirGives act.answer txid result out
+  pub told : act.told ≡ told_with result
+  pub position : new.position ≡ act.position
+  pub change : Leads before after act.change
+  pub bound : (found : code.Birth) (changes : Changes) → result ≡ served.Bind found changes → CanBeBound after found
+
+-- the directory that a request's token names; none where it has no token
+abbrev pub directory_named : (ℕ → Option ℕ) → Asked → Option ℕ
+directory_named directory (asks.rename src token dst) = directory token
+directory_named directory (asks.link src token dst) = directory token
+directory_named directory _ = None

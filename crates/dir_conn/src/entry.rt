@@ -8,16 +8,15 @@ ghost use Rattle.io_rights.specs.Operations.{is_within, single};
 ghost use Rattle.path_walk.specs.Names.{dot};
 ghost use Rattle.path_walk.specs.Paths.{names_of};
 ghost use Rattle.conn_rules.specs.Births.{born};
-ghost use Rattle.conn_rules.specs.Built.{first_methods, is_first_word};
 ghost use Rattle.conn_rules.specs.Opens.{entry_refusals};
 ghost use Rattle.fidl_names.specs.First.{first_of};
 ghost use Rattle.conn_rules.specs.Refusals.{lacks};
 
 use conn_rules::Birth;
 use fidl_names::Status;
-use io_flags::{Flag, OpenFlags, asked};
-use io_rights::{Operation, Rights, laws_of_rights};
-use path_walk::{Path, path_laws};
+use io_flags::{OpenFlags, asked};
+use io_rights::{Operation, Rights};
+use path_walk::Path;
 
 /// An Open that is refused by none of the tests before the walk.
 #[derive(Drop)]
@@ -27,21 +26,17 @@ pub(crate) struct Entered<'a> {
 }
 
 /// Tests what can be tested before the walk; the first refusal.
+#[tactic(auto, using(path_walk::proofs::PathLemmas::path_complete))]
 pub(crate) fn enter<'a>(birth: &Birth, text: &'a [u8], word: u64) -> Result<Entered<'a>, Status>
-    ensures refusal { result_err result ≡ first_of (entry_refusals first_methods (born birth.now) word text.now) }
+    ensures refusal { result_err result ≡ first_of (entry_refusals (born birth.now) word text.now) }
     ensures flags { IfOk result (λ entered. entered.flags ≡ word) }
     ensures path { IfOk result (λ entered. entered.path ≡ names_of text.now) }
-    ensures built { IfOk result (λ _. is_first_word word ≡ true) }
     ensures explicit { IfOk result (λ _. IsTrue (is_within (explicit_rights word) birth.now.rights)) }
 {
-    path_laws();
     let flags = match OpenFlags::check(word) {
         Ok(flags) => flags,
         Err(fault) => return Err(fault.status()),
     };
-    if !is_built(flags) {
-        return Err(Status::NotSupported);
-    }
     let path = match Path::check(text) {
         Ok(path) => path,
         Err(_) => return Err(Status::InvalidArgs),
@@ -52,23 +47,12 @@ pub(crate) fn enter<'a>(birth: &Birth, text: &'a [u8], word: u64) -> Result<Ente
     Ok(Entered { flags, path })
 }
 
-/// Nothing is created, appended to or truncated, and no node reference is asked for.
-#[tactic(auto, unfolding(conn_rules::specs::Built::is_first_word))]
-fn is_built(flags: OpenFlags) -> bool
-    ensures { result ≡ is_first_word flags }
-{
-    !(flags.creates()
-        || flags.has(Flag::FileAppend)
-        || flags.has(Flag::FileTruncate)
-        || flags.has(Flag::ProtocolNode))
-}
-
 /// A path other than `.` wants TRAVERSE, and every path what the flags ask for.
+#[tactic(auto, using(io_rights::proofs::OperationSets::within_trans))]
 fn lacks_rights(have: Rights, text: &[u8], flags: OpenFlags) -> bool
     ensures lacks { result ≡ ((not (bytes_eq text.now dot) && lacks have (single op.Traverse)) || lacks have (asked_rights flags)) }
     ensures explicit { result ≡ false → IsTrue (is_within (explicit_rights flags) have) }
 {
-    laws_of_rights();
     if text != b".".as_slice() && !Rights::of(Operation::Traverse).within(have) {
         return true;
     }

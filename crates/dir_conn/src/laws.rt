@@ -2,13 +2,7 @@
 
 ghost use Rattle.dir_conn.specs.Laws.{OpensOnlyNarrow};
 
-use io_flags::laws_of_flags;
-use io_rights::laws_of_rights;
-
 /// What an Open binds has no right that its connection lacks, and none that the mask of a name on its way lacks.
 pub fn opens_only_narrow()
     ensures { OpensOnlyNarrow }
-{
-    laws_of_rights();
-    laws_of_flags();
-}
+{}

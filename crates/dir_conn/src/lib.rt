@@ -5,9 +5,11 @@ mod arrive;
 mod conn;
 mod entry;
 mod laws;
+mod make;
 mod open;
 mod served;
 mod steps;
+mod unlink;
 mod walk;
 
 pub use conn::DirConn;

@@ -1,18 +1,19 @@
-ghost use Rattle.std.specs.Prelude.{◌≡◌, ◌≢◌, ℕ, ◌+◌, List, [], ◌∷◌, Some, IfSome, length, IsTrue, if◌then◌else◌};
+ghost use Rattle.std.specs.Prelude.{◌≡◌, ◌≢◌, ℕ, ◌+◌, false, List, [], ◌∷◌, None, Some, IfSome, length, IsTrue, if◌then◌else◌};
+ghost use Rattle.std.specs.FinMap as finite;
 ghost use Rattle.std.specs.Option.{option_map};
 ghost use Rattle.io_flags.specs.Grants.{explicit_rights};
 ghost use Rattle.io_rights.specs.Operations.{is_within, meet};
 ghost use Rattle.node_graph.specs.declared.nodes.NodeKind.TheVariants.{Directory};
 ghost use Rattle.node_graph.specs.Graph.{Kept, number_of, Names, kind_at, StandsFor};
 ghost use Rattle.node_graph.specs.Tree.{Tree};
-ghost use Rattle.conn_rules.specs.Nodes.{edge_at, kind_here};
+ghost use Rattle.path_walk.specs.Names.{IsName};
+ghost use Rattle.conn_rules.specs.Nodes.{edge_at, is_mount, kind_here};
 ghost use Rattle.conn_rules.specs.Walks.{Walk, walk, last_by_kind, inner_by_kind};
 ghost use Rattle.dir_conn.specs.Reaches.{reach, reached, leading, edge_of, IsKept, Stands, Arrived, GoesOn};
 
-use conn_rules::kept_nodes_are_rows;
 use fidl_names::Status;
 use io_flags::{OpenFlags, asked, explicit};
-use io_rights::{Operation, Rights, laws_of_rights};
+use io_rights::{Operation, Rights};
 use node_graph::{Graph, NodeKind, NodeRef};
 use path_walk::Path;
 
@@ -24,7 +25,11 @@ pub(crate) enum Walked<'a> {
         kind: NodeKind,
         limit: Rights,
     },
-    Missing,
+    Missing {
+        directory: NodeRef,
+        name: &'a [u8],
+        limit: Rights,
+    },
     Crosses {
         mount: u32,
         rest: Path<'a>,
@@ -60,7 +65,7 @@ pub(crate) fn take_name<'a>(graph: &Graph, flags: OpenFlags, spot: Spot, path: P
     requires stands { Stands graph.now flags spot }
     ensures leads { (tree : Tree) → StandsFor graph.now tree →
         leading result (walk tree flags) ≡ reach spot.limit (walk tree flags path.entry (number_of spot.directory)) }
-    ensures goes_on { GoesOn graph.now flags spot.limit (length path.entry) result }
+    ensures goes_on { GoesOn graph.now flags (length path.entry) result }
 {
     let name = match path.first() {
         Some(name) => name,
@@ -75,10 +80,8 @@ pub(crate) fn take_name<'a>(graph: &Graph, flags: OpenFlags, spot: Spot, path: P
 
 /// A path without names leads to the directory itself.
 fn stay<'a>(spot: Spot) -> Walked<'a>
-    ensures within { IsTrue (is_within spot.limit spot.limit) }
     ensures value { result ≡ Walked.Arrives spot.directory Directory spot.limit }
 {
-    laws_of_rights();
     Walked::Arrives {
         node: spot.directory,
         kind: NodeKind::Directory,
@@ -91,17 +94,22 @@ fn take_last<'a>(
     graph: &Graph,
     flags: OpenFlags,
     spot: Spot,
-    name: &[u8],
+    name: &'a [u8],
     end: Path<'a>,
 ) -> Walked<'a>
+    requires valid { IsName name.now }
     requires stands { Stands graph.now flags spot }
     requires end { end ≡ [] }
     ensures leads { (tree : Tree) → StandsFor graph.now tree →
         reached result ≡ reach spot.limit (walk tree flags (name.now ∷ []) (number_of spot.directory)) }
-    ensures arrived { Arrived graph.now flags spot.limit result }
+    ensures arrived { Arrived graph.now flags result }
 {
     match look(graph, spot.directory, name) {
-        None => Walked::Missing,
+        None => Walked::Missing {
+            directory: spot.directory,
+            name,
+            limit: spot.limit,
+        },
         Some(found) => last_name(flags, found, spot.limit, end),
     }
 }
@@ -118,7 +126,7 @@ fn take_inner<'a>(
     requires more { rest ≢ [] }
     ensures leads { (tree : Tree) → StandsFor graph.now tree →
         leading result (walk tree flags) ≡ reach spot.limit (walk tree flags (name.now ∷ rest.entry) (number_of spot.directory)) }
-    ensures goes_on { GoesOn graph.now flags spot.limit (length rest.entry + 1) result }
+    ensures goes_on { GoesOn graph.now flags (length rest.entry + 1) result }
 {
     match look(graph, spot.directory, name) {
         None => Step::Ends(Walked::Stops(Status::NotFound)),
@@ -130,7 +138,7 @@ fn take_inner<'a>(
 fn last_name<'a>(flags: OpenFlags, found: Found, limit: Rights, end: Path<'a>) -> Walked<'a>
     requires end { end ≡ [] }
     ensures leads { reached result ≡ reach limit (last_by_kind flags (edge_of found) found.kind) }
-    ensures arrived { (graph : Kept) → IsKept graph found → IsTrue (is_within (explicit_rights flags) limit) → Arrived graph flags limit result }
+    ensures arrived { (graph : Kept) → IsKept graph found → IsTrue (is_within (explicit_rights flags) limit) → Arrived graph flags result }
 {
     match found.kind {
         NodeKind::Mount(mount) => {
@@ -142,11 +150,12 @@ fn last_name<'a>(flags: OpenFlags, found: Found, limit: Rights, end: Path<'a>) -
 }
 
 /// A node is reached where the mask of its name has the rights that the flags name.
+#[tactic(auto, using(io_rights::proofs::OperationSets::within_meet))]
 fn arrive<'a>(flags: OpenFlags, found: Found, limit: Rights) -> Walked<'a>
+    requires crossed { is_mount found.kind ≡ false }
     ensures leads { result ≡ if is_within (explicit_rights flags) found.mask then Walked.Arrives found.node found.kind (meet limit found.mask) else Walked.Stops Status.AccessDenied }
-    ensures arrived { (graph : Kept) → IsKept graph found → IsTrue (is_within (explicit_rights flags) limit) → Arrived graph flags limit result }
+    ensures arrived { (graph : Kept) → IsKept graph found → IsTrue (is_within (explicit_rights flags) limit) → Arrived graph flags result }
 {
-    laws_of_rights();
     if explicit(flags).within(found.mask) {
         Walked::Arrives {
             node: found.node,
@@ -173,9 +182,8 @@ fn cross<'a>(wanted: Rights, mask: Rights, mount: u32, rest: Path<'a>, limit: Ri
 fn inner_name<'a>(flags: OpenFlags, found: Found, limit: Rights, rest: Path<'a>) -> Step<'a>
     ensures leads { (onward : List (List ℕ) → ℕ → Walk) →
         leading result onward ≡ reach limit (inner_by_kind flags rest.entry (edge_of found) found.kind (onward rest.entry (number_of found.node))) }
-    ensures goes_on { (graph : Kept) → IsKept graph found → IsTrue (is_within (explicit_rights flags) limit) → GoesOn graph flags limit (length rest.entry + 1) result }
+    ensures goes_on { (graph : Kept) → IsKept graph found → IsTrue (is_within (explicit_rights flags) limit) → GoesOn graph flags (length rest.entry + 1) result }
 {
-    laws_of_rights();
     let wanted = Rights::of(Operation::Traverse).join(asked(flags));
     let left = limit.meet(found.mask);
     match found.kind {
@@ -201,10 +209,10 @@ fn look(graph: &Graph, directory: NodeRef, name: &[u8]) -> Option<Found>
     requires directory { kind_at graph.now (number_of directory) ≡ Some Directory }
     ensures edge { (tree : Tree) → StandsFor graph.now tree →
         edge_at tree (record { directory = number_of directory; name = name.now }) ≡ option_map edge_of result }
+    ensures absent { result ≡ None → finite.get graph.now.edges (record { directory = number_of directory; name = name.now }) ≡ None }
     ensures row { IfSome result (λ found. (tree : Tree) → StandsFor graph.now tree → kind_here tree (number_of found.node) ≡ found.kind) }
     ensures kept { IfSome result (IsKept graph.now) }
 {
-    kept_nodes_are_rows();
     match graph.lookup(directory, name) {
         None => None,
         Some(entry) => Some(Found {

@@ -6,7 +6,6 @@ ghost use Rattle.dir_conn.specs.Reaches.{reach, reached, Stands, Arrived};
 
 use crate::steps::{Spot, Step, Walked, take_name};
 use io_flags::OpenFlags;
-use io_rights::laws_of_rights;
 use node_graph::Graph;
 use path_walk::Path;
 
@@ -15,9 +14,8 @@ pub(crate) fn walk<'a>(graph: &Graph, flags: OpenFlags, start: Spot, path: Path<
     requires stands { Stands graph.now flags start }
     ensures leads { (tree : Tree) → StandsFor graph.now tree →
         reached result ≡ reach start.limit (walk tree flags path.entry (number_of start.directory)) }
-    ensures arrived { Arrived graph.now flags start.limit result }
+    ensures arrived { Arrived graph.now flags result }
 {
-    laws_of_rights();
     let mut spot = start;
     let mut path = path;
     loop {

@@ -1,1 +1,3 @@
-mod ActLemmas
+mod Coming
+mod Rows
+mod Serving

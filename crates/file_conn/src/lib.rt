@@ -1,7 +1,10 @@
-//! A connection to a file: what it is bound with, where it reads next, and what it answers.
+//! A connection to a file: what it is bound with, where it reads and writes next, and what it answers.
 #![tactic(auto)]
 
 mod connection;
+mod filling;
 mod reading;
+mod seeking;
+mod writing;
 
 pub use connection::FileConn;

@@ -1,8 +1,25 @@
--- What is bound lies within the rights of the walk's end.
-use Rattle.dir_conn.proofs.Binding.{is_bound}
+-- A node is bound where the walk arrives, and made where it is missing.
+use Rattle.std.proofs.Common.{sym, subst}
+use Rattle.dir_conn.specs.Opened.{IsOpened, act_at}
+use Rattle.dir_conn.specs.Reaches.{reached}
 use Rattle.dir_conn.proofs.open.answer.Goals as goal
 
-pub returns-in-Arrives-clause-bound : goal.returns-in-Arrives-clause-bound
-returns-in-Arrives-clause-bound c = λ found is.
-    is_bound c.laws_of_rights.ensures.inclusion c.args.graph.now c.args.flags c.args.rights c.in-Arrives.node c.in-Arrives.kind c.in-Arrives.limit found
-    (rw c.in-Arrives.is at c.requires.arrived) (c.bind.ensures.bound found is)
+pub returns-in-Arrives : goal.returns-in-Arrives
+returns-in-Arrives c =
+    record {
+      opened =
+          subst
+          (λ end.
+          IsOpened (λ tree position. act_at position c.args.room tree c.args.flags (reached end)) c.bind.result c.args.graph.now c.bind.new.graph)
+          (sym c.in-Arrives.is) c.bind.ensures.opened;
+    }
+
+pub returns-in-Missing : goal.returns-in-Missing
+returns-in-Missing c =
+    record {
+      opened =
+          subst
+          (λ end.
+          IsOpened (λ tree position. act_at position c.args.room tree c.args.flags (reached end)) c.make.result c.args.graph.now c.make.new.graph)
+          (sym c.in-Missing.is) c.make.ensures.opened;
+    }

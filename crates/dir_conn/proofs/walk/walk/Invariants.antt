@@ -1,6 +1,4 @@
 use Rattle.std.proofs.Common.{◌≡◌, length}
-use Rattle.std.specs.Prelude.{IsTrue}
-use Rattle.io_rights.specs.Operations.{is_within}
 use Rattle.node_graph.specs.Graph.{number_of, StandsFor}
 use Rattle.node_graph.specs.Tree.{Tree}
 use Rattle.conn_rules.specs.Walks.{walk}
@@ -11,7 +9,6 @@ abbrev pub invariant-loop-next : goal.invariant-loop-next
 invariant-loop-next l =
     record {
       stands : Stands l.graph l.flags l.spot;
-      within : IsTrue (is_within l.spot.limit l.fn.start.limit);
       leads : (tree : Tree) → StandsFor l.graph tree →
           reach l.spot.limit (walk tree l.flags l.path (number_of l.spot.directory))
           ≡ reach l.fn.start.limit (walk tree l.flags l.fn.path (number_of l.fn.start.directory));

@@ -1,33 +1,19 @@
-use Rattle.std.proofs.Common.{ap, ◌∙◌, sym}
-use Rattle.file_conn.proofs.ActLemmas.{refused_gives, refused_position, taken_as_row, file_stays}
+use Rattle.std.proofs.Common.{ap}
+use Rattle.conn_rules.specs.Built.{today}
+use Rattle.conn_rules.proofs.Taking.{refused_is_served, taken_as_row, taken_is_served}
 use Rattle.file_conn.proofs.connection.FileConn.serve.Goals as goal
 
-pub returns-in-Some-clause-answer : goal.returns-in-Some-clause-answer
-returns-in-Some-clause-answer c tree directory stands =
-    refused_gives c.self.inside.birth c.args.self.now.birth _ _ _ _ _ _ _ _ _ _ (ap (λ conn. conn.birth) c.self.view_is) c.method-method.ensures c.in-Some.ensures.first c.fail.ensures.gives
+pub returns-in-Some-clause-serves : goal.returns-in-Some-clause-serves
+returns-in-Some-clause-serves c tree directory stands served =
+    refused_is_served today c.self.inside.birth c.args.self.now c.args.room tree directory _ _ _ _ _ _ _ (ap (λ conn. conn.birth) c.self.view_is) c.method-method.ensures c.in-Some.ensures.first
+    (c.fail.ensures.served c.args.self.now c.args.graph.now)
 
-pub returns-in-Some-clause-position : goal.returns-in-Some-clause-position
-returns-in-Some-clause-position c tree directory stands =
-    refused_position c.self.inside.birth c.args.self.now.birth _ c.args.room tree directory _ _ _ (ap (λ conn. conn.birth) c.self.view_is) c.method-method.ensures c.in-Some.ensures.first
+pub returns-in-None-clause-serves : goal.returns-in-None-clause-serves
+returns-in-None-clause-serves c tree directory stands served =
+    taken_is_served today c.self.inside.birth c.args.self.now c.args.room tree directory _ _ _ _ _ _ _ _ (ap (λ conn. conn.birth) c.self.view_is) c.method-method.ensures c.in-None.ensures.first
+    (c.serve_row.ensures.serves tree directory stands served)
 
-pub returns-in-Some-clause-change : goal.returns-in-Some-clause-change
-returns-in-Some-clause-change c tree directory = (file_stays _ _ _ tree directory _ c.requires.method).change
-
-pub returns-in-Some-clause-told : goal.returns-in-Some-clause-told
-returns-in-Some-clause-told c tree directory = (file_stays _ _ _ tree directory _ c.requires.method).told
-
-pub returns-in-None-clause-answer : goal.returns-in-None-clause-answer
-returns-in-None-clause-answer c tree directory stands =
-    rw (taken_as_row c.self.inside.birth c.args.self.now.birth c.args.self.now.position c.args.room tree directory _ _ (ap (λ conn. conn.birth) c.self.view_is) c.method-method.ensures c.in-None.ensures.first)
-    (c.serve_row.ensures.answer tree directory stands)
-
-pub returns-in-None-clause-position : goal.returns-in-None-clause-position
-returns-in-None-clause-position c tree directory stands =
-    c.serve_row.ensures.position tree directory stands
-    ∙ sym (ap (λ act. act.position) (taken_as_row c.self.inside.birth c.args.self.now.birth c.args.self.now.position c.args.room tree directory _ _ (ap (λ conn. conn.birth) c.self.view_is) c.method-method.ensures c.in-None.ensures.first))
-
-pub returns-in-None-clause-change : goal.returns-in-None-clause-change
-returns-in-None-clause-change c tree directory = (file_stays _ _ _ tree directory _ c.requires.method).change
-
-pub returns-in-None-clause-told : goal.returns-in-None-clause-told
-returns-in-None-clause-told c tree directory = (file_stays _ _ _ tree directory _ c.requires.method).told
+pub returns-in-None-clause-memory : goal.returns-in-None-clause-memory
+returns-in-None-clause-memory c tree directory stands wants =
+    rw (taken_as_row today c.self.inside.birth c.args.self.now c.args.room tree directory _ _ (ap (λ conn. conn.birth) c.self.view_is) c.method-method.ensures c.in-None.ensures.first)
+    (c.serve_row.ensures.memory tree directory stands wants)

@@ -1,0 +1,2 @@
+mod Failing
+pub mod Taking

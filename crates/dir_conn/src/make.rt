@@ -1,0 +1,133 @@
+//! What an Open does whose last name is missing.
+
+ghost use Rattle.std.specs.Prelude.{◌≡◌, ◌<◌, ◌^◌, ◌+◌, false, None, Some, [], ◌∷◌, IfOk, OnOk, OnErr};
+ghost use Rattle.fidl_names.specs.First.{first_of};
+ghost use Rattle.io_rights.specs.Operations.{all};
+ghost use Rattle.node_graph.specs.declared.nodes.NodeKind.TheVariants.{Directory};
+ghost use Rattle.node_graph.specs.Graph.{Leads, Names, create_refusal, kind_at, number_of};
+ghost use Rattle.node_graph.specs.Tree.{make, new_row};
+ghost use Rattle.path_walk.specs.Names.{IsName};
+ghost use Rattle.conn_rules.specs.Answers.{added};
+ghost use Rattle.conn_rules.specs.Nodes.{is_mount};
+ghost use Rattle.conn_rules.specs.Opens.{connects_without_right, kind_made, making, making_refusals};
+ghost use Rattle.conn_rules.specs.Served.{told_by};
+ghost use Rattle.dir_conn.specs.Opened.{IsOpened, Keeps, act_at, bare};
+ghost use Rattle.dir_conn.specs.Reaches.{IsMissing, at_nothing};
+
+use crate::arrive::birth_for;
+use crate::served::DirServed;
+use conn_rules::{At, Changes, Room};
+use fidl_names::{MAX_NAMES, NoMemory, Status};
+use io_flags::{Flag, OpenFlags};
+use io_rights::Rights;
+use node_graph::{Graph, GraphFault, NodeKind, NodeRef};
+
+/// Makes the node that an Open misses and binds it, unless it is refused.
+pub(crate) fn make<'a>(
+    graph: &mut Graph,
+    flags: OpenFlags,
+    room: Room,
+    directory: NodeRef,
+    name: &'a [u8],
+    limit: Rights,
+) -> DirServed<'a>
+    requires missing { IsMissing graph.old flags directory name.now limit }
+    requires made { graph.old.made < 2 ^ 63 }
+    ensures opened { IsOpened (λ tree position. act_at position room tree flags (at_nothing (number_of directory) name.now limit)) result graph.old graph.new }
+{
+    match refusal(graph, flags, room, directory) {
+        Some(status) => DirServed::Refused(status),
+        None => bind_made(graph, flags, directory, name, limit),
+    }
+}
+
+/// Why a missing node isn't made: the first reason.
+fn refusal(graph: &Graph, flags: OpenFlags, room: Room, directory: NodeRef) -> Option<Status>
+    requires named { Names graph.now directory }
+    ensures { result ≡ first_of (making_refusals (bare graph.now.edges) room flags (number_of directory)) }
+{
+    if !flags.creates() {
+        return Some(Status::NotFound);
+    }
+    if graph.removed(directory) {
+        return Some(Status::BadState);
+    }
+    if graph.names() as usize >= MAX_NAMES {
+        return Some(Status::NoSpace);
+    }
+    if room.is_full() {
+        return Some(Status::NoResources);
+    }
+    None
+}
+
+/// Makes a node with this name, through which all rights pass, and binds it.
+fn bind_made<'a>(
+    graph: &mut Graph,
+    flags: OpenFlags,
+    directory: NodeRef,
+    name: &'a [u8],
+    limit: Rights,
+) -> DirServed<'a>
+    requires missing { IsMissing graph.old flags directory name.now limit }
+    requires made { graph.old.made < 2 ^ 63 }
+    requires free { create_refusal graph.old.edges (record { directory = number_of directory; name = name.now }) ≡ None }
+    ensures opened { IsOpened (λ tree position. making position tree flags limit (record { directory = number_of directory; name = name.now })) result graph.old graph.new }
+{
+    let kind = kind_made(flags);
+    let dir = graph.number(directory);
+    match create(graph, directory, name, kind) {
+        Ok(node) => DirServed::Bind(birth_for(flags, node, kind, limit), new_name(dir, name)),
+        Err(NoMemory) => DirServed::NoMemory,
+    }
+}
+
+/// A name is new.
+fn new_name<'a>(dir: u64, name: &'a [u8]) -> Changes<'a>
+    ensures told { told_by result ≡ added (record { directory = dir; name = name.now }) ∷ [] }
+{
+    Changes {
+        removed: None,
+        added: Some(At { dir, name }),
+        deleted: None,
+    }
+}
+
+/// The kind that the flags ask for.
+fn kind_made(flags: OpenFlags) -> NodeKind
+    ensures value { result ≡ kind_made flags }
+    ensures crossed { is_mount result ≡ false }
+    ensures connects { connects_without_right flags result ≡ false }
+{
+    if flags.has(Flag::ProtocolDirectory) {
+        NodeKind::Directory
+    } else {
+        NodeKind::File
+    }
+}
+
+/// Makes a node, where nothing refuses it.
+fn create(
+    graph: &mut Graph,
+    directory: NodeRef,
+    name: &[u8],
+    kind: NodeKind,
+) -> Result<NodeRef, NoMemory>
+    requires named { Names graph.old directory }
+    requires directory { kind_at graph.old (number_of directory) ≡ Some Directory }
+    requires valid { IsName name.now }
+    requires made { graph.old.made < 2 ^ 63 }
+    requires free { create_refusal graph.old.edges (record { directory = number_of directory; name = name.now }) ≡ None }
+    ensures unchanged { OnErr result (graph.new ≡ graph.old) }
+    ensures created { OnOk result (Leads graph.old graph.new (make (record { directory = number_of directory; name = name.now }) (new_row kind) all)) }
+    ensures number { IfOk result (λ node. number_of node ≡ graph.old.made + 1) }
+    ensures named { IfOk result (λ node. Names graph.new node) }
+    ensures kind { IfOk result (λ node. kind_at graph.new (number_of node) ≡ Some kind) }
+    ensures keeps { Keeps graph.old graph.new }
+{
+    match graph.create(directory, name, kind, Rights::all()) {
+        Ok(node) => Ok(node),
+        Err(GraphFault::NoMemory) => Err(NoMemory),
+        Err(_) => unreachable!(),
+    }
+}

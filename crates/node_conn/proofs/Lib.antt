@@ -1,0 +1,2 @@
+mod Acts
+pub mod Echoes
