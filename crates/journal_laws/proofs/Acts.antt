@@ -135,10 +135,10 @@ pub none_there : {X : Type 0} (o : Option X) → is_some o ≡ false → o ≡ N
 none_there None e = refl
 none_there (Some x) e = absurd (cc)
 
-pub path_passes : (built : Built) (birth : Birth) (word : ℕ) (path : List ℕ) → first_of (entry_refusals built birth word path) ≡ None → path_fault path ≡ None
-path_passes built birth word path e =
+pub path_passes : (birth : Birth) (word : ℕ) (path : List ℕ) → first_of (entry_refusals birth word path) ≡ None → path_fault path ≡ None
+path_passes birth word path e =
     none_there (path_fault path)
-    (not_refused (is_some (path_fault path)) _ _ (first_none (cause_if (not (built.words word)) _) _ (first_none (option_map status_of (flag_fault word)) _ e)))
+    (not_refused (is_some (path_fault path)) _ _ (first_none (option_map status_of (flag_fault word)) _ e))
 
 -- ---- what an Open is answered
 
@@ -177,7 +177,7 @@ made false = tt
 by_walk_answers : (context : Context) (path : List ℕ) (word : ℕ) → path_fault path ≡ None → (w : Walk) →
     walk context.tree word (names_of path) context.birth.node ≡ w → IsOpenAct context.tree path word (by_walk context word w)
 by_walk_answers context path word good (arrives node masks) is =
-    unless_holds (IsOpenAct context.tree path word) (first_of (arrival_refusals context.built context.room word (kind_here context.tree node))) context.position method.OpenPath _ (λ s. (tt, tt)) (λ e. (tt, fills (has word flag.FileTruncate) node))
+    unless_holds (IsOpenAct context.tree path word) (first_of (arrival_refusals context.room word (kind_here context.tree node))) context.position method.OpenPath _ (λ s. (tt, tt)) (λ e. (tt, fills (has word flag.FileTruncate) node))
 by_walk_answers context path word good (missing directory name masks) is =
     unless_holds (IsOpenAct context.tree path word) (first_of (making_refusals context.tree context.room word directory)) context.position method.OpenPath _ (λ s. (tt, tt)) (λ e. (tt, made (has word flag.ProtocolDirectory)))
 by_walk_answers context path word good (crosses mount rest masks) is =
@@ -187,8 +187,8 @@ by_walk_answers context path word good (stops status) is = (tt, tt)
 open_answers : (context : Context) (path : List ℕ) (word : ℕ) →
     IsOpenAct context.tree path word (open_act context path word)
 open_answers context path word =
-    unless_holds (IsOpenAct context.tree path word) (first_of (entry_refusals context.built context.birth word path)) context.position method.OpenPath _ (λ s. (tt, tt))
-    (λ f. by_walk_answers context path word (path_passes context.built context.birth word path f) (walk context.tree word (names_of path) context.birth.node) refl)
+    unless_holds (IsOpenAct context.tree path word) (first_of (entry_refusals context.birth word path)) context.position method.OpenPath _ (λ s. (tt, tt))
+    (λ f. by_walk_answers context path word (path_passes context.birth word path f) (walk context.tree word (names_of path) context.birth.node) refl)
 
 -- ---- what every request is answered
 

@@ -41,10 +41,11 @@ pub mod Spent
 pub mod KnowingBehind
 pub mod Hears
 pub mod Waits
-pub mod FirstPart
+pub mod NoneGiven
 pub mod Edges
 pub mod Orderly
 pub mod Placed
 pub mod OnTrees
 pub mod SoundTrees
 pub mod Rooms
+pub mod Growing

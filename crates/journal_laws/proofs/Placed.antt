@@ -166,7 +166,7 @@ made_kind word = by_test (has word flag.ProtocolDirectory) where
 walk_placed : (context : Context) (word : ℕ) (w : Walk) → LeadsToNode context.tree w →
     IsPlaced context.tree context.birth (by_walk context word w)
 walk_placed context word (arrives node masks) there =
-    unless_holds (IsPlaced context.tree context.birth) (first_of (arrival_refusals context.built context.room word (kind_here context.tree node))) context.position method.OpenPath (arrival context.position word (limit_of context.birth.rights masks) node (kind_here context.tree node)) (refused_placed context.tree context.birth context.position method.OpenPath)
+    unless_holds (IsPlaced context.tree context.birth) (first_of (arrival_refusals context.room word (kind_here context.tree node))) context.position method.OpenPath (arrival context.position word (limit_of context.birth.rights masks) node (kind_here context.tree node)) (refused_placed context.tree context.birth context.position method.OpenPath)
     (λ e. record {
       orderly = truncated (has word flag.FileTruncate) context.tree node;
       answer = (kind_here context.tree node, kind_stays context.tree (truncation word node) node (kind_here context.tree node) (kind_there context.tree node there), suited word (kind_here context.tree node));
@@ -273,7 +273,7 @@ module _ (context : Context) (kind : NodeKind) (children : HasChildren context.t
   row_placed (asks.get_attributes bits) has beyond = record { orderly = tt; answer = tt }
   row_placed asks.sync has beyond = record { orderly = tt; answer = tt }
   row_placed (asks.open_path path flags given object) has beyond =
-      unless_holds (IsPlaced context.tree context.birth) (first_of (entry_refusals context.built context.birth flags path)) context.position method.OpenPath _ (refused_placed context.tree context.birth context.position method.OpenPath)
+      unless_holds (IsPlaced context.tree context.birth) (first_of (entry_refusals context.birth flags path)) context.position method.OpenPath _ (refused_placed context.tree context.birth context.position method.OpenPath)
       (λ e. walk_placed context flags (walk context.tree flags (names_of path) context.birth.node) (leads_to_node context.tree flags (names_of path) context.birth.node children (kind, at)))
   row_placed (asks.read_dirents most) has beyond =
       unless_holds (IsPlaced context.tree context.birth) (first_of (cause_if (is_too_much most) status.InvalidArgs ∷ cause_if (fits_none (listing context.tree context.birth.node context.position.place) most) status.BufferTooSmall ∷ [])) context.position method.ReadDirents _ (refused_placed context.tree context.birth context.position method.ReadDirents) (λ e. record { orderly = tt; answer = tt })

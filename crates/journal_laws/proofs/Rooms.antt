@@ -100,8 +100,8 @@ HasRoomFor room act = RoomFor room act.answer
 
 walk_room : (context : Context) (word : ℕ) (w : Walk) → HasRoomFor context.room (by_walk context word w)
 walk_room context word (arrives node masks) =
-    unless_holds (HasRoomFor context.room) (first_of (arrival_refusals context.built context.room word (kind_here context.tree node))) context.position method.OpenPath _ (λ s. tt)
-    (λ e. not_told (is_full context.room) status.NoResources (last_none (arrival_refusals context.built context.room word (kind_here context.tree node)) e))
+    unless_holds (HasRoomFor context.room) (first_of (arrival_refusals context.room word (kind_here context.tree node))) context.position method.OpenPath _ (λ s. tt)
+    (λ e. not_told (is_full context.room) status.NoResources (last_none (arrival_refusals context.room word (kind_here context.tree node)) e))
 walk_room context word (missing directory name masks) =
     unless_holds (HasRoomFor context.room) (first_of (making_refusals context.tree context.room word directory)) context.position method.OpenPath _ (λ s. tt)
     (λ e. not_told (is_full context.room) status.NoResources (last_none (making_refusals context.tree context.room word directory) e))
@@ -115,7 +115,7 @@ binding_room context (asks.clone endpoint) =
     (λ e. unless_holds (HasRoomFor context.room) (first_of (cause_if (is_full context.room) status.NoResources ∷ [])) context.position method.Clone _ (λ s. tt) (λ f. not_told (is_full context.room) status.NoResources (last_none (cause_if (is_full context.room) status.NoResources ∷ []) f)))
 binding_room context (asks.open_path path word given object) =
     unless_holds (HasRoomFor context.room) (first_of (method_refusals context.built context.birth (method_of (asks.open_path path word given object)))) context.position method.OpenPath (row_act context (asks.open_path path word given object)) (λ s. tt)
-    (λ e. unless_holds (HasRoomFor context.room) (first_of (entry_refusals context.built context.birth word path)) context.position method.OpenPath _ (λ s. tt)
+    (λ e. unless_holds (HasRoomFor context.room) (first_of (entry_refusals context.birth word path)) context.position method.OpenPath _ (λ s. tt)
     (λ f. walk_room context word (walk context.tree word (names_of path) context.birth.node)))
 binding_room context (asks.watch mask options watcher) =
     unless_holds (HasRoomFor context.room) (first_of (method_refusals context.built context.birth (method_of (asks.watch mask options watcher)))) context.position method.Watch (row_act context (asks.watch mask options watcher)) (λ s. tt)

@@ -150,7 +150,7 @@ create_passes edges key removed free few = by_parts (is_removed edges key.direct
 walk_sound : (context : Context) (word : ℕ) → IsSound context.tree → (w : Walk) → LeadsToNode context.tree w → MissesName context.tree w →
     IsLeftSound context.tree (by_walk context word w)
 walk_sound context word sound (arrives node masks) there misses =
-    unless_holds (IsLeftSound context.tree) (first_of (arrival_refusals context.built context.room word (kind_here context.tree node))) context.position method.OpenPath (arrival context.position word (limit_of context.birth.rights masks) node (kind_here context.tree node)) (λ s. sound)
+    unless_holds (IsLeftSound context.tree) (first_of (arrival_refusals context.room word (kind_here context.tree node))) context.position method.OpenPath (arrival context.position word (limit_of context.birth.rights masks) node (kind_here context.tree node)) (λ s. sound)
     (λ e. cut_by context.tree node (has word flag.FileTruncate)
     (λ cuts. kind_there context.tree node there ∙ ap Some (is_file_kind (kind_here context.tree node)
     (both_false (marks_file word) (is_file (kind_here context.tree node))
@@ -233,10 +233,10 @@ module _ (below : Below) (context : Context) (kind : NodeKind) (sound : IsSound 
   row_sound (asks.get_attributes bits) has' beyond = sound
   row_sound asks.sync has' beyond = sound
   row_sound (asks.open_path path flags given object) has' beyond =
-      unless_holds (IsLeftSound context.tree) (first_of (entry_refusals context.built context.birth flags path)) context.position method.OpenPath _ (λ s. sound)
+      unless_holds (IsLeftSound context.tree) (first_of (entry_refusals context.birth flags path)) context.position method.OpenPath _ (λ s. sound)
       (λ e.
       let here = on_directory context.tree context.birth kind method.OpenPath at suited refl has' beyond in
-      let valid = (below.sound path (path_passes context.built context.birth flags path e)).valid in
+      let valid = (below.sound path (path_passes context.birth flags path e)).valid in
       walk_sound context flags sound (walk context.tree flags (names_of path) context.birth.node)
       (leads_to_node context.tree flags (names_of path) context.birth.node (sound_children context.tree sound) (Directory, here)) (misses_name context.tree flags (names_of path) context.birth.node (sound_children context.tree sound) here valid))
   row_sound (asks.read_dirents most) has' beyond =

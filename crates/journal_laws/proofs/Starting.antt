@@ -3,6 +3,7 @@ use Rattle.std.proofs.Common.{◌≡◌, ◌≢◌, ◌+◌, AllPairs, ℕ, zero
 use Rattle.std.specs.List.{enumerate_from, range_with_len}
 use Rattle.std.proofs.lemmas.Bool.{cases_order, ne_eqb, true≢false, and_right, le-ltb}
 use Rattle.std.proofs.lemmas.List.FromFn.{get_or-map-range_with_len, length-map-range_with_len}
+use Rattle.std.proofs.lemmas.List.{length-map}
 use Rattle.std.proofs.lemmas.List.Sums.{sum_by-append, sum_by-cons}
 use Rattle.std.proofs.lemmas.List.Kept.{AllPairs-cons}
 use Rattle.journal_laws.proofs.Lists.{pairs-append, pairs-map}
@@ -17,7 +18,7 @@ use Rattle.tree_file.specs.Accepted.{AreAccepted, IsClient, IsNode, IsPlain}
 use Rattle.tree_file.specs.Items.{NodeItem, MountItem, ClientItem, Lists}
 use Rattle.tree_file.specs.Numbering.{Named, node_named, mount_named, named_of, number_in, row_of_named, tree_of, end_of_mount}
 use Rattle.tree_file.specs.Sound.{AreSound, HasOneEdge, IsDirectoryAt}
-use Rattle.tree_file.proofs.Soundness.{start_sound}
+use Rattle.tree_file.proofs.Soundness.{named_count, start_sound}
 use Rattle.journal_laws.specs.Soundness.{IsStart, OtherEndpoint, HasEnd, HasRoom, AreMounted, AreMountedOnce, IsOnDirectory, mount_ends}
 use Rattle.vfs_journal.specs.History.{tree_at}
 use Rattle.vfs_journal.specs.Starts.{Bound, Start, start_of, directory_birth, first_of_client, end_of}
@@ -140,6 +141,16 @@ trees_sound : (lists : Lists) → AreSound lists → All IsSound (trees_in lists
 trees_sound lists sound k d within =
     let low : k < length lists.servers = (let many = many_trees lists in omega (arith, many, within)) in
     subst IsSound (sym (get_or-map-range_with_len (tree_of lists) 0 (length lists.servers) k k d low (omega arith))) (sound.trees k low)
+
+-- a root, and a node for each name that an accepted server has
+trees_small : (lists : Lists) → AreSound lists → All (λ tree. length tree.nodes ≤ 1 + limit.MAX_NAMES) (trees_in lists)
+trees_small lists sound k d within =
+    let low : k < length lists.servers = (let many = many_trees lists in omega (arith, many, within)) in
+    subst (λ (tree : Tree). length tree.nodes ≤ 1 + limit.MAX_NAMES) (sym (get_or-map-range_with_len (tree_of lists) 0 (length lists.servers) k k d low (omega arith)))
+    (let few = sound.names k low in
+    let held = named_count lists k in
+    let rows = length-map (named_of lists k) row_of_named in
+    omega (arith, few, held, rows))
 
 -- no mount is in the bare tree
 no_mount : (node index : ℕ) → kind_of bare_tree node ≡ Some (Mount index) → ⊥
@@ -277,6 +288,7 @@ start_apart : (lists : Lists) → AreApart lists → AreSound lists → IsStart 
 start_apart lists apart sound = record {
   few = let many = many_trees lists in let few' = sound.servers.few in omega (arith, many, few');
   trees = trees_sound lists sound;
+  small = trees_small lists sound;
   numbered = mounts_in_order lists 0 lists.mounts;
   placed = all_placed lists sound;
   edges = mounted_once lists sound;

@@ -9,4 +9,4 @@ pub mod Hearing
 pub mod Knowing
 pub mod Rooms
 pub mod Trees
-pub mod Today
+pub mod Giving

@@ -1,5 +1,5 @@
 -- What holds of each lawful journal from a start whose endpoints are apart.
-use Rattle.std.specs.Prelude.{◌≡◌, ◌≢◌, ◌++◌, AllPairs, ◌<◌, ◌≤◌, ◌==◌, ◌⊎◌, ℕ, true, false, List, [], ◌∷◌, All, Contains, count_by, length, map, slice_get, Some}
+use Rattle.std.specs.Prelude.{◌≡◌, ◌≢◌, ◌+◌, ◌++◌, AllPairs, ◌<◌, ◌≤◌, ◌==◌, ◌⊎◌, ℕ, true, false, List, [], ◌∷◌, All, Contains, count_by, length, map, slice_get, Some}
 use Rattle.std.specs.List.{range_with_len}
 use Rattle.fidl_names.specs.declared.limits.TheConstants as limit
 use Rattle.io_messages.specs.declared.protocols.Protocol.TheVariants as protocol
@@ -62,12 +62,13 @@ AreMountedOnce start trees = (index : ℕ) (end : Bound) → slice_get start.mou
 abbrev pub HasRoom : Start → Type 0
 HasRoom start = (server : ℕ) → count_by (λ bound. bound.server == server) (start.firsts ++ start.mounts) ≤ limit.MAX_CONNECTIONS
 
--- the trees are sound, and few; first connections are on clients' endpoints, and the ends of mounts on others, in the order of their
+-- the trees are sound, and few, with a root and a node for each name at most; first connections are on clients' endpoints, and the ends of mounts on others, in the order of their
 -- numbers; no endpoint stands twice, each is bound to a directory, and no server has more of them than it may; each mount has its end, and
 -- one edge
 pub record IsStart (start : Start) : Type 0 where
   pub few : length start.trees ≤ limit.MAX_SERVERS
   pub trees : All IsSound start.trees
+  pub small : All (λ tree. length tree.nodes ≤ 1 + limit.MAX_NAMES) start.trees
   pub firsts : All (λ bound. is_client bound.endpoint ≡ true) start.firsts
   pub ends : All (λ bound. is_client bound.endpoint ≡ false) start.mounts
   pub numbered : mount_ends start ≡ map end_of_mount (range_with_len 0 (length start.mounts))

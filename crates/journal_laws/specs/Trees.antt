@@ -1,5 +1,6 @@
 -- What stands on the trees of lawful journals.
-use Rattle.std.specs.Prelude.{◌≡◌, ◌<◌, Bool, true, List, length, All, Some}
+use Rattle.std.specs.Prelude.{◌≡◌, ◌<◌, ◌≤◌, ◌+◌, ℕ, Bool, true, List, length, All, Some}
+use Rattle.fidl_names.specs.declared.limits.TheConstants as limit
 use Rattle.io_messages.specs.declared.protocols.Protocol.{Protocol}
 use Rattle.io_messages.specs.declared.protocols.Protocol.TheVariants as protocol
 use Rattle.node_graph.specs.declared.nodes.NodeKind.{NodeKind}
@@ -49,3 +50,9 @@ WhoLivesStandsOnTrees = (built : Built) (start : Start) (journal : Journal) → 
 -- whatever is served leaves all trees sound
 abbrev pub TreesStaySound : Type 0
 TreesStaySound = (built : Built) (start : Start) (journal : Journal) → IsStart start → Lawful built start journal → All IsSound (trees_of start (history_of built start journal))
+
+-- each entry makes one node at most, so that no tree has more of them than a start's and one for each place of the journal
+abbrev pub TreesGrowSlowly : Type 0
+TreesGrowSlowly =
+    (built : Built) (start : Start) (journal : Journal) (server : ℕ) → IsStart start →
+    length (tree_at (trees_of start (history_of built start journal)) server).nodes ≤ 1 + limit.MAX_NAMES + length journal

@@ -2,15 +2,16 @@
 #![tactic(auto)]
 
 mod choosing;
+mod giving;
 mod knowing;
 mod laws;
-mod today;
 mod viewing;
 
 pub use choosing::{
     deaths_are_the_least, least_places_are_served, members_tell_deaths, queues_count_what_waits,
     rising_numbers_are_sorted,
 };
+pub use giving::no_tokens_are_given;
 pub use knowing::{
     few_wait, hang_ups_are_known, knowers_admit, messages_are_known, refusals_are_known,
     servings_are_known, servings_count_what_waits, servings_end_their_deaths,
@@ -23,10 +24,10 @@ pub use laws::{
     servings_lower_the_weight, servings_take_effect, sessions_are_lawful, sessions_serve_all,
     starts_are_sound, what_goes_on_waits, what_is_sent_waits,
 };
-pub use today::{outcomes_of_today, sessions_of_today};
 pub use viewing::{
     connections_are_few, reached_views_go_on, reached_views_hear, refusals_are_viewed,
     sendings_are_looked_up, sendings_are_viewed, servings_are_in_view, servings_are_looked_up,
     servings_are_viewed, servings_take_counted_places, servings_write_their_frames,
-    trees_stay_sound, turns_are_viewed, views_are_fit, who_lives_stands_on_trees,
+    trees_grow_slowly, trees_stay_sound, turns_are_viewed, views_are_fit,
+    who_lives_stands_on_trees,
 };

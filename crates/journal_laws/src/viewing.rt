@@ -4,7 +4,7 @@ ghost use Rattle.fidl_wire.specs.Names.{AreDistinct};
 ghost use Rattle.journal_laws.specs.Behind.{SendingsAreLookedUp, ServingsAreLookedUp, ServingsTakeCountedPlaces};
 ghost use Rattle.journal_laws.specs.Hearing.{ReachedViewsHear};
 ghost use Rattle.journal_laws.specs.Rooms.{ConnectionsAreFew};
-ghost use Rattle.journal_laws.specs.Trees.{TreesStaySound, WhoLivesStandsOnTrees};
+ghost use Rattle.journal_laws.specs.Trees.{TreesGrowSlowly, TreesStaySound, WhoLivesStandsOnTrees};
 ghost use Rattle.journal_laws.specs.Viewing.{ReachedViewsGoOn, RefusalsAreViewed, SendingsAreViewed, ServingsAreInView, ServingsAreViewed, ServingsWriteTheirFrames, TurnsAreViewed, ViewsAreFit};
 
 use fidl_wire::body_is_read_where_spelled;
@@ -117,3 +117,8 @@ pub fn trees_stay_sound()
     written_request_is_read();
     path_laws();
 }
+
+/// No tree has more nodes than a start's may have and the journal has places.
+pub fn trees_grow_slowly()
+    ensures { TreesGrowSlowly }
+{}

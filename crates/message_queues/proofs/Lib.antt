@@ -11,4 +11,5 @@ mod Served
 mod Spread
 mod Listed
 mod Ranged
+mod Least
 pub mod Counting

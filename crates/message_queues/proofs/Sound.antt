@@ -244,5 +244,8 @@ some_counted m heads counted servers endpoint was sound there waits =
     let some = long_enough was.queue waits in
     omega arith
 
+pub box_server : (m : BTreeMap ℕ Mailbox) (endpoint servers : ℕ) (was : Mailbox) → box_at m endpoint ≡ Some was → server_of (queues_with m.entries servers) endpoint ≡ was.server
+box_server m endpoint servers was there = server_is m endpoint servers (Some was) there
+
 pub box_head : (m : BTreeMap ℕ Mailbox) (endpoint servers : ℕ) (was : Mailbox) → box_at m endpoint ≡ Some was → head_of (queues_with m.entries servers) endpoint ≡ slice_get was.queue 0
 box_head m endpoint servers was there = ap (λ (queue : List Sent). slice_get queue 0) (queue_is m endpoint servers (Some was) there)

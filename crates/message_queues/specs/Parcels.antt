@@ -1,5 +1,6 @@
 -- What was sent, as it is kept while it waits.
-use Rattle.std.specs.Prelude.{◌≡◌, ℕ, List}
+use Rattle.std.specs.Prelude.{◌≡◌, ◌≤◌, ℕ, List, length}
+use Rattle.fidl_names.specs.declared.limits.TheConstants as limit
 use Rattle.fidl_names.specs.declared.methods.Handle.{Handle}
 use Rattle.vfs_journal.specs.Entries.{Sending, message, hang_up}
 use Rattle.vfs_journal.specs.Handles.{AreByNumber, numbers_of}
@@ -11,10 +12,10 @@ abbrev pub sending_of : Content → Sending
 sending_of (content.Message bytes handles) = message bytes.items (numbers_of handles.items)
 sending_of content.HangUp = hang_up
 
--- each handle that is kept is the one that its number stands for
-abbrev pub IsByNumber : Content → Type 0
-IsByNumber (content.Message bytes handles) = AreByNumber handles.items
-IsByNumber content.HangUp = Unit {0}
+-- each handle that is kept is the one that its number stands for, and the bytes are no more than a message has
+abbrev pub IsSendable : Content → Type 0
+IsSendable (content.Message bytes handles) = AreByNumber handles.items × (length bytes.items ≤ limit.MAX_BYTES)
+IsSendable content.HangUp = Unit {0}
 
 -- a message with these bytes and handles was sent
 abbrev pub IsMessage : Sending → List ℕ → List Handle → Type 0

@@ -6,6 +6,7 @@ use Rattle.std.specs.List.Sorted.{IsStrictlySortedBy}
 use Rattle.std.specs.Map.{keys_of}
 use Rattle.std.specs.Ordering.{nat_cmp, ordering_then}
 use Rattle.std.specs.declared.cmp.Ordering.{Ordering}
+use Rattle.std.specs.declared.cmp.Ordering.TheVariants.{Less}
 use Rattle.std.specs.Prelude.{eqb}
 use Rattle.std.specs.BTreeMap.{is_at}
 use Rattle.fidl_names.specs.declared.limits.TheConstants as limit
@@ -99,6 +100,16 @@ put_turn heads None endpoint = heads
 abbrev pub drop_turn : Heads → Option (ℕ × ℕ) → Heads
 drop_turn heads (Some key) = finite.remove heads key
 drop_turn heads None = heads
+
+-- the heads of which the least stands beside the others
+abbrev pub heads_with : Option ((ℕ × ℕ) × ℕ) → Heads → Heads
+heads_with None later = later
+heads_with (Some least) later = finite.insert later least.0 least.1
+
+-- the least is before all others, and there are none where it isn't there
+abbrev pub IsBefore : Option ((ℕ × ℕ) × ℕ) → Heads → Type 0
+IsBefore None later = (key : ℕ × ℕ) → finite.get later key ≡ None
+IsBefore (Some least) later = (key : ℕ × ℕ) → IsSome (finite.get later key) → place_cmp least.0 key ≡ Less
 
 -- a server's least place with its endpoint, or that nothing stands at the server
 abbrev pub IsLeastAt : Heads → ℕ → Option (ℕ × ℕ) → Type 0

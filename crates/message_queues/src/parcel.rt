@@ -2,6 +2,7 @@
 
 ghost use Rattle.std.specs.Prelude.{◌≡◌, ◌≤◌, ◌<◌, ℕ, List, [], ◌∷◌, map, take, length, IfOk, IfSome, IsNone};
 ghost use Rattle.endpoint_link.specs.Views.{handle_numbers};
+ghost use Rattle.fidl_names.specs.declared.limits.TheConstants as limit;
 ghost use Rattle.fidl_names.specs.HandleNumber.{handle_with};
 ghost use Rattle.vfs_journal.specs.Entries.{message, hang_up, handles_of};
 ghost use Rattle.vfs_journal.specs.Handles.{numbers_of};
@@ -29,13 +30,13 @@ pub struct Parcel {
 
 impl Model for Parcel {
     ghost use Rattle.vfs_journal.specs.Entries.{Sending};
-    ghost use Rattle.message_queues.specs.Parcels.{sending_of, IsByNumber};
+    ghost use Rattle.message_queues.specs.Parcels.{sending_of, IsSendable};
 
     ghost Value = { Sending };
 
     ghost view = { λ parcel. sending_of parcel.content };
 
-    ghost invariant = { λ parcel. IsByNumber parcel.content };
+    ghost invariant = { λ parcel. IsSendable parcel.content };
 }
 
 /// Something that was sent and admitted: its place in the journal, the endpoint that it was sent on,
@@ -64,6 +65,7 @@ impl Parcel {
         mut room: Vec<u8>,
         frame: FrameView<'_>,
     ) -> Result<Parcel, NoMemory>
+        requires short { length frame.bytes.now ≤ limit.MAX_BYTES }
         ensures message { IfOk result (λ parcel. parcel ≡ message frame.entry.bytes.now (handle_numbers frame.entry.handles)) }
     {
         room.clear();
@@ -87,6 +89,7 @@ impl Parcel {
 
     /// A message that carries one handle, by its number.
     pub fn carrying(alloc: Global, bytes: &[u8], number: u32) -> Result<Parcel, NoMemory>
+        requires short { length bytes.now ≤ limit.MAX_BYTES }
         ensures message { IfOk result (λ parcel. parcel ≡ message bytes.now (number ∷ [])) }
     {
         let bytes = Vec::from_slice(alloc, bytes)?;
@@ -118,6 +121,7 @@ impl Parcel {
     /// The bytes and the handles of a message; `None` for a hang-up.
     pub fn message(&self) -> Option<(&[u8], &[Handle])>
         ensures parts { IfSome result (λ parts. IsMessage self.now parts.0.now parts.1.now) }
+        ensures short { IfSome result (λ parts. length parts.0.now ≤ limit.MAX_BYTES) }
         ensures none { IsNone result → self.now ≡ hang_up }
     {
         match &self.content {

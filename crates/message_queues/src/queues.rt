@@ -153,10 +153,12 @@ impl Queues {
         Ok(())
     }
 
-    /// Takes the first entry from a bound endpoint on which something waits. Want of memory leaves all as it was.
-    pub fn take(&mut self, endpoint: u32) -> Result<Sent, NoMemory>
+    /// Takes the first entry from a bound endpoint on which something waits, and tells at which server that is bound. Want of memory
+    /// leaves all as it was.
+    pub fn take(&mut self, endpoint: u32) -> Result<(u32, Sent), NoMemory>
         requires { IsReady self.old endpoint }
-        ensures first { IfOk result (λ sent. head_of self.old endpoint ≡ Some sent) }
+        ensures bound { IfOk result (λ taken. server_of self.old endpoint ≡ Some taken.0) }
+        ensures first { IfOk result (λ taken. head_of self.old endpoint ≡ Some taken.1) }
         ensures later { OnOk result (Requeues self.old endpoint (drop 1 (queue_of self.old endpoint)) self.new) }
         ensures len { OnOk result (count self.new + 1 ≡ count self.old) }
         ensures err { OnErr result (self.new ≡ self.old) }
@@ -164,9 +166,9 @@ impl Queues {
         let Some(mailbox) = self.boxes.get_mut(&endpoint) else {
             unreachable!();
         };
-        let sent = take_from(mailbox, &mut self.heads, endpoint)?;
+        let taken = take_from(mailbox, &mut self.heads, endpoint)?;
         self.count -= 1;
-        Ok(sent)
+        Ok(taken)
     }
 
     /// Drops what waits on these endpoints and on all that die with them, since what is dropped carries them, and unbinds them. Answers
@@ -285,11 +287,17 @@ fn push_into(mailbox: &mut Mailbox, heads: &mut Heads, sent: Sent) -> Result<(),
     mailbox.push(sent)
 }
 
-/// Takes the first entry from a mailbox. The next one is put in order before, so that want of memory changes nothing.
-fn take_from(mailbox: &mut Mailbox, heads: &mut Heads, endpoint: u32) -> Result<Sent, NoMemory>
+/// Takes the first entry from a mailbox, and tells at which server that is bound. The next one is put in order before, so that want of
+/// memory changes nothing.
+fn take_from(
+    mailbox: &mut Mailbox,
+    heads: &mut Heads,
+    endpoint: u32,
+) -> Result<(u32, Sent), NoMemory>
     requires bound { IsSome mailbox.old.server }
     requires some { IsSome (slice_get mailbox.old.queue 0) }
-    ensures first { IfOk result (λ sent. slice_get mailbox.old.queue 0 ≡ Some sent) }
+    ensures bound { IfOk result (λ taken. mailbox.old.server ≡ Some taken.0) }
+    ensures first { IfOk result (λ taken. slice_get mailbox.old.queue 0 ≡ Some taken.1) }
     ensures later { OnOk result (mailbox.new ≡ popped_box mailbox.old) }
     ensures put { OnOk result (heads.new ≡ drop_turn (put_turn heads.old (turn_by mailbox.old.server (slice_get mailbox.old.queue 1)) endpoint) (turn_by mailbox.old.server (slice_get mailbox.old.queue 0))) }
     ensures err { OnErr result ((mailbox.new ≡ mailbox.old) × (heads.new ≡ heads.old)) }
@@ -297,14 +305,29 @@ fn take_from(mailbox: &mut Mailbox, heads: &mut Heads, endpoint: u32) -> Result<
     let Some(server) = mailbox.server() else {
         unreachable!();
     };
-    if let Some(second) = mailbox.second() {
-        heads.put(server, second.place, endpoint)?;
-    }
+    advance(mailbox, heads, server, endpoint)?;
     let Some(sent) = mailbox.pop() else {
         unreachable!();
     };
-    heads.remove(server, sent.place);
-    Ok(sent)
+    Ok((server, sent))
+}
+
+/// The entry behind the first one of a mailbox is put in order in the place of that.
+fn advance(mailbox: &Mailbox, heads: &mut Heads, server: u32, endpoint: u32) -> Result<(), NoMemory>
+    requires some { IsSome (slice_get mailbox.now.queue 0) }
+    ensures put { OnOk result (heads.new ≡ drop_turn (put_turn heads.old (turn_by (Some server) (slice_get mailbox.now.queue 1)) endpoint) (turn_by (Some server) (slice_get mailbox.now.queue 0))) }
+    ensures err { OnErr result (heads.new ≡ heads.old) }
+{
+    let Some(first) = mailbox.head() else {
+        unreachable!();
+    };
+    match mailbox.second() {
+        Some(second) => heads.advance(server, first.place, second.place, endpoint),
+        None => {
+            heads.remove(server, first.place);
+            Ok(())
+        }
+    }
 }
 
 /// Drops a mailbox, and its first entry from the order. Answers how many entries waited there.

@@ -1,5 +1,5 @@
 -- How what is bound at a server grows while it begins, and that in the end it is what the start says.
-use Rattle.std.proofs.Common.{◌≡◌, ℕ, ◌+◌, ◌<◌, ◌≤◌, ◌==◌, Bool, true, false, cond, List, [], ◌∷◌, ◌++◌, length, map, filter, Bor, Option, Some, None, AllPairs, refl, sym, ap, ◌∙◌, subst, arith, append-nil, length-append}
+use Rattle.std.proofs.Common.{◌≡◌, ℕ, ◌+◌, ◌<◌, ◌≤◌, ◌==◌, Bool, true, false, cond, List, [], ◌∷◌, ◌++◌, length, map, filter, Bor, Option, Some, None, AllPairs, refl, sym, ap, ◌∙◌, subst, arith, append-nil, length-append, rules}
 use Rattle.std.specs.Prelude.{IsSome, find, if◌then◌else◌, count_by, slice_get}
 use Rattle.std.specs.BTreeMap.{BTreeMap, get}
 use Rattle.std.specs.FinMap as finite
@@ -32,7 +32,7 @@ use Rattle.vfs_journal.specs.View.{at_in, bounds_in, view_of, with_position}
 use Rattle.vfs_server.specs.Binding.{Binds, HasPlace}
 use Rattle.vfs_server.specs.Growing.{HoldsJust, IsNextBound, Stands, begins_with, begun, bound_among, clients_among, path_cmp}
 use Rattle.vfs_server.specs.Holding.{HoldsAt, bound_to, if_at, living_at, named_by}
-use Rattle.vfs_server.specs.Kept.{IsSound}
+use Rattle.vfs_server.specs.Kept.{HasTree, IsSound}
 use Rattle.vfs_server.specs.Servers.{Server, bound_with, seen, seen_as}
 use Rattle.vfs_server.proofs.Begins.{OtherEndpoint, apart, clients_split, ends_of, ends_split, few_before, firsts_of, not_before, pairs-head, pairs-tail, stands_on, all_directories}
 use Rattle.vfs_server.proofs.Chosen.{find-map, found_none, none_chosen}
@@ -40,7 +40,6 @@ use Rattle.vfs_server.proofs.Held.{one_if, to_node}
 use Rattle.vfs_server.proofs.Made.{named_kind, named_some}
 use Rattle.vfs_server.proofs.Nexts.{grows_whole}
 use Rattle.vfs_server.proofs.Standing.{kept_by, leads_in, place_in}
-use Rattle.vfs_server.proofs.Today.{directory_spoken}
 
 -- ---- none
 
@@ -52,8 +51,9 @@ count_none p =
     let none = finite.len-empty nat_cmp Connection in
     omega (arith, count, size, entries, none)
 
-pub sound_none : (graph : Kept) → ((number : ℕ) → holds_at graph number ≡ 0) → IsSound graph finite.empty
-sound_none graph unheld = record {
+pub sound_none : (graph : Kept) → HasTree graph → ((number : ℕ) → holds_at graph number ≡ 0) → IsSound graph finite.empty
+sound_none graph tree unheld = record {
+  tree = tree;
   each = λ endpoint connection there. absurd (let wrong : None ≡ Some connection = sym (finite.get-empty nat_cmp endpoint) ∙ there in cc);
   holds = λ number. unheld number ∙ sym (count_none (to_node number));
   few = let none = finite.len-empty nat_cmp Connection in omega (arith, none);
@@ -106,12 +106,12 @@ module _ (lists : Lists) (index endpoint : ℕ) (path : Bor (List ℕ)) (rights 
       node = record {
         named = next.holds.kept path node leads;
         spoken = ap (λ o. option_map_or (is_spoken_at protocol.Directory) o false) kind_is;
+        connects = λ is. search rules;
       };
       room =
           let few = few_before lists next.accepted index next.within bounds (begun lists index endpoint path.now rights) next.later next.whole in
           let count = next.holds.count in
           omega (arith, few, count);
-      built = directory_spoken;
     }
 
     module _ (new : Server) (binds : Binds server endpoint birth new) where

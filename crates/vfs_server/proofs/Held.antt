@@ -17,8 +17,9 @@ use Rattle.node_graph.specs.declared.nodes.NodeKind.{NodeKind}
 use Rattle.node_graph.specs.Graph.{Kept, HoldsNow, KeepsNames, holds_at, is_kept, number_of}
 use Rattle.conn_rules.specs.declared.births.Birth as code
 use Rattle.conn_rules.specs.Births.{Connection}
+use Rattle.conn_rules.specs.Served.{KeepsHolds}
 use Rattle.conn_rules.specs.Shared.{CanBeBound, is_spoken_at}
-use Rattle.vfs_server.specs.Kept.{Connections, IsSound, connected_to}
+use Rattle.vfs_server.specs.Kept.{Connections, HasTree, IsSound, connected_to}
 use Rattle.vfs_server.proofs.Joined.{standing, same, other, same_connections, get_put, get_put_other, get_cut, get_cut_other}
 
 -- ---- counting over the entries of a map
@@ -108,15 +109,16 @@ module _ (graph : Kept) (connections : Connections) (sound : IsSound graph conne
 pub still_bound : (old new : Kept) (birth : code.Birth) → KeepsNames old new → is_kept new (number_of birth.node) ≡ true → CanBeBound old birth → CanBeBound new birth
 still_bound old new birth keeps kept was =
     let names = keeps birth.node was.named kept in
-    record { named = names.0; spoken = ap (λ (kind : Option NodeKind). option_map_or (is_spoken_at birth.protocol) kind false) names.1 ∙ was.spoken }
+    record { named = names.0; spoken = ap (λ (kind : Option NodeKind). option_map_or (is_spoken_at birth.protocol) kind false) names.1 ∙ was.spoken; connects = was.connects }
 
 held_kept : (graph : Kept) (number : ℕ) → 0 < holds_at graph number → is_kept graph number ≡ true
 held_kept graph number some = grind (arith, nat_tests)
 
 -- where holds are counted, what could be bound can still be bound
 pub sound_again : (old new : Kept) (connections : Connections) → ((endpoint : ℕ) (connection : Connection) → finite.get connections endpoint ≡ Some connection → CanBeBound old connection.birth) →
-    ((number : ℕ) → holds_at new number ≡ connected_to number connections) → KeepsNames old new → finite.len connections ≤ limit.MAX_CONNECTIONS → IsSound new connections
-sound_again old new connections could counts keeps few = record {
+    ((number : ℕ) → holds_at new number ≡ connected_to number connections) → KeepsNames old new → finite.len connections ≤ limit.MAX_CONNECTIONS → HasTree new → IsSound new connections
+sound_again old new connections could counts keeps few tree = record {
+  tree = tree;
   each = λ endpoint connection there.
       let number = number_of connection.birth.node in
       let cut = count_cut (to_node number) connections endpoint connection there in
@@ -132,7 +134,7 @@ sound_again old new connections could counts keeps few = record {
 
 module _ (old new : Kept) (connections : Connections) (endpoint : ℕ) (connection : Connection) (sound : IsSound old connections) (free : finite.get connections endpoint ≡ None)
     (can : CanBeBound old connection.birth) (held : HoldsNow old new (number_of connection.birth.node) (holds_at old (number_of connection.birth.node) + 1)) (keeps : KeepsNames old new)
-    (few : finite.len connections < limit.MAX_CONNECTIONS) where
+    (few : finite.len connections < limit.MAX_CONNECTIONS) (tree : HasTree new) where
   by_number : (number : ℕ) (b : Bool) → (number == number_of connection.birth.node) ≡ b →
       (if b then holds_at old (number_of connection.birth.node) + 1 else holds_at old number) ≡ connected_to number (finite.insert connections endpoint connection)
   by_number number true e =
@@ -160,12 +162,12 @@ module _ (old new : Kept) (connections : Connections) (endpoint : ℕ) (connecti
   ]
 
   pub sound_more : IsSound new (finite.insert connections endpoint connection)
-  sound_more = sound_again old new (finite.insert connections endpoint connection) could counts keeps (omega (arith, longer connections endpoint connection free, few))
+  sound_more = sound_again old new (finite.insert connections endpoint connection) could counts keeps (omega (arith, longer connections endpoint connection free, few)) tree
 
 -- ---- one less
 
 module _ (old new : Kept) (connections : Connections) (endpoint : ℕ) (connection : Connection) (sound : IsSound old connections) (there : finite.get connections endpoint ≡ Some connection)
-    (held : HoldsNow old new (number_of connection.birth.node) (holds_at old (number_of connection.birth.node) - 1)) (keeps : KeepsNames old new) where
+    (held : HoldsNow old new (number_of connection.birth.node) (holds_at old (number_of connection.birth.node) - 1)) (keeps : KeepsNames old new) (tree : HasTree new) where
   less_by_number : (number : ℕ) (b : Bool) → (number == number_of connection.birth.node) ≡ b →
       (if b then holds_at old (number_of connection.birth.node) - 1 else holds_at old number) ≡ connected_to number (finite.remove connections endpoint)
   less_by_number number true e =
@@ -194,24 +196,27 @@ module _ (old new : Kept) (connections : Connections) (endpoint : ℕ) (connecti
   pub sound_less : IsSound new (finite.remove connections endpoint)
   sound_less =
       let few = sound.few in
-      sound_again old new (finite.remove connections endpoint) still_could less_counts keeps (omega (arith, shorter connections endpoint connection there, few))
+      sound_again old new (finite.remove connections endpoint) still_could less_counts keeps (omega (arith, shorter connections endpoint connection there, few)) tree
 
 -- ---- one served
 
-module _ (graph : Kept) (connections : Connections) (endpoint : ℕ) (connection served : Connection) (sound : IsSound graph connections) (there : finite.get connections endpoint ≡ Some connection)
-    (alike : served.birth ≡ connection.birth) where
-  pub sound_served : IsSound graph (finite.insert connections endpoint served)
-  sound_served = record {
-    each = λ other_one found at. elim (standing other_one endpoint) [
-      | same e b ↦
-          let is : Some served ≡ Some found = sym (ap (finite.get (finite.insert connections endpoint served)) e ∙ get_put connections endpoint served) ∙ at in
-          let same_one : served ≡ found = cc in
-          subst (CanBeBound graph) (sym alike ∙ ap (λ (one : Connection). one.birth) same_one) (sound.each endpoint connection there)
-      | other e b ↦ sound.each other_one found (sym (get_put_other connections endpoint other_one served e) ∙ at)
-    ];
-    holds = λ number. sound.holds number ∙ sym (count_again (to_node number) connections endpoint connection served there (ap (λ (birth : code.Birth). number_of birth.node == number) alike));
-    few = let before = sound.few in omega (arith, as_long connections endpoint connection served there, before);
-  }
+module _ (graph changed : Kept) (connections : Connections) (endpoint : ℕ) (connection served : Connection) (sound : IsSound graph connections) (there : finite.get connections endpoint ≡ Some connection)
+    (keeps : KeepsHolds connection served graph changed) (tree : HasTree changed) where
+  as_before : (other_one : ℕ) (found : Connection) → finite.get (finite.insert connections endpoint served) other_one ≡ Some found → CanBeBound graph found.birth
+  as_before other_one found at = elim (standing other_one endpoint) [
+    | same e b ↦
+        let is : Some served ≡ Some found = sym (ap (finite.get (finite.insert connections endpoint served)) e ∙ get_put connections endpoint served) ∙ at in
+        let same_one : served ≡ found = cc in
+        subst (CanBeBound graph) (sym keeps.birth ∙ ap (λ (one : Connection). one.birth) same_one) (sound.each endpoint connection there)
+    | other e b ↦ sound.each other_one found (sym (get_put_other connections endpoint other_one served e) ∙ at)
+  ]
+
+  pub sound_served : IsSound changed (finite.insert connections endpoint served)
+  sound_served =
+      let before = sound.few in
+      sound_again graph changed (finite.insert connections endpoint served) as_before
+      (λ number. keeps.holds number ∙ sound.holds number ∙ sym (count_again (to_node number) connections endpoint connection served there (ap (λ (birth : code.Birth). number_of birth.node == number) keeps.birth)))
+      keeps.names (omega (arith, as_long connections endpoint connection served there, before)) tree
 
 -- ---- few
 

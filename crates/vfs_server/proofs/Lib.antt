@@ -3,6 +3,7 @@ pub mod Joined
 pub mod Lengths
 pub mod Walking
 pub mod Today
+pub mod Giving
 pub mod Answering
 pub mod Held
 pub mod Servings

@@ -1,5 +1,5 @@
 -- What a server is behind what it binds, lets go and serves.
-use Rattle.std.proofs.Common.{◌≡◌, ◌≢◌, ℕ, ◌+◌, ◌-◌, ◌<◌, ◌≤◌, ◌++◌, true, false, List, [], length, Option, Some, None, Result, IfOk, refl, sym, ap, ◌∙◌, subst, arith}
+use Rattle.std.proofs.Common.{◌≡◌, ◌≢◌, ℕ, ◌+◌, ◌-◌, ◌<◌, ◌≤◌, ◌++◌, true, false, List, [], ◌∷◌, length, Option, Some, None, Result, IfOk, refl, sym, ap, ◌∙◌, subst, arith}
 use Rattle.std.specs.Prelude.{if◌then◌else◌, IsSome}
 use Rattle.std.proofs.lemmas.Bool.{eq-eqb, ne_eqb}
 use Rattle.std.proofs.lemmas.Bool.Decides.{nat_tests}
@@ -13,14 +13,16 @@ use Rattle.endpoint_link.specs.Frames.{Frame, spellings}
 use Rattle.io_messages.specs.declared.protocols.Protocol.{Protocol}
 use Rattle.io_messages.specs.declared.protocols.Protocol.TheVariants as protocol
 use Rattle.io_messages.specs.Requests.{request_of}
-use Rattle.node_graph.specs.Graph.{Kept, HoldsNow, KeepsNames, Leads, StandsFor, holds_at, number_of}
-use Rattle.node_graph.specs.Tree.{Tree, Change, after, stay}
+use Rattle.node_graph.specs.Graph.{Kept, HoldsNow, KeepsNames, Leads, holds_at, number_of}
+use Rattle.node_graph.specs.Tree.{Tree, stay}
 use Rattle.conn_rules.specs.declared.births.Birth as code
 use Rattle.conn_rules.specs.declared.births.Room.{Room}
-use Rattle.conn_rules.specs.Answers.{Happening, nothing_told}
+use Rattle.conn_rules.specs.Answers.{Happening}
+use Rattle.conn_rules.specs.Answers as news
 use Rattle.conn_rules.specs.Births.{Connection, Position, fresh}
-use Rattle.conn_rules.specs.Built.{first_methods}
+use Rattle.conn_rules.specs.Built.{today}
 use Rattle.conn_rules.specs.Opens.{is_full}
+use Rattle.conn_rules.specs.Served.{KeepsHolds}
 use Rattle.conn_rules.specs.Shared.{CanBeBound}
 use Rattle.vfs_journal.specs.Entries.{message}
 use Rattle.vfs_journal.specs.Handles.{AreByNumber, numbers_of}
@@ -28,7 +30,7 @@ use Rattle.vfs_journal.specs.Outcomes.{Outcome}
 use Rattle.vfs_journal.specs.Serving.{Moment, outcome_of_message, outcome_of_read, outcome_of_sending, read_by}
 use Rattle.vfs_journal.specs.Starts.{Bound}
 use Rattle.vfs_journal.specs.View.{moved}
-use Rattle.vfs_journal.specs.Watching.{first_frames, told_frames}
+use Rattle.vfs_journal.specs.Watching.{first_frames, told_by, told_frames}
 use Rattle.vfs_server.specs.declared.asking.Asking.{Asking}
 use Rattle.vfs_server.specs.declared.fate.Fate.{Fate}
 use Rattle.vfs_server.specs.declared.fate.Fate.TheVariants as fates
@@ -119,11 +121,18 @@ no_first tree endpoint server (fates.Binds object birth) out o is = rw is refl
 no_first tree endpoint server (fates.Refuses object) out o is = rw is refl
 no_first tree endpoint server (fates.Forwards mount object) out o is = rw is refl
 
-none_told : (server : ℕ) (told : List Happening) → told ≡ nothing_told → told_frames [] server told ≡ []
-none_told server told is = ap (told_frames [] server) is
+-- nobody watches, so that nobody is told
+told_none : (server : ℕ) (happening : Happening) → told_by [] server happening ≡ []
+told_none server (news.removed name) = refl
+told_none server (news.added name) = refl
+told_none server (news.deleted directory) = refl
+
+none_told : (server : ℕ) (told : List Happening) → told_frames [] server told ≡ []
+none_told server [] = refl
+none_told server (happening ∷ later) = rw (told_none server happening) (none_told server later)
 
 by_protocol : (moment : Moment) (p : Protocol) (bytes numbers : List ℕ) → p ≢ protocol.Watcher →
-    outcome_of_message first_methods moment p bytes numbers ≡ outcome_of_read first_methods moment (read_by p bytes numbers)
+    outcome_of_message today moment p bytes numbers ≡ outcome_of_read today moment (read_by p bytes numbers)
 by_protocol moment protocol.Directory bytes numbers isnt = refl
 by_protocol moment protocol.File bytes numbers isnt = refl
 by_protocol moment protocol.Node bytes numbers isnt = refl
@@ -131,12 +140,12 @@ by_protocol moment protocol.Echo bytes numbers isnt = refl
 by_protocol moment protocol.Watcher bytes numbers isnt = absurd (isnt refl)
 
 pub of_message : (moment : Moment) (p : Protocol) (bytes : List ℕ) (handles : List Handle) → moment.bound.birth.protocol ≡ p → p ≢ protocol.Watcher → AreByNumber handles →
-    outcome_of_read first_methods moment (request_of p bytes handles) ≡ outcome_of_sending first_methods moment (message bytes (numbers_of handles))
+    outcome_of_read today moment (request_of p bytes handles) ≡ outcome_of_sending today moment (message bytes (numbers_of handles))
 unfolding outcome_of_sending
 of_message moment p bytes handles is isnt numbered =
-    ap (λ hs. outcome_of_read first_methods moment (request_of p bytes hs)) (sym numbered)
+    ap (λ hs. outcome_of_read today moment (request_of p bytes hs)) (sym numbered)
     ∙ sym (by_protocol moment p bytes (numbers_of handles) isnt)
-    ∙ ap (λ q. outcome_of_message first_methods moment q bytes (numbers_of handles)) (sym is)
+    ∙ ap (λ q. outcome_of_message today moment q bytes (numbers_of handles)) (sym is)
 
 not_full : (room : Room) (n : ℕ) → room.connections ≡ n → is_full room ≡ false → n < limit.MAX_CONNECTIONS
 not_full room n is free =
@@ -144,7 +153,7 @@ not_full room n is free =
     omega (arith, is, least)
 
 module _ (index : ℕ) (graph : Kept) (connections : Connections) (asking : Asking) (token : Option ℕ) (moment : Moment) (old : Connection)
-    (there : finite.get connections asking.endpoint ≡ Some old) (on : asking.graph.now ≡ graph) (with_room : asking.room ≡ record { connections = finite.len connections; watchers = 0; token = token })
+    (there : finite.get connections asking.endpoint ≡ Some old) (with_room : asking.room ≡ record { connections = finite.len connections; watchers = 0; token = token })
     (asked : IsMomentOf (server_of index graph connections) asking.endpoint token moment) where
   both : (connected index asking.endpoint old) ≡ (moment.bound, moment.position)
   both =
@@ -154,23 +163,26 @@ module _ (index : ℕ) (graph : Kept) (connections : Connections) (asking : Aski
   pub bound_is : moment.bound ≡ bound_with index asking.endpoint old.birth
   bound_is = sym (ap (λ (pair : Bound × Position). pair.0) both)
 
-  pub is_asked : IsAskedAt index asking old moment
+  room_is : moment.room ≡ asking.room
+  room_is = asked.room ∙ ap (λ n. record { connections = n; watchers = 0; token = token }) long ∙ sym with_room where
+    long : finite.len connections + length {A = Bound} [] ≡ finite.len connections
+    long = omega arith
+
+  pub is_asked : IsAskedAt index asking graph old moment
   is_asked = record {
     bound = bound_is;
     position = sym (ap (λ (pair : Bound × Position). pair.1) both);
-    room = asked.room ∙ ap (λ n. record { connections = n; watchers = 0; token = token }) long ∙ sym with_room;
-    tree = subst (λ g. StandsFor g moment.tree) (sym on) asked.tree;
+    room = room_is;
+    tree = asked.tree;
   }
-    where
-      long : finite.len connections + length {A = Bound} [] ≡ finite.len connections
-      long = omega arith
 
-  module _ (new : Connection) (outcome : Outcome) (fate : Fate) (out : Written) (before behind : List ℕ) (answers : Answers asking moment outcome fate out old new before behind) (alike : new.birth ≡ old.birth) where
+  module _ (changed : Kept) (new : Connection) (outcome : Outcome) (fate : Fate) (out : Written) (before behind : List ℕ)
+      (answers : Answers moment outcome fate out new graph changed before behind) (keeps : KeepsHolds old new graph changed) where
     frames_are : frames_here moment [] outcome ≡ outcome.frames
     frames_are =
         ap (λ (fs : List Frame). outcome.frames ++ fs ++ told_frames [] moment.bound.server outcome.told)
         (no_first moment.tree moment.bound.endpoint moment.bound.server fate out outcome.bound (ap (λ e. e.bound) answers.effects))
-        ∙ ap (λ (fs : List Frame). outcome.frames ++ [] ++ fs) (none_told moment.bound.server outcome.told answers.told)
+        ∙ ap (λ (fs : List Frame). outcome.frames ++ [] ++ fs) (none_told moment.bound.server outcome.told)
         ∙ append-nil (outcome.frames ++ []) ∙ append-nil outcome.frames
 
     endpoint_is : moment.bound.endpoint ≡ asking.endpoint
@@ -180,7 +192,7 @@ module _ (index : ℕ) (graph : Kept) (connections : Connections) (asking : Aski
     moved_here one e =
         ap (λ t. if t then (bound_with index one old.birth, outcome.position) else connected index one old) (eq-eqb one moment.bound.endpoint (e ∙ sym endpoint_is))
         ∙ ap (λ (position : Position). (bound_with index one old.birth, position)) (sym answers.position)
-        ∙ ap (λ (birth : code.Birth). (bound_with index one birth, new.position)) (sym alike)
+        ∙ ap (λ (birth : code.Birth). (bound_with index one birth, new.position)) (sym keeps.birth)
 
     stays : (one : ℕ) (o : Option Connection) → one ≢ asking.endpoint → option_map (moved moment.bound.endpoint outcome.position) (seen_as index [] one o) ≡ seen_as index [] one o
     stays one None apart = refl
@@ -188,7 +200,7 @@ module _ (index : ℕ) (graph : Kept) (connections : Connections) (asking : Aski
         ap (λ t. Some (if t then (bound_with index one connection.birth, outcome.position) else connected index one connection))
         (ne_eqb one moment.bound.endpoint (λ is. apart (is ∙ endpoint_is)))
 
-    pub serves : Serves moment outcome fate out (server_of index graph connections) (server_of index graph (finite.insert connections asking.endpoint new)) before behind
+    pub serves : Serves moment outcome fate out (server_of index graph connections) (server_of index changed (finite.insert connections asking.endpoint new)) before behind
     serves = record {
       frames = answers.frames ∙ ap (λ (fs : List Frame). before ++ spellings fs) (sym frames_are);
       effects = answers.effects;
@@ -204,30 +216,34 @@ module _ (index : ℕ) (graph : Kept) (connections : Connections) (asking : Aski
       ];
       count = omega (arith, as_long connections asking.endpoint old new there);
       watchers = refl;
-      tree = λ tree stands. subst (λ (change : Change). StandsFor graph (after tree change)) (sym answers.change) stands;
-      holds = λ number. refl;
-      names = λ node named kept. (named, refl);
+      tree = answers.change;
+      holds = keeps.holds;
+      names = keeps.names;
       has_place = λ object birth is. record {
-        node = subst (λ g. CanBeBound g birth) on (answers.bound object birth is);
-        room = omega (arith, as_long connections asking.endpoint old new there, not_full asking.room (finite.len connections) (ap (λ (room : Room). room.connections) with_room) (answers.room object birth is));
-        built = answers.built object birth is;
+        node = answers.bound object birth is;
+        room =
+            omega (
+              arith,
+              as_long connections asking.endpoint old new there,
+              not_full moment.room (finite.len connections) (ap (λ (room : Room). room.connections) (room_is ∙ with_room)) (answers.room object birth is),
+            );
       };
       mounted = answers.mounted;
     }
 
 -- a message that was served on a connection
-pub serves_message : (index : ℕ) (graph : Kept) (connections : Connections) (token : Option ℕ) (moment : Moment) (old new : Connection) (bytes : List ℕ) (handles : List Handle)
+pub serves_message : (index : ℕ) (graph changed : Kept) (connections : Connections) (token : Option ℕ) (moment : Moment) (old new : Connection) (bytes : List ℕ) (handles : List Handle)
     {E : Type 0} (result : Result Fate E) (out : Written) (before behind : List ℕ) (asking : Asking) →
-    ((server : ℕ) (moment : Moment) → IsAskedAt server asking old moment →
-    IfOk result (λ fate. Answers asking moment (outcome_of_read first_methods moment (request_of old.birth.protocol bytes handles)) fate out old new before behind)) →
-    finite.get connections asking.endpoint ≡ Some old → asking.graph.now ≡ graph → asking.room ≡ record { connections = finite.len connections; watchers = 0; token = token } →
-    CanBeBound graph old.birth → new.birth ≡ old.birth → AreByNumber handles → IsMomentOf (server_of index graph connections) asking.endpoint token moment →
-    IfOk result (λ fate. Serves moment (outcome_of_sending first_methods moment (message bytes (numbers_of handles))) fate out
-    (server_of index graph connections) (server_of index graph (finite.insert connections asking.endpoint new)) before behind)
-serves_message index graph connections token moment old new bytes handles result out before behind asking answers there on with_room can alike numbered asked =
+    ((server : ℕ) (moment : Moment) → IsAskedAt server asking graph old moment →
+    IfOk result (λ fate. Answers moment (outcome_of_read today moment (request_of old.birth.protocol bytes handles)) fate out new graph changed before behind)) →
+    finite.get connections asking.endpoint ≡ Some old → asking.room ≡ record { connections = finite.len connections; watchers = 0; token = token } →
+    CanBeBound graph old.birth → KeepsHolds old new graph changed → AreByNumber handles → IsMomentOf (server_of index graph connections) asking.endpoint token moment →
+    IfOk result (λ fate. Serves moment (outcome_of_sending today moment (message bytes (numbers_of handles))) fate out
+    (server_of index graph connections) (server_of index changed (finite.insert connections asking.endpoint new)) before behind)
+serves_message index graph changed connections token moment old new bytes handles result out before behind asking answers there with_room can keeps numbered asked =
     let outcome_is = of_message moment old.birth.protocol bytes handles
-    (ap (λ (bound : Bound). bound.birth.protocol) (bound_is index graph connections asking token moment old there on with_room asked)) (no_watcher old.birth.protocol _ can.spoken) numbered in
-    subst (λ outcome. IfOk result (λ fate. Serves moment outcome fate out (server_of index graph connections) (server_of index graph (finite.insert connections asking.endpoint new)) before behind)) outcome_is
+    (ap (λ (bound : Bound). bound.birth.protocol) (bound_is index graph connections asking token moment old there with_room asked)) (no_watcher old.birth.protocol _ can.spoken) numbered in
+    subst (λ outcome. IfOk result (λ fate. Serves moment outcome fate out (server_of index graph connections) (server_of index changed (finite.insert connections asking.endpoint new)) before behind)) outcome_is
     (ok_map _ _ result
-    (λ fate does. serves index graph connections asking token moment old there on with_room asked new (outcome_of_read first_methods moment (request_of old.birth.protocol bytes handles)) fate out before behind does alike)
-    (answers index moment (is_asked index graph connections asking token moment old there on with_room asked)))
+    (λ fate does. serves index graph connections asking token moment old there with_room asked changed new (outcome_of_read today moment (request_of old.birth.protocol bytes handles)) fate out before behind does keeps)
+    (answers index moment (is_asked index graph connections asking token moment old there with_room asked)))

@@ -1,21 +1,18 @@
 -- What a server takes in and lets go.
-use Rattle.std.specs.Prelude.{◌≡◌, ℕ, ◌+◌, ◌-◌, ◌==◌, ◌<◌, true, not, if◌then◌else◌, filter, Some, None}
+use Rattle.std.specs.Prelude.{◌≡◌, ℕ, ◌+◌, ◌-◌, ◌==◌, ◌<◌, not, if◌then◌else◌, filter, Some, None}
 use Rattle.fidl_names.specs.declared.limits.TheConstants as limit
 use Rattle.node_graph.specs.Graph.{HoldsNow, KeepsNames, Leads, holds_at, number_of}
 use Rattle.node_graph.specs.Tree.{stay}
 use Rattle.conn_rules.specs.declared.births.Birth as code
 use Rattle.conn_rules.specs.Births.{Position, fresh}
-use Rattle.conn_rules.specs.Built.{first_methods}
 use Rattle.conn_rules.specs.Shared.{CanBeBound}
 use Rattle.vfs_journal.specs.Starts.{Bound}
 use Rattle.vfs_server.specs.Servers.{Server, bound_with, in_use, seen}
-use Rattle.vfs_server.specs.Spoken.{speaks_protocol}
 
--- the server has room, keeps the node, and speaks_protocol the protocol there, which is built today
+-- the server has room, and can bind the birth
 pub record HasPlace (server : Server) (birth : code.Birth) : Type 0 where
   pub node : CanBeBound server.graph birth
   pub room : in_use server < limit.MAX_CONNECTIONS
-  pub built : speaks_protocol first_methods birth.protocol ≡ true
 
 -- an endpoint is bound and no other changes; its node has one hold more
 pub record Binds (old : Server) (endpoint : ℕ) (birth : code.Birth) (new : Server) : Type 0 where

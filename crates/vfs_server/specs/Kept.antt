@@ -6,7 +6,8 @@ use Rattle.std.specs.Option.{option_map}
 use Rattle.std.specs.Ordering.{nat_cmp}
 use Rattle.slab.specs.Slab as slab
 use Rattle.fidl_names.specs.declared.limits.TheConstants as limit
-use Rattle.node_graph.specs.Graph.{Kept, holds_at, number_of}
+use Rattle.node_graph.specs.Graph.{Kept, StandsFor, holds_at, number_of}
+use Rattle.node_graph.specs.Tree.{Tree}
 use Rattle.conn_rules.specs.Births.{Connection}
 use Rattle.conn_rules.specs.Shared.{CanBeBound}
 
@@ -31,8 +32,13 @@ pub record AreJoined (kept : slab.Slab Connection) (places : tree.BTreeMap ℕ �
 abbrev pub connected_to : ℕ → Connections → ℕ
 connected_to number connections = count_by (λ connection. number_of connection.birth.node == number) (finite.values connections)
 
+-- the graph stands for a tree
+abbrev pub HasTree : Kept → Type 0
+HasTree graph = (tree : Tree) × StandsFor graph tree
+
 -- each connection is to a node that the graph keeps, which has one hold for each; and there are no more than a server may have
 pub record IsSound (graph : Kept) (connections : Connections) : Type 0 where
+  pub tree : HasTree graph
   pub each : (endpoint : ℕ) (connection : Connection) → finite.get connections endpoint ≡ Some connection → CanBeBound graph connection.birth
   pub holds : (number : ℕ) → holds_at graph number ≡ connected_to number connections
   pub few : finite.len connections ≤ limit.MAX_CONNECTIONS

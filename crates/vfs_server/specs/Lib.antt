@@ -1,6 +1,5 @@
 pub mod Servers
 pub mod Holding
-pub mod Spoken
 pub mod Effects
 pub mod Binding
 pub mod Serving

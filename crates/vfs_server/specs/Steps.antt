@@ -1,23 +1,31 @@
 -- Words of the steps of a serving: who asks, what a connection gives, and what is done with it. No public clause needs these.
-use Rattle.std.specs.Prelude.{◌≡◌, ◌≢◌, ◌<◌, ℕ, false, true, List, [], ◌∷◌, ◌++◌, Some}
+use Rattle.std.specs.Prelude.{◌≡◌, ◌≢◌, ◌<◌, ℕ, false, List, [], ◌∷◌, ◌++◌, Some}
+use Rattle.std.specs.Str.{IsUtf8}
+use Rattle.fidl_names.specs.declared.methods.Method.TheVariants as method
 use Rattle.fidl_wire.specs.Written.{Written}
 use Rattle.endpoint_link.specs.Frames.{Frame, frame_with, spellings}
 use Rattle.endpoint_link.specs.declared.kinds.FrameKind.TheVariants as kind
 use Rattle.io_messages.specs.declared.protocols.Protocol.TheVariants as protocol
 use Rattle.io_messages.specs.declared.requests.RequestFault.{RequestFault}
 use Rattle.io_messages.specs.declared.requests.RequestFault.TheVariants.{UnknownTwoWay}
-use Rattle.node_graph.specs.Graph.{StandsFor}
-use Rattle.node_graph.specs.Tree.{stay}
+use Rattle.io_messages.specs.Asked.{Asked}
+use Rattle.io_messages.specs.declared.protocols.Protocol.{Protocol}
+use Rattle.io_messages.specs.Replies.{done, payload, settled}
+use Rattle.io_messages.specs.ReplyWriting.{PayloadFits}
+use Rattle.node_graph.specs.Graph.{Kept, Leads, StandsFor}
 use Rattle.tree_file.specs.Numbering.{end_of_mount}
-use Rattle.conn_rules.specs.Answers.{Act, Answer, nothing_told}
-use Rattle.conn_rules.specs.Births.{Connection, born}
-use Rattle.conn_rules.specs.Built.{first_methods}
+use Rattle.conn_rules.specs.Answers.{Act, Answer, Happening, nothing_told, replies, closes, binds, watches, forwards, refuses, ends}
+use Rattle.conn_rules.specs.Births.{Connection, born, connection_with, fresh}
 use Rattle.conn_rules.specs.declared.births.Birth as code
+use Rattle.conn_rules.specs.declared.changes.Changes.{Changes}
+use Rattle.conn_rules.specs.declared.served.Served.{Served}
+use Rattle.conn_rules.specs.declared.served.Served.TheVariants as served
 use Rattle.conn_rules.specs.Opens.{is_full}
+use Rattle.conn_rules.specs.Served.{HasNothing, HasReply, IsBirth, told_by}
 use Rattle.conn_rules.specs.Shared.{CanBeBound}
-use Rattle.dir_conn.specs.Served.{DirGives}
 use Rattle.dir_conn.specs.declared.served.DirServed.{DirServed}
-use Rattle.dir_conn.specs.declared.served.DirServed.TheVariants as served
+use Rattle.dir_conn.specs.declared.served.DirServed.TheVariants as dir
+use Rattle.node_conn.specs.Texts.{text_of}
 use Rattle.vfs_journal.specs.Handles.{numbers_of}
 use Rattle.vfs_journal.specs.Outcomes.{Asker, Outcome, announcement, bound_of, close_frame, ending, ends_of, forward_of, frames_of, onward_bytes, token_of}
 use Rattle.vfs_journal.specs.Serving.{Moment, fault_answer, fault_txid}
@@ -26,10 +34,11 @@ use Rattle.vfs_server.specs.declared.conn.Conn.{Conn}
 use Rattle.vfs_server.specs.declared.conn.Conn.TheVariants as conn
 use Rattle.vfs_server.specs.declared.fate.Fate.{Fate}
 use Rattle.vfs_server.specs.declared.fate.Fate.TheVariants as fates
+use Rattle.vfs_server.specs.declared.given.Given.{Given}
+use Rattle.vfs_server.specs.declared.given.Given.TheVariants as given
 use Rattle.vfs_server.specs.Effects.{Effects, effects_of, effects_told, no_effects}
 use Rattle.vfs_server.specs.Servers.{bound_with}
 use Rattle.vfs_server.specs.Serving.{HasMount}
-use Rattle.vfs_server.specs.Spoken.{speaks_protocol}
 
 -- ---- connections
 
@@ -37,18 +46,66 @@ use Rattle.vfs_server.specs.Spoken.{speaks_protocol}
 abbrev pub connection_of : Conn → Connection
 connection_of (conn.Directory c) = c
 connection_of (conn.File c) = c
+connection_of (conn.Node c) = c
+connection_of (conn.Echo birth) = connection_with birth fresh
 
 -- each kind of connection has its protocol
 abbrev pub IsOfItsKind : Conn → Type 0
 IsOfItsKind (conn.Directory c) = c.birth.protocol ≡ protocol.Directory
 IsOfItsKind (conn.File c) = c.birth.protocol ≡ protocol.File
+IsOfItsKind (conn.Node c) = c.birth.protocol ≡ protocol.Node
+IsOfItsKind (conn.Echo birth) = birth.protocol ≡ protocol.Echo
+
+-- ---- what a connection gives
+
+-- what a directory's connection gives
+abbrev pub of_directory : DirServed → Given
+of_directory (dir.Reply changes) = given.Reply changes
+of_directory dir.ReplyEnd = given.ReplyEnd
+of_directory (dir.Bind birth changes) = given.Bind birth changes
+of_directory (dir.WatchBy mask) = given.WatchBy mask
+of_directory (dir.Forward mount flags rest) = given.Forward mount flags rest
+of_directory (dir.Refused status) = given.Refused status
+of_directory dir.NoMemory = given.NoMemory
+
+-- what any other connection gives, at which no name comes or goes
+abbrev pub IsOf : Served → Given → Type 0
+IsOf served.Reply what = (changes : Changes) × (what ≡ given.Reply changes) × (told_by changes ≡ nothing_told)
+IsOf served.ReplyEnd what = what ≡ given.ReplyEnd
+IsOf (served.Bind birth) what = (changes : Changes) × (what ≡ given.Bind birth changes) × (told_by changes ≡ nothing_told)
+IsOf (served.Refused status) what = what ≡ given.Refused status
+IsOf (served.End status) what = what ≡ given.End status
+IsOf served.NoMemory what = what ≡ given.NoMemory
+
+-- what a connection tells for watchers
+abbrev pub told_given : Given → List Happening
+told_given (given.Reply changes) = told_by changes
+told_given (given.Bind birth changes) = told_by changes
+told_given _ = nothing_told
+
+-- a connection gives this answer to a request with this transaction id
+abbrev pub IsGiven : Answer → ℕ → Given → Written → Type 0
+IsGiven (replies a) txid what out = ((changes : Changes) × (what ≡ given.Reply changes)) × HasReply txid a out
+IsGiven closes txid what out = (what ≡ given.ReplyEnd) × HasReply txid (done method.Close) out
+IsGiven (binds birth announced) txid what out =
+    ((found : code.Birth) × ((changes : Changes) × (what ≡ given.Bind found changes)) × IsBirth birth announced found) × HasNothing out
+IsGiven (watches mask) txid what out = (what ≡ given.WatchBy mask) × HasReply txid (settled method.Watch) out
+IsGiven (forwards mount flags rest) txid what out = (what ≡ given.Forward mount flags rest) × HasNothing out
+IsGiven (refuses status) txid what out = (what ≡ given.Refused status) × HasNothing out
+IsGiven (ends status) txid what out = (what ≡ given.End status) × HasNothing out
+IsGiven _ txid what out = ⊥
+
+-- a request to echo a text can be answered: the text is UTF-8, and fits into a message
+abbrev pub CanEcho : Protocol → Asked → Type 0
+CanEcho p request = p ≡ protocol.Echo → IsUtf8 (text_of request) × PayloadFits (payload method.EchoString (text_of request))
 
 -- a connection did what an act says, but for its frames
-pub record Acts (act : Act) (txid : ℕ) (given : DirServed) (out : Written) (new : Connection) : Type 0 where
-  pub answer : DirGives act.answer txid given out
+pub record Acts (act : Act) (txid : ℕ) (what : Given) (out : Written) (new : Connection) (graph changed : Kept) : Type 0 where
+  pub answer : IsGiven act.answer txid what out
+  pub told : act.told ≡ told_given what
   pub position : new.position ≡ act.position
-  pub change : act.change ≡ stay
-  pub told : act.told ≡ nothing_told
+  pub change : Leads graph changed act.change
+  pub bound : (found : code.Birth) (changes : Changes) → what ≡ given.Bind found changes → CanBeBound changed found
 
 -- ---- frames
 
@@ -60,27 +117,31 @@ message_frame endpoint out = frame_with endpoint kind.Message (numbers_of out.ha
 abbrev pub last_frames : ℕ → Written → List Frame
 last_frames endpoint out = message_frame endpoint out ∷ close_frame endpoint ∷ []
 
--- ---- what a connection gives
+-- ---- what is done with it
 
 -- the frames that are written where a connection to `endpoint` gave this to a request with `object`, and left this output
-abbrev pub frames_given : ℕ → ℕ → DirServed → Written → List Frame
-frames_given endpoint object served.Reply out = message_frame endpoint out ∷ []
-frames_given endpoint object served.ReplyEnd out = last_frames endpoint out
-frames_given endpoint object (served.Bind birth) out = announcement object birth.protocol birth.announce
-frames_given endpoint object (served.Forward mount flags rest) out = []
-frames_given endpoint object (served.Refused status) out = ending object status
-frames_given endpoint object served.NoMemory out = []
+abbrev pub frames_given : ℕ → ℕ → Given → Written → List Frame
+frames_given endpoint object (given.Reply changes) out = message_frame endpoint out ∷ []
+frames_given endpoint object given.ReplyEnd out = last_frames endpoint out
+frames_given endpoint object (given.Bind birth changes) out = announcement object birth.protocol birth.announce
+frames_given endpoint object (given.WatchBy mask) out = message_frame endpoint out ∷ []
+frames_given endpoint object (given.Forward mount flags rest) out = []
+frames_given endpoint object (given.Refused status) out = ending object status
+frames_given endpoint object (given.End status) out = ending endpoint status
+frames_given endpoint object given.NoMemory out = []
 
--- what becomes of endpoints then, at this server
-abbrev pub effects_given : ℕ → ℕ → ℕ → DirServed → Effects
-effects_given endpoint server object served.Reply = no_effects
-effects_given endpoint server object served.ReplyEnd = record no_effects { ends = endpoint ∷ [] }
-effects_given endpoint server object (served.Bind birth) =
+-- what becomes of endpoints then, at this server; nobody watches yet
+abbrev pub effects_given : ℕ → ℕ → ℕ → Given → Effects
+effects_given endpoint server object (given.Reply changes) = no_effects
+effects_given endpoint server object given.ReplyEnd = record no_effects { ends = endpoint ∷ [] }
+effects_given endpoint server object (given.Bind birth changes) =
     record no_effects { bound = Some (record { endpoint = object; server = server; birth = born birth; mask = 0 }) }
-effects_given endpoint server object (served.Forward mount flags rest) =
+effects_given endpoint server object (given.WatchBy mask) = no_effects
+effects_given endpoint server object (given.Forward mount flags rest) =
     record no_effects { forward = Some (record { endpoint = end_of_mount mount; bytes = onward_bytes flags rest object; object = object }) }
-effects_given endpoint server object (served.Refused status) = record no_effects { ends = object ∷ [] }
-effects_given endpoint server object served.NoMemory = no_effects
+effects_given endpoint server object (given.Refused status) = record no_effects { ends = object ∷ [] }
+effects_given endpoint server object (given.End status) = record no_effects { ends = endpoint ∷ [] }
+effects_given endpoint server object given.NoMemory = no_effects
 
 -- a fault that is answered has a transaction id
 abbrev pub HasTxid : RequestFault → Type 0
@@ -88,8 +149,9 @@ HasTxid (UnknownTwoWay txid ordinal) = 0 < txid
 HasTxid _ = Unit {0}
 
 -- no watcher is bound
-abbrev pub BindsNoWatcher : DirServed → Type 0
-BindsNoWatcher (served.Bind birth) = birth.protocol ≢ protocol.Watcher
+abbrev pub BindsNoWatcher : Given → Type 0
+BindsNoWatcher (given.Bind birth changes) = birth.protocol ≢ protocol.Watcher
+BindsNoWatcher (given.WatchBy mask) = ⊥
 BindsNoWatcher _ = Unit {0}
 
 -- whom an answer goes to, by its parts
@@ -101,17 +163,22 @@ abbrev pub effects_by : Asker → Answer → Effects
 effects_by asker answer =
     record { bound = bound_of asker answer; ends = ends_of asker answer; forward = forward_of asker answer; token = token_of asker answer }
 
+-- an endpoint is bound with this birth
+abbrev pub BindsBy : code.Birth → Given → Type 0
+BindsBy birth what = (changes : Changes) × (what ≡ given.Bind birth changes)
+
 -- an Open goes on behind this mount
-abbrev pub GoesOnBehind : ℕ → DirServed → Type 0
-GoesOnBehind mount (served.Forward index flags rest) = index ≡ mount
+abbrev pub GoesOnBehind : ℕ → Given → Type 0
+GoesOnBehind mount (given.Forward index flags rest) = index ≡ mount
 GoesOnBehind mount _ = ⊥
 
 -- what a connection gave was done, where it had left this output
-pub record DoesGiven (endpoint object : ℕ) (given : DirServed) (left : Written) (fate : Fate) (out : Written) (before after : List ℕ) : Type 0 where
-  pub frames : after ≡ before ++ spellings (frames_given endpoint object given left)
-  pub effects : (server : ℕ) → effects_given endpoint server object given ≡ effects_told endpoint server fate out
-  pub bound : (from : ℕ) (birth : code.Birth) → fate ≡ fates.Binds from birth → given ≡ served.Bind birth
-  pub onward : (mount from : ℕ) → fate ≡ fates.Forwards mount from → GoesOnBehind mount given
+pub record DoesGiven (endpoint object : ℕ) (what : Given) (left : Written) (fate : Fate) (out : Written) (before after : List ℕ) : Type 0 where
+  pub some : what ≢ given.NoMemory
+  pub frames : after ≡ before ++ spellings (frames_given endpoint object what left)
+  pub effects : (server : ℕ) → effects_given endpoint server object what ≡ effects_told endpoint server fate out
+  pub bound : (from : ℕ) (birth : code.Birth) → fate ≡ fates.Binds from birth → BindsBy birth what
+  pub onward : (mount from : ℕ) → fate ≡ fates.Forwards mount from → GoesOnBehind mount what
 
 -- a message that is no request was answered
 pub record DoesFault (endpoint : ℕ) (fault : RequestFault) (fate : Fate) (out : Written) (before after : List ℕ) : Type 0 where
@@ -122,21 +189,19 @@ pub record DoesFault (endpoint : ℕ) (fault : RequestFault) (fate : Fate) (out 
 
 -- ---- one connection's serving
 
--- a moment of the serving on a connection at this server
-pub record IsAskedAt (server : ℕ) (asking : Asking) (connection : Connection) (moment : Moment) : Type 0 where
+-- a moment of the serving on a connection at this server, over this graph
+pub record IsAskedAt (server : ℕ) (asking : Asking) (graph : Kept) (connection : Connection) (moment : Moment) : Type 0 where
   pub bound : moment.bound ≡ bound_with server asking.endpoint connection.birth
   pub position : moment.position ≡ connection.position
   pub room : moment.room ≡ asking.room
-  pub tree : StandsFor asking.graph.now moment.tree
+  pub tree : StandsFor graph moment.tree
 
--- a connection does what an outcome says
-pub record Answers (asking : Asking) (moment : Moment) (outcome : Outcome) (fate : Fate) (out : Written) (old new : Connection) (before after : List ℕ) : Type 0 where
+-- a connection does what an outcome says, and changes the graph as it says
+pub record Answers (moment : Moment) (outcome : Outcome) (fate : Fate) (out : Written) (new : Connection) (graph changed : Kept) (before after : List ℕ) : Type 0 where
   pub frames : after ≡ before ++ spellings outcome.frames
   pub effects : effects_of outcome ≡ effects_told moment.bound.endpoint moment.bound.server fate out
   pub position : new.position ≡ outcome.position
-  pub change : outcome.change ≡ stay
-  pub told : outcome.told ≡ nothing_told
-  pub bound : (object : ℕ) (birth : code.Birth) → fate ≡ fates.Binds object birth → CanBeBound asking.graph.now birth
-  pub built : (object : ℕ) (birth : code.Birth) → fate ≡ fates.Binds object birth → speaks_protocol first_methods birth.protocol ≡ true
-  pub room : (object : ℕ) (birth : code.Birth) → fate ≡ fates.Binds object birth → is_full asking.room ≡ false
+  pub change : Leads graph changed outcome.change
+  pub bound : (object : ℕ) (birth : code.Birth) → fate ≡ fates.Binds object birth → CanBeBound changed birth
+  pub room : (object : ℕ) (birth : code.Birth) → fate ≡ fates.Binds object birth → is_full moment.room ≡ false
   pub mounted : (mount object : ℕ) → fate ≡ fates.Forwards mount object → HasMount moment.tree mount

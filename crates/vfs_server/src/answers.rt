@@ -10,8 +10,8 @@ ghost use Rattle.vfs_server.specs.Steps.{BindsNoWatcher, DoesFault, DoesGiven, H
 use crate::asking::Asking;
 use crate::fate::Fate;
 use crate::frames::{put_announcement, put_ending, put_last, put_message};
+use crate::given::Given;
 use conn_rules::Birth;
-use dir_conn::DirServed;
 use endpoint_link::Outbox;
 use fidl_names::{NoMemory, Status};
 use fidl_wire::{Ordinals, Out};
@@ -35,34 +35,36 @@ pub(crate) fn object_of(request: &Request<'_>) -> u32
 pub(crate) fn answer(
     asking: &Asking<'_>,
     object: u32,
-    served: DirServed<'_>,
+    given: Given<'_>,
     out: &mut Out,
     outbox: &mut Outbox,
 ) -> Result<Fate, NoMemory>
-    requires watcher { BindsNoWatcher served }
-    ensures does { IfOk result (λ fate. DoesGiven asking.now.endpoint object served.entry out.old fate out.new outbox.old outbox.new) }
+    requires watcher { BindsNoWatcher given }
+    ensures does { IfOk result (λ fate. DoesGiven asking.now.endpoint object given.entry out.old fate out.new outbox.old outbox.new) }
     ensures no_memory { OnErr result (outbox.new ≡ outbox.old) }
 {
     let endpoint = asking.endpoint;
-    match served {
-        DirServed::Reply => {
+    match given {
+        Given::Reply(_) => {
             put_message(endpoint, out, outbox)?;
             Ok(Fate::Stays)
         }
-        DirServed::ReplyEnd => {
+        Given::ReplyEnd => {
             put_last(endpoint, out, outbox)?;
             Ok(Fate::Ends)
         }
-        DirServed::Bind(birth) => bind(asking.ordinals, object, birth, out, outbox),
-        DirServed::Forward { mount, flags, rest } => {
+        Given::Bind(birth, _) => bind(asking.ordinals, object, birth, out, outbox),
+        Given::WatchBy(_) => unreachable!(),
+        Given::Forward { mount, flags, rest } => {
             write_onward(asking.ordinals, flags, rest, object, out);
             Ok(Fate::Forwards { mount, object })
         }
-        DirServed::Refused(status) => {
+        Given::Refused(status) => {
             put_ending(object, status, out, outbox)?;
             Ok(Fate::Refuses { object })
         }
-        DirServed::NoMemory => Err(NoMemory),
+        Given::End(status) => end(endpoint, status, out, outbox),
+        Given::NoMemory => Err(NoMemory),
     }
 }
 

@@ -1,13 +1,10 @@
 use conn_rules::Room;
 use fidl_wire::Ordinals;
-use node_graph::Graph;
 
-/// What every step of a serving reads: the names' ordinals, the server's graph, the endpoint that is served,
-/// and what is in use.
+/// What every step of a serving reads: the names' ordinals, the endpoint that is served, and what is in use.
 #[derive(Clone, Copy)]
 pub(crate) struct Asking<'a> {
     pub ordinals: &'a Ordinals,
-    pub graph: &'a Graph,
     pub endpoint: u32,
     pub room: Room,
 }

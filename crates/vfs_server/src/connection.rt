@@ -1,28 +1,29 @@
 //! A connection, and the serving of what is sent to it.
 
-ghost use Rattle.std.specs.Prelude.{◌≡◌, ℕ, true, OnErr, IfOk, Ok};
+ghost use Rattle.std.specs.Prelude.{◌≡◌, ◌≤◌, ◌<◌, ◌^◌, ◌≢◌, ℕ, true, OnErr, IfOk, Ok, length};
+ghost use Rattle.fidl_names.specs.declared.limits.TheConstants as limit;
 ghost use Rattle.io_messages.specs.Asked.{asked, method_of};
 ghost use Rattle.io_messages.specs.Protocols.{has_method};
 ghost use Rattle.io_messages.specs.Requests.{has_txid, request_of};
 ghost use Rattle.io_messages.specs.Shapes.{is_one_way};
 ghost use Rattle.conn_rules.specs.Births.{fresh};
-ghost use Rattle.conn_rules.specs.Built.{first_methods};
-ghost use Rattle.conn_rules.specs.Served.{HasNothing};
+ghost use Rattle.conn_rules.specs.Built.{today};
+ghost use Rattle.conn_rules.specs.Served.{HasNothing, KeepsHolds};
 ghost use Rattle.conn_rules.specs.Shared.{CanBeBound};
 ghost use Rattle.vfs_journal.specs.Serving.{Moment, outcome_of_read};
-ghost use Rattle.vfs_server.specs.Spoken.{speaks_protocol};
-ghost use Rattle.vfs_server.specs.Steps.{Answers, IsAskedAt};
+ghost use Rattle.vfs_server.specs.Kept.{HasTree};
+ghost use Rattle.vfs_server.specs.Steps.{Answers, CanEcho, IsAskedAt};
 
 use crate::answers::{answer, answer_fault, object_of};
 use crate::asking::Asking;
 use crate::conn::Conn;
 use crate::fate::Fate;
-use conn_rules::{Birth, kept_nodes_are_rows};
+use conn_rules::Birth;
 use endpoint_link::Outbox;
 use fidl_names::{Handle, NoMemory};
 use fidl_wire::Out;
-use io_messages::{Request, read_request};
-use node_graph::NodeRef;
+use io_messages::{Protocol, Request, read_request};
+use node_graph::{Graph, NodeRef};
 use std::marker::Model;
 
 /// A connection to a node, whatever that is.
@@ -48,7 +49,7 @@ impl Model for Connection {
 impl Connection {
     /// A connection that was just bound.
     pub fn new(birth: Birth) -> Connection
-        requires built { speaks_protocol first_methods birth.protocol ≡ true }
+        requires watcher { birth.protocol ≢ Protocol.Watcher }
         ensures { result ≡ record { birth = birth; position = fresh } }
     {
         Connection {
@@ -70,20 +71,25 @@ impl Connection {
     pub fn serve(
         &mut self,
         asking: &Asking<'_>,
+        graph: &mut Graph,
         bytes: &[u8],
         handles: &[Handle],
         out: &mut Out,
         outbox: &mut Outbox,
     ) -> Result<Fate, NoMemory>
-        requires node { CanBeBound asking.now.graph.now self.old.birth }
-        ensures answers { (server : ℕ) (moment : Moment) → IsAskedAt server asking.now self.old moment →
-            IfOk result (λ fate. Answers asking.now moment (outcome_of_read first_methods moment (request_of self.old.birth.protocol bytes.now handles.now)) fate out.new self.old self.new outbox.old outbox.new) }
-        ensures birth { self.new.birth ≡ self.old.birth }
+        requires tree { HasTree graph.old }
+        requires made { graph.old.made < 2 ^ 63 }
+        requires node { CanBeBound graph.old self.old.birth }
+        requires short { length bytes.now ≤ limit.MAX_BYTES }
+        ensures answers { (server : ℕ) (moment : Moment) → IsAskedAt server asking.now graph.old self.old moment →
+            IfOk result (λ fate. Answers moment (outcome_of_read today moment (request_of self.old.birth.protocol bytes.now handles.now)) fate out.new self.new graph.old graph.new outbox.old outbox.new) }
+        ensures holds { KeepsHolds self.old self.new graph.old graph.new }
+        ensures tree { HasTree graph.new }
         ensures no_memory { OnErr result (outbox.new ≡ outbox.old) }
     {
         out.clear();
         match read_request(asking.ordinals, self.conn.protocol(), bytes, handles) {
-            Ok((txid, request)) => self.serve_request(asking, txid, request, out, outbox),
+            Ok((txid, request)) => self.serve_request(asking, graph, txid, request, out, outbox),
             Err(fault) => answer_fault(asking, fault, out, outbox),
         }
     }
@@ -92,23 +98,27 @@ impl Connection {
     fn serve_request(
         &mut self,
         asking: &Asking<'_>,
+        graph: &mut Graph,
         txid: u32,
         request: Request<'_>,
         out: &mut Out,
         outbox: &mut Outbox,
     ) -> Result<Fate, NoMemory>
-        requires node { CanBeBound asking.now.graph.now self.old.birth }
+        requires tree { HasTree graph.old }
+        requires made { graph.old.made < 2 ^ 63 }
+        requires node { CanBeBound graph.old self.old.birth }
         requires method { has_method self.old.birth.protocol (method_of (asked request)) ≡ true }
         requires txid { has_txid (is_one_way (method_of (asked request))) txid ≡ true }
+        requires echo { CanEcho self.old.birth.protocol (asked request) }
         requires empty { HasNothing out.old }
-        ensures answers { (server : ℕ) (moment : Moment) → IsAskedAt server asking.now self.old moment →
-            IfOk result (λ fate. Answers asking.now moment (outcome_of_read first_methods moment (Ok (txid, asked request.entry))) fate out.new self.old self.new outbox.old outbox.new) }
-        ensures birth { self.new.birth ≡ self.old.birth }
+        ensures answers { (server : ℕ) (moment : Moment) → IsAskedAt server asking.now graph.old self.old moment →
+            IfOk result (λ fate. Answers moment (outcome_of_read today moment (Ok (txid, asked request.entry))) fate out.new self.new graph.old graph.new outbox.old outbox.new) }
+        ensures holds { KeepsHolds self.old self.new graph.old graph.new }
+        ensures tree { HasTree graph.new }
         ensures no_memory { OnErr result (outbox.new ≡ outbox.old) }
     {
-        kept_nodes_are_rows();
         let object = object_of(&request);
-        let served = self.conn.serve(asking, txid, request, out);
-        answer(asking, object, served, out, outbox)
+        let given = self.conn.serve(asking, graph, txid, request, out);
+        answer(asking, object, given, out, outbox)
     }
 }

@@ -1,10 +1,13 @@
 //! The connections of a server, by their endpoints.
 
-ghost use Rattle.std.specs.Prelude.{◌≡◌, ℕ, IfOk, OnErr, OnOk, Option, IsSome, Some, None};
+ghost use Rattle.std.specs.Prelude.{◌≡◌, ◌≤◌, ◌<◌, ◌^◌, ℕ, IfOk, OnErr, OnOk, Option, IsSome, Some, None, length};
+ghost use Rattle.fidl_names.specs.declared.limits.TheConstants as limit;
 ghost use Rattle.std.specs.FinMap as finite;
 ghost use Rattle.conn_rules.specs.Births as births;
-ghost use Rattle.conn_rules.specs.Built.{first_methods};
+ghost use Rattle.conn_rules.specs.Built.{today};
+ghost use Rattle.conn_rules.specs.Served.{KeepsHolds};
 ghost use Rattle.conn_rules.specs.Shared.{CanBeBound};
+ghost use Rattle.vfs_server.specs.Kept.{HasTree};
 ghost use Rattle.io_messages.specs.Requests.{request_of};
 ghost use Rattle.vfs_journal.specs.Serving.{Moment, outcome_of_read};
 ghost use Rattle.vfs_server.specs.Steps.{Answers, IsAskedAt};
@@ -15,6 +18,7 @@ use crate::fate::Fate;
 use endpoint_link::Outbox;
 use fidl_names::{Handle, NoMemory};
 use fidl_wire::Out;
+use node_graph::Graph;
 use slab::Slab;
 use std::alloc::Global;
 use std::collections::BTreeMap;
@@ -97,23 +101,28 @@ impl Connections {
     pub fn serve(
         &mut self,
         asking: &Asking<'_>,
+        graph: &mut Graph,
         bytes: &[u8],
         handles: &[Handle],
         out: &mut Out,
         outbox: &mut Outbox,
     ) -> Result<Fate, NoMemory>
         requires there { IsSome (finite.get self.old asking.now.endpoint) }
-        requires node { (connection : births.Connection) → finite.get self.old asking.now.endpoint ≡ Some connection → CanBeBound asking.now.graph.now connection.birth }
+        requires short { length bytes.now ≤ limit.MAX_BYTES }
+        requires tree { HasTree graph.old }
+        requires made { graph.old.made < 2 ^ 63 }
+        requires node { (connection : births.Connection) → finite.get self.old asking.now.endpoint ≡ Some connection → CanBeBound graph.old connection.birth }
         ensures served { (old : births.Connection) → finite.get self.old asking.now.endpoint ≡ Some old →
-            (new : births.Connection) × (new.birth ≡ old.birth) × (self.new ≡ finite.insert self.old asking.now.endpoint new)
-            × ((server : ℕ) (moment : Moment) → IsAskedAt server asking.now old moment →
-            IfOk result (λ fate. Answers asking.now moment (outcome_of_read first_methods moment (request_of old.birth.protocol bytes.now handles.now)) fate out.new old new outbox.old outbox.new)) }
+            (new : births.Connection) × KeepsHolds old new graph.old graph.new × (self.new ≡ finite.insert self.old asking.now.endpoint new)
+            × ((server : ℕ) (moment : Moment) → IsAskedAt server asking.now graph.old old moment →
+            IfOk result (λ fate. Answers moment (outcome_of_read today moment (request_of old.birth.protocol bytes.now handles.now)) fate out.new new graph.old graph.new outbox.old outbox.new)) }
+        ensures tree { HasTree graph.new }
         ensures no_memory { OnErr result (outbox.new ≡ outbox.old) }
     {
         match self.places.get(&asking.endpoint) {
             Some(place) => {
                 let connection = &mut self.kept[*place];
-                connection.serve(asking, bytes, handles, out, outbox)
+                connection.serve(asking, graph, bytes, handles, out, outbox)
             }
             None => unreachable!(),
         }

@@ -10,6 +10,7 @@ mod connections;
 mod fate;
 mod firsts;
 mod frames;
+mod given;
 mod making;
 mod server;
 

@@ -1,7 +1,8 @@
-ghost use Rattle.std.specs.Prelude.{◌≡◌, ◌<◌, ℕ, IfOk, IsSome, None, OnErr, OnOk, [], is_some, length};
+ghost use Rattle.std.specs.Prelude.{◌≡◌, ◌≤◌, ◌<◌, ◌^◌, ℕ, IfOk, IsSome, None, OnErr, OnOk, [], is_some, length};
+ghost use Rattle.fidl_names.specs.declared.limits.TheConstants as limit;
 ghost use Rattle.std.specs.FinMap as finite;
 ghost use Rattle.node_graph.specs.Graph.{holds_at};
-ghost use Rattle.conn_rules.specs.Built.{Built, first_methods};
+ghost use Rattle.conn_rules.specs.Built.{Built, today};
 ghost use Rattle.vfs_journal.specs.Entries.{message};
 ghost use Rattle.vfs_journal.specs.Handles.{AreByNumber, numbers_of};
 ghost use Rattle.vfs_journal.specs.Serving.{Moment, outcome_of_sending};
@@ -9,6 +10,7 @@ ghost use Rattle.vfs_journal.specs.Starts.{start_of};
 ghost use Rattle.vfs_journal.specs.View.{view_of};
 ghost use Rattle.vfs_server.specs.Binding.{Binds, HasPlace, Unbinds};
 ghost use Rattle.vfs_server.specs.Holding.{HoldsAt};
+ghost use Rattle.vfs_server.specs.Kept.{HasTree};
 ghost use Rattle.vfs_server.specs.Servers.{in_use, seen};
 ghost use Rattle.vfs_server.specs.Serving.{IsMomentOf, Serves};
 
@@ -62,6 +64,7 @@ impl Server {
 
     /// A server to which nothing is connected yet, over a tree of which nothing is held.
     pub(crate) fn new(alloc: Global, index: u32, graph: Graph) -> Server
+        requires tree { HasTree graph }
         requires unheld { (number : ℕ) → holds_at graph number ≡ 0 }
         ensures { result ≡ record { index = index; graph = graph; connections = finite.empty; watchers = [] } }
     {
@@ -105,8 +108,10 @@ impl Server {
     ) -> Result<Fate, NoMemory>
         requires bound { IsSome (seen self.old endpoint) }
         requires handles { AreByNumber handles.now }
+        requires short { length bytes.now ≤ limit.MAX_BYTES }
+        requires made { self.old.graph.made < 2 ^ 63 }
         ensures serves { (moment : Moment) → IsMomentOf self.old endpoint token moment →
-            IfOk result (λ fate. Serves moment (outcome_of_sending first_methods moment (message bytes.now (numbers_of handles.now))) fate out.new self.old self.new outbox.old outbox.new) }
+            IfOk result (λ fate. Serves moment (outcome_of_sending today moment (message bytes.now (numbers_of handles.now))) fate out.new self.old self.new outbox.old outbox.new) }
         ensures no_memory { OnErr result (outbox.new ≡ outbox.old) }
     {
         let room = Room {
@@ -116,11 +121,11 @@ impl Server {
         };
         let asking = Asking {
             ordinals,
-            graph: &self.graph,
             endpoint,
             room,
         };
-        self.connections.serve(&asking, bytes, handles, out, outbox)
+        self.connections
+            .serve(&asking, &mut self.graph, bytes, handles, out, outbox)
     }
 
     /// Binds an endpoint that isn't bound here, and holds its node. Of want of memory the server is as

@@ -1,7 +1,7 @@
 use Rattle.std.proofs.Common.{◌≡◌, ◌∙◌, ◌+◌, ◌-◌, List, sym, ap, subst, ℕ, drop}
-use Rattle.message_queues.specs.Queues.{IsReady, Mailbox, Queues, Requeues, count, head_of, queue_of}
+use Rattle.message_queues.specs.Queues.{IsReady, Mailbox, Queues, Requeues, count, head_of, queue_of, server_of}
 use Rattle.message_queues.specs.Steps.{IsSound, queues_with}
-use Rattle.message_queues.proofs.Sound.{box_head, ready_none, ready_there, some_counted, sound_same, taken_there, view_same, written_back}
+use Rattle.message_queues.proofs.Sound.{box_head, box_server, ready_none, ready_there, some_counted, sound_same, taken_there, view_same, written_back}
 use Rattle.message_queues.proofs.queues.Queues.take.Goals as goal
 
 pub unreachable-requires : goal.unreachable-requires
@@ -29,15 +29,20 @@ taken : (c : goal.After-self-3-1)
 taken c =
     let ready = ready_there c.self.inside.boxes c.args.endpoint c.self.inside.servers c.in-Some.mailbox.now (sym c.in-Some.ensures.value) (subst (λ (queues : Queues). IsReady queues c.args.endpoint) (sym c.self.view_is) c.requires) in
     taken_there c.self.inside.boxes (c.get_mut.follows.lender c.take_from.new.mailbox) c.self.inside.heads c.take_from.new.heads c.self.inside.count c.self.inside.servers c.args.endpoint
-    c.in-Some.mailbox.now c.take_from.new.mailbox c.self.invariant (sym c.in-Some.ensures.value) ready.0 ready.1 c.in_ok-sent.ensures.later (c.get_mut.follows.holds c.take_from.new.mailbox) c.in_ok-sent.ensures.put
+    c.in-Some.mailbox.now c.take_from.new.mailbox c.self.invariant (sym c.in-Some.ensures.value) ready.0 ready.1 c.in_ok-taken.ensures.later (c.get_mut.follows.holds c.take_from.new.mailbox) c.in_ok-taken.ensures.put
 
 pub invariant_of-self-2 : goal.invariant_of-self-2
 invariant_of-self-2 c = (taken c).0
 
+pub returns-clause-bound : goal.returns-clause-bound
+returns-clause-bound c =
+    ap (λ (queues : Queues). server_of queues c.args.endpoint) (sym c.self.view_is)
+    ∙ (box_server c.self.inside.boxes c.args.endpoint c.self.inside.servers c.in-Some.mailbox.now (sym c.in-Some.ensures.value) ∙ c.in_ok-taken.ensures.bound)
+
 pub returns-clause-first : goal.returns-clause-first
 returns-clause-first c =
     ap (λ (queues : Queues). head_of queues c.args.endpoint) (sym c.self.view_is)
-    ∙ (box_head c.self.inside.boxes c.args.endpoint c.self.inside.servers c.in-Some.mailbox.now (sym c.in-Some.ensures.value) ∙ c.in_ok-sent.ensures.first)
+    ∙ (box_head c.self.inside.boxes c.args.endpoint c.self.inside.servers c.in-Some.mailbox.now (sym c.in-Some.ensures.value) ∙ c.in_ok-taken.ensures.first)
 
 pub returns-clause-later : goal.returns-clause-later
 returns-clause-later c =
@@ -50,13 +55,13 @@ returns-clause-len c = (taken c).2 ∙ ap (λ (queues : Queues). count queues) c
 unchanged : (c : goal.After-from_residual) → (c.get_mut.follows.lender c.take_from.new.mailbox).entries ≡ c.self.inside.boxes.entries
 unchanged c =
     written_back c.self.inside.boxes (c.get_mut.follows.lender c.take_from.new.mailbox) c.args.endpoint c.in-Some.mailbox.now c.take_from.new.mailbox (sym c.in-Some.ensures.value)
-    c.in_err-sent.ensures.err.0 (c.get_mut.follows.holds c.take_from.new.mailbox)
+    c.in_err-taken.ensures.err.0 (c.get_mut.follows.holds c.take_from.new.mailbox)
 
 pub invariant_of-self : goal.invariant_of-self
 invariant_of-self c =
     sound_same c.self.inside.boxes (c.get_mut.follows.lender c.take_from.new.mailbox) c.self.inside.heads c.take_from.new.heads c.self.inside.count c.self.inside.servers c.self.invariant (unchanged c)
-    c.in_err-sent.ensures.err.1
+    c.in_err-taken.ensures.err.1
 
-pub returns-in_err-sent-clause-err : goal.returns-in_err-sent-clause-err
-returns-in_err-sent-clause-err c =
+pub returns-in_err-taken-clause-err : goal.returns-in_err-taken-clause-err
+returns-in_err-taken-clause-err c =
     view_same c.from_residual.result (ap (λ (entries : List (ℕ × Mailbox)). queues_with entries c.self.inside.servers) (unchanged c) ∙ c.self.view_is)

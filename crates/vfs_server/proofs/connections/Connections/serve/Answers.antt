@@ -6,21 +6,22 @@ use Rattle.std.specs.Ordering.{nat_cmp}
 use Rattle.slab.specs.Slab as slab
 use Rattle.slab.proofs.SlabLemmas.{Updates-with_value}
 use Rattle.conn_rules.specs.Births.{Connection}
-use Rattle.conn_rules.specs.Built.{first_methods}
+use Rattle.conn_rules.specs.Built.{today}
+use Rattle.conn_rules.specs.Served.{KeepsHolds}
 use Rattle.io_messages.specs.Requests.{request_of}
 use Rattle.vfs_journal.specs.Serving.{Moment, outcome_of_read}
 use Rattle.vfs_server.specs.Steps.{Answers, IsAskedAt}
 use Rattle.vfs_server.proofs.Joined.{joined_served, placed, replaced, same_length, there_at}
 use Rattle.vfs_server.proofs.connections.Connections.serve.Goals as goal
 
-found_in : (c : goal.After-serve-arg-in-Some-1) → finite.get c.args.self.now c.args.asking.now.endpoint ≡ Some c.index_mut-connection.result.now
+found_in : (c : goal.After-serve-arg-in-Some-2-1) → finite.get c.args.self.now c.args.asking.now.endpoint ≡ Some c.index_mut-connection.result.now
 found_in c =
     sym (ap (λ m. finite.get m c.args.asking.now.endpoint) c.self.view_is)
     ∙ there_at c.self.inside.kept c.self.inside.places c.self.invariant c.args.asking.now.endpoint c.in-Some.place.now (sym c.in-Some.ensures.value)
     ∙ c.index_mut-connection.ensures.value
 
 pub serve-requires : goal.serve-requires
-serve-requires c = record { node = c.requires.node c.index_mut-connection.result.now (found_in c) }
+serve-requires c = record { tree = c.requires.tree; made = c.requires.made; node = c.requires.node c.index_mut-connection.result.now (found_in c); short = c.requires.short }
 
 there : (c : goal.After-self-1) → IsSome (slab.get c.self.inside.kept c.in-Some.place.now)
 there c = ap is_some c.index_mut-connection.ensures.value
@@ -48,14 +49,14 @@ returns-clause-served c old is =
     let both : Some c.index_mut-connection.result.now ≡ Some old = sym found ∙ is in
     let same : c.index_mut-connection.result.now ≡ old = cc in (
       c.serve.new.self,
-      c.serve.ensures.birth ∙ ap (λ (connection : Connection). connection.birth) same,
+      subst (λ (was : Connection). KeepsHolds was c.serve.new.self c.args.graph.now c.serve.new.graph) same c.serve.ensures.holds,
       replaced c.self.inside.kept c.self.inside.places c.self.invariant c.args.asking.now.endpoint c.in-Some.place.now c.serve.new.self
           (slab.with_value c.self.inside.kept c.in-Some.place.now c.serve.new.self) (sym c.in-Some.ensures.value)
           (Updates-with_value c.self.inside.kept c.in-Some.place.now c.serve.new.self (there c))
           (same_length c.self.inside.kept c.in-Some.place.now c.serve.new.self (there c))
           ∙ ap (λ m. finite.insert m c.args.asking.now.endpoint c.serve.new.self) c.self.view_is,
       subst
-          (λ (was : Connection). (server : ℕ) (moment : Moment) → IsAskedAt server c.args.asking.now was moment →
-          IfOk c.serve.result (λ fate. Answers c.args.asking.now moment (outcome_of_read first_methods moment (request_of was.birth.protocol c.args.bytes.now c.args.handles.now)) fate c.serve.new.out was c.serve.new.self c.args.outbox.now c.serve.new.outbox))
+          (λ (was : Connection). (server : ℕ) (moment : Moment) → IsAskedAt server c.args.asking.now c.args.graph.now was moment →
+          IfOk c.serve.result (λ fate. Answers moment (outcome_of_read today moment (request_of was.birth.protocol c.args.bytes.now c.args.handles.now)) fate c.serve.new.out c.serve.new.self c.args.graph.now c.serve.new.graph c.args.outbox.now c.serve.new.outbox))
           same c.serve.ensures.answers,
     )

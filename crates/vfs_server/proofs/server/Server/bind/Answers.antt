@@ -4,6 +4,8 @@ use Rattle.conn_rules.specs.Births.{fresh}
 use Rattle.vfs_server.specs.Binding.{Binds, HasPlace}
 use Rattle.vfs_server.specs.Kept.{IsSound}
 use Rattle.vfs_server.specs.Servers.{Server, seen}
+use Rattle.node_graph.specs.Tree.{stay}
+use Rattle.vfs_server.proofs.Giving.{leads_on}
 use Rattle.vfs_server.proofs.Held.{few_held, sound_more}
 use Rattle.vfs_server.proofs.Servings.{binds_one, is_free, roomy, server_of}
 use Rattle.vfs_server.proofs.server.Server.bind.Goals as goal
@@ -17,7 +19,8 @@ invariant_of-self-2 c =
     let free = is_free c.self.inside.index c.args.endpoint _ (subst (λ (server : Server). seen server c.args.endpoint ≡ None) (sym c.self.view_is) c.requires.free) in
     subst (IsSound c.hold.new.self) (sym (c.in_ok-insert.ensures.inserted ∙ ap (finite.insert c.self.inside.connections c.args.endpoint) c.new-connection.ensures))
     (sound_more c.self.inside.graph c.hold.new.self c.self.inside.connections c.args.endpoint (record { birth = c.args.birth; position = fresh }) c.self.invariant free
-    place.node c.hold.ensures.held c.hold.ensures.names (roomy c.self.inside.index c.self.inside.graph c.self.inside.connections place.room))
+    place.node c.hold.ensures.held c.hold.ensures.names (roomy c.self.inside.index c.self.inside.graph c.self.inside.connections place.room)
+    (leads_on c.self.inside.graph c.hold.new.self stay c.hold.ensures.tree c.self.invariant.tree))
 
 pub returns-clause-bound : goal.returns-clause-bound
 returns-clause-bound c =

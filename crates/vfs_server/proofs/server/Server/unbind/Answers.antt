@@ -3,6 +3,8 @@ use Rattle.node_graph.specs.Graph.{HoldsNow, holds_at, number_of}
 use Rattle.vfs_server.specs.Binding.{Unbinds}
 use Rattle.vfs_server.specs.Kept.{IsSound}
 use Rattle.vfs_server.specs.Servers.{Server}
+use Rattle.node_graph.specs.Tree.{stay}
+use Rattle.vfs_server.proofs.Giving.{leads_on}
 use Rattle.vfs_server.proofs.Held.{held_there, sound_less}
 use Rattle.vfs_server.proofs.Servings.{server_of, unbinds_one}
 use Rattle.vfs_server.proofs.server.Server.unbind.Goals as goal
@@ -18,7 +20,8 @@ released c = subst (λ node. HoldsNow c.self.inside.graph c.release.new.self (nu
 pub invariant_of-self : goal.invariant_of-self
 invariant_of-self c =
     subst (IsSound c.release.new.self) (sym c.remove-connection.ensures.removed)
-    (sound_less c.self.inside.graph c.release.new.self c.self.inside.connections c.args.endpoint c.remove-connection.result c.self.invariant c.remove-connection.ensures.given (released c) c.release.ensures.names)
+    (sound_less c.self.inside.graph c.release.new.self c.self.inside.connections c.args.endpoint c.remove-connection.result c.self.invariant c.remove-connection.ensures.given (released c) c.release.ensures.names
+    (leads_on c.self.inside.graph c.release.new.self stay c.release.ensures.tree c.self.invariant.tree))
 
 pub returns : goal.returns
 returns c =

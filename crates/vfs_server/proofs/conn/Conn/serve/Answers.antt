@@ -1,0 +1,57 @@
+use Rattle.std.proofs.Common.{◌≡◌, ◌∙◌, None, ap, subst, sym}
+use Rattle.io_messages.specs.Asked.{asked}
+use Rattle.io_messages.specs.declared.protocols.Protocol.TheVariants as protocol
+use Rattle.conn_rules.specs.Acts.{act_of}
+use Rattle.conn_rules.specs.Built.{today}
+use Rattle.conn_rules.specs.Contexts.{context_of}
+use Rattle.vfs_server.specs.Kept.{HasTree}
+use Rattle.vfs_server.specs.Steps.{Acts, IsOfItsKind, connection_of, of_directory}
+use Rattle.vfs_server.proofs.Giving.{acts_of, by_dir_memory, by_memory, directory_acts, leads_on, none_named, same_tree, some_of}
+use Rattle.vfs_server.proofs.conn.Conn.serve.Goals as goal
+
+pub returns-in-Directory-clause-acts : goal.returns-in-Directory-clause-acts
+returns-in-Directory-clause-acts c tree directory stands some =
+    directory_acts (connection_of c.args.self.now) c.in-Directory.conn c.args.asking.now.room tree directory (asked c.args.request) c.args.txid c.serve.result c.of_directory.result
+    c.serve.new.out c.serve.new.self c.args.graph.now c.serve.new.graph (ap connection_of c.in-Directory.is) c.of_directory.ensures
+    (c.serve.ensures.serves tree (λ number. None) stands (none_named (asked c.args.request)) (λ e. some (c.of_directory.ensures ∙ ap of_directory e)))
+
+pub returns-in-Directory-clause-tree : goal.returns-in-Directory-clause-tree
+returns-in-Directory-clause-tree c =
+    let was = c.requires.tree in
+    by_dir_memory (HasTree c.serve.new.graph) c.serve.result
+    (λ none. let untouched = c.serve.ensures.untouched none in same_tree c.args.graph.now c.serve.new.graph untouched.graph was)
+    (λ some. let served = c.serve.ensures.serves was.0 (λ number. None) was.1 (none_named (asked c.args.request)) some in leads_on c.args.graph.now c.serve.new.graph _ served.change was)
+
+pub returns-in-File-clause-acts : goal.returns-in-File-clause-acts
+returns-in-File-clause-acts c tree directory stands some =
+    subst (λ connection. Acts (act_of (context_of today connection c.args.asking.now.room tree directory) (asked c.args.request)) c.args.txid c.of.result c.serve-in-File.new.out c.serve-in-File.new.self c.args.graph.now c.serve-in-File.new.graph)
+    (sym (ap connection_of c.in-File.is))
+    (acts_of _ c.args.txid c.serve-in-File.result c.of.result c.serve-in-File.new.out c.serve-in-File.new.self c.args.graph.now c.serve-in-File.new.graph c.of.ensures
+    (c.serve-in-File.ensures.serves tree directory stands (some_of c.serve-in-File.result c.of.result c.of.ensures some)))
+
+pub returns-in-File-clause-tree : goal.returns-in-File-clause-tree
+returns-in-File-clause-tree c =
+    let was = c.requires.tree in
+    by_memory (HasTree c.serve-in-File.new.graph) c.serve-in-File.result
+    (λ none. let untouched = c.serve-in-File.ensures.untouched none in same_tree c.args.graph.now c.serve-in-File.new.graph untouched.graph was)
+    (λ some. let served = c.serve-in-File.ensures.serves was.0 (λ number. None) was.1 some in leads_on c.args.graph.now c.serve-in-File.new.graph _ served.change was)
+
+pub returns-in-Node-clause-acts : goal.returns-in-Node-clause-acts
+returns-in-Node-clause-acts c tree directory stands some =
+    subst (λ connection. Acts (act_of (context_of today connection c.args.asking.now.room tree directory) (asked c.args.request)) c.args.txid c.of-in-Node.result c.serve-in-Node.new.out c.serve-in-Node.new.self c.args.graph.now c.serve-in-Node.new.graph)
+    (sym (ap connection_of c.in-Node.is))
+    (acts_of _ c.args.txid c.serve-in-Node.result c.of-in-Node.result c.serve-in-Node.new.out c.serve-in-Node.new.self c.args.graph.now c.serve-in-Node.new.graph c.of-in-Node.ensures
+    (c.serve-in-Node.ensures.serves tree directory stands c.serve-in-Node.ensures.memory))
+
+pub returns-in-Node-clause-tree : goal.returns-in-Node-clause-tree
+returns-in-Node-clause-tree c =
+    let was = c.requires.tree in
+    let served = c.serve-in-Node.ensures.serves was.0 (λ number. None) was.1 c.serve-in-Node.ensures.memory in
+    leads_on c.args.graph.now c.serve-in-Node.new.graph _ served.change was
+
+pub returns-in-Echo-clause-acts : goal.returns-in-Echo-clause-acts
+returns-in-Echo-clause-acts c tree directory stands some =
+    let here = connection_of c.args.self.now in
+    let kind : here.birth.protocol ≡ protocol.Echo = ap (λ connection. connection.birth.protocol) (ap connection_of c.in-Echo.is) ∙ subst IsOfItsKind c.in-Echo.is c.requires.kind in
+    acts_of _ c.args.txid c.echo.result c.of-in-Echo.result c.echo.new.out here c.args.graph.now c.args.graph.now c.of-in-Echo.ensures
+    (c.echo.ensures.serves here c.args.graph.now c.args.asking.now.room tree directory kind (c.requires.node.connects kind) c.echo.ensures.memory)
