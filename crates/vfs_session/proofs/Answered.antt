@@ -1,5 +1,5 @@
 -- What the serving of an entry at its server says.
-use Rattle.std.proofs.Common.{◌≡◌, ℕ, zero, suc, ◌++◌, List, [], ◌∷◌, ◌==◌, if◌then◌else◌, cond, find, Bool, true, false, Option, Some, None, is_some, IsSome, Result, Ok, Err, IfOk, set, append-nil, refl, sym, ap, ◌∙◌, subst}
+use Rattle.std.proofs.Common.{◌≡◌, ℕ, zero, suc, List, [], ◌∷◌, ◌==◌, if◌then◌else◌, cond, find, Bool, true, false, Option, Some, None, IsSome, Result, Ok, Err, IfOk, set, append-nil, refl, sym, ap, ◌∙◌, subst}
 use Rattle.std.specs.FinMap as finite
 use Rattle.std.specs.Prelude.{slice_get}
 use Rattle.std.specs.Option.{option_map}
@@ -8,13 +8,9 @@ use Rattle.std.proofs.lemmas.Bool.{eqb-true}
 use Rattle.std.proofs.lemmas.Option.{none-some, same_Some}
 use Rattle.fidl_names.specs.declared.memory.NoMemory.{NoMemory}
 use Rattle.fidl_wire.specs.Written.{Written}
-use Rattle.endpoint_link.specs.Frames.{spellings}
-use Rattle.node_graph.specs.Graph.{Kept, KeepsNames, Names, is_kept, kind_at, number_of}
-use Rattle.node_graph.specs.declared.nodes.NodeRef.{NodeRef}
-use Rattle.conn_rules.specs.declared.births.Birth as code
 use Rattle.conn_rules.specs.Births.{Connection, Position, fresh}
-use Rattle.conn_rules.specs.Built.{first_methods}
-use Rattle.vfs_journal.specs.Entries.{Sending, Sent, hang_up, message}
+use Rattle.conn_rules.specs.Built.{today}
+use Rattle.vfs_journal.specs.Entries.{Sending, Sent, hang_up}
 use Rattle.vfs_journal.specs.Outcomes.{Outcome}
 use Rattle.vfs_journal.specs.Serving.{Moment, outcome_of_sending}
 use Rattle.vfs_journal.specs.Starts.{Bound}
@@ -37,15 +33,15 @@ some_is o x e = subst IsSome (sym e) refl
 
 pub served_answers : (servers : List Server) (at endpoint : ℕ) (token next : Option ℕ) (sent : Sent) (one now : Server) (out : Written) (before after : List ℕ) (r : Result Fate NoMemory) (sending : Sending) → slice_get servers at ≡ Some one →
     sent.sending ≡ sending → next ≡ token →
-    ((moment : Moment) → IsMomentOf one endpoint next moment → IfOk r (λ fate. Serves moment (outcome_of_sending first_methods moment sending) fate out one now before after)) →
+    ((moment : Moment) → IsMomentOf one endpoint next moment → IfOk r (λ fate. Serves moment (outcome_of_sending today moment sending) fate out one now before after)) →
     IfOk r (λ fate. Answers servers at endpoint token sent fate out (set servers at now) before after)
 served_answers servers at endpoint token next sent one now out before after (Err fault) sending there is same serves = tt
 served_answers servers at endpoint token next sent one now out before after (Ok fate) sending there is same serves =
     λ other moment found moment_of. (
       now,
       refl,
-      subst (λ (x : Sending). Serves moment (outcome_of_sending first_methods moment x) fate out other now before after) (sym is)
-          (subst (λ (x : Server). IsMomentOf x endpoint token moment → Serves moment (outcome_of_sending first_methods moment sending) fate out x now before after) (same_Some one other (sym there ∙ found))
+      subst (λ (x : Sending). Serves moment (outcome_of_sending today moment x) fate out other now before after) (sym is)
+          (subst (λ (x : Server). IsMomentOf x endpoint token moment → Serves moment (outcome_of_sending today moment sending) fate out x now before after) (same_Some one other (sym there ∙ found))
           (λ m. serves moment (subst (λ (t : Option ℕ). IsMomentOf one endpoint t moment) (sym same) m)) moment_of),
     )
 
@@ -73,7 +69,7 @@ seen_name one n pair e = by_found (finite.get one.connections n) e where
   by_found None h = watched_name n (find (λ bound. bound.endpoint == n) one.watchers) pair (watcher_name n one.watchers) h
 
 hangs_up : (one : Server) (endpoint : ℕ) (token : Option ℕ) (moment : Moment) (out : Written) (before : List ℕ) → IsMomentOf one endpoint token moment →
-    Serves moment (outcome_of_sending first_methods moment hang_up) fates.Ends out one one before before
+    Serves moment (outcome_of_sending today moment hang_up) fates.Ends out one one before before
 unfolding outcome_of_sending
 hangs_up one endpoint token moment out before m = record {
   frames = sym (append-nil before);
@@ -106,5 +102,5 @@ hang_up_answers servers at endpoint token sent out before is =
     λ one moment there m. (
       one,
       set_same servers at one there,
-      subst (λ (x : Sending). Serves moment (outcome_of_sending first_methods moment x) fates.Ends out one one before before) (sym is) (hangs_up one endpoint token moment out before m),
+      subst (λ (x : Sending). Serves moment (outcome_of_sending today moment x) fates.Ends out one one before before) (sym is) (hangs_up one endpoint token moment out before m),
     )

@@ -4,7 +4,7 @@ use Rattle.std.proofs.lemmas.List.{map_more}
 use Rattle.std.proofs.lemmas.List.Elements.{filter-append}
 use Rattle.fidl_names.specs.declared.methods.Handle.{Handle}
 use Rattle.fidl_names.specs.HandleNumber.{is_client, number_of_handle}
-use Rattle.vfs_journal.specs.Entries.{Sent, endpoints_in, handles_of}
+use Rattle.vfs_journal.specs.Entries.{Sent, handles_of}
 use Rattle.vfs_journal.specs.Handles.{numbers_of}
 use Rattle.vfs_session.specs.Steps.{carried_but, is_it}
 

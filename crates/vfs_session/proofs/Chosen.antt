@@ -1,5 +1,5 @@
 -- The oldest of the queues is what is served next.
-use Rattle.std.proofs.Common.{◌≡◌, ℕ, ◌≤◌, ◌==◌, Bool, true, false, if◌then◌else◌, cond, is_some, IsSome, List, [], ◌∷◌, filter, find, Option, Some, None, MatchOption, refl, sym, ap, ◌∙◌, subst}
+use Rattle.std.proofs.Common.{◌≡◌, ℕ, ◌≤◌, ◌==◌, Bool, true, false, if◌then◌else◌, cond, is_some, List, [], ◌∷◌, filter, find, Option, Some, None, refl, sym, ap, ◌∙◌, subst}
 use Rattle.std.specs.Prelude.{slice_get}
 use Rattle.std.specs.Option.{option_map, option_map_or}
 use Rattle.std.proofs.lemmas.Bool.{eqb-true, eq-eqb, true≢false}
@@ -8,12 +8,12 @@ use Rattle.conn_rules.specs.Births.{Position}
 use Rattle.vfs_journal.specs.Entries.{Sent}
 use Rattle.vfs_journal.specs.Fit.{IsFit}
 use Rattle.vfs_journal.specs.Starts.{Bound}
-use Rattle.vfs_journal.specs.View.{View, at_in, is_bound_in, next_in, oldest_in, queue_in}
+use Rattle.vfs_journal.specs.View.{View, at_in, is_bound_in, next_in, oldest_in}
 use Rattle.journal_laws.specs.Choosing.{ChoosesLeast, first_on, is_bound_at_in}
 use Rattle.journal_laws.proofs.LeastPlaces.{chosen_by_place, first_of_kept}
 use Rattle.journal_laws.proofs.Members.{found}
 use Rattle.message_queues.specs.Oldest.{IsBound, IsBoundAt, IsOldest, NothingWaits}
-use Rattle.message_queues.specs.Queues.{Queues, head_of, queue_of, server_of}
+use Rattle.message_queues.specs.Queues.{Queues, head_of, server_of}
 use Rattle.vfs_session.specs.Holding.{HoldsQueues}
 
 -- ---- where endpoints are bound

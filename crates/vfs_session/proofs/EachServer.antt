@@ -1,5 +1,5 @@
 -- What all servers hold behind each step of a serving.
-use Rattle.std.proofs.Common.{◌≡◌, ◌≢◌, ℕ, zero, suc, ◌+◌, ◌<◌, ◌≤◌, ◌==◌, ◌⊎◌, ◌&&◌, Bool, true, false, List, [], ◌∷◌, length, map, filter, find, count_by, Option, Some, None, set, inl, inr, refl, sym, ap, ◌∙◌, subst, arith, length-set}
+use Rattle.std.proofs.Common.{◌≡◌, ◌≢◌, ℕ, zero, suc, ◌+◌, ◌==◌, ◌⊎◌, ◌&&◌, false, List, [], ◌∷◌, length, filter, find, count_by, Some, None, set, inl, inr, refl, sym, ap, ◌∙◌, subst, arith, length-set}
 use Rattle.std.specs.Prelude.{slice_get}
 use Rattle.std.proofs.lemmas.Option.{same_Some, slice_get_within}
 use Rattle.fidl_wire.specs.Written.{Written}
@@ -18,8 +18,8 @@ use Rattle.vfs_server.specs.Holding.{bound_to, if_at, named_by}
 use Rattle.vfs_server.specs.Servers.{Server, bound_with}
 use Rattle.vfs_server.specs.Serving.{Serves}
 use Rattle.vfs_session.specs.Holding.{HoldsEach}
-use Rattle.vfs_session.specs.Steps.{answered_in, bound_in, without_in}
-use Rattle.vfs_session.proofs.ServerSteps.{Apart, HoldsNumber, Living, answered_here, answered_there, bound_here, bound_none, bound_there, bounds, by_index, by_number}
+use Rattle.vfs_session.specs.Steps.{answered_in, bound_in}
+use Rattle.vfs_session.proofs.ServerSteps.{HoldsNumber, Living, answered_here, answered_there, bound_here, bound_none, bound_there, bounds, by_index, by_number}
 
 -- ---- by their numbers
 

@@ -1,15 +1,15 @@
 -- The two parts of a serving make the whole.
-use Rattle.std.proofs.Common.{◌≡◌, ℕ, ◌+◌, ◌-◌, ◌^◌, ◌≤◌, ◌<◌, ◌++◌, Bool, true, false, if◌then◌else◌, List, [], All, fold, Some, append-nil, append_assoc, refl, sym, ap, ◌∙◌, subst, arith}
+use Rattle.std.proofs.Common.{◌≡◌, ℕ, ◌+◌, ◌-◌, ◌^◌, ◌≤◌, ◌<◌, ◌++◌, Bool, true, false, if◌then◌else◌, List, [], All, fold, append-nil, append_assoc, refl, sym, ap, ◌∙◌, subst, arith}
 use Rattle.std.proofs.lemmas.List.Elements.{All-nil, All-weaker}
 use Rattle.fidl_wire.specs.Written.{Written}
 use Rattle.endpoint_link.specs.Frames.{spellings}
 use Rattle.endpoint_link.specs.Numbering.{among}
 use Rattle.endpoint_link.specs.Standings.{Known, ended}
-use Rattle.conn_rules.specs.Built.{first_methods}
+use Rattle.conn_rules.specs.Built.{today}
 use Rattle.vfs_journal.specs.Entries.{Sent}
 use Rattle.journal_laws.specs.Viewing.{view_behind}
 use Rattle.message_queues.specs.Dying.{Buries}
-use Rattle.message_queues.specs.Queues.{IsAbove, Queues, count, queue_of, server_of}
+use Rattle.message_queues.specs.Queues.{IsAbove, Queues, count, queue_of}
 use Rattle.vfs_server.specs.declared.fate.Fate.{Fate}
 use Rattle.vfs_server.specs.declared.fate.Fate.TheVariants as fates
 use Rattle.vfs_session.specs.Heads.{SettlesHead, TakesHead}
@@ -76,17 +76,17 @@ both_parts old mid new endpoint server sent fate out before between after on d e
   able = able;
 }
 
-pub one_served : (old mid new last : World) (run : IsRunning (2 ^ 61) old) (endpoint server : ℕ) (sent : Sent) (fate : Fate) (out : Written) (before between after : List ℕ) → server_of old.queues endpoint ≡ Some server →
+pub one_served : (old mid new last : World) (run : IsRunning (2 ^ 61) old) (endpoint server : ℕ) (sent : Sent) (fate : Fate) (out : Written) (before between after : List ℕ) →
     TakesHead old endpoint server sent fate out mid before between → SettlesHead mid sent fate out new between after → last ≡ new → last.spent ≡ false → ServesOne (λ one. one ≡ endpoint) old last before after
-one_served old mid new last run endpoint server sent fate out before between after bound d e same able = record {
+one_served old mid new last run endpoint server sent fate out before between after d e same able = record {
   endpoint = endpoint;
   server = server;
   sent = sent;
   one_of = refl;
-  bound = bound;
+  bound = d.bound;
   waits = d.first;
   served = both_parts old mid last endpoint server sent fate out before between after
-      (ready_in (view_behind first_methods run.start run.journal) old.queues endpoint server sent run.stands.holds.queues bound d.first).on d
+      (ready_in (view_behind today run.start run.journal) old.queues endpoint server sent run.stands.holds.queues d.bound d.first).on d
       (subst (λ (w : World). SettlesHead mid sent fate out w between after) (sym same) e) able;
 }
 
@@ -94,5 +94,5 @@ one_served old mid new last run endpoint server sent fate out before between aft
 pub goes_on : (most : ℕ) (old new : World) (run : IsRunning most old) (endpoint : ℕ) (before after : List ℕ) → ServesOne (λ one. one ≡ endpoint) old new before after → IsRunning most new
 goes_on most old new run endpoint before after one =
     lasts_served most old new run one.sent
-    (ready_in (view_behind first_methods run.start run.journal) old.queues one.endpoint one.server one.sent run.stands.holds.queues one.bound one.waits).first
+    (ready_in (view_behind today run.start run.journal) old.queues one.endpoint one.server one.sent run.stands.holds.queues one.bound one.waits).first
     (head_served run.apart run.start run.journal old new one.endpoint one.server one.sent before after run.stands one.bound one.waits one.served).stands

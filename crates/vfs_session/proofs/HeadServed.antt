@@ -1,43 +1,42 @@
 -- What serves the first entry of a bound endpoint leads to the journal behind that serving.
-use Rattle.std.proofs.Common.{◌≡◌, ◌≢◌, ℕ, zero, suc, ◌+◌, ◌<◌, ◌==◌, ◌⊎◌, Bool, true, false, List, [], ◌∷◌, ◌++◌, length, map, filter, flat_map, find, All, Contains, Option, Some, None, get_or, inl, inr, refl, sym, ap, ◌∙◌, subst, arith}
+use Rattle.std.proofs.Common.{◌≡◌, ℕ, zero, suc, ◌<◌, ◌==◌, ◌⊎◌, true, false, List, [], ◌∷◌, ◌++◌, length, map, flat_map, Contains, Some, inl, inr, refl, sym, ap, ◌∙◌, subst, arith}
 use Rattle.std.specs.Prelude.{slice_get}
 use Rattle.std.specs.List.{list_any}
 use Rattle.std.proofs.lemmas.Bool.{true≢false, cases_Bool}
 use Rattle.std.proofs.lemmas.List.Elements.{All-contains}
-use Rattle.std.proofs.lemmas.Option.{slice_get-get_or}
 use Rattle.endpoint_link.specs.Numbering.{among}
 use Rattle.conn_rules.specs.Births.{Position}
-use Rattle.conn_rules.specs.Built.{first_methods}
+use Rattle.conn_rules.specs.Built.{today}
 use Rattle.fidl_names.specs.HandleNumber.{is_client}
 use Rattle.fidl_wire.specs.Names.{AreDistinct}
 use Rattle.vfs_journal.specs.Entries.{Journal, Sent, handles_of}
-use Rattle.vfs_journal.specs.Fit.{IsFit, handles_out}
+use Rattle.vfs_journal.specs.Fit.{IsFit}
 use Rattle.vfs_journal.specs.History.{living, trees_of}
 use Rattle.vfs_journal.specs.Lawful.{Lawful}
 use Rattle.vfs_journal.specs.Outcomes.{Given}
 use Rattle.vfs_journal.specs.Past.{history_of}
 use Rattle.vfs_journal.specs.Session.{after_serving}
 use Rattle.vfs_journal.specs.Starts.{Bound, Start}
-use Rattle.vfs_journal.specs.View.{View, at_in, bounds_in, head_in}
+use Rattle.vfs_journal.specs.View.{View, at_in, head_in}
 use Rattle.journal_laws.specs.Choosing.{IsListOf}
 use Rattle.journal_laws.specs.Knowing.{spent_in}
 use Rattle.journal_laws.specs.Soundness.{IsStart}
 use Rattle.journal_laws.specs.Trees.{IsOnNode}
 use Rattle.journal_laws.specs.Viewing.{view_behind}
-use Rattle.journal_laws.proofs.FirstPart.{sessions_little}
 use Rattle.journal_laws.proofs.Fits.{views_fit}
+use Rattle.journal_laws.proofs.NoneGiven.{none_given}
 use Rattle.journal_laws.proofs.LookedUp.{is_first}
 use Rattle.journal_laws.proofs.Members.{contains_cases, contains_here, contains_later, contains_none, found}
 use Rattle.journal_laws.proofs.OnTrees.{stand_on_trees}
 use Rattle.journal_laws.proofs.Spent.{IsSpentBy, spent_by}
 use Rattle.journal_laws.proofs.Spreading.{among_back, among_front}
 use Rattle.journal_laws.proofs.ViewParts.{bounds_are}
-use Rattle.message_queues.specs.Queues.{Queues, count, head_of, queue_of, server_of}
+use Rattle.message_queues.specs.Queues.{head_of, server_of}
 use Rattle.vfs_server.specs.Servers.{Server}
 use Rattle.vfs_session.specs.Servings.{ServesHead}
 use Rattle.vfs_session.specs.World.{LeadsTo, StandsFor, World}
 use Rattle.vfs_session.proofs.Grounds.{below}
-use Rattle.vfs_session.proofs.OneServed.{IsReadyIn, Laws, ready_in, serving_leads}
+use Rattle.vfs_session.proofs.OneServed.{IsReadyIn, ready_in, serving_leads}
 
 -- ---- no token is spent where none was given
 
@@ -72,15 +71,15 @@ mapped_has (one ∷ pairs) pair h = by_place (mapped_has pairs pair) (contains_c
   by_place rest (inl e) = subst (λ (b : Bound). Contains (one.0 ∷ map (λ p. p.0) pairs) b) (ap (λ (p : Bound × Position). p.0) e) (contains_here one.0 (map (λ p. p.0) pairs))
   by_place rest (inr q) = contains_later pair.0 one.0 (map (λ p. p.0) pairs) (rest q)
 
-pub server_low : (start : Start) (journal : Journal) (endpoint : ℕ) (pair : Bound × Position) → AreDistinct → IsStart start → Lawful first_methods start journal → at_in (view_behind first_methods start journal) endpoint ≡ Some pair →
-    pair.0.server < length (view_behind first_methods start journal).trees
+pub server_low : (start : Start) (journal : Journal) (endpoint : ℕ) (pair : Bound × Position) → AreDistinct → IsStart start → Lawful today start journal → at_in (view_behind today start journal) endpoint ≡ Some pair →
+    pair.0.server < length (view_behind today start journal).trees
 server_low start journal endpoint pair apart sound lawful' e =
-    let past = history_of first_methods start journal in
-    let view = view_behind first_methods start journal in
+    let past = history_of today start journal in
+    let view = view_behind today start journal in
     let lives : Contains (living start past) pair.0 =
-    subst (λ (bs : List Bound). Contains bs pair.0) (bounds_are first_methods start past)
+    subst (λ (bs : List Bound). Contains bs pair.0) (bounds_are today start past)
     (mapped_has view.living pair (found (λ (p : Bound × Position). p.0.endpoint == endpoint) view.living pair e).0) in
-    (All-contains (IsOnNode (trees_of start past)) (living start past) pair.0 (stand_on_trees (below apart) first_methods start journal sound lawful').placed lives).server
+    (All-contains (IsOnNode (trees_of start past)) (living start past) pair.0 (stand_on_trees (below apart) today start journal sound lawful').placed lives).server
 
 pub by_length : (servers : List Server) (i : ℕ) → i < length servers → (one : Server) × (slice_get servers i ≡ Some one)
 by_length [] i low = absurd (omega arith)
@@ -89,19 +88,16 @@ by_length (one ∷ servers) (suc i) low = by_length servers i (omega arith)
 
 -- ---- the whole
 
-pub laws : AreDistinct → Laws
-laws apart = record { below = below apart; today = sessions_little }
-
 pub head_served : AreDistinct →
     (start : Start) (journal : Journal) (old new : World) (endpoint server : ℕ) (sent : Sent) (before after : List ℕ) → StandsFor start old journal → server_of old.queues endpoint ≡ Some server → head_of old.queues endpoint ≡ Some sent →
-    ServesHead old endpoint server sent new before after → LeadsTo start (after_serving first_methods start journal sent) new journal before after
+    ServesHead old endpoint server sent new before after → LeadsTo start (after_serving today start journal sent) new journal before after
 head_served apart start journal old new endpoint server sent before after s bound waits d =
-    let view = view_behind first_methods start journal in
+    let view = view_behind today start journal in
     let r : IsReadyIn view endpoint server sent = ready_in view old.queues endpoint server sent s.holds.queues bound waits in
     let low = server_low start journal sent.endpoint r.pair apart s.sound s.lawful r.found in
     let many = s.holds.servers.many in
     let first_server = by_length old.servers r.pair.0.server (omega (arith, low, many)) in
-    serving_leads (laws apart) start journal old new sent r.pair first_server.0 before after s r.found r.first first_server.1
-    (nothing_spent view sent (views_fit (below apart) first_methods start journal s.sound s.lawful) (sessions_little start journal s.sound s.lawful).given r.first)
+    serving_leads (below apart) start journal old new sent r.pair first_server.0 before after s r.found r.first first_server.1
+    (nothing_spent view sent (views_fit (below apart) today start journal s.sound s.lawful) (none_given today start journal refl s.lawful) r.first)
     (subst (λ (n : ℕ). ServesHead old n r.pair.0.server sent new before after) (sym r.on)
     (subst (λ (n : ℕ). ServesHead old endpoint n sent new before after) (sym r.at) d))

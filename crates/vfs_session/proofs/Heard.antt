@@ -1,19 +1,17 @@
 -- What a frame leaves before anything is served for it.
-use Rattle.std.proofs.Common.{◌≡◌, ◌≢◌, ℕ, suc, ◌+◌, ◌<◌, ◌==◌, ◌⊎◌, Bool, true, false, if◌then◌else◌, List, [], ◌∷◌, ◌++◌, length, filter, Option, Some, None, append-nil, inl, inr, refl, sym, ap, ◌∙◌, subst, arith}
-use Rattle.std.proofs.lemmas.Bool.{cases_Bool, eqb-true}
+use Rattle.std.proofs.Common.{◌≡◌, ℕ, suc, ◌+◌, ◌==◌, Bool, true, false, if◌then◌else◌, List, [], ◌∷◌, ◌++◌, length, Some, None, append-nil, refl, sym, ap, ◌∙◌, subst, arith}
+use Rattle.std.proofs.lemmas.Bool.{eqb-true}
 use Rattle.std.proofs.lemmas.Grind.{flat_map-append}
 use Rattle.endpoint_link.specs.Admission.{Admits, admission, look_ups as known_look_ups}
 use Rattle.endpoint_link.specs.Frames.{Frame, IsFrame, spelling}
-use Rattle.endpoint_link.specs.Standings.{Known}
 use Rattle.endpoint_link.specs.declared.kinds.FrameKind.{FrameKind}
 use Rattle.endpoint_link.specs.declared.kinds.FrameKind.TheVariants as kind
 use Rattle.endpoint_link.specs.declared.kinds.Refusal.{Refusal}
 use Rattle.endpoint_link.specs.declared.kinds.Side.TheVariants.{ToServers}
-use Rattle.conn_rules.specs.Built.{Built, first_methods}
+use Rattle.conn_rules.specs.Built.{Built, today}
 use Rattle.vfs_journal.specs.Entries.{Journal, Sending, Sent, hang_up, message, refuses, sends}
 use Rattle.vfs_journal.specs.Lawful.{Lawful}
 use Rattle.vfs_journal.specs.Lawful as lawful
-use Rattle.vfs_journal.specs.Outcomes.{Given}
 use Rattle.vfs_journal.specs.Output.{frames_of, output_of, refused_frame}
 use Rattle.vfs_journal.specs.Past.{event_of, history_of}
 use Rattle.vfs_journal.specs.Session.{admitted, arrives, by_refusal, look_ups, sent_behind}
@@ -22,14 +20,14 @@ use Rattle.vfs_journal.specs.View.{View, queue_in, refusing_in, sending_in}
 use Rattle.journal_laws.specs.Knowing.{Knows}
 use Rattle.journal_laws.specs.Viewing.{view_behind}
 use Rattle.journal_laws.proofs.Below.{Below}
-use Rattle.journal_laws.proofs.FirstPart.{sessions_little}
+use Rattle.journal_laws.proofs.NoneGiven.{none_given}
 use Rattle.journal_laws.proofs.KnowingAdmits.{knowers_admit, refusals_known}
 use Rattle.journal_laws.proofs.KnowingSent.{hang_ups_known, messages_known}
 use Rattle.journal_laws.proofs.Lists.{eqb_sym}
 use Rattle.journal_laws.proofs.LookedUp.{queue_sent}
 use Rattle.journal_laws.proofs.ViewLaws.{hang_up_viewed, message_viewed}
 use Rattle.journal_laws.proofs.ViewSteps.{refused_viewed}
-use Rattle.message_queues.specs.Queues.{Queues, Requeues, queue_of}
+use Rattle.message_queues.specs.Queues.{Requeues, queue_of}
 use Rattle.vfs_server.specs.Servers.{Server}
 use Rattle.vfs_session.specs.Holding.{HoldsEach, HoldsQueues}
 use Rattle.vfs_session.specs.World.{Holds, LeadsTo, StandsFor, World}
@@ -50,8 +48,8 @@ nothing_written built start journal sent = flat_map-append spelling (frames_of s
 
 -- ---- a frame is refused
 
-pub admits_same : Below → (start : Start) (journal : Journal) (world : World) (frame : Frame) → StandsFor start world journal → admission (known_look_ups world.known) frame ≡ admission (look_ups start (history_of first_methods start journal)) frame
-admits_same below start journal world frame s = knowers_admit below first_methods start journal world.known frame s.sound s.lawful s.knows
+pub admits_same : Below → (start : Start) (journal : Journal) (world : World) (frame : Frame) → StandsFor start world journal → admission (known_look_ups world.known) frame ≡ admission (look_ups start (history_of today start journal)) frame
+admits_same below start journal world frame s = knowers_admit below today start journal world.known frame s.sound s.lawful s.knows
 
 -- only a place is taken
 pub record TakesPlace (old new : World) : Type 0 where
@@ -76,23 +74,23 @@ refused_holds view old new h takes = record {
 }
 
 pub refused_on : Below → (start : Start) (journal : Journal) (old new : World) (frame : Frame) (why : Refusal) (before after : List ℕ) → StandsFor start old journal → IsFrame ToServers frame →
-    admission (known_look_ups old.known) frame ≡ Some why → TakesPlace old new → after ≡ before ++ spelling (refused_frame frame.endpoint why) → LeadsTo start (arrives first_methods start journal frame) new journal before after
+    admission (known_look_ups old.known) frame ≡ Some why → TakesPlace old new → after ≡ before ++ spelling (refused_frame frame.endpoint why) → LeadsTo start (arrives today start journal frame) new journal before after
 unfolding history_of
 refused_on below start journal old new frame why before after s is refuses' takes written =
-    let past = history_of first_methods start journal in
+    let past = history_of today start journal in
     let refused = sym (admits_same below start journal old frame s) ∙ refuses' in
-    subst (λ (j : Journal). LeadsTo start j new journal before after) (sym (ap (by_refusal first_methods start journal frame) refused))
+    subst (λ (j : Journal). LeadsTo start j new journal before after) (sym (ap (by_refusal today start journal frame) refused))
     (record {
       stands = record {
         able = takes.able;
         sound = s.sound;
         lawful = lawful.refused journal frame why s.lawful is refused;
-        knows = subst (Knows start (history_of first_methods start (refuses frame.endpoint why ∷ journal))) (sym takes.known)
-            (refusals_known first_methods start journal frame.endpoint why old.known s.knows);
-        holds = subst (λ (v : View). Holds v new) (sym (refused_viewed first_methods start past frame.endpoint why)) (refused_holds (view_behind first_methods start journal) old new s.holds takes);
+        knows = subst (Knows start (history_of today start (refuses frame.endpoint why ∷ journal))) (sym takes.known)
+            (refusals_known today start journal frame.endpoint why old.known s.knows);
+        holds = subst (λ (v : View). Holds v new) (sym (refused_viewed today start past frame.endpoint why)) (refused_holds (view_behind today start journal) old new s.holds takes);
       };
       part = spelling (refused_frame frame.endpoint why);
-      more = refusal_written first_methods start journal frame.endpoint why;
+      more = refusal_written today start journal frame.endpoint why;
       written = written;
     })
 
@@ -139,54 +137,54 @@ sent_is : (places n endpoint : ℕ) (sending : Sending) → places ≡ n →
 sent_is places n endpoint sending e = λ i. record { place = e i; endpoint = endpoint; sending = sending; origin = None }
 
 -- the view's places are the journal's entries
-history_long : (start : Start) (journal : Journal) → length (history_of first_methods start journal) ≡ length journal
+history_long : (start : Start) (journal : Journal) → length (history_of today start journal) ≡ length journal
 unfolding history_of
 history_long start [] = refl
 history_long start (entry ∷ journal) = ap (λ (n : ℕ). suc n) (history_long start journal)
 
-places_are : (start : Start) (journal : Journal) → (view_behind first_methods start journal).places ≡ length journal
+places_are : (start : Start) (journal : Journal) → (view_behind today start journal).places ≡ length journal
 places_are start journal = history_long start journal
 
 pub message_on : Below → (start : Start) (journal : Journal) (old new : World) (frame : Frame) (before : List ℕ) → StandsFor start old journal → IsFrame ToServers frame → frame.kind ≡ kind.Message →
-    admission (known_look_ups old.known) frame ≡ None → SendsIt old frame (message frame.bytes frame.handles) new → LeadsTo start (arrives first_methods start journal frame) new journal before before
+    admission (known_look_ups old.known) frame ≡ None → SendsIt old frame (message frame.bytes frame.handles) new → LeadsTo start (arrives today start journal frame) new journal before before
 message_on below start journal old new frame before s is e admits sends' =
     let let_in = sym (admits_same below start journal old frame s) ∙ admits in
     let sent = sent_behind journal frame.endpoint (message frame.bytes frame.handles) None in
     subst (λ (j : Journal). LeadsTo start j new journal before before)
-    (sym (ap (by_refusal first_methods start journal frame) let_in ∙ ap (λ (one : FrameKind). admitted first_methods start journal one frame) e))
+    (sym (ap (by_refusal today start journal frame) let_in ∙ ap (λ (one : FrameKind). admitted today start journal one frame) e))
     (record {
       stands = record {
         able = sends'.able;
         sound = s.sound;
         lawful = lawful.sent journal frame s.lawful is e let_in;
-        knows = messages_known below first_methods start journal frame old.known new.known s.sound s.lawful e let_in s.knows sends'.known;
-        holds = subst (λ (v : View). Holds v new) (sym (message_viewed first_methods start journal frame s.lawful let_in e))
-            (sent_holds (view_behind first_methods start journal) old new frame (message frame.bytes frame.handles) sent s.holds (sessions_little start journal s.sound s.lawful).given sends'
+        knows = messages_known below today start journal frame old.known new.known s.sound s.lawful e let_in s.knows sends'.known;
+        holds = subst (λ (v : View). Holds v new) (sym (message_viewed today start journal frame s.lawful let_in e))
+            (sent_holds (view_behind today start journal) old new frame (message frame.bytes frame.handles) sent s.holds (none_given today start journal refl s.lawful) sends'
             (sent_is old.places (length journal) frame.endpoint (message frame.bytes frame.handles) (s.holds.places ∙ places_are start journal)));
       };
       part = [];
-      more = nothing_written first_methods start journal sent;
+      more = nothing_written today start journal sent;
       written = sym (append-nil before);
     })
 
 pub hang_up_on : Below → (start : Start) (journal : Journal) (old new : World) (frame : Frame) (before : List ℕ) → StandsFor start old journal → IsFrame ToServers frame → frame.kind ≡ kind.Close →
-    admission (known_look_ups old.known) frame ≡ None → SendsIt old frame hang_up new → LeadsTo start (arrives first_methods start journal frame) new journal before before
+    admission (known_look_ups old.known) frame ≡ None → SendsIt old frame hang_up new → LeadsTo start (arrives today start journal frame) new journal before before
 hang_up_on below start journal old new frame before s is e admits sends' =
     let let_in = sym (admits_same below start journal old frame s) ∙ admits in
     let sent = sent_behind journal frame.endpoint hang_up None in
     subst (λ (j : Journal). LeadsTo start j new journal before before)
-    (sym (ap (by_refusal first_methods start journal frame) let_in ∙ ap (λ (one : FrameKind). admitted first_methods start journal one frame) e))
+    (sym (ap (by_refusal today start journal frame) let_in ∙ ap (λ (one : FrameKind). admitted today start journal one frame) e))
     (record {
       stands = record {
         able = sends'.able;
         sound = s.sound;
         lawful = lawful.closed journal frame s.lawful is e let_in;
-        knows = hang_ups_known below first_methods start journal frame old.known new.known s.sound s.lawful e let_in s.knows sends'.known;
-        holds = subst (λ (v : View). Holds v new) (sym (hang_up_viewed first_methods start journal frame s.lawful let_in e))
-            (sent_holds (view_behind first_methods start journal) old new frame hang_up sent s.holds (sessions_little start journal s.sound s.lawful).given sends'
+        knows = hang_ups_known below today start journal frame old.known new.known s.sound s.lawful e let_in s.knows sends'.known;
+        holds = subst (λ (v : View). Holds v new) (sym (hang_up_viewed today start journal frame s.lawful let_in e))
+            (sent_holds (view_behind today start journal) old new frame hang_up sent s.holds (none_given today start journal refl s.lawful) sends'
             (sent_is old.places (length journal) frame.endpoint hang_up (s.holds.places ∙ places_are start journal)));
       };
       part = [];
-      more = nothing_written first_methods start journal sent;
+      more = nothing_written today start journal sent;
       written = sym (append-nil before);
     })

@@ -1,6 +1,6 @@
 -- What a server holds behind deaths.
-use Rattle.std.proofs.Common.{◌≡◌, ◌≢◌, ℕ, ◌+◌, ◌-◌, ◌<◌, ◌≤◌, ◌==◌, ◌&&◌, ◌||◌, Bool, true, false, not, cond, is_some, if◌then◌else◌, List, [], ◌∷◌, ◌++◌, length, map, filter, find, count_by, take, All, AllPairs, Option, Some, None, get_or, refl, sym, ap, ◌∙◌, subst, arith}
-use Rattle.std.specs.Option.{option_map, option_map_or}
+use Rattle.std.proofs.Common.{◌≡◌, ◌≢◌, ℕ, ◌+◌, ◌-◌, ◌<◌, ◌≤◌, ◌==◌, ◌&&◌, ◌||◌, Bool, true, false, not, cond, is_some, if◌then◌else◌, List, [], ◌∷◌, ◌++◌, length, filter, count_by, take, Option, Some, None, get_or, refl, sym, ap, ◌∙◌, subst, arith}
+use Rattle.std.specs.Option.{option_map_or}
 use Rattle.std.proofs.lemmas.Bool.{eqb-true, eq-eqb, ne_eqb, true≢false}
 use Rattle.std.proofs.lemmas.Bool.Decides.{nat_tests}
 use Rattle.std.proofs.lemmas.List.{take_all, take_more}
@@ -8,18 +8,18 @@ use Rattle.std.proofs.lemmas.List.Kept.{AllPairs-filter}
 use Rattle.std.proofs.lemmas.List.Sums.{length-filter}
 use Rattle.std.proofs.lemmas.Option.{none-some, same_Some}
 use Rattle.endpoint_link.specs.Numbering.{among}
-use Rattle.node_graph.specs.Graph.{StandsFor, holds_at}
+use Rattle.node_graph.specs.Graph.{holds_at}
 use Rattle.conn_rules.specs.Births.{Position}
 use Rattle.vfs_journal.specs.History.{is_watcher, tree_at}
 use Rattle.vfs_journal.specs.Starts.{Bound}
-use Rattle.vfs_journal.specs.View.{View, at_in, bounds_in}
+use Rattle.vfs_journal.specs.View.{View, at_in}
 use Rattle.journal_laws.proofs.Lists.{filter-filter}
 use Rattle.journal_laws.proofs.Spreading.{among-append}
 use Rattle.vfs_server.specs.Binding.{Unbinds}
 use Rattle.vfs_server.specs.Holding.{HoldsAt, bound_to, if_at, living_at, named_by}
-use Rattle.vfs_server.specs.Servers.{Server, in_use, seen}
+use Rattle.vfs_server.specs.Servers.{Server, seen}
 use Rattle.vfs_session.specs.Steps.{without_in}
-use Rattle.vfs_session.proofs.ServerSteps.{Apart, HoldsNumber, by_index, by_number, Living, bounds, bounds_filter, count_filter, count_without, filter_swap, found_name, found_others, one_if, others, passes_without, without_one}
+use Rattle.vfs_session.proofs.ServerSteps.{Apart, HoldsNumber, by_index, by_number, Living, bounds, bounds_filter, count_filter, count_without, filter_swap, found_others, one_if, others, passes_without, without_one}
 
 -- ---- one endpoint
 
@@ -116,7 +116,7 @@ unbound_there view one index d apart h none =
 
 -- ---- many endpoints
 
-filter_true : (l : Living) → filter (λ (_ : Bound × Position). true) l ≡ l
+pub filter_true : (l : Living) → filter (λ (_ : Bound × Position). true) l ≡ l
 filter_true [] = refl
 filter_true (pair ∷ l) = ap (λ (ps : Living). pair ∷ ps) (filter_true l)
 

@@ -22,5 +22,6 @@ pub mod Carried
 pub mod Serves
 pub mod Mounts
 pub mod Ready
+pub mod NoneDie
 pub mod Halves
 pub mod OneMore

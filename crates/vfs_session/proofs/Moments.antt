@@ -1,14 +1,12 @@
 -- What a server sees at a serving is the moment of the view, and what it writes are the frames of the view but for Close frames.
-use Rattle.std.proofs.Common.{◌≡◌, ℕ, ◌==◌, ◌&&◌, Bool, true, false, if◌then◌else◌, List, [], ◌∷◌, ◌++◌, length, map, filter, count_by, Option, Some, None, Ok, Err, refl, sym, ap, ◌∙◌, subst}
+use Rattle.std.proofs.Common.{◌≡◌, ℕ, ◌==◌, ◌&&◌, Bool, true, false, if◌then◌else◌, List, [], ◌∷◌, ◌++◌, length, map, filter, Option, Some, None, Ok, Err, refl, sym, ap, ◌∙◌}
 use Rattle.std.specs.Option.{option_map_or}
 use Rattle.std.proofs.lemmas.Bool.{eq-eqb}
 use Rattle.std.proofs.lemmas.List.Elements.{filter_agree}
 use Rattle.std.proofs.lemmas.List.Sums.{length-filter}
 use Rattle.endpoint_link.specs.Frames.{Frame}
-use Rattle.io_messages.specs.Replies.{Answered}
 use Rattle.io_messages.specs.declared.protocols.Protocol.{Protocol}
 use Rattle.io_messages.specs.declared.protocols.Protocol.TheVariants as protocol
-use Rattle.node_graph.specs.Graph.{StandsFor}
 use Rattle.node_graph.specs.Tree.{Tree}
 use Rattle.path_walk.specs.Names.{dot}
 use Rattle.conn_rules.specs.Answers.{Answer, Happening, binds, closes, ends, forwards, hangs_up, refuses, replies, silent, watches}
@@ -16,18 +14,18 @@ use Rattle.conn_rules.specs.Answers as news
 use Rattle.conn_rules.specs.Births.{Position}
 use Rattle.conn_rules.specs.Built.{Built}
 use Rattle.conn_rules.specs.declared.births.Room.{Room}
-use Rattle.vfs_journal.specs.Entries.{Sending, Sent, hang_up, message}
+use Rattle.vfs_journal.specs.Entries.{Sending, hang_up, message}
 use Rattle.vfs_journal.specs.History.{Event, is_watcher, tree_at, watches_node}
 use Rattle.vfs_journal.specs.Outcomes.{Asker, Outcome, bound_of}
 use Rattle.vfs_journal.specs.Output.{close_frames, frames_of_serving}
 use Rattle.vfs_journal.specs.Serving.{Moment, Read, asker_of, fault_answer, fault_txid, object_of, outcome_of_message, outcome_of_read, outcome_of_sending, read_by, request_act}
 use Rattle.vfs_journal.specs.Starts.{Bound}
-use Rattle.vfs_journal.specs.View.{View, at_in, bounds_in, moment_in, next_token_in, room_in}
+use Rattle.vfs_journal.specs.View.{View, at_in, bounds_in, moment_in, next_token_in}
 use Rattle.vfs_journal.specs.Watching.{added, asks_for, deleted, event_bytes, first_frames, removed, told_by, told_frames, told_of, watch_frame}
 use Rattle.journal_laws.proofs.Lists.{filter-filter}
 use Rattle.vfs_server.specs.Holding.{if_at, living_at}
-use Rattle.vfs_server.specs.Servers.{Server, in_use, seen}
-use Rattle.vfs_server.specs.Serving.{IsMomentOf, frames_here, room_at}
+use Rattle.vfs_server.specs.Servers.{Server}
+use Rattle.vfs_server.specs.Serving.{IsMomentOf, frames_here}
 use Rattle.vfs_session.proofs.ServerSteps.{HoldsNumber}
 
 -- ---- watchers

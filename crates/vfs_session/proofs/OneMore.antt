@@ -1,11 +1,11 @@
 -- Servings with one more behind them are servings.
-use Rattle.std.proofs.Common.{◌≡◌, ℕ, zero, suc, ◌+◌, ◌-◌, ◌<◌, ◌≤◌, IsSome, List, [], ◌++◌, Option, Some, None, refl, sym, ap, ◌∙◌, subst, append-nil, append_assoc, arith}
+use Rattle.std.proofs.Common.{◌≡◌, ℕ, zero, suc, ◌+◌, ◌-◌, ◌<◌, IsSome, List, [], ◌++◌, refl, sym, ap, ◌∙◌, subst, append-nil, append_assoc, arith}
 use Rattle.std.specs.Prelude.{slice_get}
 use Rattle.std.proofs.lemmas.Option.{none-some}
 use Rattle.std.proofs.Math.Numerals.{add-one}
 use Rattle.vfs_journal.specs.Entries.{Sent}
 use Rattle.message_queues.specs.Oldest.{IsOldest, NothingWaits}
-use Rattle.message_queues.specs.Queues.{Queues, IsReady, head_of, server_of}
+use Rattle.message_queues.specs.Queues.{Queues, IsReady, server_of}
 use Rattle.vfs_session.specs.Servings.{ServesOne, ServesTimes}
 use Rattle.vfs_session.specs.Steps.{Begins, IsRunning}
 use Rattle.vfs_session.specs.World.{World}

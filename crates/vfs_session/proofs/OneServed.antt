@@ -10,7 +10,7 @@ use Rattle.endpoint_link.specs.Frames.{spellings}
 use Rattle.endpoint_link.specs.Numbering.{among}
 use Rattle.endpoint_link.specs.Standings.{Known, ended, next_token_of}
 use Rattle.conn_rules.specs.Births.{Position}
-use Rattle.conn_rules.specs.Built.{first_methods}
+use Rattle.conn_rules.specs.Built.{today}
 use Rattle.vfs_journal.specs.Deaths.{first_deaths}
 use Rattle.vfs_journal.specs.Entries.{Journal, Sent, endpoints_in}
 use Rattle.vfs_journal.specs.Fit.{IsFit}
@@ -22,11 +22,11 @@ use Rattle.vfs_journal.specs.Starts.{Bound, Start}
 use Rattle.vfs_journal.specs.View.{View, at_in, deaths_in, event_in, frames_in, head_in, onward_in, outcome_in, serving_in, then_in}
 use Rattle.journal_laws.specs.Choosing.{AreAllThatDie, IsListOf, queue_beside}
 use Rattle.journal_laws.specs.Knowing.{Knows, known_served, spent_in}
-use Rattle.journal_laws.specs.Today.{SessionsOfToday}
 use Rattle.journal_laws.specs.Viewing.{view_behind}
 use Rattle.journal_laws.proofs.Below.{Below}
 use Rattle.journal_laws.proofs.Dying.{deaths_are_least}
 use Rattle.journal_laws.proofs.Fits.{views_fit}
+use Rattle.journal_laws.proofs.NoneGiven.{none_given}
 use Rattle.journal_laws.proofs.KnowingBehind.{servings_keep}
 use Rattle.journal_laws.proofs.LeastPlaces.{first_of_kept}
 use Rattle.journal_laws.proofs.Members.{found}
@@ -46,11 +46,6 @@ use Rattle.vfs_session.proofs.EachServer.{numbered}
 use Rattle.vfs_session.proofs.QueueSteps.{BindsOne, SendsOne, queue_taken, queues_then}
 use Rattle.vfs_session.proofs.Telling.{first_are_told, forward_told}
 use Rattle.vfs_session.proofs.Then.{Begun, Told, binds_one, frames_then, sends_one, servers_then, told}
-
--- what the laws below say, as far as they are not cited by their lemmas
-pub record Laws : Type 0 where
-  pub below : Below
-  pub today : SessionsOfToday
 
 -- ---- what is found where something waits on a bound endpoint
 
@@ -112,78 +107,78 @@ known_then known new dead token n m none e same =
     ∙ ap (λ (t : Option Given). known_served known dead [] t m) (sym none)
 
 -- at the server and on the endpoint that are found
-module _ (laws : Laws) (start : Start) (journal : Journal) (old new : World) (sent : Sent) (pair : Bound × Position) (one : Server) (before after : List ℕ) (s : StandsFor start old journal)
-    (found_pair : at_in (view_behind first_methods start journal) sent.endpoint ≡ Some pair) (first : head_in (view_behind first_methods start journal) sent.endpoint ≡ Some sent)
-    (there : slice_get old.servers pair.0.server ≡ Some one) (spent : IsListOf (spent_in (view_behind first_methods start journal) sent) []) (d : ServesHead old sent.endpoint pair.0.server sent new before after) where
+module _ (ground : Below) (start : Start) (journal : Journal) (old new : World) (sent : Sent) (pair : Bound × Position) (one : Server) (before after : List ℕ) (s : StandsFor start old journal)
+    (found_pair : at_in (view_behind today start journal) sent.endpoint ≡ Some pair) (first : head_in (view_behind today start journal) sent.endpoint ≡ Some sent)
+    (there : slice_get old.servers pair.0.server ≡ Some one) (spent : IsListOf (spent_in (view_behind today start journal) sent) []) (d : ServesHead old sent.endpoint pair.0.server sent new before after) where
   view : View
-  view = view_behind first_methods start journal
+  view = view_behind today start journal
 
-  fit : IsFit (view_behind first_methods start journal)
-  fit = views_fit laws.below first_methods start journal s.sound s.lawful
+  fit : IsFit (view_behind today start journal)
+  fit = views_fit ground today start journal s.sound s.lawful
 
-  begun : Begun (view_behind first_methods start journal) sent pair old.servers one (next_token_of old.known)
+  begun : Begun (view_behind today start journal) sent pair old.servers one (next_token_of old.known)
   begun = record {
     built = refl;
     fit = fit;
     first = first;
-    none = (laws.today start journal s.sound s.lawful).given;
+    none = none_given today start journal refl s.lawful;
     found = found_pair;
-    held = numbered (view_behind first_methods start journal) old.servers s.holds.servers;
+    held = numbered (view_behind today start journal) old.servers s.holds.servers;
     there = there;
-    next = s.knows.next ∙ token_is first_methods start (history_of first_methods start journal);
+    next = s.knows.next ∙ token_is today start (history_of today start journal);
   }
 
-  answered : Told (view_behind first_methods start journal) sent pair old.servers one d.fate d.out d.s1 before d.between
-  answered = told (view_behind first_methods start journal) sent pair old.servers one (next_token_of old.known) d.fate d.out d.s1 before d.between begun d.answers
+  answered : Told (view_behind today start journal) sent pair old.servers one d.fate d.out d.s1 before d.between
+  answered = told (view_behind today start journal) sent pair old.servers one (next_token_of old.known) d.fate d.out d.s1 before d.between begun d.answers
 
-  beside_is : (n : ℕ) → queue_of d.q2 n ≡ queue_beside (view_behind first_methods start journal) sent n
+  beside_is : (n : ℕ) → queue_of d.q2 n ≡ queue_beside (view_behind today start journal) sent n
   beside_is n =
       (binds_one pair.0.server d.fate d.s1 d.s2 d.q1 d.q2 d.binds).waiting n
-      ∙ queue_taken (view_behind first_methods start journal) sent old.queues d.q1 s.holds.queues d.taken n
+      ∙ queue_taken (view_behind today start journal) sent old.queues d.q1 s.holds.queues d.taken n
 
-  same : (n : ℕ) → among n d.dead ≡ among n (deaths_in (view_behind first_methods start journal) sent)
+  same : (n : ℕ) → among n d.dead ≡ among n (deaths_in (view_behind today start journal) sent)
   same =
-      deaths_are_least (view_behind first_methods start journal) sent d.dead fit first
-      (all_die (view_behind first_methods start journal) sent d.q2 (first_told sent d.fate) d.dead beside_is
-      (sym (first_are_told sent (outcome_in (view_behind first_methods start journal) sent) pair.0.server d.fate d.out answered.tells)) d.died)
+      deaths_are_least (view_behind today start journal) sent d.dead fit first
+      (all_die (view_behind today start journal) sent d.q2 (first_told sent d.fate) d.dead beside_is
+      (sym (first_are_told sent (outcome_in (view_behind today start journal) sent) pair.0.server d.fate d.out answered.tells)) d.died)
 
-  queues_are : HoldsQueues (then_in (view_behind first_methods start journal) sent) new.queues
+  queues_are : HoldsQueues (then_in (view_behind today start journal) sent) new.queues
   queues_are =
-      queues_then (view_behind first_methods start journal) sent d.dead old.queues d.q1 d.q2 d.q3 new.queues fit first s.holds.queues d.taken
+      queues_then (view_behind today start journal) sent d.dead old.queues d.q1 d.q2 d.q3 new.queues fit first s.holds.queues d.taken
       (subst (λ (o : Option Bound). BindsOne d.q1 o d.q2) (sym answered.tells.bound) (binds_one pair.0.server d.fate d.s1 d.s2 d.q1 d.q2 d.binds))
       d.buried
-      (subst (λ (o : Option Forwarded). SendsOne (view_behind first_methods start journal) sent d.q3 o new.queues) (sym answered.tells.forward)
-      (sends_one (view_behind first_methods start journal) sent d.fate d.out d.q3 new.queues
+      (subst (λ (o : Option Forwarded). SendsOne (view_behind today start journal) sent d.q3 o new.queues) (sym answered.tells.forward)
+      (sends_one (view_behind today start journal) sent d.fate d.out d.q3 new.queues
       (subst (λ (n : ℕ). SendsOn (n + 1) sent.place d.fate d.out d.q3 new.queues) s.holds.places d.sends)))
       same
 
-  holds : Holds (then_in (view_behind first_methods start journal) sent) new
+  holds : Holds (then_in (view_behind today start journal) sent) new
   holds = record {
-    servers = servers_then (view_behind first_methods start journal) sent pair old.servers d.s1 d.s2 new.servers d.q1 d.q2 one (next_token_of old.known) d.fate d.out d.dead before d.between begun answered d.binds d.goes same;
+    servers = servers_then (view_behind today start journal) sent pair old.servers d.s1 d.s2 new.servers d.q1 d.q2 one (next_token_of old.known) d.fate d.out d.dead before d.between begun answered d.binds d.goes same;
     queues = queues_are;
     places =
         let a = s.holds.places in
         let b = d.places in
-        let c = onward_places (serving_in (view_behind first_methods start journal) sent (event_in (view_behind first_methods start journal) sent)) sent d.fate d.out (outcome_in (view_behind first_methods start journal) sent).forward answered.tells.forward in
+        let c = onward_places (serving_in (view_behind today start journal) sent (event_in (view_behind today start journal) sent)) sent d.fate d.out (outcome_in (view_behind today start journal) sent).forward answered.tells.forward in
         omega (arith, a, b, c);
   }
 
-  pub serving_leads : LeadsTo start (after_serving first_methods start journal sent) new journal before after
+  pub serving_leads : LeadsTo start (after_serving today start journal sent) new journal before after
   serving_leads =
-      let head_is : head start (history_of first_methods start journal) sent.endpoint ≡ Some sent = head_is_in first_methods start (history_of first_methods start journal) sent.endpoint ∙ first in
+      let head_is : head start (history_of today start journal) sent.endpoint ≡ Some sent = head_is_in today start (history_of today start journal) sent.endpoint ∙ first in
       record {
         stands = record {
           able = d.able;
           sound = s.sound;
           lawful = lawful.served journal sent s.lawful head_is;
           knows =
-              subst (Knows start (history_of first_methods start (after_serving first_methods start journal sent)))
-              (sym (known_then old.known new.known d.dead (outcome_in (view_behind first_methods start journal) sent).token (count new.queues) (length (then_in (view_behind first_methods start journal) sent).waiting) answered.tells.token d.known
-              (counts_its_list new.queues (then_in (view_behind first_methods start journal) sent).waiting queues_are.queue)))
-              (servings_keep laws.below first_methods start journal sent old.known d.dead [] s.sound s.lawful head_is s.knows (record { same = same; once = d.died.once }) spent);
-          holds = subst (λ (v : View). Holds v new) (sym (served_behind_viewed laws.below first_methods start journal sent s.sound s.lawful head_is)) holds;
+              subst (Knows start (history_of today start (after_serving today start journal sent)))
+              (sym (known_then old.known new.known d.dead (outcome_in (view_behind today start journal) sent).token (count new.queues) (length (then_in (view_behind today start journal) sent).waiting) answered.tells.token d.known
+              (counts_its_list new.queues (then_in (view_behind today start journal) sent).waiting queues_are.queue)))
+              (servings_keep ground today start journal sent old.known d.dead [] s.sound s.lawful head_is s.knows (record { same = same; once = d.died.once }) spent);
+          holds = subst (λ (v : View). Holds v new) (sym (served_behind_viewed ground today start journal sent s.sound s.lawful head_is)) holds;
         };
-        part = spellings (frames_in (view_behind first_methods start journal) sent);
-        more = serving_writes first_methods start journal sent;
-        written = frames_then (view_behind first_methods start journal) sent pair old.servers d.s1 one (next_token_of old.known) d.fate d.out d.dead before d.between after begun answered d.closed same;
+        part = spellings (frames_in (view_behind today start journal) sent);
+        more = serving_writes today start journal sent;
+        written = frames_then (view_behind today start journal) sent pair old.servers d.s1 one (next_token_of old.known) d.fate d.out d.dead before d.between after begun answered d.closed same;
       }

@@ -1,5 +1,5 @@
 -- A serving never takes more places than were left for what waited.
-use Rattle.std.proofs.Common.{◌≡◌, ℕ, ◌+◌, ◌*◌, ◌<◌, ◌≤◌, ◌==◌, Bool, true, false, not, is_some, if◌then◌else◌, List, [], ◌∷◌, ◌++◌, length, Option, Some, None, Ok, Err, All, filter, Contains, sum_by, refl, sym, ap, ◌∙◌, subst, length-append, arith}
+use Rattle.std.proofs.Common.{◌≡◌, ℕ, ◌+◌, ◌*◌, ◌<◌, ◌≤◌, ◌==◌, Bool, true, false, not, is_some, if◌then◌else◌, List, [], ◌∷◌, ◌++◌, length, Option, Some, None, Ok, Err, All, filter, Contains, sum_by, refl, ap, ◌∙◌, subst, length-append, arith}
 use Rattle.std.specs.List.{join_with_byte}
 use Rattle.std.proofs.lemmas.Bool.{eq-eqb}
 use Rattle.std.proofs.lemmas.List.Elements.{All-head, All-tail}
@@ -27,7 +27,7 @@ use Rattle.journal_laws.specs.Soundness.{IsStart}
 use Rattle.journal_laws.specs.Viewing.{view_behind}
 use Rattle.journal_laws.proofs.Among.{carried_is}
 use Rattle.journal_laws.proofs.Below.{Below}
-use Rattle.journal_laws.proofs.Kept.{IsServing, GoesRight, is_serving, goes_right, client_low, lawful_kept}
+use Rattle.journal_laws.proofs.Kept.{GoesRight, is_serving, goes_right, client_low, lawful_kept}
 use Rattle.journal_laws.proofs.LookedUp.{is_first}
 use Rattle.journal_laws.proofs.Members.{kept}
 use Rattle.journal_laws.proofs.Onward.{onward_reads}

@@ -12,9 +12,10 @@ use Rattle.endpoint_link.specs.Standings.{Known, is_live, next_token_of, standin
 use Rattle.tree_file.specs.Numbering.{end_of_mount}
 use Rattle.conn_rules.specs.declared.births.Birth as code
 use Rattle.conn_rules.specs.Births.{Position}
-use Rattle.conn_rules.specs.Built.{first_methods}
+use Rattle.conn_rules.specs.Built.{today}
 use Rattle.vfs_journal.specs.Entries.{Sent}
 use Rattle.vfs_journal.specs.Fit.{IsFit}
+use Rattle.vfs_journal.specs.History.{tree_at}
 use Rattle.vfs_journal.specs.Past.{history_of}
 use Rattle.vfs_journal.specs.Serving.{Moment}
 use Rattle.vfs_journal.specs.Starts.{Bound}
@@ -24,10 +25,12 @@ use Rattle.journal_laws.specs.Choosing.{queue_beside}
 use Rattle.journal_laws.specs.Viewing.{view_behind}
 use Rattle.journal_laws.proofs.Among.{among_of}
 use Rattle.journal_laws.proofs.Dying.{deaths_are_least}
-use Rattle.journal_laws.proofs.FirstPart.{sessions_little}
 use Rattle.journal_laws.proofs.Fits.{views_fit}
+use Rattle.journal_laws.proofs.Growing.{trees_grow}
+use Rattle.journal_laws.proofs.NoneGiven.{none_given}
 use Rattle.journal_laws.proofs.KnowingBehind.{numbered_of}
 use Rattle.journal_laws.proofs.KnowingServes.{servings_end}
+use Rattle.journal_laws.proofs.ViewLaws.{same_length}
 use Rattle.journal_laws.proofs.ViewParts.{deaths_are, head_is_in, token_is}
 use Rattle.journal_laws.proofs.Waits.{lawful_wait}
 use Rattle.message_queues.specs.Dying.{AreDeaths}
@@ -67,6 +70,7 @@ pub record CanTake (world : World) (endpoint server : ℕ) (sent : Sent) : Type 
   pub there : slice_get world.servers server ≡ Some one
   pub moment : Moment
   pub is : IsMomentOf one endpoint (next_token_of world.known) moment
+  pub made : one.graph.made < 2 ^ 63
   pub counted : count world.queues ≡ world.known.waiting
   pub binds : (fate : Fate) (out : Written) (new : List Server) (before after : List ℕ) → Answers world.servers server endpoint (next_token_of world.known) sent fate out new before after →
       CanBind world.queues server new fate
@@ -97,45 +101,57 @@ beside_below view sent n place all = by_test (sent.endpoint == n) (All-filter (�
 -- ---- at the server and on the endpoint that are found
 
 module _ (old : World) (run : IsRunning (2 ^ 61) old) (sent : Sent) (pair : Bound × Position)
-    (found : at_in (view_behind first_methods run.start run.journal) sent.endpoint ≡ Some pair) (first : head_in (view_behind first_methods run.start run.journal) sent.endpoint ≡ Some sent) where
-  fit : IsFit (view_behind first_methods run.start run.journal)
-  fit = views_fit (below run.apart) first_methods run.start run.journal run.stands.sound run.stands.lawful
+    (found : at_in (view_behind today run.start run.journal) sent.endpoint ≡ Some pair) (first : head_in (view_behind today run.start run.journal) sent.endpoint ≡ Some sent) where
+  fit : IsFit (view_behind today run.start run.journal)
+  fit = views_fit (below run.apart) today run.start run.journal run.stands.sound run.stands.lawful
 
-  low : pair.0.server < length (view_behind first_methods run.start run.journal).trees
+  low : pair.0.server < length (view_behind today run.start run.journal).trees
   low = server_low run.start run.journal sent.endpoint pair run.apart run.stands.sound run.stands.lawful found
 
   there : (one : Server) × (slice_get old.servers pair.0.server ≡ Some one)
   there = let many = run.stands.holds.servers.many in let l = low in by_length old.servers pair.0.server (omega (arith, many, l))
 
-  begun : Begun (view_behind first_methods run.start run.journal) sent pair old.servers there.0 (next_token_of old.known)
+  begun : Begun (view_behind today run.start run.journal) sent pair old.servers there.0 (next_token_of old.known)
   begun = record {
     built = refl;
     fit = fit;
     first = first;
-    none = (sessions_little run.start run.journal run.stands.sound run.stands.lawful).given;
+    none = none_given today run.start run.journal refl run.stands.lawful;
     found = found;
-    held = numbered (view_behind first_methods run.start run.journal) old.servers run.stands.holds.servers;
+    held = numbered (view_behind today run.start run.journal) old.servers run.stands.holds.servers;
     there = there.1;
-    next = run.stands.knows.next ∙ token_is first_methods run.start (history_of first_methods run.start run.journal);
+    next = run.stands.knows.next ∙ token_is today run.start (history_of today run.start run.journal);
   }
 
   counts : count old.queues ≡ old.known.waiting
-  counts = counts_its_list old.queues (view_behind first_methods run.start run.journal).waiting run.stands.holds.queues.queue ∙ sym run.stands.knows.waiting
+  counts = counts_its_list old.queues (view_behind today run.start run.journal).waiting run.stands.holds.queues.queue ∙ sym run.stands.knows.waiting
+
+  -- a node was made for each place at most, but for those of the start
+  made_few : there.0.graph.made < 2 ^ 63
+  made_few =
+      let view = view_behind today run.start run.journal in
+      let held = run.stands.holds.servers in
+      let tree = (held.each pair.0.server there.0 there.1).tree in
+      let made : there.0.graph.made ≡ length (tree_at view.trees pair.0.server).nodes = tree.made ∙ ap (λ (n : ℕ). length (tree_at view.trees n).nodes) (held.index pair.0.server there.0 there.1) in
+      let grown = trees_grow today run.start run.journal pair.0.server run.stands.sound in
+      let places : view.places ≡ length run.journal = same_length today run.start run.journal in
+      let few = run.few in
+      omega (arith, made, grown, places, few)
 
   answered : (fate : Fate) (out : Written) (new : List Server) (before after : List ℕ) → Answers old.servers pair.0.server sent.endpoint (next_token_of old.known) sent fate out new before after →
-      Told (view_behind first_methods run.start run.journal) sent pair old.servers there.0 fate out new before after
+      Told (view_behind today run.start run.journal) sent pair old.servers there.0 fate out new before after
   answered fate out new before after answers =
-      told (view_behind first_methods run.start run.journal) sent pair old.servers there.0 (next_token_of old.known) fate out new before after begun answers
+      told (view_behind today run.start run.journal) sent pair old.servers there.0 (next_token_of old.known) fate out new before after begun answers
 
-  new_at : (fate : Fate) (out : Written) (new : List Server) (before after : List ℕ) → Told (view_behind first_methods run.start run.journal) sent pair old.servers there.0 fate out new before after →
-      (object : ℕ) (birth : code.Birth) → fate ≡ fates.Binds object birth → at_in (view_behind first_methods run.start run.journal) object ≡ None
+  new_at : (fate : Fate) (out : Written) (new : List Server) (before after : List ℕ) → Told (view_behind today run.start run.journal) sent pair old.servers there.0 fate out new before after →
+      (object : ℕ) (birth : code.Birth) → fate ≡ fates.Binds object birth → at_in (view_behind today run.start run.journal) object ≡ None
   new_at fate out new before after t object birth e =
-      new_free (view_behind first_methods run.start run.journal) sent fit first (bound_with pair.0.server object birth) (t.tells.bound ∙ ap (bound_told pair.0.server) e)
+      new_free (view_behind today run.start run.journal) sent fit first (bound_with pair.0.server object birth) (t.tells.bound ∙ ap (bound_told pair.0.server) e)
 
-  binds_at : (fate : Fate) (out : Written) (new : List Server) (before after : List ℕ) → Told (view_behind first_methods run.start run.journal) sent pair old.servers there.0 fate out new before after →
+  binds_at : (fate : Fate) (out : Written) (new : List Server) (before after : List ℕ) → Told (view_behind today run.start run.journal) sent pair old.servers there.0 fate out new before after →
       CanBind old.queues pair.0.server new fate
   binds_at fate out new before after t =
-      let o = outcome_in (view_behind first_methods run.start run.journal) sent in
+      let o = outcome_in (view_behind today run.start run.journal) sent in
       record {
         within = slice_get_within new pair.0.server t.now t.there;
         one_of = let those = run.stands.holds.queues.those in let l = low in omega (arith, those, l);
@@ -143,7 +159,7 @@ module _ (old : World) (run : IsRunning (2 ^ 61) old) (sent : Sent) (pair : Boun
             ap (λ (s : Server). seen s object) (sym (same_Some t.now one (sym t.there ∙ at)))
             ∙ (t.held.each pair.0.server t.now t.there).bound object
             ∙ ap (if_at pair.0.server)
-            (moved_found sent.endpoint o.position object (view_behind first_methods run.start run.journal).living ∙ ap (option_map (moved sent.endpoint o.position)) (new_at fate out new before after t object birth e));
+            (moved_found sent.endpoint o.position object (view_behind today run.start run.journal).living ∙ ap (option_map (moved sent.endpoint o.position)) (new_at fate out new before after t object birth e));
         place = λ object birth one e at. subst (λ (s : Server). HasPlace s birth) (same_Some t.now one (sym t.there ∙ at)) (t.serves.has_place object birth e);
         unbound = λ object birth e. run.stands.holds.queues.bound object ∙ ap (option_map (λ (p : Bound × Position). p.0.server)) (new_at fate out new before after t object birth e);
       }
@@ -152,35 +168,36 @@ module _ (old : World) (run : IsRunning (2 ^ 61) old) (sent : Sent) (pair : Boun
   can_take_there = record {
     one = there.0;
     there = there.1;
-    moment = moment_in (view_behind first_methods run.start run.journal) pair;
-    is = is_moment (view_behind first_methods run.start run.journal) there.0 sent.endpoint pair (next_token_of old.known) (begun.held.each pair.0.server there.0 there.1) found begun.next;
+    moment = moment_in (view_behind today run.start run.journal) pair;
+    is = is_moment (view_behind today run.start run.journal) there.0 sent.endpoint pair (next_token_of old.known) (begun.held.each pair.0.server there.0 there.1) found begun.next;
+    made = made_few;
     counted = counts;
     binds = λ fate out new before after answers. binds_at fate out new before after (answered fate out new before after answers);
   }
 
   -- behind the taking
   module _ (mid : World) (fate : Fate) (out : Written) (before after : List ℕ) (d : TakesHead old sent.endpoint pair.0.server sent fate out mid before after) where
-    t : Told (view_behind first_methods run.start run.journal) sent pair old.servers there.0 fate out d.answered before after
+    t : Told (view_behind today run.start run.journal) sent pair old.servers there.0 fate out d.answered before after
     t = answered fate out d.answered before after d.answers
 
-    beside : (n : ℕ) → queue_of mid.queues n ≡ queue_beside (view_behind first_methods run.start run.journal) sent n
+    beside : (n : ℕ) → queue_of mid.queues n ≡ queue_beside (view_behind today run.start run.journal) sent n
     beside n =
         (binds_one pair.0.server fate d.answered mid.servers d.left mid.queues d.binds).waiting n
-        ∙ queue_taken (view_behind first_methods run.start run.journal) sent old.queues d.left run.stands.holds.queues d.taken n
+        ∙ queue_taken (view_behind today run.start run.journal) sent old.queues d.left run.stands.holds.queues d.taken n
 
     were_live : (dead : List ℕ) → AreDeaths mid.queues (first_told sent fate) dead → (n : ℕ) → Contains dead n → is_live (standing_of mid.known n) ≡ true
     were_live dead died n c =
-        let past = history_of first_methods run.start run.journal in
-        let same = deaths_are_least (view_behind first_methods run.start run.journal) sent dead fit first
-        (all_die (view_behind first_methods run.start run.journal) sent mid.queues (first_told sent fate) dead beside
-        (sym (first_are_told sent (outcome_in (view_behind first_methods run.start run.journal) sent) pair.0.server fate out t.tells)) died) in
-        let ends = servings_end (below run.apart) first_methods run.start run.journal sent run.stands.sound (numbered_of run.start run.stands.sound) run.stands.lawful
-        (head_is_in first_methods run.start past sent.endpoint ∙ first) in
+        let past = history_of today run.start run.journal in
+        let same = deaths_are_least (view_behind today run.start run.journal) sent dead fit first
+        (all_die (view_behind today run.start run.journal) sent mid.queues (first_told sent fate) dead beside
+        (sym (first_are_told sent (outcome_in (view_behind today run.start run.journal) sent) pair.0.server fate out t.tells)) died) in
+        let ends = servings_end (below run.apart) today run.start run.journal sent run.stands.sound (numbered_of run.start run.stands.sound) run.stands.lawful
+        (head_is_in today run.start past sent.endpoint ∙ first) in
         ap (λ (k : Known). is_live (standing_of k n)) d.known
         ∙ ap is_live (run.stands.knows.standing n)
-        ∙ ends.were_live n (ap (among n) (deaths_are first_methods run.start past sent) ∙ sym (same n) ∙ among_of n dead c)
+        ∙ ends.were_live n (ap (among n) (deaths_are today run.start past sent) ∙ sym (same n) ∙ among_of n dead c)
 
-    places_are : mid.places ≡ (view_behind first_methods run.start run.journal).places
+    places_are : mid.places ≡ (view_behind today run.start run.journal).places
     places_are = d.places ∙ run.stands.holds.places
 
     pub can_settle_there : CanSettle mid sent fate
@@ -191,17 +208,17 @@ module _ (old : World) (run : IsRunning (2 ^ 61) old) (sent : Sent) (pair : Boun
           let goes = (fit.heads sent first).goes_to (record { endpoint = end_of_mount mount; bytes = out.bytes; object = object }) (t.tells.forward ∙ ap (λ (f : Fate). forward_told f out) e) in
           mount_low run.start run.journal mount run.apart run.stands.sound run.stands.lawful goes.0 goes.1;
       newest = λ n. subst (λ (p : ℕ). All (λ one. one.place < p) (queue_of mid.queues n)) (sym places_are)
-          (subst (λ (ones : List Sent). All (λ one. one.place < (view_behind first_methods run.start run.journal).places) ones) (sym (beside n))
-          (beside_below (view_behind first_methods run.start run.journal) sent n (view_behind first_methods run.start run.journal).places fit.below));
-      few = let a = d.count in let b = counts in let c = run.stands.knows.waiting in let w = lawful_wait first_methods run.start run.journal run.stands.lawful in omega (arith, a, b, c, w);
+          (subst (λ (ones : List Sent). All (λ one. one.place < (view_behind today run.start run.journal).places) ones) (sym (beside n))
+          (beside_below (view_behind today run.start run.journal) sent n (view_behind today run.start run.journal).places fit.below));
+      few = let a = d.count in let b = counts in let c = run.stands.knows.waiting in let w = lawful_wait today run.start run.journal run.stands.lawful in omega (arith, a, b, c, w);
       places = let a = places_are in let few = run.few in omega (arith, a, few);
     }
 
 -- ---- where the queues tell it
 
 found_in : (old : World) (run : IsRunning (2 ^ 61) old) (endpoint server : ℕ) (sent : Sent) → server_of old.queues endpoint ≡ Some server → head_of old.queues endpoint ≡ Some sent →
-    IsReadyIn (view_behind first_methods run.start run.journal) endpoint server sent
-found_in old run endpoint server sent bound waits = ready_in (view_behind first_methods run.start run.journal) old.queues endpoint server sent run.stands.holds.queues bound waits
+    IsReadyIn (view_behind today run.start run.journal) endpoint server sent
+found_in old run endpoint server sent bound waits = ready_in (view_behind today run.start run.journal) old.queues endpoint server sent run.stands.holds.queues bound waits
 
 pub can_take : (old : World) (run : IsRunning (2 ^ 61) old) (endpoint server : ℕ) (sent : Sent) → server_of old.queues endpoint ≡ Some server → head_of old.queues endpoint ≡ Some sent → CanTake old endpoint server sent
 can_take old run endpoint server sent bound waits =
@@ -223,10 +240,9 @@ can_bind old left run endpoint server sent queue fate out new before after bound
       unbound = λ object birth e. taken.bound object ∙ can.unbound object birth e;
     }
 
-pub can_settle : (old mid : World) (run : IsRunning (2 ^ 61) old) (endpoint server : ℕ) (sent : Sent) (fate : Fate) (out : Written) (before after : List ℕ) → server_of old.queues endpoint ≡ Some server →
-    TakesHead old endpoint server sent fate out mid before after → CanSettle mid sent fate
-can_settle old mid run endpoint server sent fate out before after bound d =
-    let r = found_in old run endpoint server sent bound d.first in
+pub can_settle : (old mid : World) (run : IsRunning (2 ^ 61) old) (endpoint server : ℕ) (sent : Sent) (fate : Fate) (out : Written) (before after : List ℕ) → TakesHead old endpoint server sent fate out mid before after → CanSettle mid sent fate
+can_settle old mid run endpoint server sent fate out before after d =
+    let r = found_in old run endpoint server sent d.bound d.first in
     can_settle_there old run sent r.pair r.found r.first mid fate out before after
     (subst (λ (n : ℕ). TakesHead old n r.pair.0.server sent fate out mid before after) (sym r.on)
     (subst (λ (n : ℕ). TakesHead old endpoint n sent fate out mid before after) (sym r.at) d))

@@ -1,31 +1,30 @@
 -- What a server holds behind each step of a serving.
-use Rattle.std.proofs.Common.{◌≡◌, ◌≢◌, ℕ, ◌+◌, ◌-◌, ◌<◌, ◌==◌, ◌&&◌, ◌⊎◌, Bool, true, false, not, cond, if◌then◌else◌, List, [], ◌∷◌, ◌++◌, length, map, filter, find, count_by, All, AllPairs, option_to_list, Option, Some, None, get_or, set, append-nil, refl, sym, ap, ◌∙◌, subst, arith}
+use Rattle.std.proofs.Common.{◌≡◌, ◌≢◌, ℕ, ◌+◌, ◌<◌, ◌==◌, ◌&&◌, Bool, true, false, not, cond, if◌then◌else◌, List, [], ◌∷◌, ◌++◌, length, map, filter, find, count_by, All, AllPairs, Option, Some, None, append-nil, refl, sym, ap, ◌∙◌, subst, arith}
 use Rattle.std.specs.Option.{option_map, option_map_or, option_or}
-use Rattle.std.proofs.lemmas.Bool.{cases_Bool, eqb-true, eq-eqb, ne_eqb, true≢false}
+use Rattle.std.proofs.lemmas.Bool.{eqb-true, eq-eqb, ne_eqb, true≢false}
 use Rattle.std.proofs.lemmas.List.{get_or-set_same, get_or-set_other, length-append, map-append}
 use Rattle.std.proofs.lemmas.List.Elements.{All-head, All-tail, filter-append}
 use Rattle.std.proofs.lemmas.List.Folds.{find-append}
 use Rattle.std.proofs.lemmas.Grind.{common_steps}
 use Rattle.std.proofs.lemmas.List.Sums.{length-filter}
-use Rattle.std.proofs.lemmas.Option.{none-some, same_Some}
-use Rattle.endpoint_link.specs.Numbering.{among}
+use Rattle.std.proofs.lemmas.Option.{same_Some}
 use Rattle.fidl_wire.specs.Written.{Written}
 use Rattle.node_graph.specs.Graph.{StandsFor, holds_at, number_of}
-use Rattle.node_graph.specs.Tree.{Tree, Change, after, bare_tree, stay}
+use Rattle.node_graph.specs.Tree.{after, bare_tree}
 use Rattle.conn_rules.specs.declared.births.Birth as code
-use Rattle.conn_rules.specs.Births.{Position, born, fresh}
+use Rattle.conn_rules.specs.Births.{Position, fresh}
 use Rattle.vfs_journal.specs.History.{changed, is_watcher, tree_at}
 use Rattle.vfs_journal.specs.Outcomes.{Outcome}
 use Rattle.vfs_journal.specs.Serving.{Moment}
 use Rattle.vfs_journal.specs.Starts.{Bound}
-use Rattle.vfs_journal.specs.View.{View, at_in, bounds_in, is_out_in, moved}
+use Rattle.vfs_journal.specs.View.{View, at_in, moved}
 use Rattle.journal_laws.proofs.Lists.{pairs-head, pairs-tail, eqb_sym}
-use Rattle.vfs_server.specs.Binding.{Binds, Unbinds}
+use Rattle.vfs_server.specs.Binding.{Binds}
 use Rattle.vfs_server.specs.declared.fate.Fate.{Fate}
 use Rattle.vfs_server.specs.Holding.{HoldsAt, bound_to, if_at, living_at, named_by}
 use Rattle.vfs_server.specs.Servers.{Server, bound_with, in_use, seen}
 use Rattle.vfs_server.specs.Serving.{Serves}
-use Rattle.vfs_session.specs.Steps.{answered_in, bound_in, without_in}
+use Rattle.vfs_session.specs.Steps.{answered_in, bound_in}
 
 abbrev pub Living : Type 0
 Living = List (Bound × Position)

@@ -1,14 +1,13 @@
 -- What a fate tells is what the outcome says.
-use Rattle.std.proofs.Common.{◌≡◌, ℕ, ◌==◌, ◌||◌, Bool, true, false, not, List, [], ◌∷◌, ◌++◌, filter, Option, Some, None, option_to_list, refl, sym, ap, ◌∙◌}
+use Rattle.std.proofs.Common.{◌≡◌, ℕ, ◌==◌, ◌||◌, Bool, true, false, not, List, [], ◌∷◌, ◌++◌, filter, Option, Some, None, option_to_list, refl, ap, ◌∙◌}
 use Rattle.std.specs.Option.{option_map_or}
 use Rattle.std.proofs.lemmas.List.Elements.{filter_agree}
 use Rattle.fidl_wire.specs.Written.{Written}
 use Rattle.endpoint_link.specs.Numbering.{among}
 use Rattle.tree_file.specs.Numbering.{end_of_mount}
-use Rattle.conn_rules.specs.Births.{born}
 use Rattle.vfs_journal.specs.Deaths.{first_deaths, is_settled}
 use Rattle.vfs_journal.specs.Entries.{Sent, endpoints_in}
-use Rattle.vfs_journal.specs.Outcomes.{Forwarded, Given, Outcome}
+use Rattle.vfs_journal.specs.Outcomes.{Forwarded, Outcome}
 use Rattle.vfs_journal.specs.Starts.{Bound}
 use Rattle.vfs_server.specs.Effects.{Effects, effects_of, effects_told}
 use Rattle.vfs_server.specs.declared.fate.Fate.{Fate}

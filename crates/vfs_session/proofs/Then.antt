@@ -1,53 +1,51 @@
 -- What a world holds behind a serving is the view behind it.
-use Rattle.std.proofs.Common.{◌≡◌, ◌≢◌, ℕ, zero, suc, ◌+◌, ◌<◌, ◌==◌, Bool, true, false, not, is_some, if◌then◌else◌, List, [], ◌∷◌, ◌++◌, length, map, filter, All, AllPairs, Contains, find, get_or, option_to_list, Option, Some, None, set, append-nil, append_assoc, refl, sym, ap, ◌∙◌, subst, arith}
+use Rattle.std.proofs.Common.{◌≡◌, ◌≢◌, ℕ, zero, suc, ◌+◌, ◌==◌, Bool, true, false, not, is_some, if◌then◌else◌, List, [], ◌∷◌, ◌++◌, map, All, Contains, find, get_or, option_to_list, Option, Some, None, set, append-nil, append_assoc, refl, sym, ap, ◌∙◌, subst, arith}
 use Rattle.std.specs.Prelude.{slice_get}
 use Rattle.std.specs.Option.{option_map, option_map_or}
-use Rattle.std.proofs.lemmas.Bool.{eqb-true, eq-eqb, ne_eqb, true≢false}
+use Rattle.std.proofs.lemmas.Bool.{eqb-true, eq-eqb, true≢false}
 use Rattle.std.proofs.lemmas.Grind.{flat_map-append}
 use Rattle.std.proofs.lemmas.List.Elements.{All-cons, All-nil, All-weaker, All-contains_itself, filter_agree}
-use Rattle.std.proofs.lemmas.Option.{none-some, same_Some, slice_get_within}
 use Rattle.endpoint_link.specs.Frames.{Frame, spelling, spellings}
 use Rattle.endpoint_link.specs.Numbering.{among}
 use Rattle.fidl_wire.specs.Written.{Written}
 use Rattle.io_messages.specs.declared.protocols.Protocol.{Protocol}
 use Rattle.io_messages.specs.declared.protocols.Protocol.TheVariants as protocol
-use Rattle.node_graph.specs.Tree.{Tree}
+use Rattle.node_graph.specs.declared.nodes.NodeKind.{NodeKind}
 use Rattle.tree_file.specs.Numbering.{end_of_mount}
 use Rattle.conn_rules.specs.declared.births.Birth as code
 use Rattle.conn_rules.specs.Births.{Position, fresh}
-use Rattle.conn_rules.specs.Built.{Built, first_methods}
-use Rattle.vfs_journal.specs.Deaths.{first_deaths}
-use Rattle.vfs_journal.specs.Entries.{Sent, endpoints_in, message, serves}
+use Rattle.conn_rules.specs.Built.{Built, today}
+use Rattle.conn_rules.specs.Shared.{is_spoken_at}
+use Rattle.vfs_journal.specs.Entries.{Sent, serves}
 use Rattle.vfs_journal.specs.Fit.{IsFit}
-use Rattle.vfs_journal.specs.History.{Event, changed, is_watcher}
+use Rattle.vfs_journal.specs.History.{Event, is_watcher}
 use Rattle.vfs_journal.specs.Outcomes.{Forwarded, Given, Outcome, close_frame, no_outcome}
-use Rattle.vfs_journal.specs.Output.{close_frames, frames_of_serving, rising}
-use Rattle.vfs_journal.specs.Serving.{Moment, outcome_of_sending}
+use Rattle.vfs_journal.specs.Output.{close_frames, rising}
+use Rattle.vfs_journal.specs.Serving.{outcome_of_sending}
 use Rattle.vfs_journal.specs.Starts.{Bound}
-use Rattle.vfs_journal.specs.View.{View, at_in, bounds_in, deaths_in, event_in, frames_in, head_in, is_bound_in, moment_in, moved, next_token_in, onward_in, onward_sent, outcome_in, serving_in, then_in}
+use Rattle.vfs_journal.specs.View.{View, at_in, bounds_in, deaths_in, event_in, frames_in, head_in, moment_in, moved, next_token_in, onward_in, outcome_in, serving_in, then_in}
 use Rattle.journal_laws.proofs.Among.{carrier_travels}
 use Rattle.journal_laws.proofs.Dying.{told_by_members}
 use Rattle.journal_laws.proofs.Lists.{eqb_sym, pairs-append, pairs-map}
 use Rattle.journal_laws.proofs.LookedUp.{is_first}
 use Rattle.journal_laws.proofs.Members.{none_found}
-use Rattle.message_queues.specs.Queues.{Queues, Requeues, queue_of, server_of}
+use Rattle.message_queues.specs.Queues.{Queues, queue_of, server_of}
 use Rattle.vfs_server.specs.declared.fate.Fate.{Fate}
 use Rattle.vfs_server.specs.declared.fate.Fate.TheVariants as fates
 use Rattle.vfs_server.specs.Servers.{Server, bound_with}
 use Rattle.vfs_server.specs.Serving.{Serves, frames_here}
-use Rattle.vfs_server.specs.Spoken.{speaks_protocol}
 use Rattle.vfs_session.specs.Holding.{HoldsEach}
-use Rattle.vfs_session.specs.Steps.{Answers, BindsTold, SendsOn, answered_in, bound_in, closed_for, end_told, first_told, onward_told, without_in}
+use Rattle.vfs_session.specs.Steps.{Answers, BindsTold, SendsOn, answered_in, bound_in, closed_for, end_told, onward_told, without_in}
 use Rattle.vfs_session.proofs.EachServer.{AreNumbered, each_answered, each_bound, each_same, each_unbound, indexed, numbered}
 use Rattle.vfs_session.proofs.Moments.{IsOn, frames_same, is_moment, sending_on}
 use Rattle.vfs_session.proofs.QueueSteps.{BindsOne, SendsOne}
 use Rattle.vfs_session.proofs.ServerSteps.{Apart, Living, found_name, moved_found}
-use Rattle.vfs_session.proofs.Telling.{Tells, bound_told, first_are_told, forward_told, others_are_told, tells}
+use Rattle.vfs_session.proofs.Telling.{Tells, bound_told, forward_told, others_are_told, tells}
 
 -- ---- the outcome
 
-pub outcome_is : (view : View) (sent : Sent) (pair : Bound × Position) → view.built ≡ first_methods → at_in view sent.endpoint ≡ Some pair →
-    outcome_in view sent ≡ outcome_of_sending first_methods (moment_in view pair) sent.sending
+pub outcome_is : (view : View) (sent : Sent) (pair : Bound × Position) → view.built ≡ today → at_in view sent.endpoint ≡ Some pair →
+    outcome_in view sent ≡ outcome_of_sending today (moment_in view pair) sent.sending
 outcome_is view sent pair built found =
     ap (λ (o : Option (Bound × Position)). option_map_or (λ pair. outcome_of_sending view.built (moment_in view pair) sent.sending) o no_outcome) found
     ∙ ap (λ (b : Built). outcome_of_sending b (moment_in view pair) sent.sending) built
@@ -86,13 +84,14 @@ new_free view sent fit first b e =
 
 -- ---- what is bound
 
-no_watcher : (p : Protocol) → speaks_protocol first_methods p ≡ true → is_watcher p ≡ false
-unfolding speaks_protocol
-no_watcher protocol.Directory h = refl
-no_watcher protocol.File h = refl
-no_watcher protocol.Node h = refl
-no_watcher protocol.Echo h = refl
-no_watcher protocol.Watcher h = absurd (true≢false (sym h))
+-- a watcher is spoken nowhere
+no_watcher : (p : Protocol) (kind : Option NodeKind) → option_map_or (is_spoken_at p) kind false ≡ true → is_watcher p ≡ false
+no_watcher protocol.Directory kind h = refl
+no_watcher protocol.File kind h = refl
+no_watcher protocol.Node kind h = refl
+no_watcher protocol.Echo kind h = refl
+no_watcher protocol.Watcher None h = absurd (true≢false (sym h))
+no_watcher protocol.Watcher (Some kind) h = absurd (true≢false (sym h))
 
 set_there : {X : Type 0} (xs : List X) (i : ℕ) (one now : X) → slice_get xs i ≡ Some one → slice_get (set xs i now) i ≡ Some now
 set_there [] i one now e = absurd (cc)
@@ -170,7 +169,7 @@ onward_given view sent (Some f) = refl
 
 -- what a serving begins with: what is served, on an endpoint that is bound at a server
 pub record Begun (view : View) (sent : Sent) (pair : Bound × Position) (servers : List Server) (one : Server) (token : Option ℕ) : Type 0 where
-  pub built : view.built ≡ first_methods
+  pub built : view.built ≡ today
   pub fit : IsFit view
   pub first : head_in view sent.endpoint ≡ Some sent
   pub none : view.given ≡ []
@@ -197,7 +196,7 @@ told view sent pair servers one token fate out new before after b answers =
     let o_is = outcome_is view sent pair b.built b.found in
     let a = answers one m b.there (is_moment view one sent.endpoint pair token (b.held.each i one b.there) b.found b.next) in
     let serves : Serves m (outcome_in view sent) fate out one a.0 before after = subst (λ (o : Outcome). Serves m o fate out one a.0 before after) (sym o_is) a.2 in
-    let on : (outcome_in view sent).server ≡ i = ap (λ (o : Outcome). o.server) o_is ∙ (sending_on first_methods m sent.sending).server in
+    let on : (outcome_in view sent).server ≡ i = ap (λ (o : Outcome). o.server) o_is ∙ (sending_on today m sent.sending).server in
     record {
       now = a.0;
       set = a.1;
@@ -222,7 +221,7 @@ servers_then view sent pair s0 s1 s2 s3 q1 q2 one token fate out dead before aft
     (λ x e. moved_found sent.endpoint o.position x.endpoint view.living ∙ ap (option_map (moved sent.endpoint o.position)) (new_free view sent b.fit b.first x e)) in
     let h2 : AreNumbered v2 s2 =
     subst (λ (x : Option Bound). AreNumbered (bound_in v1 x) s2) (sym t.tells.bound)
-    (each_told v1 s1 s2 q1 q2 i t.now fate t.held t.there binds (λ x e. free1 x (t.tells.bound ∙ e)) (λ object birth e. no_watcher birth.protocol (t.serves.has_place object birth e).built)) in
+    (each_told v1 s1 s2 q1 q2 i t.now fate t.held t.there binds (λ x e. free1 x (t.tells.bound ∙ e)) (λ object birth e. no_watcher birth.protocol _ (t.serves.has_place object birth e).node.spoken)) in
     let h3 = goes v2 (apart_more v1.living o.bound (apart_moved sent.endpoint o.position view.living b.fit.apart) free1) (indexed v2 s2 h2) in
     let mid = serving_in view sent (event_in view sent) in
     indexed (then_in view sent) s3
@@ -243,7 +242,7 @@ frames_then view sent pair s0 s1 one token fate out dead before between after b 
     let o = outcome_in view sent in
     let event : Event = record { entry = serves sent; outcome = o; deaths = dead } in
     let here = frames_here m one.watchers o in
-    let on = subst (λ (x : Outcome). IsOn m x) (sym (outcome_is view sent pair b.built b.found)) (sending_on first_methods m sent.sending) in
+    let on = subst (λ (x : Outcome). IsOn m x) (sym (outcome_is view sent pair b.built b.found)) (sending_on today m sent.sending) in
     let closes : closed_for (end_told sent.endpoint fate) dead ≡ close_frames event =
     ap (λ (ns : List ℕ). map close_frame (rising ns)) (sym (others_are_told o sent.endpoint i fate out dead t.tells)) in
     let all : here ++ close_frames event ≡ frames_in view sent =

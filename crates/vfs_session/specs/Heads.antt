@@ -1,12 +1,12 @@
 -- The two parts of a serving: what comes before the deaths, and what comes with them. No public clause needs these.
-use Rattle.std.specs.Prelude.{◌≡◌, ◌+◌, ◌-◌, ◌++◌, ℕ, List, drop, fold, Some}
+use Rattle.std.specs.Prelude.{◌≡◌, ◌≤◌, ◌+◌, ◌-◌, ◌++◌, ℕ, List, drop, fold, Some}
 use Rattle.fidl_wire.specs.Written.{Written}
 use Rattle.endpoint_link.specs.Frames.{spellings}
 use Rattle.endpoint_link.specs.Standings.{ended, next_token_of}
 use Rattle.vfs_journal.specs.Entries.{Sent}
 use Rattle.vfs_journal.specs.View.{View}
 use Rattle.message_queues.specs.Dying.{AreDeaths, Buries}
-use Rattle.message_queues.specs.Queues.{Queues, Requeues, count, head_of, queue_of}
+use Rattle.message_queues.specs.Queues.{Queues, Requeues, count, head_of, queue_of, server_of}
 use Rattle.vfs_server.specs.declared.fate.Fate.{Fate}
 use Rattle.vfs_server.specs.Servers.{Server}
 use Rattle.vfs_session.specs.Holding.{HoldsEach}
@@ -17,12 +17,24 @@ use Rattle.vfs_session.specs.World.{World}
 pub record TakesHead (old : World) (endpoint server : ℕ) (sent : Sent) (fate : Fate) (out : Written) (new : World) (before after : List ℕ) : Type 0 where
   pub answered : List Server
   pub left : Queues
+  pub bound : server_of old.queues endpoint ≡ Some server
   pub first : head_of old.queues endpoint ≡ Some sent
   pub answers : Answers old.servers server endpoint (next_token_of old.known) sent fate out answered before after
   pub taken : Requeues old.queues endpoint (drop 1 (queue_of old.queues endpoint)) left
   pub binds : BindsTold server fate answered left new.servers new.queues
   pub count : count new.queues + 1 ≡ count old.queues
   pub known : new.known ≡ record old.known { waiting = old.known.waiting - 1 }
+  pub places : new.places ≡ old.places
+
+-- whoever dies is buried and closed
+pub record LetsDie (old : World) (sent : Sent) (fate : Fate) (new : World) (before after : List ℕ) : Type 0 where
+  pub dead : List ℕ
+  pub died : AreDeaths old.queues (first_told sent fate) dead
+  pub buried : Buries old.queues dead new.queues
+  pub goes : (view : View) → AreApart view.living → HoldsEach view old.servers → HoldsEach (without_in view dead) new.servers
+  pub closed : after ≡ before ++ spellings (closed_for (end_told sent.endpoint fate) dead)
+  pub known : new.known ≡ record (fold ended old.known dead) { waiting = count new.queues }
+  pub count : count new.queues ≤ count old.queues
   pub places : new.places ≡ old.places
 
 -- whoever dies is buried and closed, what goes on is sent, and what is known and how many places are taken follows

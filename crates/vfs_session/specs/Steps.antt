@@ -7,7 +7,7 @@ use Rattle.endpoint_link.specs.Frames.{Frame}
 use Rattle.endpoint_link.specs.Numbering.{among}
 use Rattle.tree_file.specs.Numbering.{end_of_mount}
 use Rattle.conn_rules.specs.Births.{Position, fresh}
-use Rattle.conn_rules.specs.Built.{first_methods}
+use Rattle.conn_rules.specs.Built.{today}
 use Rattle.vfs_journal.specs.Entries.{Journal, Sent, endpoints_in, message}
 use Rattle.vfs_journal.specs.History.{changed}
 use Rattle.vfs_journal.specs.Outcomes.{Outcome, close_frame}
@@ -57,7 +57,7 @@ pub record IsRunning (most : ℕ) (world : World) : Type 0 where
   pub start : Start
   pub journal : Journal
   pub stands : StandsFor start world journal
-  pub few : (view_behind first_methods start journal).places + places_left (view_behind first_methods start journal) ≤ most
+  pub few : (view_behind today start journal).places + places_left (view_behind today start journal) ≤ most
 
 -- ---- what each step of a serving says, of the server at which the endpoint is bound
 
@@ -65,7 +65,7 @@ pub record IsRunning (most : ℕ) (world : World) : Type 0 where
 abbrev pub Answers : List Server → ℕ → ℕ → Option ℕ → Sent → Fate → Written → List Server → List ℕ → List ℕ → Type 0
 Answers old at endpoint token sent fate out new before after =
     (one : Server) (moment : Moment) → slice_get old at ≡ Some one → IsMomentOf one endpoint token moment →
-    (now : Server) × (new ≡ slice_set old at now) × Serves moment (outcome_of_sending first_methods moment sent.sending) fate out one now before after
+    (now : Server) × (new ≡ slice_set old at now) × Serves moment (outcome_of_sending today moment sent.sending) fate out one now before after
 
 -- what the fate binds is bound, at the server and for what waits
 abbrev pub BindsTold : ℕ → Fate → List Server → Queues → List Server → Queues → Type 0

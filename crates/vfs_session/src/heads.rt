@@ -1,11 +1,11 @@
 //! The serving of the first entry of an endpoint.
 
-ghost use Rattle.std.specs.Prelude.{◌≡◌, ◌<◌, ◌+◌, ◌^◌, ℕ, true, All, IfOk, IsSome, List, OnOk, Some};
+ghost use Rattle.std.specs.Prelude.{◌≡◌, ◌<◌, ◌+◌, ◌^◌, ℕ, true, All, IfOk, List, OnOk};
 ghost use Rattle.fidl_names.specs.declared.limits.TheConstants as limit;
 ghost use Rattle.endpoint_link.specs.Standings.{is_live, standing_of};
 ghost use Rattle.message_queues.specs.Dying.{AreDeaths};
-ghost use Rattle.message_queues.specs.Queues.{IsAbove, IsReady, count, server_of};
-ghost use Rattle.vfs_session.specs.Heads.{SettlesHead, TakesHead};
+ghost use Rattle.message_queues.specs.Queues.{IsAbove, IsReady, count};
+ghost use Rattle.vfs_session.specs.Heads.{LetsDie, SettlesHead, TakesHead};
 ghost use Rattle.vfs_session.specs.Running.{whole};
 ghost use Rattle.vfs_session.specs.Servings.{ServesOne};
 ghost use Rattle.vfs_session.specs.Steps.{Begins, IsRunning, first_told};
@@ -29,45 +29,37 @@ impl Session {
         ensures running { (most : ℕ) → IsRunning most (whole self.old) → OnOk result (IsRunning most (whole self.new)) }
         ensures begins { Begins outbox.old outbox.new }
     {
-        let Some(server) = self.queues.server_of(endpoint) else {
-            unreachable!();
-        };
-        let (sent, fate) = self.take_head(server, endpoint, outbox)?;
+        let (sent, fate) = self.take_head(endpoint, outbox)?;
         self.settle_head(&sent, &fate, outbox)?;
         self.keep_room(sent);
         Ok(())
     }
 
-    /// Answers the first entry of an endpoint at its server, takes it, and binds what its fate binds.
-    fn take_head(
-        &mut self,
-        server: u32,
-        endpoint: u32,
-        outbox: &mut Outbox,
-    ) -> Result<(Sent, Fate), NoMemory>
+    /// Takes the first entry of an endpoint, answers it at its server, and binds what its fate binds.
+    fn take_head(&mut self, endpoint: u32, outbox: &mut Outbox) -> Result<(Sent, Fate), NoMemory>
         requires running { IsRunning (2 ^ 61) (whole self.old) }
         requires ready { IsReady self.old.queues endpoint }
-        requires bound { server_of self.old.queues endpoint ≡ Some server }
-        ensures taken { IfOk result (λ head. TakesHead (whole self.old) endpoint server head.0 head.1 self.new.out (whole self.new) outbox.old outbox.new) }
+        ensures taken { IfOk result (λ head. (server : ℕ) × TakesHead (whole self.old) endpoint server head.0 head.1 self.new.out (whole self.new) outbox.old outbox.new) }
         ensures begins { Begins outbox.old outbox.new }
     {
+        let (server, sent) = self.queues.take(endpoint)?;
+        let token = self.endpoints.next_token();
         let fate = answer(
             &mut self.servers,
-            &self.queues,
-            &self.endpoints,
             &self.ordinals,
             server,
             endpoint,
+            token,
+            &sent,
             &mut self.out,
             outbox,
         )?;
-        let sent = self.queues.take(endpoint)?;
         self.endpoints.served();
         bind(&mut self.servers, &mut self.queues, server, &fate)?;
         Ok((sent, fate))
     }
 
-    /// Buries whoever dies of a serving, closes them, and sends on what goes on.
+    /// Lets whoever dies of a serving die, and sends on what goes on.
     fn settle_head(&mut self, sent: &Sent, fate: &Fate, outbox: &mut Outbox) -> Result<(), NoMemory>
         requires live { (dead : List ℕ) → AreDeaths self.old.queues (first_told sent.now fate.now) dead → All (λ endpoint. is_live (standing_of self.old.endpoints endpoint) ≡ true) dead }
         requires counted { count self.old.queues ≡ self.old.endpoints.waiting }
@@ -78,15 +70,7 @@ impl Session {
         ensures settled { OnOk result (SettlesHead (whole self.old) sent.now fate.now self.old.out (whole self.new) outbox.old outbox.new) }
         ensures begins { Begins outbox.old outbox.new }
     {
-        let dying = first_deaths(self.alloc, sent, fate)?;
-        let dead = bury(
-            self.alloc,
-            &mut self.servers,
-            &mut self.queues,
-            &mut self.endpoints,
-            &dying,
-        )?;
-        close_others(self.alloc, end_told(sent.endpoint, fate), &dead, outbox)?;
+        self.let_die(sent, fate, outbox)?;
         let place = self.places + 1;
         let more = send_on(
             self.alloc,
@@ -99,6 +83,28 @@ impl Session {
         )?;
         self.places = place + more;
         Ok(())
+    }
+
+    /// Buries whoever dies of a serving, and closes them.
+    fn let_die(&mut self, sent: &Sent, fate: &Fate, outbox: &mut Outbox) -> Result<(), NoMemory>
+        requires live { (dead : List ℕ) → AreDeaths self.old.queues (first_told sent.now fate.now) dead → All (λ endpoint. is_live (standing_of self.old.endpoints endpoint) ≡ true) dead }
+        requires counted { count self.old.queues ≡ self.old.endpoints.waiting }
+        ensures dead { OnOk result (LetsDie (whole self.old) sent.now fate.now (whole self.new) outbox.old outbox.new) }
+        ensures out { self.new.out ≡ self.old.out }
+        ensures begins { Begins outbox.old outbox.new }
+    {
+        let dying = first_deaths(self.alloc, sent, fate)?;
+        if dying.is_empty() {
+            return Ok(());
+        }
+        let dead = bury(
+            self.alloc,
+            &mut self.servers,
+            &mut self.queues,
+            &mut self.endpoints,
+            &dying,
+        )?;
+        close_others(self.alloc, end_told(sent.endpoint, fate), &dead, outbox)
     }
 
     /// Keeps the room that the bytes of a message took.

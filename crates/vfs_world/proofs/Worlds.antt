@@ -1,8 +1,8 @@
 -- A world is a session with whether it is spent and how many frames it has accepted.
-use Rattle.std.proofs.Common.{◌≡◌, ℕ, ◌+◌, ◌*◌, ◌<◌, ◌≤◌, ◌^◌, ◌==◌, Bool, false, List, [], ◌++◌, filter, take, length, ap, ◌∙◌, arith}
+use Rattle.std.proofs.Common.{◌≡◌, ℕ, ◌+◌, ◌*◌, ◌<◌, ◌≤◌, ◌^◌, ◌==◌, Bool, false, List, [], ◌++◌, filter, take, length, refl, sym, subst, ap, ◌∙◌, arith}
 use Rattle.std.proofs.Math.Seq.{take-append_seam}
 use Rattle.fidl_wire.specs.Names.{AreDistinct}
-use Rattle.conn_rules.specs.Built.{first_methods}
+use Rattle.conn_rules.specs.Built.{today}
 use Rattle.vfs_journal.specs.Entries.{Journal, Sent}
 use Rattle.vfs_journal.specs.History.{waiting}
 use Rattle.vfs_journal.specs.Past.{history_of}
@@ -11,26 +11,18 @@ use Rattle.journal_laws.specs.Viewing.{view_behind}
 use Rattle.message_queues.specs.Oldest.{IsBound, NothingWaits}
 use Rattle.message_queues.specs.Queues.{count}
 use Rattle.message_queues.proofs.Counting.{counts_its_list}
-use Rattle.vfs_session.specs.Running.{IsWithin}
+use Rattle.vfs_session.specs.Running.{IsWithin, whole}
 use Rattle.vfs_session.specs.Steps.{Begins, IsRunning}
 use Rattle.vfs_session.specs.World.{LeadsTo, StandsFor, World}
 use Rattle.vfs_session.proofs.Lasting.{lasts_more}
+use Rattle.vfs_world.specs.declared.world.World.TheInside.{Inside}
 
 -- ---- what it stands for
 
 abbrev pub as_world : World → Bool → ℕ → World
 as_world session spent frames = record session { spent = spent; frames = frames }
 
-pub stands_within : (start : Start) (session : World) (spent : Bool) (frames : ℕ) (journal : Journal) → session.spent ≡ false → StandsFor start (as_world session spent frames) journal → StandsFor start session journal
-stands_within start session spent frames journal able s = record {
-  able = able;
-  sound = s.sound;
-  lawful = s.lawful;
-  knows = s.knows;
-  holds = record { servers = s.holds.servers; queues = s.holds.queues; places = s.holds.places };
-}
-
-pub stands_as : (start : Start) (session : World) (spent : Bool) (frames : ℕ) (journal : Journal) → spent ≡ false → StandsFor start session journal → StandsFor start (as_world session spent frames) journal
+stands_as : (start : Start) (session : World) (spent : Bool) (frames : ℕ) (journal : Journal) → spent ≡ false → StandsFor start session journal → StandsFor start (as_world session spent frames) journal
 stands_as start session spent frames journal able s = record {
   able = able;
   sound = s.sound;
@@ -39,15 +31,7 @@ stands_as start session spent frames journal able s = record {
   holds = record { servers = s.holds.servers; queues = s.holds.queues; places = s.holds.places };
 }
 
-pub leads_as : (start : Start) (later : Journal) (session : World) (spent : Bool) (frames : ℕ) (earlier : Journal) (before after : List ℕ) → spent ≡ false → LeadsTo start later session earlier before after →
-    LeadsTo start later (as_world session spent frames) earlier before after
-leads_as start later session spent frames earlier before after able leads =
-    record { stands = stands_as start session spent frames later able leads.stands; part = leads.part; more = leads.more; written = leads.written }
-
 -- ---- its places
-
-pub runs_far : (frames : ℕ) (session : World) → frames ≤ 2 ^ 48 → IsRunning (4098 * frames) session → IsRunning (2 ^ 61) session
-runs_far frames session few r = lasts_more (4098 * frames) (2 ^ 61) session (omega (arith, few)) r
 
 pub within_more : (frames : ℕ) (session : World) → frames < 2 ^ 48 → IsRunning (4098 * frames + 4098) session → IsRunning (4098 * (frames + 1)) session × (frames + 1 ≤ 2 ^ 48)
 within_more frames session few r = (lasts_more (4098 * frames + 4098) (4098 * (frames + 1)) session (omega arith) r, omega (arith, few))
@@ -56,12 +40,33 @@ pub begins_within : AreDistinct → (start : Start) (session : World) → Stands
 unfolding history_of
 begins_within apart start session stands able = (record { apart = apart; start = start; journal = []; stands = stands; few = omega arith }, omega arith)
 
+-- ---- a call of it: what its session counts on, and what it tells of the world
+
+module _ (inside : Inside) {now : World} (view : as_world (whole inside.session) inside.spent inside.frames ≡ now) where
+  able : now.spent ≡ false → inside.spent ≡ false
+  able is = ap (λ (w : World). w.spent) view ∙ is
+
+  pub runs_inside : IsWithin (whole inside.session) inside.spent inside.frames → now.spent ≡ false → IsRunning (2 ^ 61) (whole inside.session)
+  runs_inside within is =
+      let runs = within (able is) in
+      let few : inside.frames ≤ 2 ^ 48 = runs.1 in
+      lasts_more (4098 * inside.frames) (2 ^ 61) (whole inside.session) (omega (arith, few)) runs.0
+
+  pub stands_inside : (start : Start) (journal : Journal) → StandsFor start now journal → StandsFor start (whole inside.session) journal
+  stands_inside start journal stands =
+      stands_as start (as_world (whole inside.session) inside.spent inside.frames) false 0 journal refl (subst (λ (w : World). StandsFor start w journal) (sym view) stands)
+
+  pub leads_inside : {start : Start} {earlier later : Journal} {before after : List ℕ} (new : World) (frames : ℕ) → StandsFor start now earlier → LeadsTo start later new earlier before after →
+      LeadsTo start later (as_world new inside.spent frames) earlier before after
+  leads_inside {start} {earlier} {later} {before} {after} new frames stands leads =
+      record { stands = stands_as start new inside.spent frames later (able stands.able) leads.stands; part = leads.part; more = leads.more; written = leads.written }
+
 -- ---- what waits
 
-pub as_many_wait : (start : Start) (world : World) (journal : Journal) → StandsFor start world journal → count world.queues ≡ length (waiting (history_of first_methods start journal))
-as_many_wait start world journal s = counts_its_list world.queues (view_behind first_methods start journal).waiting s.holds.queues.queue
+pub as_many_wait : (start : Start) (world : World) (journal : Journal) → StandsFor start world journal → count world.queues ≡ length (waiting (history_of today start journal))
+as_many_wait start world journal s = counts_its_list world.queues (view_behind today start journal).waiting s.holds.queues.queue
 
-pub nothing_waits : (start : Start) (world : World) (journal : Journal) → StandsFor start world journal → waiting (history_of first_methods start journal) ≡ [] → NothingWaits world.queues (IsBound world.queues)
+pub nothing_waits : (start : Start) (world : World) (journal : Journal) → StandsFor start world journal → waiting (history_of today start journal) ≡ [] → NothingWaits world.queues (IsBound world.queues)
 nothing_waits start world journal s none endpoint bound = s.holds.queues.queue endpoint ∙ ap (filter (λ (sent : Sent). sent.endpoint == endpoint)) none
 
 -- ---- what was written is taken back

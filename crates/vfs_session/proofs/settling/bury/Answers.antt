@@ -1,4 +1,4 @@
-use Rattle.std.proofs.Common.{refl, ap, ◌∙◌, fold, arith}
+use Rattle.std.proofs.Common.{ap, ◌∙◌, fold, arith}
 use Rattle.endpoint_link.specs.Standings.{ended}
 use Rattle.vfs_session.proofs.Ending.{ended_known}
 use Rattle.vfs_session.proofs.settling.bury.Goals as goal

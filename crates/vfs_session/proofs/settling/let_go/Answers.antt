@@ -1,4 +1,4 @@
-use Rattle.std.proofs.Common.{◌∙◌, ◌≡◌, refl, sym, ap, subst}
+use Rattle.std.proofs.Common.{◌∙◌, refl, sym, ap, subst}
 use Rattle.vfs_server.specs.Holding.{HoldsAt}
 use Rattle.vfs_server.specs.Servers.{Server}
 use Rattle.vfs_session.proofs.LettingGo.{go_bound, go_first, go_last, go_past}

@@ -8,7 +8,7 @@ use Rattle.vfs_world.proofs.Hearing.{hang_up_can_wait, hang_up_lasts, hang_up_le
 use Rattle.vfs_world.proofs.arriving.perform.Goals as goal
 
 pub send_message-requires : goal.send_message-requires
-send_message-requires c = record { room = message_can_wait c.requires.heard.before (whole c.args.session.now) (frame_of c.args.frame) c.requires.heard.running c.requires.heard.admitted c.in-Message.is }
+send_message-requires c = record { room = message_can_wait c.requires.heard.before (whole c.args.session.now) (frame_of c.args.frame) c.requires.heard.running c.requires.heard.admitted c.in-Message.is; short = c.requires.frame.shape.few_bytes }
 
 pub send-requires : goal.send-requires
 send-requires c = record { room = hang_up_can_wait c.requires.heard.before (whole c.args.session.now) (frame_of c.args.frame) c.requires.heard.running c.requires.heard.admitted c.in-Close.is }
