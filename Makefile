@@ -19,9 +19,11 @@ build:
 	@mkdir -p build
 	@tools/build.sh vfs_program $(PROGRAM) file data/hello
 
-# A session over a tree, one over two servers in mode given, one over a file, and the check of trees.
+# A session over a tree, one that changes it, one over two servers in mode given, one over a file, and the check of trees.
 run: build
 	@examples/exchange.sh $(PROGRAM) examples/session.hex serve examples/trees/small.toml auto
+	@echo
+	@examples/exchange.sh $(PROGRAM) examples/changes.hex serve examples/trees/small.toml auto
 	@echo
 	@examples/exchange.sh $(PROGRAM) examples/turns.hex serve examples/trees/mounted_pair.toml given
 	@echo

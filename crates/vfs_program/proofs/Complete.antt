@@ -11,6 +11,8 @@ use Rattle.endpoint_link.specs.Frames.{Frame, Frames, Bad}
 use Rattle.endpoint_link.specs.declared.kinds.FrameReason.{FrameReason}
 use Rattle.endpoint_link.specs.declared.kinds.Side.{Side}
 use Rattle.endpoint_link.specs.declared.kinds.Side.TheVariants.{Any, ToServers}
+use Rattle.endpoint_link.proofs.Runs.{bad_stays}
+use Rattle.endpoint_link.proofs.Streams.{one_list, not_both}
 use Rattle.vfs_journal.specs.Starts.{start_of}
 use Rattle.vfs_program.specs.declared.statuses.Status.{Status}
 use Rattle.vfs_program.specs.declared.statuses.Status.TheVariants as status
@@ -26,12 +28,6 @@ use Rattle.vfs_program.specs.Trees.{Stands, IsBroken, line_of}
 use Rattle.vfs_program.specs.TreeSession.{tree_course}
 use Rattle.vfs_program.specs.Words.{Asks, FileOf, ServeOf, CheckOf, ShowAll}
 
--- a stream has one reading, and one that is bad stays bad
-pub record OneReading (side : Side) : Type 0 where
-  pub one_list : (b : List ℕ) (frames others : List Frame) (rest left : List ℕ) → Frames side b frames rest → Frames side b others left → (frames ≡ others) × (rest ≡ left)
-  pub not_both : (b : List ℕ) (frames : List Frame) (rest : List ℕ) (at : ℕ) (why : FrameReason) → Frames side b frames rest → Bad side b at why → ⊥
-  pub bad_stays : (b more : List ℕ) (at : ℕ) (why : FrameReason) → Bad side b at why → Bad side (b ++ more) at why
-
 -- what is left behind the bytes that were taken of a told input
 untaken : (input taken : List ℕ) (left : Option (List ℕ)) → Consumes (Some input) left taken
     → (rest : List ℕ) × (input ≡ taken ++ rest) × (IsAtEnd left → rest ≡ [])
@@ -45,34 +41,34 @@ not_long side course before after is a =
     omega (arith, is.few, a.many, ap length left.1, length-append a.taken left.0)
 
 -- an input of whole frames ends inside none
-not_truncated : (side : Side) → OneReading side → (course : Course) (before after : Streams) (at : ℕ) → IsWhole side before → IsTruncated side course before after at → ⊥
-not_truncated side laws course before after at is a =
+not_truncated : (side : Side) (course : Course) (before after : Streams) (at : ℕ) → IsWhole side before → IsTruncated side course before after at → ⊥
+not_truncated side course before after at is a =
     let left = untaken is.input a.taken after.left (subst (λ l. Consumes l after.left a.taken) is.told a.took) in
     let all : is.input ≡ a.taken = left.1 ∙ ap (λ l. a.taken ++ l) (left.2 a.at_end) ∙ append-nil a.taken in
-    a.inside (laws.one_list a.taken a.frames is.frames a.rest [] a.read (subst (λ b. Frames side b is.frames []) all is.read)).1
+    a.inside (one_list side a.taken a.frames is.frames a.rest [] a.read (subst (λ b. Frames side b is.frames []) all is.read)).1
 
 -- and has no bad one
-not_bad : (side : Side) → OneReading side → (course : Course) (before after : Streams) (at : ℕ) (why : FrameReason) → IsWhole side before → IsBad side course before after at why → ⊥
-not_bad side laws course before after at why is a =
+not_bad : (side : Side) (course : Course) (before after : Streams) (at : ℕ) (why : FrameReason) → IsWhole side before → IsBad side course before after at why → ⊥
+not_bad side course before after at why is a =
     let left = untaken is.input a.taken after.left (subst (λ l. Consumes l after.left a.taken) is.told a.took) in
-    laws.not_both is.input is.frames [] at why is.read (subst (λ b. Bad side b at why) (sym left.1) (laws.bad_stays a.taken left.0 at why a.bad))
+    not_both side is.input is.frames [] at why is.read (subst (λ b. Bad side b at why) (sym left.1) (bad_stays side a.taken left.0 at why a.bad))
 
 -- a session over such an input without faults is done
-session_done : (side : Side) → OneReading side → (course : Course) (before after : Streams) (same : Type 0) → IsWhole side before
+session_done : (side : Side) (course : Course) (before after : Streams) (same : Type 0) → IsWhole side before
     → (Rose before.read_faults after.read_faults → ⊥) → (Rose before.write_faults after.write_faults → ⊥)
     → (answer : Status) → SessionAnswers side course before after same answer → IsDoneOrNoMemory answer
-session_done side laws course before after same is source sink status.Done a = tt
-session_done side laws course before after same is source sink status.NoMemory a = tt
-session_done side laws course before after same is source sink status.Usage a = a
-session_done side laws course before after same is source sink (status.TreeRefused rule item) a = a
-session_done side laws course before after same is source sink (status.Collision first second) a = a
-session_done side laws course before after same is source sink status.FileFault a = a
-session_done side laws course before after same is source sink status.FileTooLarge a = a
-session_done side laws course before after same is source sink status.ReadFault a = source a.rose
-session_done side laws course before after same is source sink status.WriteFault a = sink a.1
-session_done side laws course before after same is source sink status.InputTooLong a = not_long side course before after is a
-session_done side laws course before after same is source sink (status.Truncated at) a = not_truncated side laws course before after at is a
-session_done side laws course before after same is source sink (status.BadFrame at why) a = not_bad side laws course before after at why is a
+session_done side course before after same is source sink status.Done a = tt
+session_done side course before after same is source sink status.NoMemory a = tt
+session_done side course before after same is source sink status.Usage a = a
+session_done side course before after same is source sink (status.TreeRefused rule item) a = a
+session_done side course before after same is source sink (status.Collision first second) a = a
+session_done side course before after same is source sink status.FileFault a = a
+session_done side course before after same is source sink status.FileTooLarge a = a
+session_done side course before after same is source sink status.ReadFault a = source a.rose
+session_done side course before after same is source sink status.WriteFault a = sink a.1
+session_done side course before after same is source sink status.InputTooLong a = not_long side course before after is a
+session_done side course before after same is source sink (status.Truncated at) a = not_truncated side course before after at is a
+session_done side course before after same is source sink (status.BadFrame at why) a = not_bad side course before after at why is a
 
 -- a text that is written without faults is done
 text_done : (text : List ℕ) (before after : SinkTold) → (Rose before.faults after.faults → ⊥)
@@ -160,25 +156,25 @@ after_done : {X : Type 0} (stops : Status → Type 0) (same : Type 0) (Found : X
 after_done stops same Found rest answer stopped goes (inl a) = stopped a.0
 after_done stops same Found rest answer stopped goes (inr a) = goes a.0 a.1 a.2
 
-pub complete : OneReading ToServers → OneReading Any → (asks : Asks) (before after : Outside) (source_same sink_same : Type 0) (answer : Status)
+pub complete : (asks : Asks) (before after : Outside) (source_same sink_same : Type 0) (answer : Status)
     → Answers asks before after source_same sink_same answer → IsServable asks before → NoFault asks before after → IsDoneOrNoMemory answer
-complete laws any (FileOf name) before after S K answer a s n =
+complete (FileOf name) before after S K answer a s n =
     let session : List ℕ → Status → Type 0 = λ file. SessionAnswers ToServers (file_course file) before.streams after.streams K in
     after_done Collides (S × K) (λ (none : Unit {0}). AreDistinct) (λ none. AfterFile name before.files after.files (S × K) session) answer (no_collision s.0 answer)
     (λ none distinct. after_done (HasNoFile limit.MAX_FILE name before.files after.files) (S × K) (IsWithin limit.MAX_FILE (before.files.told name)) session answer
     (has_file limit.MAX_FILE name before.files after.files s.1.0 s.1.1 s.1.2 n.file answer)
-    (λ file within. session_done ToServers laws (file_course file) before.streams after.streams K s.2 n.source n.sink answer)) a
-complete laws any (ServeOf tree by) before after S K answer a s n =
+    (λ file within. session_done ToServers (file_course file) before.streams after.streams K s.2 n.source n.sink answer)) a
+complete (ServeOf tree by) before after S K answer a s n =
     let session : Lists → Status → Type 0 = λ lists. SessionAnswers ToServers (tree_course (start_of lists) by) before.streams after.streams K in
     after_done Collides (S × K) (λ (none : Unit {0}). AreDistinct) (λ none. AfterTree tree before.files after.files (S × K) session) answer (no_collision s.0 answer)
     (λ none distinct. after_done (HasNoStart tree before.files after.files) (S × K) (Stands (before.files.told tree)) session answer
     (has_tree tree before.files after.files s.1.0 s.1.1 s.1.2 s.1.3 n.file answer)
-    (λ lists stands. session_done ToServers laws (tree_course (start_of lists) by) before.streams after.streams K s.2 n.source n.sink answer)) a
-complete laws any (CheckOf tree) before after S K answer a s n =
+    (λ lists stands. session_done ToServers (tree_course (start_of lists) by) before.streams after.streams K s.2 n.source n.sink answer)) a
+complete (CheckOf tree) before after S K answer a s n =
     after_done (HasNoStart tree before.files after.files) K (Stands (before.files.told tree))
     (λ lists. WritesText (line_of lists) ⊥ (sink_of before.streams) (sink_of after.streams)) answer
     (has_tree tree before.files after.files s.0 s.1 s.2 s.3 n.file answer)
     (λ lists stands. text_done (line_of lists) (sink_of before.streams) (sink_of after.streams) n.sink answer) a.1
-complete laws any ShowAll before after S K answer a s n =
+complete ShowAll before after S K answer a s n =
     after_done Collides (S × K) (λ (none : Unit {0}). AreDistinct) (λ none. SessionAnswers Any lines_course before.streams after.streams K) answer (no_collision s.0 answer)
-    (λ none distinct. session_done Any any lines_course before.streams after.streams K s.1 n.source n.sink answer) a
+    (λ none distinct. session_done Any lines_course before.streams after.streams K s.1 n.source n.sink answer) a

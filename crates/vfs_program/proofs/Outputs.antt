@@ -10,7 +10,7 @@ use Rattle.endpoint_link.specs.declared.kinds.FrameKind.TheVariants as kind
 use Rattle.endpoint_link.specs.declared.kinds.Mode.{Mode}
 use Rattle.endpoint_link.specs.declared.kinds.Mode.TheVariants as mode
 use Rattle.endpoint_link.specs.declared.kinds.Refusal.{Refusal}
-use Rattle.conn_rules.specs.Built.{Built, first_methods}
+use Rattle.conn_rules.specs.Built.{Built, today}
 use Rattle.vfs_journal.specs.Entries.{Entry, Journal, Sent, serves}
 use Rattle.vfs_journal.specs.History.{History}
 use Rattle.vfs_journal.specs.Outcomes.{Forwarded}
@@ -97,11 +97,11 @@ begins_all built start by journal (frame ∷ frames) =
 
 -- a session's journal with more frames
 pub session-append : (start : Start) (by : Mode) (frames later : List Frame)
-    → session first_methods start by (frames ++ later) ≡ fold (steps first_methods start by) (session first_methods start by frames) later
-session-append start by frames later = fold-append (steps first_methods start by) [] frames later
+    → session today start by (frames ++ later) ≡ fold (steps today start by) (session today start by frames) later
+session-append start by frames later = fold-append (steps today start by) [] frames later
 
 -- nothing is written for no frames
-nothing : (start : Start) → output_of first_methods start [] ≡ []
+nothing : (start : Start) → output_of today start [] ≡ []
 unfolding history_of
 nothing start = refl
 
@@ -110,7 +110,7 @@ unfolding tree_course
 tree_grows start by = record {
   none = nothing start;
   more = λ frames later.
-      let all = begins_all first_methods start by (session first_methods start by frames) later in
-      (all.0, ap (output_of first_methods start) (session-append start by frames later) ∙ all.1);
-  last = λ frames. begins_drained first_methods start (session first_methods start by frames);
+      let all = begins_all today start by (session today start by frames) later in
+      (all.0, ap (output_of today start) (session-append start by frames later) ∙ all.1);
+  last = λ frames. begins_drained today start (session today start by frames);
 }

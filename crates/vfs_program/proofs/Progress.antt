@@ -9,6 +9,7 @@ use Rattle.std.proofs.KnownBytes.{Appends-trans, Appends-nil, Consumes-trans, Co
 use Rattle.host_io.specs.Streams.{AppendsPart}
 use Rattle.endpoint_link.specs.Frames.{Frame, Frames, IsFrame, spelling, spellings, IsPartial}
 use Rattle.endpoint_link.specs.declared.kinds.Side.{Side}
+use Rattle.endpoint_link.proofs.Streams.{frames_stay}
 use Rattle.vfs_program.specs.Outside.{Streams}
 use Rattle.vfs_program.specs.Pieces.{TakesPiece}
 use Rattle.vfs_program.specs.Serving.{IsGrowing, Passes, Heard, HeardPart}
@@ -136,17 +137,12 @@ module _ (side : Side) where
         stands = g.stands;
       }
 
-  -- frames at the front of a stream stay its frames
-  abbrev pub FramesStay : Type 0
-  FramesStay = (b more : List ℕ) (frames all : List Frame) (rest left : List ℕ)
-      → Frames side b frames rest → Frames side (b ++ more) all left → (later : List Frame) × (all ≡ frames ++ later)
-
   -- what is written keeps up with all pieces but the last
-  pub keeps_up : FramesStay → (course : Course) → IsGrowing course → (bytes piece kept part : List ℕ) (frames : List Frame)
+  pub keeps_up : (course : Course) → IsGrowing course → (bytes piece kept part : List ℕ) (frames : List Frame)
       → Frames side bytes frames kept → length piece ≤ limit.MAX_PIECE → KeepsUp side course (bytes ++ piece) (course.so_far frames ++ part)
-  keeps_up stay course grows bytes piece kept part frames read small early late answered rest e far early_read =
+  keeps_up course grows bytes piece kept part frames read small early late answered rest e far early_read =
       let before = cut_before early late bytes piece e (omega arith) in
-      let next = stay early (drop (length early) bytes) answered frames rest kept early_read (subst (λ b. Frames side b frames kept) before read) in
+      let next = frames_stay side early (drop (length early) bytes) answered frames rest kept early_read (subst (λ b. Frames side b frames kept) before read) in
       let longer = grows.more answered next.0 in (
         longer.0 ++ part,
         ap (λ l. l ++ part) (ap course.so_far next.1 ∙ longer.1) ∙ append_assoc (course.so_far answered) longer.0 part,
@@ -157,11 +153,11 @@ module _ (side : Side) where
   whole frames each = record { split = sym (append-nil (spellings frames)); each = each; partial = inl (omega arith) }
 
   -- an output couldn't be written, or not be made, for frames behind those that were answered
-  pub cut_off : FramesStay → (course : Course) → IsGrowing course → (Stands : List Frame → Type 0) (before after_it : Streams)
+  pub cut_off : (course : Course) → IsGrowing course → (Stands : List Frame → Type 0) (before after_it : Streams)
       (left' written' : Option (List ℕ)) (t n : ℕ) (kept kept' : List ℕ)
       → (g : Progress course Stands before.left left' before.written written' t kept) → TakesPiece left' after_it.left kept kept' n → n ≤ limit.MAX_PIECE
       → t + n ≤ limit.MAX_INPUT → HeardPart side course g.frames kept' written' after_it.written → IsCutOff side course before after_it
-  cut_off stay course grows Stands before after_it left' written' t n kept kept' g piece small within h = record {
+  cut_off course grows Stands before after_it left' written' t n kept kept' g piece small within h = record {
     taken = g.bytes ++ piece.0;
     part = course.so_far g.frames ++ h.part;
     took = Consumes-trans _ _ _ _ _ g.took piece.1;
@@ -173,24 +169,24 @@ module _ (side : Side) where
       read = whole (g.frames ++ h.frames) (All-append (IsFrame side) g.frames h.frames g.read.each h.each);
       lawful = h.lawful;
     });
-    keeps_up = keeps_up stay course grows g.bytes piece.0 kept h.part g.frames g.read (omega (arith, piece.3, small));
+    keeps_up = keeps_up course grows g.bytes piece.0 kept h.part g.frames g.read (omega (arith, piece.3, small));
     wrote = Appends-trans _ _ _ _ _ g.got h.got;
   }
 
   -- the end, which the input has reached, couldn't be written whole
-  pub cut_behind : FramesStay → (course : Course) → IsGrowing course → (Stands : List Frame → Type 0) (before after_it : Streams)
+  pub cut_behind : (course : Course) → IsGrowing course → (Stands : List Frame → Type 0) (before after_it : Streams)
       (written' : Option (List ℕ)) (t : ℕ) (kept part : List ℕ)
       → (g : Progress course Stands before.left after_it.left before.written written' t kept) → t ≤ limit.MAX_INPUT
       → IsPartSoFar side course g.bytes (course.so_far g.frames ++ part) ⊎ IsPartByEnd side course g.bytes (IsAtEnd after_it.left) (course.so_far g.frames ++ part)
       → Appends written' after_it.written part → IsCutOff side course before after_it
-  cut_behind stay course grows Stands before after_it written' t kept part g within lawful a = record {
+  cut_behind course grows Stands before after_it written' t kept part g within lawful a = record {
     taken = g.bytes;
     part = course.so_far g.frames ++ part;
     took = g.took;
     within = omega (arith, g.size, within);
     lawful = lawful;
     keeps_up = subst (λ b. KeepsUp side course b (course.so_far g.frames ++ part)) (append-nil g.bytes)
-        (keeps_up stay course grows g.bytes [] kept part g.frames g.read (omega arith));
+        (keeps_up course grows g.bytes [] kept part g.frames g.read (omega arith));
     wrote = Appends-trans _ _ _ _ _ g.got a;
   }
 

@@ -12,13 +12,14 @@ use Rattle.endpoint_link.specs.Frames.{Frame, Frames, Bad, spellings, IsBadFront
 use Rattle.endpoint_link.specs.declared.kinds.FrameReason.{FrameReason}
 use Rattle.endpoint_link.specs.declared.kinds.Side.{Side}
 use Rattle.endpoint_link.proofs.Spelled.{first_reason-append}
+use Rattle.endpoint_link.proofs.Streams.{not_both}
 use Rattle.vfs_program.specs.declared.statuses.Status.{Status}
 use Rattle.vfs_program.specs.declared.statuses.Status.TheVariants as status
 use Rattle.vfs_program.specs.Outside.{Streams}
 use Rattle.vfs_program.specs.Pieces.{TakesPiece}
 use Rattle.vfs_program.specs.Serving.{IsGrowing, Heard, HeardPart, PassedOn, Finishes, end_of}
 use Rattle.vfs_program.specs.Session.{Course, SessionAnswers, WroteAll, IsTooLong, IsBad, IsCutOff, EndsBehind}
-use Rattle.vfs_program.proofs.Progress.{Progress, Progress-heard, FramesStay, Grown, empty, cut_off, cut_behind, part_so_far, heard_part, keeps_up, split-more}
+use Rattle.vfs_program.proofs.Progress.{Progress, Progress-heard, Grown, empty, cut_off, cut_behind, part_so_far, heard_part, keeps_up, split-more}
 
 -- a count that rose since later rose since earlier
 pub rose_since : (earlier later now : ℕ) → earlier ≤ later → Rose later now → Rose earlier now
@@ -47,10 +48,6 @@ all_written course frames before after written' last got e p =
     (subst (Appends before.written after.written) (sym e) (Appends-trans _ _ _ _ _ got p.0), p.1)
 
 module _ (side : Side) where
-  -- a stream is read in one way
-  abbrev pub NotBoth : Type 0
-  NotBoth = (b : List ℕ) (frames : List Frame) (rest : List ℕ) (at : ℕ) (why : FrameReason) → Frames side b frames rest → Bad side b at why → ⊥
-
   -- a fixed part that is bad in front of more bytes is bad alone
   bad_before : (bytes piece : List ℕ) (at : ℕ) (why : FrameReason) → Bad side (bytes ++ piece) at why → at + 12 ≤ length bytes → Bad side bytes at why
   bad_before bytes piece at why bad h =
@@ -69,10 +66,10 @@ module _ (side : Side) where
       }
 
   -- so the piece that makes a stream bad has the end of the bad fixed part
-  bad_in_piece : NotBoth → (bytes piece : List ℕ) (frames : List Frame) (rest : List ℕ) (at : ℕ) (why : FrameReason)
+  bad_in_piece : (bytes piece : List ℕ) (frames : List Frame) (rest : List ℕ) (at : ℕ) (why : FrameReason)
       → Frames side bytes frames rest → Bad side (bytes ++ piece) at why → length bytes < at + 12
-  bad_in_piece one bytes piece frames rest at why read bad =
-      not_at_least (at + 12) (length bytes) (λ h. one bytes frames rest at why read (bad_before bytes piece at why bad h))
+  bad_in_piece bytes piece frames rest at why read bad =
+      not_at_least (at + 12) (length bytes) (λ h. not_both side bytes frames rest at why read (bad_before bytes piece at why bad h))
 
   -- a read failed
   pub fault : (course : Course) (Stands : List Frame → Type 0) (before after_it : Streams) (same : Type 0) (left' : Option (List ℕ)) (t : ℕ) (kept : List ℕ)
@@ -92,12 +89,12 @@ module _ (side : Side) where
     rose = rose;
   }
 
-  module _ (stay : FramesStay side) (one : NotBoth) (course : Course) (grows : IsGrowing course) (Stands : List Frame → Type 0) (before after_it : Streams) (same : Type 0) where
+  module _ (course : Course) (grows : IsGrowing course) (Stands : List Frame → Type 0) (before after_it : Streams) (same : Type 0) where
     -- a part of the output for frames behind those that were answered is written
     pub unheard : (left' written' : Option (List ℕ)) (t n : ℕ) (kept kept' : List ℕ)
         → (g : Progress side course Stands before.left left' before.written written' t kept) → TakesPiece left' after_it.left kept kept' n → n ≤ limit.MAX_PIECE
         → t + n ≤ limit.MAX_INPUT → HeardPart side course g.frames kept' written' after_it.written → IsCutOff side course before after_it
-    unheard left' written' t n kept kept' g piece small within h = cut_off side stay course grows Stands before after_it left' written' t n kept kept' g piece small within h
+    unheard left' written' t n kept kept' g piece small within h = cut_off side course grows Stands before after_it left' written' t n kept kept' g piece small within h
 
     -- the end behind all frames that were taken: it is written whole, or in part, or wants memory
     ends : (written' : Option (List ℕ)) (t : ℕ) (kept : List ℕ) (wanted : Status) (rose : Type 0)
@@ -112,7 +109,7 @@ module _ (side : Side) where
         subst (SessionAnswers side course before after_it same) (sym f.0) (done f.1.0 f.1.1 f.1.2)
     ends written' t kept wanted rose g within ended done risen answer (inr (inl f)) =
         subst (SessionAnswers side course before after_it same) (sym f.0) (
-          cut_behind side stay course grows Stands before after_it written' t kept f.2.2.0 g within
+          cut_behind side course grows Stands before after_it written' t kept f.2.2.0 g within
               (inr (record {
                 frames = g.frames;
                 ends = ended;
@@ -123,7 +120,7 @@ module _ (side : Side) where
     ends written' t kept wanted rose g within ended done risen answer (inr (inr f)) =
         subst (SessionAnswers side course before after_it same) (sym f.0) (
           f.1,
-          cut_behind side stay course grows Stands before after_it written' t kept [] g within
+          cut_behind side course grows Stands before after_it written' t kept [] g within
               (inl (part_so_far side course g.bytes kept g.frames g.read)) (subst (λ w. Appends written' w []) (sym f.2) (Appends-nil written')),
         )
 
@@ -214,7 +211,7 @@ module _ (side : Side) where
     bad Stands' left' written' written'' t n k at why kept kept' held rose g piece small within h front place risen answer (inl f) =
         let grown = Progress-heard side course Stands Stands' _ _ _ _ _ _ t n k kept kept' held g piece h in
         let is = bad_at Stands' _ _ _ _ (t + n) at why held (drop k kept') grown front place in
-        let near = bad_in_piece one g.bytes piece.0 g.frames kept at why g.read is.bad in
+        let near = bad_in_piece g.bytes piece.0 g.frames kept at why g.read is.bad in
         subst (SessionAnswers side course before after_it same) (sym f.0) (record {
           taken = grown.bytes;
           frames = grown.frames;
@@ -250,7 +247,7 @@ module _ (side : Side) where
                     ∙ ap (λ l. l ++ f.2.2.1) (append_assoc (course.so_far g.frames) h.passed.0 f.2.2.0),
               );
             });
-            keeps_up = keeps_up side stay course grows g.bytes piece.0 kept part g.frames g.read (omega (arith, piece.3, small));
+            keeps_up = keeps_up side course grows g.bytes piece.0 kept part g.frames g.read (omega (arith, piece.3, small));
             wrote = Appends-trans _ _ _ _ _ g.got (Appends-trans _ _ _ _ _ h.passed.1 f.2.2.3);
           },
           risen f.1,

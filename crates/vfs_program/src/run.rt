@@ -13,7 +13,6 @@ use crate::show::show;
 use crate::statuses::Status;
 use crate::tree_session::serve_tree;
 use crate::words::{Command, command_of};
-use endpoint_link::{joined_streams, one_reading};
 use host_io::{Files, Sink, Source};
 use std::alloc::Global;
 
@@ -46,8 +45,6 @@ pub fn run_words<F: Files, S: Source, K: Sink, N: Sink>(
     // The note of the status is told last, and nothing else.
     ensures note { Tells (note_of result) (sink_told N.written N.flushed N.faults notes.old) (sink_told N.written N.flushed N.faults notes.new) }
 {
-    one_reading();
-    joined_streams();
     let status = answer(alloc, words, files, source, sink);
     tell(notes, status);
     status

@@ -11,7 +11,7 @@ ghost use Rattle.vfs_program.specs.Session.{Course, SessionAnswers};
 
 use crate::input::Input;
 use crate::statuses::Status;
-use endpoint_link::{FrameReason, FrameView, Reading, Side, frame_at, joined_streams, one_reading};
+use endpoint_link::{FrameReason, FrameView, Reading, Side, frame_at};
 use fidl_names::{MAX_INPUT, MAX_PIECE, NoMemory};
 use host_io::{Failed, Sink, Source, write_whole};
 
@@ -93,8 +93,6 @@ pub fn run<H: Session, S: Source, K: Sink>(
         (streams_told S.left S.faults K.written K.flushed K.faults source.new sink.new)
         (sink.new ≡ sink.old) result }
 {
-    joined_streams();
-    one_reading();
     let mut taken = 0;
     while taken < MAX_INPUT {
         let most = (MAX_INPUT - taken).min(MAX_PIECE as u64) as usize;

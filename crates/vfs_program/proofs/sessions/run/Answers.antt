@@ -1,10 +1,11 @@
 use Rattle.std.proofs.Common.{arith, ◌≡◌, ◌<◌, ◌≤◌, ◌+◌, ◌-◌, refl, sym, ap, subst, List, ℕ, length, drop, length-drop, length-append, ◌++◌, [], inl, inr}
 use Rattle.fidl_names.specs.declared.limits.TheConstants as limit
 use Rattle.endpoint_link.specs.Frames.{Frame, IsPartial}
+use Rattle.endpoint_link.proofs.Streams.{partial_short}
 use Rattle.vfs_program.specs.Outside.{Streams, streams_told}
 use Rattle.vfs_program.specs.Session.{Course}
-use Rattle.vfs_program.proofs.Progress.{FramesStay, Grown-partial, Progress-none, Progress-heard, Progress-ended, Progress-stands, heard_part, empty}
-use Rattle.vfs_program.proofs.SessionEnds.{NotBoth, rose_since, unheard, ended, long, bad, fault}
+use Rattle.vfs_program.proofs.Progress.{Grown-partial, Progress-none, Progress-heard, Progress-ended, Progress-stands, heard_part, empty}
+use Rattle.vfs_program.proofs.SessionEnds.{rose_since, unheard, ended, long, bad, fault}
 use Rattle.vfs_program.proofs.sessions.run.Goals as goal
 
 pub loop-taken-init : goal.loop-taken-init
@@ -22,18 +23,16 @@ loop-taken-init g c = record {
 }
 
 pub read-requires-clause-room : goal.read-requires-clause-room
-read-requires-clause-room g c = c.joined_streams.ensures.short g.H.Session.side c.loop-taken.input c.loop-taken.invariant.partial
+read-requires-clause-room g c = partial_short g.H.Session.side c.loop-taken.input c.loop-taken.invariant.partial
 
 pub returns-in-Ok-eq0 : goal.returns-in-Ok-eq0
 returns-in-Ok-eq0 g c = λ course grows behind.
-    let stay : FramesStay g.H.Session.side = λ b more frames all rest left. c.joined_streams.ensures.frames_stay g.H.Session.side b more frames all rest left in
-    let one : NotBoth g.H.Session.side = λ b frames rest at why. c.one_reading.ensures.not_both g.H.Session.side b frames rest at why in
     let before : Streams = streams_told g.S.Source.left g.S.Source.faults g.K.Sink.written g.K.Sink.flushed g.K.Sink.faults c.args.source.now c.args.sink.now in
     let after : Streams = streams_told g.S.Source.left g.S.Source.faults g.K.Sink.written g.K.Sink.flushed g.K.Sink.faults c.read.new.source c.finish.new.sink in
     let progress = Progress-ended g.H.Session.side course (g.H.Session.stands c.loop-taken.session course) _ _ _ _ _ _ _ _ _
     (c.loop-taken.invariant.progress course grows behind) c.in-Ok-eq0.ensures.piece c.in-Ok-eq0.field-0-test in
     let finished = rw (c.end_of-status.ensures, c.bytes.ensures, c.loop-taken.invariant.empty) at (c.finish.ensures.finished course progress.frames progress.stands) in
-    ended g.H.Session.side stay one course grows (g.H.Session.stands c.loop-taken.session course) before after (c.finish.new.sink ≡ c.args.sink.now) _ _ _ _ progress
+    ended g.H.Session.side course grows (g.H.Session.stands c.loop-taken.session course) before after (c.finish.new.sink ≡ c.args.sink.now) _ _ _ _ progress
     (omega arith) (c.in-Ok-eq0.ensures.piece.4 c.in-Ok-eq0.field-0-test) (rose_since _ _ _ c.loop-taken.invariant.write_faults) c.finish.result finished
 
 pub returns-in-Err : goal.returns-in-Err
@@ -49,13 +48,11 @@ returns-in-Err-pass_on g c = λ course grows behind.
     let small : c.in-Ok.n ≤ limit.MAX_PIECE = omega (arith, c.in-Ok.ensures.bound) in
     let within : c.loop-taken.taken + c.in-Ok.n ≤ limit.MAX_INPUT = omega (arith, c.in-Ok.ensures.bound) in
     let later : g.K.Sink.faults c.args.sink.now ≤ g.K.Sink.faults c.serve.new.sink = omega (arith, c.loop-taken.invariant.write_faults, c.serve.ensures.faults) in
-    let stay : FramesStay g.H.Session.side = λ b more frames all rest left. c.joined_streams.ensures.frames_stay g.H.Session.side b more frames all rest left in
-    let one : NotBoth g.H.Session.side = λ b frames rest at why. c.one_reading.ensures.not_both g.H.Session.side b frames rest at why in
     let before : Streams = streams_told g.S.Source.left g.S.Source.faults g.K.Sink.written g.K.Sink.flushed g.K.Sink.faults c.args.source.now c.args.sink.now in
     let after : Streams = streams_told g.S.Source.left g.S.Source.faults g.K.Sink.written g.K.Sink.flushed g.K.Sink.faults c.read.new.source c.pass_on.new.sink in
     let progress = c.loop-taken.invariant.progress course grows behind in
     let served = rw (c.in-Ok-Rest.field-0-is, c.bytes-in-loop-taken.ensures) at (c.in-Ok-Rest.ensures.served course progress.frames progress.stands) in (
-      unheard g.H.Session.side stay one course grows (g.H.Session.stands c.loop-taken.session course) before after (c.pass_on.new.sink ≡ c.args.sink.now) _ _ _ _ _ _
+      unheard g.H.Session.side course grows (g.H.Session.stands c.loop-taken.session course) before after (c.pass_on.new.sink ≡ c.args.sink.now) _ _ _ _ _ _
           progress c.in-Ok.ensures.piece small within
           (heard_part g.H.Session.side course (g.H.Session.stands c.serve.new.session course) progress.frames _ _ _ _ _ _ served.0 c.in-Err-pass_on.ensures.part),
       rose_since _ _ _ later c.in-Err-pass_on.ensures.cause.failed,
@@ -114,13 +111,11 @@ returns-in-Ok-Bad g c = λ course grows behind.
       piece.3,
       c.loop-taken.invariant.counted,
     ) in
-    let stay : FramesStay g.H.Session.side = λ b more frames all rest left. c.joined_streams.ensures.frames_stay g.H.Session.side b more frames all rest left in
-    let one : NotBoth g.H.Session.side = λ b frames rest at why. c.one_reading.ensures.not_both g.H.Session.side b frames rest at why in
     let before : Streams = streams_told g.S.Source.left g.S.Source.faults g.K.Sink.written g.K.Sink.flushed g.K.Sink.faults c.args.source.now c.args.sink.now in
     let after : Streams = streams_told g.S.Source.left g.S.Source.faults g.K.Sink.written g.K.Sink.flushed g.K.Sink.faults c.read.new.source c.finish-in-Ok-Bad.new.sink in
     let progress = c.loop-taken.invariant.progress course grows behind in
     let served = rw (c.in-Ok-Bad.field-0-is, c.bytes-in-loop-taken.ensures) at (c.in-Ok-Bad.ensures.served course progress.frames progress.stands) in
-    bad g.H.Session.side stay one course grows (g.H.Session.stands c.loop-taken.session course) before after (c.finish-in-Ok-Bad.new.sink ≡ c.args.sink.now)
+    bad g.H.Session.side course grows (g.H.Session.stands c.loop-taken.session course) before after (c.finish-in-Ok-Bad.new.sink ≡ c.args.sink.now)
     (g.H.Session.stands c.serve.new.session course) _ _ _ _ _ _ _ _ _ _ _ _ progress c.in-Ok.ensures.piece small total served.0 served.1 place
     (rose_since _ _ _ later) c.finish-in-Ok-Bad.result (c.finish-in-Ok-Bad.ensures.finished course (progress.frames ++ served.0.frames) served.0.stands)
 
@@ -128,14 +123,12 @@ pub returns-in-Ok-Failed : goal.returns-in-Ok-Failed
 returns-in-Ok-Failed g c = λ course grows behind.
     let small : c.in-Ok.n ≤ limit.MAX_PIECE = omega (arith, c.in-Ok.ensures.bound) in
     let within : c.loop-taken.taken + c.in-Ok.n ≤ limit.MAX_INPUT = omega (arith, c.in-Ok.ensures.bound) in
-    let stay : FramesStay g.H.Session.side = λ b more frames all rest left. c.joined_streams.ensures.frames_stay g.H.Session.side b more frames all rest left in
-    let one : NotBoth g.H.Session.side = λ b frames rest at why. c.one_reading.ensures.not_both g.H.Session.side b frames rest at why in
     let before : Streams = streams_told g.S.Source.left g.S.Source.faults g.K.Sink.written g.K.Sink.flushed g.K.Sink.faults c.args.source.now c.args.sink.now in
     let after : Streams = streams_told g.S.Source.left g.S.Source.faults g.K.Sink.written g.K.Sink.flushed g.K.Sink.faults c.read.new.source c.serve.new.sink in
     let progress = c.loop-taken.invariant.progress course grows behind in
     let served = rw (c.in-Ok-Failed.field-0-is, c.bytes-in-loop-taken.ensures) at (c.in-Ok-Failed.ensures.served course progress.frames progress.stands) in
     let rose = rw c.in-Ok-Failed.field-0-is at c.in-Ok-Failed.ensures.cause in (
-      unheard g.H.Session.side stay one course grows (g.H.Session.stands c.loop-taken.session course) before after (c.serve.new.sink ≡ c.args.sink.now) _ _ _ _ _ _
+      unheard g.H.Session.side course grows (g.H.Session.stands c.loop-taken.session course) before after (c.serve.new.sink ≡ c.args.sink.now) _ _ _ _ _ _
           progress c.in-Ok.ensures.piece small within served,
       rose_since _ _ _ c.loop-taken.invariant.write_faults rose,
     )
@@ -144,25 +137,21 @@ pub returns-in-Err-serve : goal.returns-in-Err-serve
 returns-in-Err-serve g c = λ course grows behind.
     let small : c.in-Ok.n ≤ limit.MAX_PIECE = omega (arith, c.in-Ok.ensures.bound) in
     let within : c.loop-taken.taken + c.in-Ok.n ≤ limit.MAX_INPUT = omega (arith, c.in-Ok.ensures.bound) in
-    let stay : FramesStay g.H.Session.side = λ b more frames all rest left. c.joined_streams.ensures.frames_stay g.H.Session.side b more frames all rest left in
-    let one : NotBoth g.H.Session.side = λ b frames rest at why. c.one_reading.ensures.not_both g.H.Session.side b frames rest at why in
     let before : Streams = streams_told g.S.Source.left g.S.Source.faults g.K.Sink.written g.K.Sink.flushed g.K.Sink.faults c.args.source.now c.args.sink.now in
     let after : Streams = streams_told g.S.Source.left g.S.Source.faults g.K.Sink.written g.K.Sink.flushed g.K.Sink.faults c.read.new.source c.serve.new.sink in
     let progress = c.loop-taken.invariant.progress course grows behind in
     let part = rw c.bytes-in-loop-taken.ensures at (c.in-Err-serve.ensures.starved course progress.frames progress.stands) in (
       part.0,
-      unheard g.H.Session.side stay one course grows (g.H.Session.stands c.loop-taken.session course) before after (c.serve.new.sink ≡ c.args.sink.now) _ _ _ _ _ _
+      unheard g.H.Session.side course grows (g.H.Session.stands c.loop-taken.session course) before after (c.serve.new.sink ≡ c.args.sink.now) _ _ _ _ _ _
           progress c.in-Ok.ensures.piece small within part.1,
     )
 
 pub returns : goal.returns
 returns g c = λ course grows behind.
     let many : c.loop-taken.taken ≡ limit.MAX_INPUT = omega (arith, c.loop-taken.invariant.bound) in
-    let stay : FramesStay g.H.Session.side = λ b more frames all rest left. c.joined_streams.ensures.frames_stay g.H.Session.side b more frames all rest left in
-    let one : NotBoth g.H.Session.side = λ b frames rest at why. c.one_reading.ensures.not_both g.H.Session.side b frames rest at why in
     let before : Streams = streams_told g.S.Source.left g.S.Source.faults g.K.Sink.written g.K.Sink.flushed g.K.Sink.faults c.args.source.now c.args.sink.now in
     let after : Streams = streams_told g.S.Source.left g.S.Source.faults g.K.Sink.written g.K.Sink.flushed g.K.Sink.faults c.loop-taken.source c.finish-2.new.sink in
     let progress = c.loop-taken.invariant.progress course grows behind in
     let finished = rw c.loop-taken.invariant.empty at (c.finish-2.ensures.finished course progress.frames progress.stands) in
-    long g.H.Session.side stay one course grows (g.H.Session.stands c.loop-taken.session course) before after (c.finish-2.new.sink ≡ c.args.sink.now) _ _ _ _ progress
+    long g.H.Session.side course grows (g.H.Session.stands c.loop-taken.session course) before after (c.finish-2.new.sink ≡ c.args.sink.now) _ _ _ _ progress
     many (rose_since _ _ _ c.loop-taken.invariant.write_faults) c.finish-2.result finished
