@@ -1,21 +1,21 @@
 // The endpoints of the link: which numbers are used, and which frames are admitted.
 
-ghost use Rattle.std.specs.Prelude.{◌≡◌, ◌≢◌, ◌≤◌, ◌<◌, ◌+◌, ◌-◌, ◌⊎◌, ℕ, true, false, [], All, Some, IsTrue, length, drop, count_by, IfOk, OnOk, OnErr, MatchOption};
+ghost use Rattle.std.specs.Prelude.{◌≡◌, ◌≢◌, ◌≤◌, ◌<◌, ◌+◌, ◌-◌, ◌⊎◌, true, false, [], All, Some, IsTrue, length, count_by, IfOk, OnOk, OnErr, MatchOption};
 ghost use Rattle.std.specs.FinMap as map;
 ghost use Rattle.fidl_names.specs.HandleNumber.{is_client};
-ghost use Rattle.endpoint_link.specs.Numbering.{among};
 ghost use Rattle.endpoint_link.specs.Tables.{AreDistinct};
-ghost use Rattle.endpoint_link.specs.Standings.{standing_of, holds, is_used, is_live, next_token_of, Starts, Sends, hung_up, ended, given, gone};
-ghost use Rattle.endpoint_link.specs.Admission.{look_ups, by_standing, may_travel, all_may_travel, is_full, too_many, refusal_by, admission, Admits};
+ghost use Rattle.endpoint_link.specs.Standings.{standing_of, is_used, is_live, next_token_of, Starts, Sends, hung_up, ended, given, gone};
+ghost use Rattle.endpoint_link.specs.Admission.{look_ups, all_may_travel, admission, Admits};
 ghost use Rattle.endpoint_link.specs.Frames.{goes_to};
 ghost use Rattle.endpoint_link.specs.declared.kinds.Side.TheVariants as side;
 ghost use Rattle.endpoint_link.specs.Views.{frame_of, handle_numbers};
 
+use crate::admission::{LookUp, first_refusal};
 use crate::frame::{FrameView, HandleBytes};
-use crate::kinds::{AdmitFault, FrameKind, Refusal, Standing, TokenFault};
+use crate::kinds::{AdmitFault, FrameKind, Standing, TokenFault};
 use crate::standings::Standings;
 use crate::tokens::Tokens;
-use fidl_names::{MAX_LIVE, MAX_WAITING, NoMemory, is_client};
+use fidl_names::{MAX_LIVE, MAX_WAITING, NoMemory};
 use std::alloc::Global;
 use std::marker::Model;
 
@@ -61,145 +61,40 @@ fn is_used(standing: Standing) -> bool
     }
 }
 
-/// The refusal of a frame on an endpoint that stands so.
-fn by_standing(standing: Standing) -> Option<Refusal>
-    ensures { result ≡ by_standing standing }
-{
-    match standing {
-        Standing::Unused => Some(Refusal::BadHandle),
-        Standing::Live => None,
-        Standing::HungUp | Standing::Dead => Some(Refusal::PeerClosed),
-    }
-}
+/// What admission looks up here.
+impl LookUp for Endpoints {
+    ghost use Rattle.std.specs.Prelude.{◌≡◌};
+    ghost use Rattle.endpoint_link.specs.Admission.{look_ups};
 
-/// Whether a number is among the handles from a place on.
-fn stands_from(handles: HandleBytes<'_>, from: usize, number: u32) -> bool
-    requires { from ≤ length (handle_numbers handles) }
-    ensures { result ≡ among number (drop from (handle_numbers handles.entry)) }
-{
-    for i in from..handles.len() {
-        if handles.at(i) == number {
-            return true;
-        }
-    }
-    false
-}
+    ghost tells = { look_ups };
 
-/// How many of the handles are clients' numbers.
-fn count_clients(handles: HandleBytes<'_>) -> usize
-    ensures { result ≡ count_by is_client (handle_numbers handles.entry) }
-{
-    let mut count = 0;
-    for i in 0..handles.len() {
-        if is_client(handles.at(i)) {
-            count += 1;
-        }
+    fn standing_at(&self, number: u32) -> Standing {
+        self.standing(number)
     }
-    count
-}
 
-/// The private steps of admission.
-impl Endpoints {
-    /// Whether the clients hold this token.
-    fn holds(&self, token: u32) -> bool
-        ensures { result ≡ holds self.now token }
-    {
+    fn was_used(&self, number: u32) -> bool {
+        is_used(self.standing(number))
+    }
+
+    fn is_held(&self, token: u32) -> bool {
         self.tokens.holds(token)
     }
 
-    /// Whether a handle is a client number that was never used, or a token that is held.
-    fn may_travel(&self, handle: u32) -> bool
-        ensures { result ≡ may_travel (look_ups self.now) handle }
-    {
-        if is_client(handle) && !is_used(self.standing(handle)) {
-            return true;
-        }
-        self.holds(handle)
+    fn waiting(&self) -> u32 {
+        self.waiting
     }
 
-    /// Whether each handle may travel, and none stands twice.
-    fn all_may_travel(&self, handles: HandleBytes<'_>) -> bool
-        ensures { result ≡ all_may_travel (look_ups self.now) (handle_numbers handles.entry) }
-    {
-        for i in 0..handles.len() {
-            let handle = handles.at(i);
-            if !self.may_travel(handle) || stands_from(handles, i + 1, handle) {
-                return false;
-            }
-        }
-        true
+    fn live(&self) -> u32 {
+        self.standings.live() as u32
     }
 
-    fn is_full(&self) -> bool
-        ensures { result ≡ is_full (look_ups self.now) }
-    {
-        self.waiting >= MAX_WAITING
+    fn servers(&self) -> u32 {
+        self.servers
     }
+}
 
-    fn too_many(&self, handles: HandleBytes<'_>) -> bool
-        ensures { result ≡ too_many (look_ups self.now) (handle_numbers handles.entry) }
-    {
-        self.standings.live() + count_clients(handles) > MAX_LIVE
-    }
-
-    fn message_refusal(&self, endpoint: u32, handles: HandleBytes<'_>) -> Option<Refusal>
-        ensures { result ≡ refusal_by FrameKind.Message (look_ups self.now) endpoint (handle_numbers handles.entry) }
-    {
-        if let Some(why) = by_standing(self.standing(endpoint)) {
-            return Some(why);
-        }
-        if !is_client(endpoint) {
-            return Some(Refusal::BadHandle);
-        }
-        if !self.all_may_travel(handles) {
-            return Some(Refusal::BadHandle);
-        }
-        if self.is_full() {
-            return Some(Refusal::ShouldWait);
-        }
-        if self.too_many(handles) {
-            return Some(Refusal::NoResources);
-        }
-        None
-    }
-
-    fn close_refusal(&self, endpoint: u32) -> Option<Refusal>
-        ensures { result ≡ refusal_by FrameKind.Close (look_ups self.now) endpoint [] }
-    {
-        if let Some(why) = by_standing(self.standing(endpoint)) {
-            return Some(why);
-        }
-        if !is_client(endpoint) {
-            return Some(Refusal::BadHandle);
-        }
-        if self.is_full() {
-            return Some(Refusal::ShouldWait);
-        }
-        None
-    }
-
-    fn turn_refusal(&self, server: u32) -> Option<Refusal>
-        ensures { result ≡ refusal_by FrameKind.Turn (look_ups self.now) server [] }
-    {
-        if server >= self.servers {
-            return Some(Refusal::BadHandle);
-        }
-        None
-    }
-
-    /// The first refusal of a frame.
-    fn refusal(&self, frame: FrameView<'_>) -> Option<Refusal>
-        ensures { result ≡ admission (look_ups self.now) (frame_of frame.entry) }
-    {
-        match frame.kind {
-            FrameKind::Message => self.message_refusal(frame.endpoint, frame.handles),
-            FrameKind::Close => self.close_refusal(frame.endpoint),
-            FrameKind::Turn => self.turn_refusal(frame.endpoint),
-            FrameKind::Pick => by_standing(self.standing(frame.endpoint)),
-            FrameKind::Refused => None,
-        }
-    }
-
+/// What an admitted frame changes.
+impl Endpoints {
     /// Lets a message with these handles wait.
     fn take_message(&mut self, handles: HandleBytes<'_>) -> Result<(), AdmitFault>
         requires travel { all_may_travel (look_ups self.old) (handle_numbers handles) ≡ true }
@@ -262,7 +157,7 @@ impl Endpoints {
         ensures unchanged { OnErr result (self.new ≡ self.old) }
         ensures memory { (frame_of frame.entry).handles ≡ [] → result ≢ Err AdmitFault.NoMemory }
     {
-        if let Some(why) = self.refusal(frame) {
+        if let Some(why) = first_refusal(self, frame) {
             return Err(AdmitFault::Refused(why));
         }
         match frame.kind {

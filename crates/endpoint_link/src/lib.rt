@@ -1,6 +1,7 @@
 // The link: frames in any cut, and endpoints with their admission.
 #![tactic(auto)]
 
+mod admission;
 mod deframer;
 mod endpoints;
 mod fixed;
@@ -12,6 +13,7 @@ mod reading;
 mod standings;
 mod tokens;
 
+pub use admission::{LookUp, first_refusal};
 pub use deframer::Deframer;
 pub use endpoints::Endpoints;
 pub use fixed::{FIXED_LEN, MAX_FRAME_LEN};

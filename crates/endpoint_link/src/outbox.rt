@@ -187,6 +187,7 @@ pub fn write_message(
 }
 
 /// Appends to bytes that have room for them.
+#[inline]
 fn append(to: &mut Vec<u8>, part: &[u8])
     requires { vec_len to.old + length part.now ≤ vec_capacity to.old }
     ensures items { to.new.items ≡ to.old.items ++ part.now }
@@ -199,19 +200,55 @@ fn append(to: &mut Vec<u8>, part: &[u8])
 }
 
 /// Appends a number of 32 bits to bytes that have room for it.
-#[tactic(auto, unfolding(fidl_names::specs::Numbers::number_bytes))]
 fn put_word(to: &mut Vec<u8>, word: u32)
     requires { vec_len to.old + 4 ≤ vec_capacity to.old }
     ensures items { to.new.items ≡ to.old.items ++ word_of word }
     ensures len { vec_len to.new ≡ vec_len to.old + 4 }
     ensures room { vec_capacity to.old ≤ vec_capacity to.new }
 {
+    append(to, &word_array(word));
+}
+
+/// A number of 32 bits as bytes.
+#[tactic(auto, unfolding(fidl_names::specs::Numbers::number_bytes))]
+#[inline]
+fn word_array(word: u32) -> [u8; 4]
+    ensures { result ≡ word_of word }
+{
     let mut part = [0; 4];
     LittleEndian::write_u32(&mut part, word);
-    append(to, &part);
+    part
+}
+
+/// A fixed part, as it is put at once.
+#[tactic(auto, unfolding(fidl_names::specs::Numbers::number_bytes))]
+#[inline]
+fn fixed_array(endpoint: u32, kind: FrameKind, handles: usize, bytes: usize) -> [u8; 12]
+    requires few_handles { handles ≤ MAX_HANDLES }
+    requires few_bytes { bytes ≤ MAX_BYTES }
+    ensures { result ≡ fixed_part endpoint kind handles bytes }
+{
+    let e = word_array(endpoint);
+    let b = word_array(bytes as u32);
+    let handles = handles as u8;
+    [
+        e[0],
+        e[1],
+        e[2],
+        e[3],
+        number_of(kind),
+        handles,
+        0,
+        0,
+        b[0],
+        b[1],
+        b[2],
+        b[3],
+    ]
 }
 
 /// Appends a fixed part to bytes that have room for it.
+#[inline]
 fn put_fixed_part(to: &mut Vec<u8>, endpoint: u32, kind: FrameKind, handles: usize, bytes: usize)
     requires few_handles { handles ≤ MAX_HANDLES }
     requires few_bytes { bytes ≤ MAX_BYTES }
@@ -220,12 +257,11 @@ fn put_fixed_part(to: &mut Vec<u8>, endpoint: u32, kind: FrameKind, handles: usi
     ensures len { vec_len to.new ≡ vec_len to.old + FIXED_LEN }
     ensures room { vec_capacity to.old ≤ vec_capacity to.new }
 {
-    put_word(to, endpoint);
-    append(to, &[number_of(kind), handles as u8, 0, 0]);
-    put_word(to, bytes as u32);
+    append(to, &fixed_array(endpoint, kind, handles, bytes));
 }
 
 /// Appends numbers of 32 bits to bytes that have room for them.
+#[inline]
 fn put_words(to: &mut Vec<u8>, words: &[u32])
     requires { vec_len to.old + 4 * length words.now ≤ vec_capacity to.old }
     ensures items { to.new.items ≡ to.old.items ++ flat_map word_of words.now }
@@ -238,6 +274,7 @@ fn put_words(to: &mut Vec<u8>, words: &[u32])
 }
 
 /// Appends the numbers of handles to bytes that have room for them.
+#[inline]
 fn put_handles(to: &mut Vec<u8>, handles: &[Handle])
     requires { vec_len to.old + 4 * length handles.now ≤ vec_capacity to.old }
     ensures items { to.new.items ≡ to.old.items ++ flat_map word_of (map number_of_handle handles.now) }
@@ -250,6 +287,7 @@ fn put_handles(to: &mut Vec<u8>, handles: &[Handle])
 }
 
 /// Appends a whole frame to bytes that have room for it.
+#[inline]
 fn put_spelling(to: &mut Vec<u8>, endpoint: u32, kind: FrameKind, handles: &[u32], bytes: &[u8])
     requires shape { HasShape kind (length handles.now) (length bytes.now) }
     requires room { vec_len to.old + spelled_len (length handles.now) (length bytes.now) ≤ vec_capacity to.old }

@@ -28,4 +28,4 @@ pub use laws::{
     spelling_is_read, written_epitaph_is_read, written_header_is_read,
 };
 pub use ordinals::{OrdinalFault, Ordinals};
-pub use output::Out;
+pub use output::{Out, long_array, word_array};

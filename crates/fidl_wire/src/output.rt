@@ -33,10 +33,62 @@ impl Model for Out {
 }
 
 /// The dynamic flags of a header.
+#[inline]
 fn dynamic_flags(flexible: bool) -> u8
     ensures { result ≡ flags_of flexible }
 {
     if flexible { FLEXIBLE_BIT } else { 0 }
+}
+
+/// A number in four bytes, the low byte first.
+#[tactic(auto, unfolding(fidl_names::specs::Numbers::number_bytes))]
+#[inline]
+pub fn word_array(v: u32) -> [u8; 4]
+    ensures { result ≡ number_bytes 4 v }
+{
+    let mut word = [0; 4];
+    LittleEndian::write_u32(&mut word, v);
+    word
+}
+
+/// A number in eight bytes, the low byte first.
+#[tactic(auto, unfolding(fidl_names::specs::Numbers::number_bytes))]
+#[inline]
+pub fn long_array(v: u64) -> [u8; 8]
+    ensures { result ≡ number_bytes 8 v }
+{
+    let mut long = [0; 8];
+    LittleEndian::write_u64(&mut long, v);
+    long
+}
+
+/// A header, as it is put at once.
+#[tactic(auto, unfolding(fidl_names::specs::Numbers::number_bytes))]
+#[inline]
+fn header_array(header: Header) -> [u8; 16]
+    ensures { result ≡ header_bytes header }
+{
+    let t = word_array(header.txid);
+    let o = long_array(header.ordinal);
+    let flags = dynamic_flags(header.flexible);
+    [
+        t[0],
+        t[1],
+        t[2],
+        t[3],
+        VERSION_BIT,
+        0,
+        flags,
+        MAGIC,
+        o[0],
+        o[1],
+        o[2],
+        o[3],
+        o[4],
+        o[5],
+        o[6],
+        o[7],
+    ]
 }
 
 impl Out {
@@ -52,28 +104,24 @@ impl Out {
     }
 
     /// Appends a header.
+    #[inline]
     pub fn begin(&mut self, header: Header)
         requires { length self.old.bytes + 16 ≤ MAX_BYTES }
         ensures bytes { self.new.bytes ≡ self.old.bytes ++ header_bytes header }
         ensures len { length self.new.bytes ≡ length self.old.bytes + 16 }
         ensures handles { self.new.handles ≡ self.old.handles }
     {
-        self.put_u32(header.txid);
-        self.put_bytes(&[VERSION_BIT, 0, dynamic_flags(header.flexible), MAGIC]);
-        self.put_u64(header.ordinal);
+        self.put_bytes(&header_array(header));
     }
 
     /// Appends four bytes.
-    #[tactic(auto, unfolding(fidl_names::specs::Numbers::number_bytes))]
     pub fn put_u32(&mut self, v: u32)
         requires { length self.old.bytes + 4 ≤ MAX_BYTES }
         ensures bytes { self.new.bytes ≡ self.old.bytes ++ number_bytes 4 v }
         ensures len { length self.new.bytes ≡ length self.old.bytes + 4 }
         ensures handles { self.new.handles ≡ self.old.handles }
     {
-        let mut word = [0; 4];
-        LittleEndian::write_u32(&mut word, v);
-        self.put_bytes(&word);
+        self.put_bytes(&word_array(v));
     }
 
     /// Appends four bytes, the number's bits.
@@ -87,19 +135,17 @@ impl Out {
     }
 
     /// Appends eight bytes.
-    #[tactic(auto, unfolding(fidl_names::specs::Numbers::number_bytes))]
     pub fn put_u64(&mut self, v: u64)
         requires { length self.old.bytes + 8 ≤ MAX_BYTES }
         ensures bytes { self.new.bytes ≡ self.old.bytes ++ number_bytes 8 v }
         ensures len { length self.new.bytes ≡ length self.old.bytes + 8 }
         ensures handles { self.new.handles ≡ self.old.handles }
     {
-        let mut word = [0; 8];
-        LittleEndian::write_u64(&mut word, v);
-        self.put_bytes(&word);
+        self.put_bytes(&long_array(v));
     }
 
     /// Appends the bytes.
+    #[inline]
     pub fn put_bytes(&mut self, v: &[u8])
         requires { length self.old.bytes + length v.now ≤ MAX_BYTES }
         ensures bytes { self.new.bytes ≡ self.old.bytes ++ v.now }
@@ -112,6 +158,7 @@ impl Out {
     /// Appends the zeros that bring the number of bytes to a multiple of eight. There is always room
     /// for them.
     #[tactic(auto, unfolding(crate::specs::Numbers::padding_after))]
+    #[inline]
     pub fn pad(&mut self)
         ensures bytes { self.new.bytes ≡ padded_bytes self.old.bytes }
         ensures len { length self.new.bytes ≡ padded (length self.old.bytes) }

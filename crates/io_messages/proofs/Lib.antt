@@ -1,3 +1,4 @@
+pub mod BegunListings
 pub mod Parts
 pub mod Known
 pub mod Numbered

@@ -1,5 +1,6 @@
 -- The bytes of unions and of small objects.
-use Rattle.std.proofs.Common.{◌≡◌, ℕ, ◌+◌, ◌%◌, ◌≤◌, List, [], ◌∷◌, ◌++◌, length, refl, ap, ◌∙◌, append_assoc, length-append, add-zero, ◌<◌, Option, Some, MatchOption, subst, arith}
+use Rattle.std.proofs.lemmas.List.{append-nil}
+use Rattle.std.proofs.Common.{◌≡◌, ℕ, ◌+◌, ◌-◌, ◌%◌, ◌≤◌, List, [], ◌∷◌, ◌++◌, length, refl, ap, ◌∙◌, append_assoc, length-append, add-zero, replicate, sym, ◌<◌, Option, Some, MatchOption, subst, arith}
 use Rattle.fidl_names.specs.declared.limits.TheConstants as limit
 use Rattle.fidl_wire.specs.Grammar.{Part, join, nothing}
 use Rattle.fidl_names.specs.Numbers.{number_bytes}
@@ -7,7 +8,7 @@ use Rattle.fidl_wire.specs.Numbers.{padding_after, padded}
 use Rattle.fidl_wire.specs.Spelling.{envelope_bytes, object_bytes, inline_part, list_part_of, table_part, given, count_bytes}
 use Rattle.fidl_wire.specs.Written.{padded_bytes}
 use Rattle.io_messages.specs.declared.fields.Field.{Field}
-use Rattle.io_messages.specs.Fields.{parts_of, parts_size, slots_of}
+use Rattle.io_messages.specs.Fields.{list_object, parts_of, parts_size, slots_of}
 use Rattle.io_messages.proofs.Lengths.{length-count, length-table, length-given, slots-most, length-number, length-envelope, length-padded, length-object, padded_none}
 
 -- one list behind another
@@ -77,6 +78,32 @@ padded_nothing = length-padded [] ∙ padded_none 0 refl
 pub list_length : (xs : List ℕ) → length (object_bytes (join (list_part_of xs) nothing)) ≡ 16 + padded (length xs)
 list_length xs =
     omega (arith, object_length (join (list_part_of xs) nothing) 16 (padded (length xs)) (cat (count_bytes (length xs)) [] 16 0 (length-count (length xs)) refl) (cat (padded_bytes xs) [] (padded (length xs)) 0 (length-padded xs) refl ∙ add-zero (padded (length xs))), padded_none 16 refl)
+
+aligned_bytes : (bytes : List ℕ) → length bytes ≡ 16 → padded_bytes bytes ≡ bytes
+unfolding padding_after
+aligned_bytes bytes h = ap (λ (n : ℕ). bytes ++ replicate (padding_after n) 0) h ∙ append-nil bytes
+
+list_is : (xs : List ℕ) → list_object xs ≡ count_bytes (length xs) ++ padded_bytes xs
+list_is xs =
+    ap (λ (v : List ℕ). padded_bytes v ++ (padded_bytes xs ++ [])) (append-nil (count_bytes (length xs)))
+    ∙ ap (λ (v : List ℕ). v ++ (padded_bytes xs ++ [])) (aligned_bytes (count_bytes (length xs)) (length-count (length xs)))
+    ∙ ap (λ (v : List ℕ). count_bytes (length xs) ++ v) (append-nil (padded_bytes xs))
+
+list_has_size : (xs : List ℕ) → 16 + length xs + (8 - length xs % 8) % 8 ≡ length (list_object xs)
+unfolding padding_after
+list_has_size xs = omega (arith, list_length xs)
+
+parts : (out a b c d : List ℕ) → (out ++ (a ++ b ++ c)) ++ d ≡ out ++ (a ++ b ++ (c ++ d))
+parts out a b c d = simp append_assoc
+
+-- the head of a success, and then the bytes with their padding
+pub success_is : (out first last xs : List ℕ) → first ≡ out ++ (number_bytes 8 1 ++ envelope_bytes (16 + length xs + (8 - length xs % 8) % 8) 0 0 ++ count_bytes (length xs)) →
+    last ≡ first ++ padded_bytes xs → last ≡ out ++ (number_bytes 8 1 ++ envelope_bytes (length (list_object xs)) 0 0 ++ list_object xs)
+success_is out first last xs h k =
+    k ∙ ap (λ (v : List ℕ). v ++ padded_bytes xs) h
+    ∙ ap (λ (n : ℕ). (out ++ (number_bytes 8 1 ++ envelope_bytes n 0 0 ++ count_bytes (length xs))) ++ padded_bytes xs) (list_has_size xs)
+    ∙ parts out (number_bytes 8 1) (envelope_bytes (length (list_object xs)) 0 0) (count_bytes (length xs)) (padded_bytes xs)
+    ∙ ap (λ (v : List ℕ). out ++ (number_bytes 8 1 ++ envelope_bytes (length (list_object xs)) 0 0 ++ v)) (sym (list_is xs))
 
 pub listing_length : (word : List ℕ) (xs : List ℕ) → length word ≡ 4 →
     length (object_bytes (join (inline_part word) (join (inline_part (0 ∷ 0 ∷ 0 ∷ 0 ∷ [])) (join (list_part_of xs) nothing)))) ≡ 24 + padded (length xs)

@@ -2,7 +2,7 @@
 use Rattle.std.specs.Prelude.{ℕ, ◌+◌, List, [], ◌∷◌, length, replicate, Option, Some, None}
 use Rattle.fidl_wire.specs.Grammar.{Part, nothing, join}
 use Rattle.fidl_names.specs.Numbers.{number_bytes}
-use Rattle.fidl_wire.specs.Spelling.{inline_part, handle_part, list_part_of, table_part}
+use Rattle.fidl_wire.specs.Spelling.{inline_part, handle_part, list_part_of, object_bytes, table_part}
 use Rattle.io_messages.specs.declared.fields.Field.{Field}
 use Rattle.io_messages.specs.declared.fields.Field.TheVariants.{Word, Long, Blank, Held, Absent, Bytes, Table}
 
@@ -35,3 +35,7 @@ slot_of (Some x) = 16
 abbrev pub slots_of : List (Option ℕ) → ℕ
 slots_of [] = 0
 slots_of (v ∷ vs) = slot_of v + slots_of vs
+
+-- an object that is a list of bytes
+abbrev pub list_object : List ℕ → List ℕ
+list_object xs = object_bytes (join (list_part_of xs) nothing)

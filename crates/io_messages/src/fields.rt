@@ -129,7 +129,7 @@ fn put_inline(out: &mut Out, field: Field<'_, '_>)
 }
 
 /// Appends the count of a list that is present.
-fn put_count(out: &mut Out, count: usize)
+pub fn put_count(out: &mut Out, count: usize)
     requires { length out.old.bytes + 16 ≤ MAX_BYTES }
     ensures bytes { out.new.bytes ≡ out.old.bytes ++ count_bytes count }
     ensures len { length out.new.bytes ≡ length out.old.bytes + 16 }
@@ -158,7 +158,8 @@ fn put_outside(out: &mut Out, field: Field<'_, '_>)
 }
 
 /// Appends bytes and the padding behind them.
-fn put_padded(out: &mut Out, bytes: &[u8])
+#[inline(always)]
+pub fn put_padded(out: &mut Out, bytes: &[u8])
     requires aligned { length out.old.bytes % 8 ≡ 0 }
     requires room { length out.old.bytes + length (padded_bytes bytes.now) ≤ MAX_BYTES }
     ensures bytes { out.new.bytes ≡ out.old.bytes ++ padded_bytes bytes.now }

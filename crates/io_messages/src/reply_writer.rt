@@ -1,19 +1,20 @@
-ghost use Rattle.std.specs.Prelude.{◌≡◌, ◌≢◌, ℕ, ◌+◌, ◌%◌, ◌<◌, ◌≤◌, ◌++◌, [], Some, None, length};
+ghost use Rattle.std.specs.Prelude.{◌≡◌, ◌≢◌, ℕ, ◌+◌, ◌-◌, ◌%◌, ◌<◌, ◌≤◌, List, ◌++◌, [], Some, None, length};
 ghost use Rattle.fidl_wire.specs.Headers.{header_bytes};
 ghost use Rattle.fidl_names.specs.Numbers.{number_bytes};
 ghost use Rattle.fidl_wire.specs.Numbers.{padded};
-ghost use Rattle.fidl_wire.specs.Spelling.{object_bytes, envelope_bytes, body_bytes, body_handles};
-ghost use Rattle.io_messages.specs.Fields.{parts_of};
+ghost use Rattle.fidl_wire.specs.Written.{padded_bytes};
+ghost use Rattle.fidl_wire.specs.Spelling.{object_bytes, count_bytes, envelope_bytes, body_bytes, body_handles};
+ghost use Rattle.io_messages.specs.Fields.{list_object, parts_of};
 ghost use Rattle.io_messages.specs.Shapes.{shape_of};
-ghost use Rattle.io_messages.specs.Replies.{answered, attributes, beside_payload, reply_layout};
+ghost use Rattle.io_messages.specs.Replies.{answered, attributes, beside_payload, payload, reply_layout};
 ghost use Rattle.io_messages.specs.ReplyWriting.{HasReply, PayloadFits, CanFail, CanCarry, reply_bytes, reply_body, reply_handles, reply_header, layout_of, failure, carried, event_bytes, branch_of_kind, status_word};
 
-use crate::fields::{Field, put_object, size_of};
+use crate::fields::{Field, put_count, put_object, put_padded, size_of};
 use crate::protocols::Protocol;
 use crate::replies::{Attributes, Reply, Shape, shape_of};
 use crate::reply_reader::{FRAMEWORK_ENVELOPE, FRAMEWORK_ORDINAL};
 use fidl_names::{Handle, MAX_BYTES, Method, Status};
-use fidl_wire::{Header, Ordinals, Out};
+use fidl_wire::{Header, Ordinals, Out, long_array, word_array};
 
 /// The branches of a result.
 const SUCCESS: u64 = 1;
@@ -38,7 +39,25 @@ pub fn write_reply(ordinals: &Ordinals, txid: u32, reply: Reply<'_>, out: &mut O
     put_reply(reply, out);
 }
 
+/// Begins the reply of ReadDirents in an empty output, for a listing of so many bytes. The caller appends
+/// these bytes behind it, as they are, and then pads.
+pub fn begin_listing(ordinals: &Ordinals, txid: u32, bytes: u32, out: &mut Out)
+    requires { out.old ≡ record { bytes = []; handles = [] } }
+    ensures bytes { (listed : List ℕ) → length listed ≡ bytes → padded_bytes (out.new.bytes ++ listed) ≡ reply_bytes txid (payload Method.ReadDirents listed) }
+    ensures len { length out.new.bytes ≡ 40 }
+    ensures handles { (listed : List ℕ) → out.new.handles ≡ reply_handles (payload Method.ReadDirents listed) }
+{
+    out.begin(Header {
+        txid,
+        flexible: false,
+        ordinal: ordinals.of(Method::ReadDirents),
+    });
+    out.put_u64(0);
+    put_count(out, bytes as usize);
+}
+
 /// The header of a reply.
+#[inline(always)]
 fn header_of(ordinals: &Ordinals, txid: u32, reply: &Reply<'_>) -> Header
     ensures { result ≡ reply_header txid (answered reply.now) }
 {
@@ -60,6 +79,7 @@ fn header_of(ordinals: &Ordinals, txid: u32, reply: &Reply<'_>) -> Header
 }
 
 /// Appends a reply's fields.
+#[inline(always)]
 fn put_reply(reply: Reply<'_>, out: &mut Out)
     requires has { HasReply (answered reply) }
     requires head { length out.old.bytes ≡ 16 }
@@ -141,6 +161,7 @@ fn put_failure(shape: Option<Shape>, status: Status, out: &mut Out)
 }
 
 /// Appends the bytes that a method answers whose reply has this shape.
+#[inline(always)]
 fn put_payload(shape: Option<Shape>, bytes: &[u8], out: &mut Out)
     requires can { CanCarry shape bytes.now }
     requires head { length out.old.bytes ≡ 16 }
@@ -155,6 +176,7 @@ fn put_payload(shape: Option<Shape>, bytes: &[u8], out: &mut Out)
     }
 }
 
+#[inline(always)]
 fn put_carried(shape: Shape, bytes: &[u8], out: &mut Out)
     requires can { CanCarry (Some shape) bytes.now }
     requires head { length out.old.bytes ≡ 16 }
@@ -164,7 +186,7 @@ fn put_carried(shape: Shape, bytes: &[u8], out: &mut Out)
     ensures handles { out.new.handles ≡ body_handles (reply_layout shape) (carried (Some shape) bytes.now) }
 {
     match shape {
-        Shape::Bytes => put_branch(SUCCESS, &[Field::Bytes(bytes)], out),
+        Shape::Bytes => put_success(bytes, out),
         Shape::Vector => put_object(out, &[Field::Bytes(bytes)]),
         Shape::Text => put_object(out, &[Field::Bytes(bytes)]),
         Shape::Listing => put_object(out, &[Field::Word(0), Field::Blank, Field::Bytes(bytes)]),
@@ -172,6 +194,36 @@ fn put_carried(shape: Shape, bytes: &[u8], out: &mut Out)
             unreachable!()
         }
     }
+}
+
+/// Appends the success of a method that answers a list of bytes.
+#[inline(always)]
+fn put_success(bytes: &[u8], out: &mut Out)
+    requires head { length out.old.bytes ≡ 16 }
+    requires free { out.old.handles ≡ [] }
+    requires fits { 48 + padded (length bytes.now) ≤ MAX_BYTES }
+    ensures bytes { out.new.bytes ≡ out.old.bytes ++ (number_bytes 8 1 ++ envelope_bytes (length (list_object bytes.now)) 0 0 ++ list_object bytes.now) }
+    ensures handles { out.new.handles ≡ [] }
+{
+    out.put_bytes(&success_head(bytes.len()));
+    put_padded(out, bytes);
+}
+
+/// What stands before so many bytes of a success: the first branch, the size of its list, and the list's
+/// count.
+#[tactic(auto, unfolding(fidl_names::specs::Numbers::number_bytes))]
+#[inline(always)]
+fn success_head(len: usize) -> [u8; 32]
+    requires { len ≤ MAX_BYTES }
+    ensures { result ≡ number_bytes 8 1 ++ envelope_bytes (16 + len + (8 - len % 8) % 8) 0 0 ++ count_bytes len }
+{
+    let size = 16 + len + (8 - len % 8) % 8;
+    let s = word_array(size as u32);
+    let c = long_array(len as u64);
+    [
+        1, 0, 0, 0, 0, 0, 0, 0, s[0], s[1], s[2], s[3], 0, 0, 0, 0, c[0], c[1], c[2], c[3], c[4],
+        c[5], c[6], c[7], 255, 255, 255, 255, 255, 255, 255, 255,
+    ]
 }
 
 /// Appends the attributes: no mutable ones, and the immutable ones that are given.

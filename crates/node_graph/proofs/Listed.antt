@@ -1,5 +1,5 @@
 -- The names of a directory behind a place are those between two keys.
-use Rattle.std.proofs.Common.{◌≡◌, ℕ, zero, suc, ◌+◌, ◌<◌, ◌≤◌, List, [], ◌∷◌, length, map, Option, Some, None, refl, ap, sym, ◌∙◌, arith, cond, Bool, true, false, not, eqb-true, nat_lt, T}
+use Rattle.std.proofs.Common.{◌≡◌, ℕ, zero, suc, ◌+◌, ◌<◌, ◌≤◌, List, [], ◌∷◌, length, map, Option, Some, None, refl, ap, sym, subst, ◌∙◌, arith, cond, Bool, true, false, not, eqb-true, nat_lt, T}
 use Rattle.std.specs.Prelude.{◌==◌, filter, take, ◌&&◌, ◌||◌, All, is_some}
 use Rattle.std.specs.List.{list_any}
 use Rattle.std.specs.Map.Iter.{TakesFirst}
@@ -203,6 +203,28 @@ listed_few ends directory place few =
     let fewer = fewer_filtered (λ e. (e.0.directory == directory) && comes_after place e.0.name) (finite.entries ends) in
     let len = finite.len-entries ends in
     omega (arith, few, fewer, len)
+
+-- ---- the sizes of names
+
+-- a name has 1 to 255 bytes
+abbrev pub HasName : EdgeKey × Target → Type 0
+HasName e = (1 ≤ length e.0.name) × (length e.0.name ≤ limit.MAX_NAME)
+
+all_of : (P : EdgeKey × Target → Type 0) (es : List (EdgeKey × Target)) → Each P es → All P es
+all_of P [] done k d within = absurd (omega (arith, within))
+all_of P (e ∷ es) (more _ _ here rest) zero d within = here
+all_of P (e ∷ es) (more _ _ here rest) (suc k) d within = all_of P es rest k d (omega (arith, within))
+
+pub listed_named : (es : List (EdgeKey × Target)) (directory : ℕ) (place : Option (List ℕ)) → IsNamed es → All HasName (ends_after (map_of es) directory place)
+listed_named es directory place named =
+    all_of HasName _ (each_filtered HasName (λ e. (e.0.directory == directory) && comes_after place e.0.name) (finite.entries (map_of es))
+    (subst (Each HasName) (sym (entries-map_of es named.in_order))
+    (each HasName es named.in_order (λ k t found. named.named k t (finite.get-entries (map_of es) k ∙ ap (entry.find edge_cmp k) (entries-map_of es named.in_order) ∙ found)))))
+
+pub all_listed : (es : List (EdgeKey × Target)) → All HasName es → All (λ (l : Listed). (1 ≤ length l.name) × (length l.name ≤ limit.MAX_NAME)) (map listed_of es)
+all_listed [] named k d within = absurd (omega (arith, within))
+all_listed (e ∷ es) named zero d within = named zero e (omega arith)
+all_listed (e ∷ es) named (suc k) d within = all_listed es (λ k d within. named (suc k) d (omega (arith, within))) k d (omega (arith, within))
 
 -- ---- whether there are names
 

@@ -159,6 +159,13 @@ move_loop false true loop e = absurd (let wrong : Some fault.Removed ≡ None = 
 move_loop false false true e = absurd (let wrong : Some fault.Loop ≡ None = e in cc)
 move_loop false false false e = refl
 
+-- no such refusal is want of memory
+pub move_memory : (mount cut loop : Bool) → first_of (cause_if mount fault.Unsupported ∷ cause_if cut fault.Removed ∷ cause_if loop fault.Loop ∷ []) ≡ Some fault.NoMemory → ⊥
+move_memory true cut loop e = let wrong : Some fault.Unsupported ≡ Some fault.NoMemory = e in cc
+move_memory false true loop e = let wrong : Some fault.Removed ≡ Some fault.NoMemory = e in cc
+move_memory false false true e = let wrong : Some fault.Loop ≡ Some fault.NoMemory = e in cc
+move_memory false false false e = let wrong : None ≡ Some fault.NoMemory = e in cc
+
 pub replace_bare : (mount no_directory no_file full : Bool) → replace_causes mount no_directory no_file full ≡ None → full ≡ false
 replace_bare true no_directory no_file full e = absurd (let wrong : Some fault.Unsupported ≡ None = e in cc)
 replace_bare false true no_file full e = absurd (let wrong : Some fault.NotDir ≡ None = e in cc)

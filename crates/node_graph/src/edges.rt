@@ -1,4 +1,4 @@
-ghost use Rattle.std.specs.Prelude.{◌≡◌, ◌≤◌, ◌<◌, ◌-◌, ◌^◌, take, length, OnOk, OnErr, OnSome};
+ghost use Rattle.std.specs.Prelude.{◌≡◌, ◌≤◌, ◌<◌, ◌-◌, ◌^◌, take, length, All, OnOk, OnErr, OnSome};
 ghost use Rattle.std.specs.Option.{option_map};
 ghost use Rattle.std.specs.FinMap as finite;
 ghost use Rattle.node_graph.specs.Ends.{edges_of, ends_after, name_in, start_of};
@@ -122,7 +122,8 @@ impl Edges {
     // a name stands to each name as its front does.
     pub fn after(&self, directory: u64, place: Option<&[u8]>) -> Range<'_, EdgeName, Target>
         requires { directory < 2 ^ 64 - 1 }
-        ensures { result ≡ ends_after self.now directory (option_map (λ name. name.now) place.entry) }
+        ensures names { result ≡ ends_after self.now directory (option_map (λ name. name.now) place.entry) }
+        ensures named { All (λ entry. (1 ≤ length entry.0.name) × (length entry.0.name ≤ MAX_NAME)) result }
     {
         let end = EdgeName::new(directory + 1, &[]);
         self.names

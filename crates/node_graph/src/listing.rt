@@ -9,7 +9,7 @@ use crate::edges::Target;
 use crate::graph::Graph;
 use crate::keys::EdgeName;
 use crate::nodes::{NodeKind, NodeRef};
-use fidl_names::MAX_NAMES;
+use fidl_names::{MAX_NAME, MAX_NAMES};
 use std::collections::btree_map::Range;
 use std::marker::Model;
 
@@ -65,6 +65,7 @@ impl Graph {
         requires directory { kind_at self.now (number_of dir) ≡ Some Directory }
         ensures names { map (λ view. (view.name, view.number)) result ≡ listed_after self.now.edges (number_of dir) (option_map (λ name. name.now) after.entry) }
         ensures kinds { All (λ view. kind_at self.now view.number ≡ Some view.kind) result }
+        ensures named { All (λ view. (1 ≤ length view.name) × (length view.name ≤ MAX_NAME)) result }
         ensures few { length result ≤ MAX_NAMES }
     {
         Names {

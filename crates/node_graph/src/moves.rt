@@ -1,4 +1,4 @@
-ghost use Rattle.std.specs.Prelude.{◌≡◌, ◌∷◌, [], ◌&&◌, ◌≤◌, ◌<◌, ◌-◌, ◌^◌, not, length, OnOk, OnErr, IfOk, IfSome, Some};
+ghost use Rattle.std.specs.Prelude.{◌≡◌, ◌∷◌, [], ◌&&◌, ◌≤◌, ◌<◌, ◌-◌, ◌^◌, ◌≢◌, true, not, length, OnOk, OnErr, IfOk, IfErr, IfSome, Some};
 ghost use Rattle.std.specs.Option.{option_map, option_to_list};
 ghost use Rattle.std.specs.FinMap as finite;
 ghost use Rattle.fidl_names.specs.First.{cause_if, first_of};
@@ -33,7 +33,7 @@ impl Graph {
     /// to lie in itself; then, where the new name is another one and is there, `Unsupported` where it
     /// leads to a mount, `NotDir` where a directory would replace something else, `NotFile` where
     /// something else would replace a directory, `NotEmpty` where it leads to a directory with names.
-    /// After these and `NoMemory` nothing has changed.
+    /// After these and `NoMemory` nothing has changed. A name that is to be what it is takes no memory.
     pub fn rename(
         &mut self,
         dir: NodeRef,
@@ -52,6 +52,7 @@ impl Graph {
         ensures renamed { OnOk result (Leads self.old self.new (rename_change (record { directory = number_of dir; name = src.now }) (record { directory = number_of into; name = dst.now }))) }
         ensures changed { IfOk result (λ moved. moved.changed ≡ not (is_same_name (record { directory = number_of dir; name = src.now }) (record { directory = number_of into; name = dst.now }))) }
         ensures replaced { IfOk result (λ moved. (tree : Tree) → StandsFor self.old tree → moved.replaced ≡ replaced_directory tree (record { directory = number_of dir; name = src.now }) (record { directory = number_of into; name = dst.now })) }
+        ensures same { is_same_name (record { directory = number_of dir; name = src.now }) (record { directory = number_of into; name = dst.now }) ≡ true → IfErr result (λ given. given ≢ fault.NoMemory) }
         ensures made { self.new.made ≡ self.old.made }
         ensures holds { SameHolds self.old self.new }
         ensures names { KeepsNames self.old self.new }

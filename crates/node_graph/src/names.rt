@@ -1,6 +1,7 @@
-ghost use Rattle.std.specs.Prelude.{◌≡◌, ◌≤◌, length};
+ghost use Rattle.std.specs.Prelude.{◌≡◌, ◌≤◌, length, ⊤};
 
 use fidl_names::MAX_NAME;
+use std::alloc::AllocError;
 use std::marker::Model;
 
 /// A name of 1 to 255 bytes in an array, so that it takes no memory of its own. Contracts see it as
@@ -43,5 +44,18 @@ impl NameBuf {
         ensures few { length result.now ≤ MAX_NAME }
     {
         &self.bytes[..self.length]
+    }
+}
+
+impl Clone for NameBuf {
+    ghost is_clone = { λ name copy. copy ≡ name };
+
+    ghost is_infallible = { λ _. ⊤ };
+
+    fn clone(&self) -> Result<NameBuf, AllocError> {
+        Ok(NameBuf {
+            bytes: self.bytes,
+            length: self.length,
+        })
     }
 }

@@ -1,4 +1,4 @@
-use Rattle.std.proofs.Common.{◌∙◌, sym, ap, subst, refl, Ok, Err, Option, None, true, false}
+use Rattle.std.proofs.Common.{◌∙◌, sym, ap, subst, refl, Ok, Err, Option, Some, None, true, false}
 use Rattle.std.specs.Prelude.{if◌then◌else◌}
 use Rattle.slab.specs.Slab.{with_value}
 use Rattle.node_graph.specs.declared.faults.GraphFault.{GraphFault}
@@ -10,7 +10,7 @@ use Rattle.node_graph.specs.Graph.{Answers, StandsFor}
 use Rattle.node_graph.specs.Ends.{name_in}
 use Rattle.node_graph.specs.Rows.{kept_of}
 use Rattle.node_graph.proofs.Creates.{reached_here}
-use Rattle.node_graph.proofs.Readings.{linked_here, behind, rename_none, rename_moving, rename_same, rename_other, replace_none, replace_some, behind_none, move_loop, move_removed, replace_bare, only_memory}
+use Rattle.node_graph.proofs.Readings.{linked_here, behind, rename_none, rename_moving, rename_same, rename_other, replace_none, replace_some, behind_none, move_loop, move_memory, move_removed, replace_bare, only_memory}
 use Rattle.node_graph.proofs.Shifts.{not_within, two_keys, rows_free, turns_free, present_left, rows_over, turns_over}
 use Rattle.node_graph.proofs.graph.Graph.rename.Goals as goal
 
@@ -23,6 +23,9 @@ pub returns-in-Some-move_fault-clause-answer : goal.returns-in-Some-move_fault-c
 returns-in-Some-move_fault-clause-answer c tree stands =
     let P : Option GraphFault → Type 0 = λ r. Answers {T = Moved} (Err c.in-Some-move_fault.fault) r in
     subst P (sym (rename_moving c.self.inside.nodes c.self.inside.edges c.self.inside.made c.args.self.now c.self.view_is c.self.invariant tree stands (name_in c.args.dir.number c.args.src.now) (name_in c.args.into.number c.args.dst.now) c.in-Some.from (sym c.find.ensures.found ∙ c.in-Some.is) c.move_fault.result c.move_fault.ensures c.in-Some-move_fault.fault c.in-Some-move_fault.is)) refl
+
+pub returns-in-Some-move_fault-clause-same : goal.returns-in-Some-move_fault-clause-same
+returns-in-Some-move_fault-clause-same c same = λ wants. move_memory _ _ _ (sym c.move_fault.ensures ∙ c.in-Some-move_fault.is ∙ ap Some wants)
 
 pub returns-then-is_same_name-clause-answer : goal.returns-then-is_same_name-clause-answer
 returns-then-is_same_name-clause-answer c tree stands =

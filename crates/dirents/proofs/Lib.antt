@@ -1,0 +1,5 @@
+pub mod Listed
+mod Lengths
+mod Taking
+mod Once
+mod Numbers

@@ -1,0 +1,4 @@
+pub mod Listings
+pub mod Packing
+pub mod Reading
+pub mod Steps

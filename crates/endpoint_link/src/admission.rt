@@ -1,0 +1,175 @@
+// The first refusal of a frame, over whatever can be looked up.
+
+ghost use Rattle.std.specs.Prelude.{◌≡◌, ◌≤◌, [], length, drop, count_by};
+ghost use Rattle.fidl_names.specs.HandleNumber.{is_client};
+ghost use Rattle.endpoint_link.specs.Numbering.{among};
+ghost use Rattle.endpoint_link.specs.Admission.{LookUps, by_standing, may_travel, all_may_travel, is_full, too_many, refusal_by, admission};
+ghost use Rattle.endpoint_link.specs.Views.{frame_of, handle_numbers};
+
+use crate::frame::{FrameView, HandleBytes};
+use crate::kinds::{FrameKind, Refusal, Standing};
+use fidl_names::{MAX_LIVE, MAX_WAITING, is_client};
+
+/// What admission looks up.
+pub trait LookUp {
+    /// All that it tells.
+    ghost tells: { Self → LookUps };
+
+    /// How a number stands.
+    fn standing_at(&self, number: u32) -> Standing
+        ensures { result ≡ (tells self.now).standing number };
+
+    /// Whether a number was used as an endpoint.
+    fn was_used(&self, number: u32) -> bool
+        ensures { result ≡ (tells self.now).used number };
+
+    /// Whether the clients hold this token.
+    fn is_held(&self, token: u32) -> bool
+        ensures { result ≡ (tells self.now).holds token };
+
+    /// How many entries wait.
+    fn waiting(&self) -> u32
+        ensures { result ≡ (tells self.now).waiting };
+
+    /// How many endpoints are live.
+    fn live(&self) -> u32
+        ensures { result ≡ (tells self.now).live };
+
+    /// How many servers there are.
+    fn servers(&self) -> u32
+        ensures { result ≡ (tells self.now).servers };
+}
+
+/// The first refusal of a frame, by what is looked up; `None` for one that may be admitted.
+pub fn first_refusal<L: LookUp>(look_ups: &L, frame: FrameView<'_>) -> Option<Refusal>
+    ensures { result ≡ admission (L.tells look_ups.now) (frame_of frame.entry) }
+{
+    match frame.kind {
+        FrameKind::Message => message_refusal(look_ups, frame.endpoint, frame.handles),
+        FrameKind::Close => close_refusal(look_ups, frame.endpoint),
+        FrameKind::Turn => turn_refusal(look_ups, frame.endpoint),
+        FrameKind::Pick => by_standing(look_ups.standing_at(frame.endpoint)),
+        FrameKind::Refused => None,
+    }
+}
+
+fn message_refusal<L: LookUp>(
+    look_ups: &L,
+    endpoint: u32,
+    handles: HandleBytes<'_>,
+) -> Option<Refusal>
+    ensures { result ≡ refusal_by FrameKind.Message (L.tells look_ups.now) endpoint (handle_numbers handles.entry) }
+{
+    if let Some(why) = by_standing(look_ups.standing_at(endpoint)) {
+        return Some(why);
+    }
+    if !is_client(endpoint) {
+        return Some(Refusal::BadHandle);
+    }
+    if !all_may_travel(look_ups, handles) {
+        return Some(Refusal::BadHandle);
+    }
+    if is_full(look_ups) {
+        return Some(Refusal::ShouldWait);
+    }
+    if too_many(look_ups, handles) {
+        return Some(Refusal::NoResources);
+    }
+    None
+}
+
+fn close_refusal<L: LookUp>(look_ups: &L, endpoint: u32) -> Option<Refusal>
+    ensures { result ≡ refusal_by FrameKind.Close (L.tells look_ups.now) endpoint [] }
+{
+    if let Some(why) = by_standing(look_ups.standing_at(endpoint)) {
+        return Some(why);
+    }
+    if !is_client(endpoint) {
+        return Some(Refusal::BadHandle);
+    }
+    if is_full(look_ups) {
+        return Some(Refusal::ShouldWait);
+    }
+    None
+}
+
+fn turn_refusal<L: LookUp>(look_ups: &L, server: u32) -> Option<Refusal>
+    ensures { result ≡ refusal_by FrameKind.Turn (L.tells look_ups.now) server [] }
+{
+    if server >= look_ups.servers() {
+        return Some(Refusal::BadHandle);
+    }
+    None
+}
+
+/// The refusal of a frame on an endpoint that stands so.
+fn by_standing(standing: Standing) -> Option<Refusal>
+    ensures { result ≡ by_standing standing }
+{
+    match standing {
+        Standing::Unused => Some(Refusal::BadHandle),
+        Standing::Live => None,
+        Standing::HungUp | Standing::Dead => Some(Refusal::PeerClosed),
+    }
+}
+
+/// Whether a handle is a client number that was never used, or a token that is held.
+fn may_travel<L: LookUp>(look_ups: &L, handle: u32) -> bool
+    ensures { result ≡ may_travel (L.tells look_ups.now) handle }
+{
+    if is_client(handle) && !look_ups.was_used(handle) {
+        return true;
+    }
+    look_ups.is_held(handle)
+}
+
+/// Whether each handle may travel, and none stands twice.
+fn all_may_travel<L: LookUp>(look_ups: &L, handles: HandleBytes<'_>) -> bool
+    ensures { result ≡ all_may_travel (L.tells look_ups.now) (handle_numbers handles.entry) }
+{
+    for i in 0..handles.len() {
+        let handle = handles.at(i);
+        if !may_travel(look_ups, handle) || stands_from(handles, i + 1, handle) {
+            return false;
+        }
+    }
+    true
+}
+
+/// Whether a number is among the handles from a place on.
+fn stands_from(handles: HandleBytes<'_>, from: usize, number: u32) -> bool
+    requires { from ≤ length (handle_numbers handles) }
+    ensures { result ≡ among number (drop from (handle_numbers handles.entry)) }
+{
+    for i in from..handles.len() {
+        if handles.at(i) == number {
+            return true;
+        }
+    }
+    false
+}
+
+fn is_full<L: LookUp>(look_ups: &L) -> bool
+    ensures { result ≡ is_full (L.tells look_ups.now) }
+{
+    look_ups.waiting() >= MAX_WAITING
+}
+
+fn too_many<L: LookUp>(look_ups: &L, handles: HandleBytes<'_>) -> bool
+    ensures { result ≡ too_many (L.tells look_ups.now) (handle_numbers handles.entry) }
+{
+    look_ups.live() as usize + count_clients(handles) > MAX_LIVE
+}
+
+/// How many of the handles are clients' numbers.
+fn count_clients(handles: HandleBytes<'_>) -> usize
+    ensures { result ≡ count_by is_client (handle_numbers handles.entry) }
+{
+    let mut count = 0;
+    for i in 0..handles.len() {
+        if is_client(handles.at(i)) {
+            count += 1;
+        }
+    }
+    count
+}
