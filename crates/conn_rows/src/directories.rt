@@ -15,7 +15,7 @@ use node_graph::{Graph, GraphFault, NodeKind, NodeRef};
 use std::process::Abort;
 use std::test::Fail;
 
-const ROOM: Room = Room {
+pub(crate) const ROOM: Room = Room {
     connections: 1,
     watchers: 0,
     token: None,
@@ -56,18 +56,28 @@ fn small_tree(rt: &impl Abort, mut graph: Graph) -> Result<Graph, GraphFault> {
     Ok(graph)
 }
 
-// A connection to the root.
-fn root_conn(graph: &Graph) -> DirConn
+// A connection to a directory, with all rights.
+pub(crate) fn conn_to(graph: &Graph, node: NodeRef) -> DirConn
+    requires named { Names graph.now node }
+    requires directory { kind_at graph.now (number_of node) ≡ Some Directory }
     ensures can { CanBeBound graph.now result.birth }
     ensures protocol { result.birth.protocol ≡ Protocol.Directory }
 {
     DirConn::new(Birth {
-        node: graph.root(),
+        node,
         rights: Rights::all(),
         protocol: Protocol::Directory,
         append: false,
         announce: false,
     })
+}
+
+// A connection to the root.
+fn root_conn(graph: &Graph) -> DirConn
+    ensures can { CanBeBound graph.now result.birth }
+    ensures protocol { result.birth.protocol ≡ Protocol.Directory }
+{
+    conn_to(graph, graph.root())
 }
 
 // What the root answers to an Open.
@@ -279,7 +289,7 @@ fn requests_get_their_replies(rt: HostRuntime) -> Result<(), Fail> {
     let mut graph = small_tree(&rt, Graph::new(rt.alloc())?)?;
     let ordinals = Ordinals::new().expect(&rt, "no two are equal");
     let mut out = Out::new(rt.alloc())?;
-    let rows: [(Request<'_>, &[u8]); 3] = [
+    let rows: [(Request<'_>, &[u8]); 4] = [
         (
             Request::Sync,
             b"\x02\x00\x00\x00\x02\x00\x00\x01\x49\xdc\xb5\x0a\xca\x27\x5c\x2c\
@@ -292,10 +302,18 @@ fn requests_get_their_replies(rt: HostRuntime) -> Result<(), Fail> {
                 fuchsia.io/Directory\x00\x00\x00\x00",
         ),
         (
-            Request::ReadDirents { max_bytes: 100 },
+            Request::ReadDirents { max_bytes: 8193 },
             b"\x02\x00\x00\x00\x02\x00\x00\x01\x14\x91\x6b\x2a\x59\xcc\xb0\x05\
-                \xfe\xff\xff\xff\x00\x00\x00\x00\x00\x00\x00\x00\x00\x00\x00\x00\
+                \xf6\xff\xff\xff\x00\x00\x00\x00\x00\x00\x00\x00\x00\x00\x00\x00\
                 \xff\xff\xff\xff\xff\xff\xff\xff",
+        ),
+        (
+            Request::ReadDirents { max_bytes: 22 },
+            b"\x02\x00\x00\x00\x02\x00\x00\x01\x14\x91\x6b\x2a\x59\xcc\xb0\x05\
+                \x00\x00\x00\x00\x00\x00\x00\x00\x16\x00\x00\x00\x00\x00\x00\x00\
+                \xff\xff\xff\xff\xff\xff\xff\xff\
+                \x01\x00\x00\x00\x00\x00\x00\x00\x01\x04.\
+                \x02\x00\x00\x00\x00\x00\x00\x00\x01\x04d\x00\x00",
         ),
     ];
     for (request, bytes) in rows {

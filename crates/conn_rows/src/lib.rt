@@ -7,4 +7,6 @@ mod directories;
 #[cfg(test)]
 mod files;
 #[cfg(test)]
+mod names;
+#[cfg(test)]
 mod references;

@@ -1,8 +1,10 @@
 -- What a connection is bound with, and where it stands.
-use Rattle.std.specs.Prelude.{ℕ, Bool, List}
+use Rattle.std.specs.Prelude.{ℕ, Bool}
 use Rattle.io_messages.specs.declared.protocols.Protocol.{Protocol}
 use Rattle.io_rights.specs.Operations.{OperationSet}
 use Rattle.node_graph.specs.Graph.{number_of}
+use Rattle.dirents.specs.declared.place.Place.{Place}
+use Rattle.dirents.specs.declared.place.Place.TheVariants.{Start}
 use Rattle.conn_rules.specs.declared.births.Birth as code
 
 -- the number of the node, what may be done on the connection, its protocol, and whether it writes at a file's end
@@ -16,12 +18,6 @@ pub record Birth : Type 0 where
 abbrev pub born : code.Birth → Birth
 born birth = record { node = number_of birth.node; rights = birth.rights; protocol = birth.protocol; append = birth.append }
 
--- where a listing goes on: at its start, after `.`, or after a name
-pub data Place : Type 0 where
-  start : Place
-  after_dot : Place
-  after_name : (name : List ℕ) → Place
-
 -- a file's position is a number of bytes, a directory's a place of its listing; the other of the two stays at its beginning
 pub record Position : Type 0 where
   pub offset : ℕ
@@ -29,7 +25,7 @@ pub record Position : Type 0 where
 
 -- the position of a connection that was just bound
 abbrev pub fresh : Position
-fresh = record { offset = 0; place = start }
+fresh = record { offset = 0; place = Start }
 
 -- a connection: its birth, and where it stands
 pub record Connection : Type 0 where

@@ -11,13 +11,8 @@ pub record Built : Type 0 where
 abbrev pub everything : Built
 everything = record { methods = λ m. true }
 
--- no directory is listed, named by a token or watched, and no name goes to where a token says
+-- no directory is watched
 abbrev pub is_method_of_today : Method → Bool
-is_method_of_today method.ReadDirents = false
-is_method_of_today method.Rewind = false
-is_method_of_today method.GetToken = false
-is_method_of_today method.Rename = false
-is_method_of_today method.Link = false
 is_method_of_today method.Watch = false
 is_method_of_today _ = true
 

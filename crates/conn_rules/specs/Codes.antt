@@ -7,7 +7,9 @@ use Rattle.io_rights.specs.Operations.{OperationSet}
 use Rattle.node_graph.specs.declared.nodes.NodeRef.{NodeRef}
 use Rattle.node_graph.specs.Codes.{node_code, mask_code}
 use Rattle.conn_rules.specs.declared.births.Birth as code
-use Rattle.conn_rules.specs.Births.{Place, start, after_dot, after_name, Position, Connection}
+use Rattle.dirents.specs.declared.place.Place.{Place}
+use Rattle.dirents.specs.declared.place.Place.TheVariants.{Start, AfterDot, After}
+use Rattle.conn_rules.specs.Births.{Position, Connection}
 
 abbrev pub number_of_protocol : Protocol → ℕ
 number_of_protocol protocol.Directory = 0
@@ -41,19 +43,19 @@ birth_code =
     (λ _. refl)
 
 abbrev pub place_pair : Place → ℕ × List ℕ
-place_pair start = (0, [])
-place_pair after_dot = (1, [])
-place_pair (after_name name) = (2, name)
+place_pair Start = (0, [])
+place_pair AfterDot = (1, [])
+place_pair (After name) = (2, name)
 
 abbrev pub place_from : ℕ → List ℕ → Place
-place_from zero name = start
-place_from (suc zero) name = after_dot
-place_from (suc (suc more)) name = after_name name
+place_from zero name = Start
+place_from (suc zero) name = AfterDot
+place_from (suc (suc more)) name = After name
 
 pub place_back : (p : Place) → place_from (place_pair p).0 (place_pair p).1 ≡ p
-place_back start = refl
-place_back after_dot = refl
-place_back (after_name name) = refl
+place_back Start = refl
+place_back AfterDot = refl
+place_back (After name) = refl
 
 abbrev pub place_code : Coded Place
 place_code = code_by (ℕ × List ℕ) (coded× coded_ℕ (coded_list coded_ℕ)) place_pair (λ p. place_from p.0 p.1) place_back

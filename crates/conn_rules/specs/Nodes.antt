@@ -1,5 +1,5 @@
 -- What the rows of a tree tell of one node.
-use Rattle.std.specs.Prelude.{ℕ, ◌==◌, Bool, true, false, if◌then◌else◌, List, [], length, Option, Some, None, unwrap_or, codes}
+use Rattle.std.specs.Prelude.{ℕ, ◌==◌, Bool, true, false, if◌then◌else◌, List, [], length, Option, Some, None, codes}
 use Rattle.std.specs.Int.{bit_at}
 use Rattle.std.specs.Option.{option_map_or}
 use Rattle.io_messages.specs.declared.protocols.Protocol.{Protocol}
@@ -7,16 +7,13 @@ use Rattle.io_messages.specs.declared.protocols.Protocol.TheVariants as protocol
 use Rattle.io_messages.specs.declared.replies.Attributes.{Attributes}
 use Rattle.node_graph.specs.declared.nodes.NodeKind.{NodeKind}
 use Rattle.node_graph.specs.declared.nodes.NodeKind.TheVariants.{Directory, File, Service, Mount}
+pub use Rattle.dirents.specs.Listings.{kind_here}
 pub use Rattle.node_graph.specs.Refusals.{edge_at, is_directory, is_mount}
-use Rattle.node_graph.specs.Tree.{Tree, EdgeTo, row_of, kind_of, link_count}
+use Rattle.node_graph.specs.Tree.{Tree, EdgeTo, row_of, link_count}
 
 -- a file's bytes
 abbrev pub bytes_of : Tree → ℕ → List ℕ
 bytes_of tree number = option_map_or (λ row. row.bytes) (row_of tree.nodes number) []
-
--- what a node is; a number without a row, which is no node's, stands as a directory
-abbrev pub kind_here : Tree → ℕ → NodeKind
-kind_here tree number = unwrap_or (kind_of tree number) Directory
 
 abbrev pub is_file : NodeKind → Bool
 is_file File = true

@@ -63,13 +63,5 @@ fn lacks_right(birth: &Birth, method: Method) -> bool
 fn is_built(method: Method) -> bool
     ensures { result ≡ is_method_of_today method }
 {
-    !matches!(
-        method,
-        Method::ReadDirents
-            | Method::Rewind
-            | Method::GetToken
-            | Method::Rename
-            | Method::Link
-            | Method::Watch
-    )
+    !matches!(method, Method::Watch)
 }

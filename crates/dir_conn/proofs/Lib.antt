@@ -3,4 +3,7 @@ pub mod Binding
 pub mod Opening
 pub mod Making
 pub mod Unlinking
+pub mod ListingRows
+pub mod Trying
+pub mod Naming
 pub mod Narrow

@@ -1,4 +1,5 @@
 pub mod Reaches
 pub mod Served
 pub mod Opened
+pub mod Tried
 pub mod Laws

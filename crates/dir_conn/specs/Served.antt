@@ -9,7 +9,8 @@ use Rattle.node_graph.specs.Graph.{Kept, Leads}
 use Rattle.conn_rules.specs.declared.births.Birth as code
 use Rattle.conn_rules.specs.declared.changes.Changes.{Changes}
 use Rattle.conn_rules.specs.Answers.{Act, Answer, Happening, nothing_told, replies, closes, binds, watches, forwards, refuses}
-use Rattle.conn_rules.specs.Births.{Connection}
+use Rattle.dirents.specs.declared.place.Place.{Place}
+use Rattle.conn_rules.specs.Births.{Connection, Position}
 use Rattle.conn_rules.specs.Served.{HasReply, HasNothing, IsBirth, told_by}
 use Rattle.conn_rules.specs.Shared.{CanBeBound}
 use Rattle.dir_conn.specs.declared.served.DirServed.{DirServed}
@@ -46,3 +47,7 @@ abbrev pub directory_named : (ℕ → Option ℕ) → Asked → Option ℕ
 directory_named directory (asks.rename src token dst) = directory token
 directory_named directory (asks.link src token dst) = directory token
 directory_named directory _ = None
+
+-- where a connection to a directory stands, by the place of its listing
+abbrev pub standing_at : Place → Position
+standing_at place = record { offset = 0; place = place }

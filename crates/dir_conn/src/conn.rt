@@ -8,18 +8,23 @@ ghost use Rattle.node_graph.specs.declared.nodes.NodeKind.TheVariants.{Directory
 ghost use Rattle.node_graph.specs.Graph.{Names, StandsFor, kind_at, number_of};
 ghost use Rattle.node_graph.specs.Tree.{Tree};
 ghost use Rattle.conn_rules.specs.Acts.{act_of, row_act};
-ghost use Rattle.conn_rules.specs.Births.{Position, born, connection_with, fresh};
+ghost use Rattle.conn_rules.specs.Births.{born, connection_with, fresh};
 ghost use Rattle.conn_rules.specs.Built.{today, is_method_of_today};
 ghost use Rattle.conn_rules.specs.Contexts.{context_of, context_with};
 ghost use Rattle.conn_rules.specs.Served.{HasNothing, IsUntouched, KeepsHolds, takes_memory};
 ghost use Rattle.conn_rules.specs.Shared.{CanBeBound};
 ghost use Rattle.dir_conn.specs.Opened.{Keeps};
-ghost use Rattle.dir_conn.specs.Served.{IsDirServed, directory_named};
+ghost use Rattle.dir_conn.specs.Served.{IsDirServed, directory_named, standing_at};
 
+use crate::link::link;
+use crate::listing::{list, rewind};
 use crate::open::open;
+use crate::rename::rename;
 use crate::served::{DirServed, of_node};
+use crate::token::get_token;
 use crate::unlink::unlink;
 use conn_rules::{Birth, Room, fail, method_refusal, serve_node};
+use dirents::Place;
 use fidl_wire::{Ordinals, Out};
 use io_messages::{Protocol, Request};
 use node_graph::{Graph, NodeRef};
@@ -29,17 +34,19 @@ use std::marker::Model;
 #[derive(Drop)]
 pub struct DirConn {
     birth: Birth,
+    place: Place,
 }
 
 impl Model for DirConn {
-    ghost use Rattle.conn_rules.specs.Births.{Connection, fresh};
+    ghost use Rattle.conn_rules.specs.Births.{Connection};
     ghost use Rattle.conn_rules.specs.Codes.{connection_code};
+    ghost use Rattle.dir_conn.specs.Served.{standing_at};
 
     ghost Value = { Connection };
 
     ghost coded = { connection_code };
 
-    ghost view = { λ conn. record { birth = conn.birth; position = fresh } };
+    ghost view = { λ conn. record { birth = conn.birth; position = standing_at conn.place } };
 }
 
 impl DirConn {
@@ -48,7 +55,10 @@ impl DirConn {
         ensures birth { result.birth ≡ birth }
         ensures position { result.position ≡ fresh }
     {
-        DirConn { birth }
+        DirConn {
+            birth,
+            place: Place::Start,
+        }
     }
 
     /// The directory that it is to.
@@ -66,8 +76,7 @@ impl DirConn {
     /// Want of memory is answered to Link, Rename and an Open that creates alone, where nothing else
     /// refuses them; connection, graph and output are then as they were.
     ///
-    /// What isn't built yet is refused with NOT_SUPPORTED: the methods that list, name or watch the
-    /// directory, and those that give a node another name.
+    /// What isn't built yet, Watch, is refused with NOT_SUPPORTED behind its right.
     pub fn serve<'a>(
         &mut self,
         ordinals: &Ordinals,
@@ -98,7 +107,17 @@ impl DirConn {
         let method = request.method();
         match method_refusal(&self.birth, method) {
             Some(status) => of_node(fail(ordinals, txid, method, status, out)),
-            None => serve_row(&self.birth, ordinals, graph, room, txid, request, out),
+            None => serve_row(
+                &self.birth,
+                &mut self.place,
+                ordinals,
+                graph,
+                room,
+                target,
+                txid,
+                request,
+                out,
+            ),
         }
     }
 }
@@ -106,31 +125,48 @@ impl DirConn {
 /// Serves a request that isn't refused for its method.
 fn serve_row<'a>(
     birth: &Birth,
+    place: &mut Place,
     ordinals: &Ordinals,
     graph: &mut Graph,
     room: Room,
+    target: Option<NodeRef>,
     txid: u32,
     request: Request<'a>,
     out: &mut Out,
 ) -> DirServed<'a>
     requires can { CanBeBound graph.old birth.now }
+    requires target { (node : NodeRef) → target ≡ Some node → Names graph.old node × (kind_at graph.old (number_of node) ≡ Some Directory) }
     requires made { graph.old.made < 2 ^ 63 }
     requires protocol { birth.now.protocol ≡ Protocol.Directory }
     requires method { has_method Protocol.Directory (method_of (asked request)) ≡ true }
     requires built { is_method_of_today (method_of (asked request)) ≡ true }
     requires txid { has_txid (is_one_way (method_of (asked request))) txid ≡ true }
     requires empty { HasNothing out.old }
-    ensures served { (tree : Tree) (position : Position) (directory : ℕ → Option ℕ) → StandsFor graph.old tree → result ≢ DirServed.NoMemory →
-        IsDirServed (row_act (context_with today (born birth.now) position room tree directory) (asked request.entry)) txid result out.new
-        (connection_with birth.now position) graph.old graph.new }
+    ensures served { (tree : Tree) (directory : ℕ → Option ℕ) → StandsFor graph.old tree →
+        directory_named directory (asked request.entry) ≡ option_map number_of target → result ≢ DirServed.NoMemory →
+        IsDirServed (row_act (context_with today (born birth.now) (standing_at place.old) room tree directory) (asked request.entry)) txid result out.new
+        (connection_with birth.now (standing_at place.new)) graph.old graph.new }
     ensures keeps { Keeps graph.old graph.new }
-    ensures memory { (tree : Tree) (position : Position) (directory : ℕ → Option ℕ) → StandsFor graph.old tree → result ≡ DirServed.NoMemory →
-        takes_memory (row_act (context_with today (born birth.now) position room tree directory) (asked request.entry)).change ≡ true }
+    ensures memory { (tree : Tree) (directory : ℕ → Option ℕ) → StandsFor graph.old tree →
+        directory_named directory (asked request.entry) ≡ option_map number_of target → result ≡ DirServed.NoMemory →
+        takes_memory (row_act (context_with today (born birth.now) (standing_at place.old) room tree directory) (asked request.entry)).change ≡ true }
     ensures untouched { result ≡ DirServed.NoMemory → graph.new ≡ graph.old }
+    ensures stays { result ≡ DirServed.NoMemory → place.new ≡ place.old }
     ensures empty { result ≡ DirServed.NoMemory → HasNothing out.new }
 {
     match request {
         Request::OpenPath { path, flags, .. } => open(birth, graph, room, path, flags),
+        Request::ReadDirents { max_bytes } => {
+            list(birth, place, ordinals, graph, txid, max_bytes, out)
+        }
+        Request::Rewind => rewind(birth, place, ordinals, txid, out),
+        Request::GetToken => get_token(birth, ordinals, room, txid, out),
+        Request::Rename { src, dst, .. } => {
+            rename(birth, ordinals, graph, target, txid, src, dst, out)
+        }
+        Request::Link { src, dst, .. } => {
+            link(birth, ordinals, graph, target, txid, src, dst, out)
+        }
         Request::Unlink { name, flags } => unlink(birth, ordinals, graph, txid, name, flags, out),
         _ => of_node(serve_node(birth, ordinals, graph, room, txid, &request, out)),
     }

@@ -5,10 +5,15 @@ mod arrive;
 mod conn;
 mod entry;
 mod laws;
+mod link;
+mod listing;
 mod make;
 mod open;
+mod rename;
 mod served;
 mod steps;
+mod token;
+mod two_names;
 mod unlink;
 mod walk;
 

@@ -83,7 +83,7 @@ fn bind_made<'a>(
 }
 
 /// A name is new.
-fn new_name<'a>(dir: u64, name: &'a [u8]) -> Changes<'a>
+pub(crate) fn new_name<'a>(dir: u64, name: &'a [u8]) -> Changes<'a>
     ensures told { told_by result ≡ added (record { directory = dir; name = name.now }) ∷ [] }
 {
     Changes {

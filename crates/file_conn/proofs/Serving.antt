@@ -8,12 +8,14 @@ use Rattle.fidl_wire.specs.Written.{Written}
 use Rattle.io_messages.specs.Replies.{Answered, payload}
 use Rattle.node_graph.specs.Graph.{Kept, Leads, Names, StandsFor, bytes_at, number_of}
 use Rattle.node_graph.specs.Tree.{Change, Tree}
+use Rattle.dirents.specs.declared.place.Place.{Place}
+use Rattle.dirents.specs.declared.place.Place.TheVariants.{Start}
 use Rattle.conn_rules.specs.declared.births.Birth as code
 use Rattle.conn_rules.specs.declared.births.Room.{Room}
 use Rattle.conn_rules.specs.declared.served.Served.{Served}
 use Rattle.conn_rules.specs.declared.served.Served.TheVariants as served
 use Rattle.conn_rules.specs.Answers.{Act, Answer, only, failure_of, replies, nothing_told}
-use Rattle.conn_rules.specs.Births.{Connection, Place, Position, connection_with, start}
+use Rattle.conn_rules.specs.Births.{Connection, Position, connection_with}
 use Rattle.conn_rules.specs.Built.{today}
 use Rattle.conn_rules.specs.Contexts.{context_of}
 use Rattle.conn_rules.specs.FileRows.{at_byte, behind_written, part_from, read_act, read_at_act}
@@ -28,7 +30,7 @@ Answers answer txid result out = (connection : Connection) (graph : Kept) → Is
 
 -- a connection to a file, by its fields
 abbrev pub file_at : code.Birth → ℕ → Connection
-file_at birth offset = connection_with birth (record { offset = offset; place = start })
+file_at birth offset = connection_with birth (record { offset = offset; place = Start })
 
 -- the tree has the bytes that were read, or written over
 pub held_here : (birth : code.Birth) (old : Connection) (tree : Tree) (graph : Kept) (held : List ℕ) → birth ≡ old.birth → StandsFor graph tree → Names graph old.birth.node →
@@ -105,4 +107,4 @@ place_behind position from (byte ∷ bytes) = refl
 pub behind_at : (birth : code.Birth) (offset : ℕ) (old : Connection) (from : ℕ) (bytes : List ℕ) (found : ℕ) → file_at birth offset ≡ old → found ≡ (behind_written old.position from bytes).offset →
     (file_at birth found).position ≡ behind_written old.position from bytes
 behind_at birth offset old from bytes found same at =
-    at_place (behind_written old.position from bytes) found start at (place_behind old.position from bytes ∙ sym (ap (λ conn. conn.position.place) same))
+    at_place (behind_written old.position from bytes) found Start at (place_behind old.position from bytes ∙ sym (ap (λ conn. conn.position.place) same))

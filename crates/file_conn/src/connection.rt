@@ -27,14 +27,15 @@ pub struct FileConn {
 
 impl Model for FileConn {
     ghost use Rattle.std.specs.Prelude.{◌<◌, ◌^◌};
-    ghost use Rattle.conn_rules.specs.Births.{Connection, start};
+    ghost use Rattle.dirents.specs.declared.place.Place.TheVariants.{Start};
+    ghost use Rattle.conn_rules.specs.Births.{Connection};
     ghost use Rattle.conn_rules.specs.Codes.{connection_code};
 
     ghost Value = { Connection };
 
     ghost coded = { connection_code };
 
-    ghost view = { λ c. record { birth = c.birth; position = record { offset = c.position; place = start } } };
+    ghost view = { λ c. record { birth = c.birth; position = record { offset = c.position; place = Start } } };
 
     ghost invariant = { λ c. c.position < 2 ^ 63 };
 }

@@ -1,45 +1,43 @@
 -- A refusal for the method stands before the rows.
-use Rattle.std.proofs.Common.{◌≡◌, ◌∙◌, ap, sym}
+use Rattle.std.proofs.Common.{◌≡◌, true, ap, refl, subst}
 use Rattle.io_messages.specs.Asked.{asked}
+use Rattle.conn_rules.specs.Acts.{act_of}
 use Rattle.conn_rules.specs.Answers.{failure_of, only}
+use Rattle.conn_rules.specs.Births.{Connection, connection_with}
 use Rattle.conn_rules.specs.Built.{today}
+use Rattle.conn_rules.specs.Contexts.{context_of}
+use Rattle.conn_rules.specs.Served.{takes_memory}
 use Rattle.conn_rules.proofs.Taking.{refused_as_failure, taken_as_row}
+use Rattle.dir_conn.specs.Served.{IsDirServed, standing_at}
 use Rattle.dir_conn.proofs.conn.DirConn.serve.Goals as goal
-use Rattle.dir_conn.proofs.conn.DirConn.serve.Goals.{in-Some, in-None}
 
-pub returns-clause-serves : goal.returns-clause-serves
-returns-clause-serves c = λ tree directory stands named some.
+pub returns-in-Some-clause-serves : goal.returns-in-Some-clause-serves
+returns-in-Some-clause-serves c = λ tree directory stands named some.
     let same : c.self.inside.birth ≡ c.args.self.now.birth = ap (λ conn. conn.birth) c.self.view_is in
-    elim c.match-method_refusal.branch [
-      | in-Some w ↦
-          rw (
-            refused_as_failure today c.self.inside.birth c.args.self.now c.args.room tree directory (asked c.args.request) c.method-method.result
-                w.in-Some.status same c.method-method.ensures w.in-Some.ensures.first,
-            w.out-is,
-            w.result-is,
-            w.graph-is,
-          )
-          (w.of_node.ensures.served (only c.args.self.now.position (failure_of c.method-method.result w.in-Some.status)) c.args.txid w.fail.new.out
-          c.args.self.now c.args.graph.now (w.fail.ensures.served c.args.self.now c.args.graph.now))
-      | in-None w ↦
-          rw (
-            taken_as_row today c.self.inside.birth c.args.self.now c.args.room tree directory (asked c.args.request) c.method-method.result same
-                c.method-method.ensures w.in-None.ensures.first,
-            w.out-is,
-            w.result-is,
-            w.graph-is,
-          )
-          (rw same at w.serve_row.ensures.served tree c.args.self.now.position directory stands (rw w.result-is at some))
-    ]
+    rw (
+    refused_as_failure today c.self.inside.birth c.args.self.now c.args.room tree directory (asked c.args.request) c.method-method.result
+    c.in-Some.status same c.method-method.ensures c.in-Some.ensures.first
+    )
+    (c.of_node.ensures.served (only c.args.self.now.position (failure_of c.method-method.result c.in-Some.status)) c.args.txid c.fail.new.out
+    c.args.self.now c.args.graph.now (c.fail.ensures.served c.args.self.now c.args.graph.now))
 
-pub returns-clause-memory : goal.returns-clause-memory
-returns-clause-memory c = λ tree directory stands named wants.
-    let same : c.self.inside.birth ≡ c.args.self.now.birth = ap (λ conn. conn.birth) c.self.view_is in
-    elim c.match-method_refusal.branch [
-      | in-Some w ↦ absurd (w.of_node.ensures.memory w.fail.ensures.memory (sym w.result-is ∙ wants))
-      | in-None w ↦
-          rw
-          (taken_as_row today c.self.inside.birth c.args.self.now c.args.room tree directory (asked c.args.request) c.method-method.result same
-          c.method-method.ensures w.in-None.ensures.first)
-          (rw same at w.serve_row.ensures.memory tree c.args.self.now.position directory stands (sym w.result-is ∙ wants))
-    ]
+pub returns-in-None-clause-serves : goal.returns-in-None-clause-serves
+returns-in-None-clause-serves c = λ tree directory stands named some.
+    let now = connection_with c.self.inside.birth (standing_at c.serve_row.new.place) in
+    subst
+    (λ (was : Connection). IsDirServed (act_of (context_of today was c.args.room tree directory) (asked c.args.request)) c.args.txid c.serve_row.result
+    c.serve_row.new.out now c.args.graph.now c.serve_row.new.graph) c.self.view_is
+    (rw (
+    taken_as_row today c.self.inside.birth (connection_with c.self.inside.birth (standing_at c.self.inside.place)) c.args.room tree directory
+    (asked c.args.request) c.method-method.result refl c.method-method.ensures c.in-None.ensures.first
+    )
+    (c.serve_row.ensures.served tree directory stands named some))
+
+pub returns-in-None-clause-memory : goal.returns-in-None-clause-memory
+returns-in-None-clause-memory c = λ tree directory stands named wants.
+    subst (λ (was : Connection). takes_memory (act_of (context_of today was c.args.room tree directory) (asked c.args.request)).change ≡ true) c.self.view_is
+    (rw (
+    taken_as_row today c.self.inside.birth (connection_with c.self.inside.birth (standing_at c.self.inside.place)) c.args.room tree directory
+    (asked c.args.request) c.method-method.result refl c.method-method.ensures c.in-None.ensures.first
+    )
+    (c.serve_row.ensures.memory tree directory stands named wants))

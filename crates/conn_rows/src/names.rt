@@ -1,0 +1,363 @@
+//! What Rename, Link, Unlink and GetToken answer and tell, row by row over one tree.
+
+ghost use Rattle.std.specs.Prelude.{◌≡◌, ◌<◌, ◌^◌, ◌-◌, ℕ, Some, IfOk, IfSome, length};
+ghost use Rattle.node_graph.specs.declared.nodes.NodeKind.TheVariants.{Directory};
+ghost use Rattle.node_graph.specs.Graph.{Names, SameHolds, holds_at, kind_at, number_of};
+
+use crate::directories::{ROOM, conn_to};
+use conn_rules::{At, Changes, Room};
+use dir_conn::DirServed;
+use fidl_names::{Handle, MAX_NAME};
+use fidl_wire::{Ordinals, Out};
+use io_messages::{Request, read_reply};
+use io_rights::Rights;
+use node_graph::{Graph, GraphFault, NodeKind, NodeRef};
+use std::alloc::{AllocError, Global};
+use std::process::Abort;
+use std::test::Fail;
+use test_rows::{Row, rows};
+
+// Where replies are written, and the ordinals that they have.
+#[derive(Drop)]
+struct Writer {
+    ordinals: Ordinals,
+    out: Out,
+}
+
+// The directory that a name in a directory leads to.
+fn child(rt: &impl Abort, graph: &Graph, dir: NodeRef, name: &str) -> NodeRef
+    requires named { Names graph.now dir }
+    requires directory { kind_at graph.now (number_of dir) ≡ Some Directory }
+    ensures named { Names graph.now result }
+    ensures directory { kind_at graph.now (number_of result) ≡ Some Directory }
+{
+    let entry = graph
+        .lookup(dir, name.as_bytes())
+        .expect(rt, "there is such a name");
+    assert!(rt; graph.kind(entry.node) == NodeKind::Directory);
+    entry.node
+}
+
+// The directory that a row names: the root, one in it, or one in that.
+fn directory(rt: &impl Abort, graph: &Graph, path: &str) -> NodeRef
+    ensures named { Names graph.now result }
+    ensures directory { kind_at graph.now (number_of result) ≡ Some Directory }
+{
+    let root = graph.root();
+    if path == "." {
+        return root;
+    }
+    match path.split_once('/') {
+        Some((first, second)) => child(rt, graph, child(rt, graph, root, first), second),
+        None => child(rt, graph, root, path),
+    }
+}
+
+fn make(
+    rt: &impl Abort,
+    graph: &mut Graph,
+    path: &str,
+    name: &[u8],
+    kind: NodeKind,
+) -> Result<(), GraphFault>
+    ensures holds { SameHolds graph.old graph.new }
+{
+    assert!(rt; !name.is_empty() && name.len() <= MAX_NAME && graph.made() < 1 << 63);
+    let dir = directory(rt, graph, path);
+    graph.create(dir, name, kind, Rights::all())?;
+    Ok(())
+}
+
+// Directory 2 is `d`, in it directory 3 `c` and file 4 `f`. Directory 5 is `e`, without names. File 6 is
+// `g`, 7 the service `s`, 8 the mount `m`.
+fn tree(rt: &impl Abort, alloc: Global) -> Result<Graph, GraphFault>
+    ensures { IfOk result (λ graph. (number : ℕ) → holds_at graph number ≡ 0) }
+{
+    let mut graph = Graph::new(alloc)?;
+    make(rt, &mut graph, ".", b"d", NodeKind::Directory)?;
+    make(rt, &mut graph, "d", b"c", NodeKind::Directory)?;
+    make(rt, &mut graph, "d", b"f", NodeKind::File)?;
+    make(rt, &mut graph, ".", b"e", NodeKind::Directory)?;
+    make(rt, &mut graph, ".", b"g", NodeKind::File)?;
+    make(rt, &mut graph, ".", b"s", NodeKind::Service)?;
+    make(rt, &mut graph, ".", b"m", NodeKind::Mount(7))?;
+    Ok(graph)
+}
+
+// The directory `e`, to which no name leads any more, and which is held.
+fn removed(rt: &impl Abort, graph: &mut Graph) -> Result<NodeRef, GraphFault>
+    requires idle { (number : ℕ) → holds_at graph.old number ≡ 0 }
+    ensures named { IfOk result (λ node. Names graph.new node) }
+    ensures directory { IfOk result (λ node. kind_at graph.new (number_of node) ≡ Some Directory) }
+{
+    let gone = directory(rt, graph, "e");
+    graph.hold(gone);
+    graph.unlink(graph.root(), b"e", true)?;
+    Ok(gone)
+}
+
+// The directory of a row's token: `gone` is one that was removed, and `-` none of this server.
+fn target(rt: &impl Abort, graph: &mut Graph, path: &str) -> Result<Option<NodeRef>, GraphFault>
+    requires idle { (number : ℕ) → holds_at graph.old number ≡ 0 }
+    ensures named { IfOk result (λ found. IfSome found (λ node. Names graph.new node)) }
+    ensures directory { IfOk result (λ found. IfSome found (λ node. kind_at graph.new (number_of node) ≡ Some Directory)) }
+{
+    match path {
+        "-" => Ok(None),
+        "gone" => Ok(Some(removed(rt, graph)?)),
+        _ => Ok(Some(directory(rt, graph, path))),
+    }
+}
+
+// What the root tells of a request, whose reply then stands in the output.
+fn ask<'a>(
+    rt: &impl Abort,
+    graph: &mut Graph,
+    target: Option<NodeRef>,
+    request: Request<'a>,
+    writer: &mut Writer,
+) -> Changes<'a>
+    requires named { IfSome target (λ node. Names graph.old node) }
+    requires directory { IfSome target (λ node. kind_at graph.old (number_of node) ≡ Some Directory) }
+{
+    assert!(rt; graph.made() < 1 << 63);
+    assert!(rt;
+        matches!(
+            request,
+            Request::Rename { .. } | Request::Link { .. } | Request::Unlink { .. }
+        )
+    );
+    let root = graph.root();
+    let mut conn = conn_to(graph, root);
+    writer.out.clear();
+    match conn.serve(
+        &writer.ordinals,
+        graph,
+        ROOM,
+        target,
+        2,
+        request,
+        &mut writer.out,
+    ) {
+        DirServed::Reply(changes) => changes,
+        _ => panic!(rt; "the request has a reply"),
+    }
+}
+
+// A name as rows have it: its directory's number, and its text.
+fn place(alloc: Global, at: Option<At<'_>>) -> Result<String, AllocError> {
+    match at {
+        Some(at) => match std::str::from_utf8(at.name) {
+            Ok(name) => format!(in alloc; "{} {name}", at.dir),
+            Err(_) => format!(in alloc; "{} ?", at.dir),
+        },
+        None => format!(in alloc; "-"),
+    }
+}
+
+// Compares the reply and what is told with four cells from this one on: the reply, the name that is
+// gone, the name that is new, and the directory that is gone.
+fn compare(
+    rt: &impl Abort,
+    alloc: Global,
+    row: &Row<'_>,
+    at: usize,
+    changes: Changes<'_>,
+    writer: &Writer,
+) -> Result<(), Fail>
+    requires { at < 100 }
+{
+    let (_, reply) = read_reply(
+        &writer.ordinals,
+        writer.out.as_bytes(),
+        writer.out.handles(),
+    )
+    .expect(rt, "a reply");
+    assert!(rt; row.says(alloc, at, &reply), "{}", row.name());
+    let removed = place(alloc, changes.removed)?;
+    assert_eq!(rt; removed.as_str(), row.cell(at + 1)?, "{}", row.name());
+    let added = place(alloc, changes.added)?;
+    assert_eq!(rt; added.as_str(), row.cell(at + 2)?, "{}", row.name());
+    let deleted = match changes.deleted {
+        Some(number) => format!(in alloc; "{number}")?,
+        None => format!(in alloc; "-")?,
+    };
+    assert_eq!(rt; deleted.as_str(), row.cell(at + 3)?, "{}", row.name());
+    Ok(())
+}
+
+// What is done | the name in the root | the token's directory | the new name | the reply | the name that is gone | the name that is new | the directory that is gone
+const RENAMES: &str = "
+a file in its directory        | g    | .    | h  | Done(Rename)                | 1 g | 1 h | -
+a directory in its directory   | e    | .    | h  | Done(Rename)                | 1 e | 1 h | -
+a service in its directory     | s    | .    | h  | Done(Rename)                | 1 s | 1 h | -
+a file to another directory    | g    | d    | g  | Done(Rename)                | 1 g | 2 g | -
+a directory to another one     | e    | d/c  | e  | Done(Rename)                | 1 e | 3 e | -
+a file over a file             | g    | d    | f  | Done(Rename)                | 1 g | 2 f | -
+a file over a service          | g    | .    | s  | Done(Rename)                | 1 g | 1 s | -
+a directory over an empty one  | d    | .    | e  | Done(Rename)                | 1 d | 1 e | 5
+an empty one over another      | e    | d    | c  | Done(Rename)                | 1 e | 2 c | 3
+a directory over a full one    | e    | .    | d  | Fails(Rename, NotEmpty)     | -   | -   | -
+a file over an empty directory | g    | .    | e  | Fails(Rename, NotFile)      | -   | -   | -
+a directory over a file        | e    | .    | g  | Fails(Rename, NotDir)       | -   | -   | -
+a directory into itself        | d    | d    | x  | Fails(Rename, InvalidArgs)  | -   | -   | -
+a directory into its child     | d    | d/c  | x  | Fails(Rename, InvalidArgs)  | -   | -   | -
+a file onto itself             | g    | .    | g  | Done(Rename)                | -   | -   | -
+a directory onto itself        | d    | .    | d  | Done(Rename)                | -   | -   | -
+no such name                   | nope | .    | x  | Fails(Rename, NotFound)     | -   | -   | -
+no such name onto itself       | nope | .    | nope | Fails(Rename, NotFound)   | -   | -   | -
+into a removed directory       | g    | gone | g  | Fails(Rename, BadState)     | -   | -   | -
+no target                      | g    | -    | h  | Fails(Rename, NotFound)     | -   | -   | -
+no target, no first name       | a/b  | -    | h  | Fails(Rename, InvalidArgs)  | -   | -   | -
+no target, no second name      | g    | -    | .. | Fails(Rename, InvalidArgs)  | -   | -   | -
+a second name that is empty    | g    | .    |    | Fails(Rename, InvalidArgs)  | -   | -   | -
+a mount                        | m    | .    | x  | Fails(Rename, NotSupported) | -   | -   | -
+a mount onto itself            | m    | .    | m  | Fails(Rename, NotSupported) | -   | -   | -
+a mount into a removed one     | m    | gone | m  | Fails(Rename, NotSupported) | -   | -   | -
+a file over a mount            | g    | .    | m  | Fails(Rename, NotSupported) | -   | -   | -
+a directory over a mount       | e    | .    | m  | Fails(Rename, NotSupported) | -   | -   | -
+";
+
+#[test]
+fn names_are_moved(rt: HostRuntime) -> Result<(), Fail> {
+    let alloc = rt.alloc();
+    let mut writer = Writer {
+        ordinals: Ordinals::new()?,
+        out: Out::new(alloc)?,
+    };
+    for row in &rows(alloc, RENAMES)? {
+        let mut graph = tree(&rt, alloc)?;
+        let into = target(&rt, &mut graph, row.cell(2)?)?;
+        let request = Request::Rename {
+            src: row.cell(1)?.as_bytes(),
+            token: 0x8000_0000,
+            dst: row.cell(3)?.as_bytes(),
+        };
+        let changes = ask(&rt, &mut graph, into, request, &mut writer);
+        compare(&rt, alloc, row, 4, changes, &writer)?;
+    }
+    Ok(())
+}
+
+// What is done | the name in the root | the token's directory | the new name | the reply | the name that is gone | the name that is new | the directory that is gone
+const LINKS: &str = "
+a file in its directory      | g    | .    | h  | Settled(Link)             | - | 1 h | -
+a file in another directory  | g    | d/c  | g  | Settled(Link)             | - | 3 g | -
+a service                    | s    | d    | s  | Settled(Link)             | - | 2 s | -
+an empty directory           | e    | d    | e  | Fails(Link, NotFile)      | - | -   | -
+a full directory             | d    | .    | x  | Fails(Link, NotFile)      | - | -   | -
+no such name                 | nope | .    | x  | Fails(Link, NotFound)     | - | -   | -
+a file onto itself           | g    | .    | g  | Fails(Link, AlreadyExists) | - | -   | -
+a file onto a file           | g    | d    | f  | Fails(Link, AlreadyExists) | - | -   | -
+a file onto a directory      | g    | .    | e  | Fails(Link, AlreadyExists) | - | -   | -
+into a removed directory     | g    | gone | g  | Fails(Link, BadState)     | - | -   | -
+no target                    | g    | -    | h  | Fails(Link, NotFound)     | - | -   | -
+no target, no first name     | .    | -    | h  | Fails(Link, InvalidArgs)  | - | -   | -
+no target, no second name    | g    | -    | h/ | Fails(Link, InvalidArgs)  | - | -   | -
+a mount                      | m    | d    | m  | Fails(Link, NotSupported) | - | -   | -
+a mount into a removed one   | m    | gone | m  | Fails(Link, NotSupported) | - | -   | -
+a file onto a mount          | g    | .    | m  | Fails(Link, AlreadyExists) | - | -   | -
+";
+
+#[test]
+fn names_are_added(rt: HostRuntime) -> Result<(), Fail> {
+    let alloc = rt.alloc();
+    let mut writer = Writer {
+        ordinals: Ordinals::new()?,
+        out: Out::new(alloc)?,
+    };
+    for row in &rows(alloc, LINKS)? {
+        let mut graph = tree(&rt, alloc)?;
+        let into = target(&rt, &mut graph, row.cell(2)?)?;
+        let request = Request::Link {
+            src: row.cell(1)?.as_bytes(),
+            token: 0x8000_0000,
+            dst: row.cell(3)?.as_bytes(),
+        };
+        let changes = ask(&rt, &mut graph, into, request, &mut writer);
+        compare(&rt, alloc, row, 4, changes, &writer)?;
+    }
+    Ok(())
+}
+
+// What is taken out | its name | the flags | the reply | the name that is gone | the name that is new | the directory that is gone
+const UNLINKS: &str = "
+a file             | g | 0 | Done(Unlink)                | 1 g | - | -
+a service          | s | 0 | Done(Unlink)                | 1 s | - | -
+an empty directory | e | 1 | Done(Unlink)                | 1 e | - | 5
+a full directory   | d | 1 | Fails(Unlink, NotEmpty)     | -   | - | -
+a mount            | m | 0 | Fails(Unlink, NotSupported) | -   | - | -
+one as directory   | m | 1 | Fails(Unlink, NotSupported) | -   | - | -
+";
+
+#[test]
+fn names_are_taken_out(rt: HostRuntime) -> Result<(), Fail> {
+    let alloc = rt.alloc();
+    let mut writer = Writer {
+        ordinals: Ordinals::new()?,
+        out: Out::new(alloc)?,
+    };
+    for row in &rows(alloc, UNLINKS)? {
+        let mut graph = tree(&rt, alloc)?;
+        let request = Request::Unlink {
+            name: row.cell(1)?.as_bytes(),
+            flags: row.number(2)?,
+        };
+        let changes = ask(&rt, &mut graph, None, request, &mut writer);
+        compare(&rt, alloc, row, 3, changes, &writer)?;
+    }
+    Ok(())
+}
+
+// What a directory answers to a GetToken, by the next token's number.
+fn get_token(
+    rt: &impl Abort,
+    graph: &mut Graph,
+    node: NodeRef,
+    token: Option<u32>,
+    writer: &mut Writer,
+)
+    requires named { Names graph.old node }
+    requires directory { kind_at graph.old (number_of node) ≡ Some Directory }
+{
+    assert!(rt; graph.made() < 1 << 63);
+    let mut conn = conn_to(graph, node);
+    let room = Room { token, ..ROOM };
+    writer.out.clear();
+    let served = conn.serve(
+        &writer.ordinals,
+        graph,
+        room,
+        None,
+        2,
+        Request::GetToken,
+        &mut writer.out,
+    );
+    assert!(rt; matches!(served, DirServed::Reply(_)));
+}
+
+#[test]
+fn a_removed_directory_gives_its_token(rt: HostRuntime) -> Result<(), Fail> {
+    let mut writer = Writer {
+        ordinals: Ordinals::new()?,
+        out: Out::new(rt.alloc())?,
+    };
+    let given: &[u8] = b"\x02\x00\x00\x00\x02\x00\x00\x01\x0b\xea\x77\x55\x2d\xcc\x1d\x2c\
+        \x00\x00\x00\x00\xff\xff\xff\xff";
+    let wanting: &[u8] = b"\x02\x00\x00\x00\x02\x00\x00\x01\x0b\xea\x77\x55\x2d\xcc\x1d\x2c\
+        \xfd\xff\xff\xff\x00\x00\x00\x00";
+    let rows: [(Option<u32>, &[u8]); 3] = [
+        (Some(0x8000_0000), given),
+        (Some(0x8000_0fff), given),
+        (None, wanting),
+    ];
+    for (token, bytes) in rows {
+        let mut graph = tree(&rt, rt.alloc())?;
+        let gone = removed(&rt, &mut graph)?;
+        get_token(&rt, &mut graph, gone, token, &mut writer);
+        assert_eq!(rt; writer.out.as_bytes(), bytes);
+        let handle = writer.out.handles().first().copied();
+        assert_eq!(rt; handle, token.map(Handle::Token));
+    }
+    Ok(())
+}

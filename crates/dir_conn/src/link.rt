@@ -1,0 +1,82 @@
+//! What a Link does.
+
+ghost use Rattle.std.specs.Prelude.{◌≡◌, ℕ, true, false, Option, Some};
+ghost use Rattle.std.specs.Option.{option_map};
+ghost use Rattle.io_messages.specs.Requests.{has_txid};
+ghost use Rattle.node_graph.specs.declared.nodes.NodeKind.TheVariants.{Directory};
+ghost use Rattle.node_graph.specs.Graph.{Names, kind_at, number_of};
+ghost use Rattle.path_walk.specs.Names.{IsName};
+ghost use Rattle.conn_rules.specs.declared.births.Room.{Room};
+ghost use Rattle.conn_rules.specs.Births.{born};
+ghost use Rattle.conn_rules.specs.Built.{today};
+ghost use Rattle.conn_rules.specs.Contexts.{context_with};
+ghost use Rattle.conn_rules.specs.NameRows.{link_act, link_into};
+ghost use Rattle.conn_rules.specs.Served.{HasNothing};
+ghost use Rattle.dir_conn.specs.Tried.{IsTried};
+
+use crate::make::new_name;
+use crate::served::{DirServed, of_node};
+use crate::two_names::{directory_for, refused};
+use conn_rules::{Birth, fail, reply};
+use fidl_names::Method;
+use fidl_wire::{Ordinals, Out};
+use io_messages::Reply;
+use node_graph::{Graph, NodeRef};
+
+/// Gives the node of a name a second one, in the directory of a token.
+pub(crate) fn link<'a>(
+    birth: &Birth,
+    ordinals: &Ordinals,
+    graph: &mut Graph,
+    target: Option<NodeRef>,
+    txid: u32,
+    src: &'a [u8],
+    dst: &'a [u8],
+    out: &mut Out,
+) -> DirServed<'a>
+    requires named { Names graph.old birth.now.node }
+    requires kind { kind_at graph.old (number_of birth.now.node) ≡ Some Directory }
+    requires target { (node : NodeRef) → target ≡ Some node → Names graph.old node × (kind_at graph.old (number_of node) ≡ Some Directory) }
+    requires txid { has_txid false txid ≡ true }
+    requires empty { HasNothing out.old }
+    ensures tried { (room : Room) (directory : ℕ → Option ℕ) (token : ℕ) → directory token ≡ option_map number_of target →
+        IsTried (λ tree position. link_act (context_with today (born birth.now) position room tree directory) src.now token dst.now) birth.now txid result
+        out.new graph.old graph.new }
+{
+    match directory_for(src, dst, target) {
+        Ok(into) => link_into(birth, ordinals, graph, into, txid, src, dst, out),
+        Err(status) => of_node(fail(ordinals, txid, Method::Link, status, out)),
+    }
+}
+
+/// Gives the node of a name a second one in this directory, unless the graph refuses it.
+fn link_into<'a>(
+    birth: &Birth,
+    ordinals: &Ordinals,
+    graph: &mut Graph,
+    into: NodeRef,
+    txid: u32,
+    src: &'a [u8],
+    dst: &'a [u8],
+    out: &mut Out,
+) -> DirServed<'a>
+    requires named { Names graph.old birth.now.node }
+    requires kind { kind_at graph.old (number_of birth.now.node) ≡ Some Directory }
+    requires named_into { Names graph.old into }
+    requires kind_into { kind_at graph.old (number_of into) ≡ Some Directory }
+    requires name { IsName dst.now }
+    requires txid { has_txid false txid ≡ true }
+    requires empty { HasNothing out.old }
+    ensures tried { (room : Room) (directory : ℕ → Option ℕ) →
+        IsTried (λ tree position. link_into (context_with today (born birth.now) position room tree directory) src.now dst.now (Some (number_of into)))
+        birth.now txid result out.new graph.old graph.new }
+{
+    let dir = graph.number(into);
+    match graph.link(birth.node, src, into, dst) {
+        Ok(()) => {
+            reply(ordinals, txid, Reply::Settled(Method::Link), out);
+            DirServed::Reply(new_name(dir, dst))
+        }
+        Err(fault) => refused(ordinals, txid, Method::Link, fault, out),
+    }
+}
