@@ -1,5 +1,5 @@
 -- What acts answer: an Open binds, is refused or goes on; only GetToken gives a token, the next one.
-use Rattle.std.proofs.Common.{◌≡◌, ℕ, ◌<◌, Bool, true, false, cond, not, nat_lt, is_some, if◌then◌else◌, List, [], ◌∷◌, ◌++◌, length, Option, Some, None, refl, ap, ◌∙◌, subst, arith}
+use Rattle.std.proofs.Common.{◌≡◌, ℕ, ◌<◌, Bool, true, false, cond, nat_lt, is_some, if◌then◌else◌, List, [], ◌∷◌, ◌++◌, length, Option, Some, None, refl, ap, ◌∙◌, subst, arith}
 use Rattle.std.specs.Option.{option_map, option_map_or}
 use Rattle.fidl_names.specs.declared.methods.Method.{Method}
 use Rattle.fidl_names.specs.declared.methods.Method.TheVariants as method
@@ -25,10 +25,9 @@ use Rattle.conn_rules.specs.declared.births.Room.{Room}
 use Rattle.conn_rules.specs.Acts.{act_of, row_act, method_refusals}
 use Rattle.conn_rules.specs.Answers.{Answer, replies, closes, binds, watches, forwards, refuses, Act, only, failure_of}
 use Rattle.conn_rules.specs.Births.{Birth, Position}
-use Rattle.conn_rules.specs.Built.{Built}
 use Rattle.conn_rules.specs.Contexts.{Context}
 use Rattle.conn_rules.specs.FileRows.{write_start, is_too_much, reading_refusal, is_no_position, seek_sum}
-use Rattle.conn_rules.specs.Listings.{fits_none, listing}
+use Rattle.dirents.specs.Listings.{fits_none, listing}
 use Rattle.conn_rules.specs.NameRows.{unlink_refusals, watch_refusals, token_answer, link_into, name_in, rename_into}
 use Rattle.conn_rules.specs.Nodes.{bytes_of, edge_at, kind_here, kind_behind}
 use Rattle.conn_rules.specs.Opens.{is_full, open_act, by_walk, entry_refusals, arrival_refusals, making_refusals}

@@ -23,7 +23,8 @@ use Rattle.conn_rules.specs.Built.{Built}
 use Rattle.vfs_journal.specs.Entries.{Sent, Sending, Journal, message, hang_up, handles_of, endpoints_in, sends, serves, refuses}
 use Rattle.vfs_journal.specs.History.{History, all_sent, births, living, waiting, travelling, is_dead, is_bound, is_live, hung_up, bound_at, standing_of, trees_of, tree_at}
 use Rattle.vfs_journal.specs.Lawful.{Lawful, begun, refused, sent, closed, served}
-use Rattle.vfs_journal.specs.Outcomes.{Forwarded, onward_bytes}
+use Rattle.vfs_journal.specs.Outcomes.{Forwarded}
+use Rattle.remote_forward.specs.Onward.{onward_bytes}
 use Rattle.vfs_journal.specs.Past.{behind, history_of}
 use Rattle.vfs_journal.specs.Serving.{Read, read_by, outcome_of}
 use Rattle.vfs_journal.specs.Session.{head, look_ups, sent_behind, with_forward}

@@ -62,7 +62,7 @@ left_all : {X : Type 0} (P : X → Type 0) (xs ys : List X) → All P (xs ++ ys)
 left_all P [] ys h = All-nil P
 left_all P (x ∷ xs) ys h = All-cons P x xs (All-head P x (xs ++ ys) h) (left_all P xs ys (All-tail P x (xs ++ ys) h))
 
-left_pairs : {X : Type 0} (R : X → X → Type 0) (xs ys : List X) → AllPairs R (xs ++ ys) → AllPairs R xs
+pub left_pairs : {X : Type 0} (R : X → X → Type 0) (xs ys : List X) → AllPairs R (xs ++ ys) → AllPairs R xs
 left_pairs R [] ys h = λ i j d a b. absurd (omega arith)
 left_pairs R (x ∷ xs) ys h = AllPairs-cons R x xs (left_all (R x) xs ys (pairs-head R x (xs ++ ys) h)) (left_pairs R xs ys (pairs-tail R x (xs ++ ys) h))
 
@@ -71,7 +71,7 @@ numbered_of start s = record { firsts = left_pairs OtherEndpoint start.firsts st
 
 -- ---- lists of numbers
 
-from_pairs : (xs : List ℕ) → AllPairs (λ one other. one ≢ other) xs → Apart xs
+pub from_pairs : (xs : List ℕ) → AllPairs (λ one other. one ≢ other) xs → Apart xs
 from_pairs [] h = tt
 from_pairs (x ∷ xs) h = (
   false_from_ne_true (among x xs) (λ g. All-contains (λ (y : ℕ). x ≢ y) xs x (pairs-head (λ (a b : ℕ). a ≢ b) x xs h) (member_of x xs g) refl),
@@ -79,7 +79,7 @@ from_pairs (x ∷ xs) h = (
 )
 
 -- two lists that are apart and have the same members are equally long
-as_long : (xs ys : List ℕ) → Apart xs → Apart ys → ((n : ℕ) → among n xs ≡ among n ys) → length xs ≡ length ys
+pub as_long : (xs ys : List ℕ) → Apart xs → Apart ys → ((n : ℕ) → among n xs ≡ among n ys) → length xs ≡ length ys
 as_long xs ys a b same =
     let up = no_more xs ys a (λ n h. sym (same n) ∙ h) in
     let down = no_more ys xs b (λ n h. same n ∙ h) in
@@ -123,7 +123,7 @@ are_gone (t ∷ spent) known =
 abbrev given_if : Option Given → Known → Known
 given_if token known = if is_some token then given known else known
 
-abbrev is_given_now : Option Given → ℕ → Bool
+abbrev pub is_given_now : Option Given → ℕ → Bool
 is_given_now token n = list_any (λ (g : Given). g.token == n) (option_to_list token)
 
 record IsGiven (known : Known) (token : Option Given) (new : Known) : Type 0 where
@@ -152,23 +152,23 @@ is_given (Some g) known next = record {
 
 -- ---- what looking back says of tokens then
 
-abbrev Precedes : Given → Given → Type 0
+abbrev pub Precedes : Given → Given → Type 0
 Precedes one later = one.token < later.token
 
-record IsTold (past now : History) (token : Option Given) (spent : ℕ → Bool) : Type 0 where
-  given : all_given now ≡ all_given past ++ option_to_list token
-  carried : (n : ℕ) → is_client n ≡ false → was_carried now n ≡ was_carried past n
-  waits : (n : ℕ) → is_client n ≡ false → waits_with now n ≡ (waits_with past n && not (spent n))
-  gone : (n : ℕ) → spent n ≡ true → (is_client n ≡ false) × (was_given past n ≡ true) × (waits_with past n ≡ true)
-  waiting_carried : (n : ℕ) → waits_with past n ≡ true → was_carried past n ≡ true
-  next : (g : Given) → token ≡ Some g → g.token ≡ limit.FIRST_TOKEN + length (all_given past)
-  fresh : (g : Given) → token ≡ Some g → (was_given past g.token ≡ false) × (was_carried past g.token ≡ false)
-  clients_past : (n : ℕ) → is_client n ≡ true → was_given past n ≡ false
-  clients_now : (n : ℕ) → is_client n ≡ true → was_given now n ≡ false
-  rise_past : AllPairs (λ one later. one.token < later.token) (all_given past)
-  rise_now : AllPairs (λ one later. one.token < later.token) (all_given now)
+pub record IsTold (past now : History) (token : Option Given) (spent : ℕ → Bool) : Type 0 where
+  pub given : all_given now ≡ all_given past ++ option_to_list token
+  pub carried : (n : ℕ) → is_client n ≡ false → was_carried now n ≡ was_carried past n
+  pub waits : (n : ℕ) → is_client n ≡ false → waits_with now n ≡ (waits_with past n && not (spent n))
+  pub gone : (n : ℕ) → spent n ≡ true → (is_client n ≡ false) × (was_given past n ≡ true) × (waits_with past n ≡ true)
+  pub waiting_carried : (n : ℕ) → waits_with past n ≡ true → was_carried past n ≡ true
+  pub next : (g : Given) → token ≡ Some g → g.token ≡ limit.FIRST_TOKEN + length (all_given past)
+  pub fresh : (g : Given) → token ≡ Some g → (was_given past g.token ≡ false) × (was_carried past g.token ≡ false)
+  pub clients_past : (n : ℕ) → is_client n ≡ true → was_given past n ≡ false
+  pub clients_now : (n : ℕ) → is_client n ≡ true → was_given now n ≡ false
+  pub rise_past : AllPairs (λ one later. one.token < later.token) (all_given past)
+  pub rise_now : AllPairs (λ one later. one.token < later.token) (all_given now)
 
-given_now : (past now : History) (token : Option Given) (spent : ℕ → Bool) → IsTold past now token spent → (n : ℕ) → was_given now n ≡ (was_given past n || is_given_now token n)
+pub given_now : (past now : History) (token : Option Given) (spent : ℕ → Bool) → IsTold past now token spent → (n : ℕ) → was_given now n ≡ (was_given past n || is_given_now token n)
 given_now past now token spent told n = ap (list_any (λ g. g.token == n)) told.given ∙ list_any-append (λ (g : Given). g.token == n) (all_given past) (option_to_list token)
 
 -- of the token that is given
@@ -238,13 +238,13 @@ token_told past now token spent told n = by_kind (number_is n) where
 
 -- ---- how many are out
 
-abbrev out_numbers : History → List ℕ
+abbrev pub out_numbers : History → List ℕ
 out_numbers history = map (λ g. g.token) (tokens_out history)
 
-abbrev is_out : History → ℕ → Bool
+abbrev pub is_out : History → ℕ → Bool
 is_out history n = is_held history n || waits_with history n
 
-number_out : (history : History) (n : ℕ) → among n (out_numbers history) ≡ (was_given history n && is_out history n)
+pub number_out : (history : History) (n : ℕ) → among n (out_numbers history) ≡ (was_given history n && is_out history n)
 number_out history n =
     same_bool (among n (out_numbers history)) (was_given history n && is_out history n)
     (λ h.
@@ -259,7 +259,7 @@ number_out history n =
     (contains_map (λ (g : Given). g.token) (tokens_out history) one.0 (kept (λ (g : Given). is_out history g.token) (all_given history) one.0 one.1 (ap (is_out history) at ∙ parts.1)))))
 
 -- tokens that rise are apart
-rising_apart : (gs : List Given) → AllPairs (λ one later. one.token < later.token) gs → Apart (map (λ g. g.token) gs)
+pub rising_apart : (gs : List Given) → AllPairs (λ one later. one.token < later.token) gs → Apart (map (λ g. g.token) gs)
 rising_apart [] h = tt
 rising_apart (g ∷ gs) h = (
   false_from_ne_true (among g.token (map (λ (x : Given). x.token) gs)) (λ there.
@@ -270,17 +270,17 @@ rising_apart (g ∷ gs) h = (
   rising_apart gs (pairs-tail Precedes g gs h),
 )
 
-out_apart : (history : History) → AllPairs (λ one later. one.token < later.token) (all_given history) → Apart (out_numbers history)
+pub out_apart : (history : History) → AllPairs (λ one later. one.token < later.token) (all_given history) → Apart (out_numbers history)
 out_apart history h = rising_apart (tokens_out history) (AllPairs-filter Precedes (λ (g : Given). is_out history g.token) (all_given history) h)
 
-abbrev given_numbers : Option Given → List ℕ
+abbrev pub given_numbers : Option Given → List ℕ
 given_numbers token = map (λ g. g.token) (option_to_list token)
 
-given_among : (token : Option Given) (n : ℕ) → among n (given_numbers token) ≡ is_given_now token n
+pub given_among : (token : Option Given) (n : ℕ) → among n (given_numbers token) ≡ is_given_now token n
 given_among None n = refl
 given_among (Some g) n = refl
 
-given_apart : (token : Option Given) → Apart (given_numbers token)
+pub given_apart : (token : Option Given) → Apart (given_numbers token)
 given_apart None = tt
 given_apart (Some g) = apart_one g.token
 
@@ -361,7 +361,7 @@ module _ (past now : History) (token : Option Given) (spent : List ℕ) (told : 
       number_out past n ∙ and_from (was_given past n) (is_out past n) at.0 (or_right (is_held past n) (waits_with past n) at.1)
 
   -- as many are out as were, with the one that is given, but for those that are gone
-  count_told : Apart spent → (length (tokens_out now) + length spent ≡ length (tokens_out past) + length (option_to_list token)) × (length spent ≤ length (tokens_out past))
+  pub count_told : Apart spent → (length (tokens_out now) + length spent ≡ length (tokens_out past) + length (option_to_list token)) × (length spent ≤ length (tokens_out past))
   count_told apart =
       let same = as_long (out_numbers now ++ spent) (out_numbers past ++ given_numbers token) (apart_now apart) apart_past same_numbers in
       let few = no_more spent (out_numbers past) apart spent_out in
@@ -404,7 +404,7 @@ carried_then built start journal sent n (Some f) apart =
       or_none true = refl
       or_none false = refl
 
-told_behind : Below → (built : Built) (start : Start) (journal : Journal) (sent : Sent) (spent : List ℕ) → IsStart start → Lawful built start journal → head start (history_of built start journal) sent.endpoint ≡ Some sent →
+pub told_behind : Below → (built : Built) (start : Start) (journal : Journal) (sent : Sent) (spent : List ℕ) → IsStart start → Lawful built start journal → head start (history_of built start journal) sent.endpoint ≡ Some sent →
     ((n : ℕ) → among n spent ≡ among n (spent_in (view_behind built start journal) sent)) →
     IsTold (history_of built start journal) (history_of built start (after_serving built start journal sent)) (outcome_in (view_behind built start journal) sent).token (λ n. among n spent)
 told_behind below built start journal sent spent s h first same =

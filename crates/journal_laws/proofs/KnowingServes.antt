@@ -1,40 +1,33 @@
--- What is known behind a serving, and at the start.
-use Rattle.std.proofs.Common.{◌≡◌, ℕ, ◌+◌, ◌-◌, ◌==◌, ◌&&◌, ◌||◌, Bool, true, false, not, nat_le, List, [], ◌∷◌, ◌++◌, length, map, filter, fold, option_to_list, Option, Some, None, refl, sym, ap, ◌∙◌, if◌then◌else◌, arith, append-nil, length-append}
+-- What is known behind a serving's deaths, and at the start.
+use Rattle.std.proofs.Common.{◌≡◌, ℕ, ◌-◌, ◌==◌, ◌&&◌, ◌||◌, Bool, true, false, not, nat_le, List, [], ◌∷◌, ◌++◌, length, map, filter, fold, Option, Some, None, refl, sym, ap, ◌∙◌, if◌then◌else◌, arith, append-nil, length-append}
 use Rattle.std.specs.Prelude.{unwrap_or}
-use Rattle.std.specs.List.{list_any}
 use Rattle.std.proofs.lemmas.List.{length-map, map-append}
 use Rattle.std.specs.Ordering.{nat_cmp}
 use Rattle.std.specs.FinMap as finite
 use Rattle.std.specs.FinMap.{get-empty}
-use Rattle.fidl_names.specs.declared.limits.TheConstants as limit
 use Rattle.endpoint_link.specs.declared.kinds.Standing.{Standing}
 use Rattle.endpoint_link.specs.declared.kinds.Standing.TheVariants as standing
 use Rattle.fidl_names.specs.HandleNumber.{is_mount_end}
 use Rattle.endpoint_link.specs.Numbering.{among}
 use Rattle.endpoint_link.specs.Standings.{Known, Starts, is_live as is_live_standing, standing_of as known_standing, ended as ended_in}
 use Rattle.conn_rules.specs.Built.{Built}
-use Rattle.vfs_journal.specs.Entries.{Sent, Journal, message, serves}
-use Rattle.vfs_journal.specs.History.{History, births, living, waiting, was_carried, is_dead, is_live, hung_up}
-use Rattle.journal_laws.specs.Knowing.{Knows, IsNumbered, AreDeaths, known_behind, deaths_at}
+use Rattle.vfs_journal.specs.Entries.{Sent, Journal}
+use Rattle.vfs_journal.specs.History.{births, living, is_dead, is_live, hung_up}
+use Rattle.journal_laws.specs.Knowing.{Knows, IsNumbered, AreDeaths, deaths_at}
 use Rattle.vfs_journal.specs.Lawful.{Lawful}
-use Rattle.vfs_journal.specs.Outcomes.{Given, Forwarded}
-use Rattle.vfs_journal.specs.Past.{event_of, behind, history_of}
-use Rattle.vfs_journal.specs.Serving.{outcome_of}
-use Rattle.vfs_journal.specs.Session.{head, sent_behind, with_forward, after_serving}
+use Rattle.vfs_journal.specs.Past.{history_of}
+use Rattle.vfs_journal.specs.Session.{head, after_serving}
 use Rattle.journal_laws.specs.Soundness.{IsStart}
 use Rattle.vfs_journal.specs.Starts.{Bound, Start}
-use Rattle.vfs_journal.specs.Tokens.{all_given, is_held, waits_with, next_token}
 use Rattle.journal_laws.proofs.Below.{Below}
 use Rattle.journal_laws.proofs.Kept.{lawful_kept}
 use Rattle.journal_laws.proofs.KnowingCount.{named_is_bound, mounts_among, deaths_apart, fewer_live}
 use Rattle.journal_laws.proofs.KnowingLists.{or-none, apart_pairs, ends_of}
 use Rattle.journal_laws.proofs.KnowingSent.{stands, stands_then}
-use Rattle.journal_laws.proofs.KnowingTokens.{none_out, outs_none}
 use Rattle.journal_laws.proofs.KnowingServed.{after_served, lives_undead}
 use Rattle.journal_laws.proofs.Sound.{view, bound_in}
 use Rattle.journal_laws.proofs.Spreading.{among-append}
 use Rattle.journal_laws.proofs.Stepping.{stepped}
-use Rattle.journal_laws.proofs.Steps.{sendings_wait_last, servings_take_effect}
 use Rattle.journal_laws.proofs.Views.{is_view}
 
 -- ---- the deaths of a serving
@@ -101,70 +94,6 @@ ended_same [] known = record { tokens = refl; out = refl; next = refl; servers =
 ended_same (e ∷ deaths) known =
     let rest = ended_same deaths (ended_in known e) in
     record { tokens = rest.tokens; out = rest.out; next = rest.next; servers = rest.servers }
-
--- ---- behind a serving
-
-nothing_left_of : {X : Type 0} (xs ys : List X) → xs ++ ys ≡ [] → xs ≡ []
-nothing_left_of [] ys h = refl
-nothing_left_of (x ∷ xs) ys h = absurd (cc)
-
--- where no token was given by now, none was before
-none_alone : (built : Built) (start : Start) (past : History) (sent : Sent) → all_given (behind built start (serves sent) past) ≡ [] → all_given past ≡ []
-none_alone built start past sent h =
-    nothing_left_of (all_given past) (option_to_list (event_of built start past (serves sent)).outcome.token) (sym (servings_take_effect built start past sent).tokens ∙ h)
-
-none_before : (built : Built) (start : Start) (journal : Journal) (sent : Sent) (x : Option Forwarded) → all_given (history_of built start (with_forward sent.place (serves sent ∷ journal) x)) ≡ [] → all_given (history_of built start journal) ≡ []
-unfolding history_of
-none_before built start journal sent None h = none_alone built start (history_of built start journal) sent h
-none_before built start journal sent (Some f) h =
-    let mid = behind built start (serves sent) (history_of built start journal) in
-    let new = sent_behind (serves sent ∷ journal) f.endpoint (message f.bytes (f.object ∷ [])) (Some sent.place) in
-    none_alone built start (history_of built start journal) sent (sym (sendings_wait_last built start mid new).same.tokens ∙ h)
-
--- then none is held, and the next one is the first
-none_held : (history : History) (n : ℕ) → all_given history ≡ [] → is_held history n ≡ false
-none_held history n none = ap (λ (ones : List Given). list_any (λ g. g.token == n) ones && not (was_carried history n)) none
-
-first_next : (history : History) → all_given history ≡ [] → next_token history ≡ Some limit.FIRST_TOKEN
-first_next history none =
-    ap
-    (λ (ones : List Given).
-    if nat_le limit.MAX_TOKENS (length (filter (λ one. is_held history one.token || waits_with history one.token) ones)) || nat_le 0x80000000 (length ones) then None
-    else Some (limit.FIRST_TOKEN + length ones))
-    none
-
-pub servings_known : Below → (built : Built) (start : Start) (journal : Journal) (sent : Sent) (known : Known) → IsStart start → IsNumbered start → Lawful built start journal → head start (history_of built start journal) sent.endpoint ≡ Some sent →
-    all_given (history_of built start (after_serving built start journal sent)) ≡ [] → Knows start (history_of built start journal) known →
-    Knows start (history_of built start (after_serving built start journal sent))
-    (known_behind known (deaths_at built start journal sent) (length (waiting (history_of built start (after_serving built start journal sent)))))
-servings_known below built start journal sent known s numbered lawful h none k =
-    let past = history_of built start journal in
-    let now = history_of built start (after_serving built start journal sent) in
-    let deaths = deaths_at built start journal sent in
-    let new = fold ended_in known deaths in
-    let died = servings_end below built start journal sent s numbered lawful h in
-    let none_past = none_before built start journal sent (outcome_of built start past sent).forward none in
-    let same = ended_same deaths known in
-    record {
-      standing = λ n. ended_standing deaths known n ∙ ap (λ (x : Standing). if among n deaths then standing.Dead else x) (k.standing n) ∙ sym (died.stand n);
-      live = let a = ended_live deaths known in let b = k.live in let c = died.count in omega arith;
-      waiting = refl;
-      servers = same.servers ∙ k.servers;
-      holds = λ n.
-          ap (λ (tokens : finite.FinMap nat_cmp Bool). unwrap_or (finite.get tokens n) false) same.tokens
-          ∙ k.holds n
-          ∙ none_held past n none_past
-          ∙ sym (none_held now n none);
-      next =
-          ap (λ (out : ℕ). if nat_le 4096 out || nat_le 0x100000000 new.next then None else Some new.next) same.out
-          ∙ ap (λ (next : ℕ). if nat_le 4096 known.out || nat_le 0x100000000 next then None else Some next) same.next
-          ∙ k.next
-          ∙ first_next past none_past
-          ∙ sym (first_next now none);
-      tokens = λ n. ap (λ (tokens : finite.FinMap nat_cmp Bool). finite.get tokens n) same.tokens ∙ k.tokens n ∙ none_out past n none_past ∙ sym (none_out now n none);
-      out = same.out ∙ k.out ∙ ap length (outs_none past none_past) ∙ sym (ap length (outs_none now none));
-      given = same.next ∙ k.given ∙ ap (λ (ones : List Given). limit.FIRST_TOKEN + length ones) (none_past ∙ sym none);
-    }
 
 -- ---- at the start
 

@@ -24,9 +24,6 @@ token_same now past n given carried waits =
     ∙ ap (λ (c : Bool). out_of (was_given past n) c (waits_with now n)) carried
     ∙ ap (λ (w : Bool). out_of (was_given past n) (was_carried past n) w) waits
 
-pub none_out : (history : History) (n : ℕ) → all_given history ≡ [] → token_out history n ≡ None
-none_out history n none = ap (λ (ones : List Given). out_of (list_any (λ g. g.token == n) ones) (was_carried history n) (waits_with history n)) none
-
 -- a token that was held and is carried waits then
 pub token_sent : (client m g c w : Bool) → (m ≡ true → client ≡ false → (g && not c) ≡ true) → (client ≡ true → g ≡ false) → (if not client && m then Some false else out_of g c w) ≡ out_of g (c || m) (w || m)
 token_sent true m g c w held none = by_given g (none refl) where
@@ -80,6 +77,3 @@ outs_same now past given same =
     ap (filter (λ one. is_held now one.token || waits_with now one.token)) given
     ∙ filter_on (λ one. is_held now one.token || waits_with now one.token) (λ one. is_held past one.token || waits_with past one.token) (all_given past)
     (λ one there. same one.token (passes_any (λ (g : Given). g.token == one.token) (all_given past) one there (eq-eqb one.token one.token refl)))
-
-pub outs_none : (history : History) → all_given history ≡ [] → tokens_out history ≡ []
-outs_none history none = ap (filter (λ one. is_held history one.token || waits_with history one.token)) none

@@ -41,7 +41,6 @@ pub mod Spent
 pub mod KnowingBehind
 pub mod Hears
 pub mod Waits
-pub mod NoneGiven
 pub mod Edges
 pub mod Orderly
 pub mod Placed

@@ -26,7 +26,7 @@ use Rattle.io_rights.specs.Operations.{OperationSet}
 use Rattle.path_walk.specs.Names.{slash, dot, IsName}
 use Rattle.path_walk.specs.Paths.{IsPath, text_of}
 use Rattle.fidl_names.specs.HandleNumber.{handle_with}
-use Rattle.vfs_journal.specs.Outcomes.{onward_bytes}
+use Rattle.remote_forward.specs.Onward.{onward_bytes}
 use Rattle.vfs_journal.specs.Serving.{read_by}
 use Rattle.journal_laws.proofs.Below.{Below}
 use Rattle.journal_laws.proofs.Requests.{what_is_read, what_is_spelled, same_open}

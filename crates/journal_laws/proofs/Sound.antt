@@ -10,7 +10,8 @@ use Rattle.node_graph.specs.Tree.{Tree}
 use Rattle.path_walk.specs.Paths.{IsPath, text_of}
 use Rattle.vfs_journal.specs.Entries.{Sent, Sending, message, hang_up, handles_of, endpoints_in}
 use Rattle.vfs_journal.specs.History.{History, all_sent, births, living, waiting, is_dead, trees_of}
-use Rattle.vfs_journal.specs.Outcomes.{Given, onward_bytes}
+use Rattle.vfs_journal.specs.Outcomes.{Given}
+use Rattle.remote_forward.specs.Onward.{onward_bytes}
 use Rattle.journal_laws.specs.Soundness.{IsStart, AreMounted, mount_ends}
 use Rattle.vfs_journal.specs.Starts.{Bound, Start}
 use Rattle.vfs_journal.specs.Tokens.{all_given}

@@ -36,7 +36,7 @@ use Rattle.conn_rules.specs.Answers.{Act}
 use Rattle.conn_rules.specs.Built.{Built}
 use Rattle.conn_rules.specs.Contexts.{Context}
 use Rattle.conn_rules.specs.FileRows.{is_no_position, is_too_much, reading_refusal, seek_sum, write_start, writing_refusal}
-use Rattle.conn_rules.specs.Listings.{fits_none, listing}
+use Rattle.dirents.specs.Listings.{fits_none, listing}
 use Rattle.conn_rules.specs.NameRows.{watch_refusals, is_bad_name, link_into, linked, name_in, rename_into, renamed, two_names_refusal, unlink_refusals}
 use Rattle.conn_rules.specs.Nodes.{bytes_of, edge_at, is_file, kind_behind, kind_here}
 use Rattle.conn_rules.specs.Opens.{arrival, arrival_refusals, by_walk, entry_refusals, is_full, is_other_kind, kind_made, making, making_refusals, marks_file, other_kind_status}

@@ -5,10 +5,10 @@ use Rattle.std.proofs.lemmas.Bool.{and_from, and_parts, cases_Bool, eqb-true, eq
 use Rattle.std.proofs.lemmas.List.Elements.{All-contains}
 use Rattle.fidl_names.specs.HandleNumber.{is_client}
 use Rattle.endpoint_link.specs.Numbering.{among}
-use Rattle.vfs_journal.specs.Entries.{Sent, handles_of}
+use Rattle.vfs_journal.specs.Entries.{Sent, handles_of, tokens_in}
 use Rattle.vfs_journal.specs.Fit.{IsFit}
 use Rattle.vfs_journal.specs.View.{View, deaths_in, head_in, others_in}
-use Rattle.journal_laws.specs.Knowing.{dropped_in, spent_in, tokens_in}
+use Rattle.journal_laws.specs.Knowing.{dropped_in, spent_in}
 use Rattle.journal_laws.proofs.Among.{among_of, member_of, one_passes, one_place, passes_any}
 use Rattle.journal_laws.proofs.KnowingCount.{same_bool}
 use Rattle.journal_laws.proofs.Lists.{pairs-head, pairs-tail}
@@ -29,7 +29,7 @@ pub apart_right : (xs ys : List ℕ) → AllPairs (λ x y. x ≢ y) (xs ++ ys) �
 apart_right [] ys h = h
 apart_right (x ∷ xs) ys h = apart_right xs ys (pairs-tail Differ x (xs ++ ys) h)
 
-in_both : (n : ℕ) (xs ys : List ℕ) → AllPairs (λ x y. x ≢ y) (xs ++ ys) → among n xs ≡ true → among n ys ≡ true → ⊥
+pub in_both : (n : ℕ) (xs ys : List ℕ) → AllPairs (λ x y. x ≢ y) (xs ++ ys) → among n xs ≡ true → among n ys ≡ true → ⊥
 in_both n [] ys apart a b = true≢false (sym a)
 in_both n (x ∷ xs) ys apart a b = by_side (in_both n xs ys (pairs-tail Differ x (xs ++ ys) apart)) (or_cases (x == n) (among n xs) a) where
   by_side : (among n xs ≡ true → among n ys ≡ true → ⊥) → ((x == n) ≡ true) ⊎ (among n xs ≡ true) → ⊥
@@ -37,7 +37,7 @@ in_both n (x ∷ xs) ys apart a b = by_side (in_both n xs ys (pairs-tail Differ 
   by_side rest (inr h) = rest h b
 
 -- two entries that carry one handle are one
-handle_later : (n : ℕ) (one : Sent) (ones : List Sent) → Contains ones one → among n (handles_of one.sending) ≡ true → among n (flat_map (λ sent. handles_of sent.sending) ones) ≡ true
+pub handle_later : (n : ℕ) (one : Sent) (ones : List Sent) → Contains ones one → among n (handles_of one.sending) ≡ true → among n (flat_map (λ sent. handles_of sent.sending) ones) ≡ true
 handle_later n one [] p h = absurd (contains_none one p)
 handle_later n one (x ∷ ones) p h = by_place (λ q. handle_later n one ones q h) (contains_cases one x ones p) where
   by_place : (Contains ones one → among n (flat_map (λ sent. handles_of sent.sending) ones) ≡ true) → (x ≡ one) ⊎ Contains ones one → among n (handles_of x.sending ++ flat_map (λ sent. handles_of sent.sending) ones) ≡ true
@@ -60,7 +60,7 @@ carried_once n (x ∷ ones) one other apart p q a b =
 
 -- ---- what is spent
 
-token_in_is : (n : ℕ) (one : Sent) → among n (tokens_in one) ≡ true → (is_client n ≡ false) × (among n (handles_of one.sending) ≡ true)
+pub token_in_is : (n : ℕ) (one : Sent) → among n (tokens_in one) ≡ true → (is_client n ≡ false) × (among n (handles_of one.sending) ≡ true)
 token_in_is n one h =
     let at = kept_of (λ (m : ℕ). not (is_client m)) (handles_of one.sending) n (member_of n (tokens_in one) h) in
     (no_client (is_client n) at.1, among_of n (handles_of one.sending) at.0) where
@@ -68,17 +68,17 @@ token_in_is n one h =
       no_client false e = refl
       no_client true e = absurd (true≢false (sym e))
 
-token_in_from : (n : ℕ) (one : Sent) → is_client n ≡ false → among n (handles_of one.sending) ≡ true → among n (tokens_in one) ≡ true
+pub token_in_from : (n : ℕ) (one : Sent) → is_client n ≡ false → among n (handles_of one.sending) ≡ true → among n (tokens_in one) ≡ true
 token_in_from n one other h = among_of n (tokens_in one) (kept (λ (m : ℕ). not (is_client m)) (handles_of one.sending) n (member_of n (handles_of one.sending) h) (ap not other))
 
-tokens_of_many : (n : ℕ) (ones : List Sent) → among n (flat_map tokens_in ones) ≡ true → (x : Sent) × Contains ones x × (among n (tokens_in x) ≡ true)
+pub tokens_of_many : (n : ℕ) (ones : List Sent) → among n (flat_map tokens_in ones) ≡ true → (x : Sent) × Contains ones x × (among n (tokens_in x) ≡ true)
 tokens_of_many n [] h = absurd (true≢false (sym h))
 tokens_of_many n (one ∷ ones) h = by_side (tokens_of_many n ones) (among_sides n (tokens_in one) (flat_map tokens_in ones) h) where
   by_side : (among n (flat_map tokens_in ones) ≡ true → (x : Sent) × Contains ones x × (among n (tokens_in x) ≡ true)) → (among n (tokens_in one) ≡ true) ⊎ (among n (flat_map tokens_in ones) ≡ true) → (x : Sent) × Contains (one ∷ ones) x × (among n (tokens_in x) ≡ true)
   by_side rest (inl g) = (one, contains_here one ones, g)
   by_side rest (inr g) = let later = rest g in (later.0, contains_later later.0 one ones later.1, later.2)
 
-tokens_from_many : (n : ℕ) (x : Sent) (ones : List Sent) → Contains ones x → among n (tokens_in x) ≡ true → among n (flat_map tokens_in ones) ≡ true
+pub tokens_from_many : (n : ℕ) (x : Sent) (ones : List Sent) → Contains ones x → among n (tokens_in x) ≡ true → among n (flat_map tokens_in ones) ≡ true
 tokens_from_many n x [] p h = absurd (contains_none x p)
 tokens_from_many n x (one ∷ ones) p h = by_place (λ q. tokens_from_many n x ones q h) (contains_cases x one ones p) where
   by_place : (Contains ones x → among n (flat_map tokens_in ones) ≡ true) → (one ≡ x) ⊎ Contains ones x → among n (tokens_in one ++ flat_map tokens_in ones) ≡ true

@@ -14,7 +14,8 @@ use Rattle.conn_rules.specs.Built.{Built}
 use Rattle.vfs_journal.specs.Deaths.{others}
 use Rattle.vfs_journal.specs.Entries.{Sent, Sending, Journal, message, hang_up, sends, serves}
 use Rattle.vfs_journal.specs.History.{History, waiting, waits}
-use Rattle.vfs_journal.specs.Outcomes.{Forwarded, onward_bytes}
+use Rattle.vfs_journal.specs.Outcomes.{Forwarded}
+use Rattle.remote_forward.specs.Onward.{onward_bytes}
 use Rattle.vfs_journal.specs.Past.{event_of, behind, history_of}
 use Rattle.vfs_journal.specs.Serving.{Read, read_by, outcome_of}
 use Rattle.vfs_journal.specs.Session.{head, sent_behind, with_forward, after_serving, weight, weight_of, weight_of_read}

@@ -1,8 +1,7 @@
 -- That a server which keeps what it knows of endpoints and tokens knows at each point what looking back says.
-use Rattle.std.specs.Prelude.{◌≡◌, ◌≢◌, ◌+◌, ◌≤◌, ◌&&◌, ℕ, Bool, true, false, not, is_some, if◌then◌else◌, List, [], ◌∷◌, ◌++◌, length, map, filter, flat_map, option_to_list, AllPairs, fold, Option, Some, None}
+use Rattle.std.specs.Prelude.{◌≡◌, ◌≢◌, ◌+◌, ◌≤◌, ◌&&◌, ℕ, Bool, true, false, is_some, if◌then◌else◌, List, [], ◌∷◌, ◌++◌, length, map, filter, flat_map, option_to_list, AllPairs, fold, Option, Some, None}
 use Rattle.std.specs.FinMap as finite
 use Rattle.std.specs.List.{range_with_len}
-use Rattle.fidl_names.specs.HandleNumber.{is_client}
 use Rattle.fidl_names.specs.declared.limits.TheConstants as limit
 use Rattle.tree_file.specs.Items.{Lists}
 use Rattle.tree_file.specs.Numbering.{end_of_mount}
@@ -15,7 +14,7 @@ use Rattle.endpoint_link.specs.Numbering.{among}
 use Rattle.endpoint_link.specs.Standings.{Known, Starts, holds, is_live, next_token_of, standing_of as known_standing, ended as ended_in, given, gone}
 use Rattle.conn_rules.specs.Built.{Built}
 use Rattle.vfs_journal.specs.Deaths.{deaths_of}
-use Rattle.vfs_journal.specs.Entries.{Sent, Journal, message, hang_up, handles_of, sends, refuses}
+use Rattle.vfs_journal.specs.Entries.{Sent, Journal, message, hang_up, sends, refuses, tokens_in}
 use Rattle.vfs_journal.specs.Fit.{IsFit}
 use Rattle.vfs_journal.specs.History.{History, waiting, standing_of, live_count}
 use Rattle.vfs_journal.specs.Lawful.{Lawful}
@@ -64,15 +63,7 @@ pub record AreDeaths (start : Start) (past now : History) (deaths : List ℕ) : 
   pub stand : (endpoint : ℕ) → standing_of start now endpoint ≡ (if among endpoint deaths then standing.Dead else standing_of start past endpoint)
   pub count : live_count start now + length deaths ≡ live_count start past
 
--- what is known behind deaths, where so many entries wait and no token was given
-abbrev pub known_behind : Known → List ℕ → ℕ → Known
-known_behind known deaths waiting = record (fold ended_in known deaths) { waiting = waiting }
-
 -- ---- tokens
-
--- the tokens that an entry carries
-abbrev pub tokens_in : Sent → List ℕ
-tokens_in sent = filter (λ number. not (is_client number)) (handles_of sent.sending)
 
 -- what waits on endpoints that die of a serving
 abbrev pub dropped_in : View → Sent → List Sent
@@ -135,14 +126,6 @@ abbrev pub ServingsEndTheirDeaths : Type 0
 ServingsEndTheirDeaths =
     (built : Built) (start : Start) (journal : Journal) (sent : Sent) → IsStart start → IsNumbered start → Lawful built start journal → head start (history_of built start journal) sent.endpoint ≡ Some sent →
     AreDeaths start (history_of built start journal) (history_of built start (after_serving built start journal sent)) (deaths_at built start journal sent)
-
--- behind a serving its deaths and the count of what waits make what is known, where no token was ever given
-abbrev pub ServingsAreKnown : Type 0
-ServingsAreKnown =
-    (built : Built) (start : Start) (journal : Journal) (sent : Sent) (known : Known) → IsStart start → IsNumbered start → Lawful built start journal → head start (history_of built start journal) sent.endpoint ≡ Some sent →
-    all_given (history_of built start (after_serving built start journal sent)) ≡ [] → Knows start (history_of built start journal) known →
-    Knows start (history_of built start (after_serving built start journal sent))
-    (known_behind known (deaths_at built start journal sent) (length (waiting (history_of built start (after_serving built start journal sent)))))
 
 -- behind a serving its deaths, each once in any order, the tokens that are gone, so too, the one that is given, and the count of what waits
 -- make what is known

@@ -9,4 +9,3 @@ pub mod Hearing
 pub mod Knowing
 pub mod Rooms
 pub mod Trees
-pub mod Giving

@@ -1,7 +1,7 @@
 //! Laws of a server that keeps what it knows of endpoints and tokens. They compute nothing: what they say is in their clauses.
 
 ghost use Rattle.fidl_wire.specs.Names.{AreDistinct};
-ghost use Rattle.journal_laws.specs.Knowing.{FewWait, KnowersAdmit, StartsAreKnown, RefusalsAreKnown, MessagesAreKnown, HangUpsAreKnown, ServingsEndTheirDeaths, ServingsAreKnown, ServingsCountWhatWaits, ServingsKeepWhatIsKnown, SpentTokensAreOut, StartsOfFilesAreNumbered};
+ghost use Rattle.journal_laws.specs.Knowing.{FewWait, KnowersAdmit, StartsAreKnown, RefusalsAreKnown, MessagesAreKnown, HangUpsAreKnown, ServingsEndTheirDeaths, ServingsCountWhatWaits, ServingsKeepWhatIsKnown, SpentTokensAreOut, StartsOfFilesAreNumbered};
 
 use fidl_wire::body_is_read_where_spelled;
 use io_messages::written_request_is_read;
@@ -54,16 +54,6 @@ pub fn hang_ups_are_known()
 /// where no two names have equal ordinals.
 pub fn servings_end_their_deaths()
     ensures { AreDistinct → ServingsEndTheirDeaths }
-{
-    body_is_read_where_spelled();
-    written_request_is_read();
-    path_laws();
-}
-
-/// Behind a serving, to end its deaths and count what waits leaves what looking back says, where no token was ever given and no two names
-/// have equal ordinals.
-pub fn servings_are_known()
-    ensures { AreDistinct → ServingsAreKnown }
 {
     body_is_read_where_spelled();
     written_request_is_read();

@@ -2,7 +2,6 @@
 #![tactic(auto)]
 
 mod choosing;
-mod giving;
 mod knowing;
 mod laws;
 mod viewing;
@@ -11,12 +10,10 @@ pub use choosing::{
     deaths_are_the_least, least_places_are_served, members_tell_deaths, queues_count_what_waits,
     rising_numbers_are_sorted,
 };
-pub use giving::no_tokens_are_given;
 pub use knowing::{
     few_wait, hang_ups_are_known, knowers_admit, messages_are_known, refusals_are_known,
-    servings_are_known, servings_count_what_waits, servings_end_their_deaths,
-    servings_keep_what_is_known, spent_tokens_are_out, starts_are_known,
-    starts_of_files_are_numbered,
+    servings_count_what_waits, servings_end_their_deaths, servings_keep_what_is_known,
+    spent_tokens_are_out, starts_are_known, starts_of_files_are_numbered,
 };
 pub use laws::{
     deaths_reach_all, drains_serve_all, endpoints_are_in_transit, endpoints_are_known, places_rise,

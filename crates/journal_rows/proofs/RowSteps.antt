@@ -19,7 +19,7 @@ use Rattle.vfs_journal.specs.History.{Event, History, waiting, trees_of, tree_at
 use Rattle.vfs_journal.specs.Outcomes.{Outcome, outcome_with, no_outcome, Forwarded, close_frame}
 use Rattle.vfs_journal.specs.Output.{frames_of, refused_frame}
 use Rattle.vfs_journal.specs.Past.{history_of, event_of}
-use Rattle.journal_rows.specs.Rows.{message_on, turn_of, pick_of, written}
+use Rattle.journal_rows.specs.Rows.{message_on, written}
 use Rattle.vfs_journal.specs.Serving.{Read, read_by, outcome_of, request_act, moment_of, asker_of, object_of}
 use Rattle.vfs_journal.specs.Session.{ended, serving, after_serving, with_forward, sent_behind, arrives, admitted, by_refusal, look_ups, serving_one, next, oldest, head, steps, session, drained, weight, weight_of, weight_of_read}
 use Rattle.vfs_journal.specs.Starts.{Bound, Start}
@@ -205,28 +205,6 @@ module _ (start : Start) (frames : List Frame) (past : History) (output : List F
 
   frame_enters : Knows start past output → (frame : Frame) (sent : Sent) → entrance_of start past frame ≡ enters sent past → arrives everything start (journal_of past) frame ≡ journal_of (was_sent sent ∷ past)
   frame_enters known frame sent e = by_admission start past output known frame None (ap (λ (e : Entrance). e.refusal) e) ∙ ap (λ (e : Entrance). e.journal) e
-
-  -- ---- in mode given
-
-  pub sent_in : Stands start mode.Given frames past output → (frame : Frame) (sent : Sent) → entrance_of start past frame ≡ enters sent past → Stands start mode.Given (frames ++ frame ∷ []) (was_sent sent ∷ past) output
-  sent_in before frame sent e = one_more mode.Given before frame (was_sent sent ∷ past) output (frame_enters before.known frame sent e) (behind_sends start past output before.known sent)
-
-  pub turns : Stands start mode.Given frames past output → (server times : ℕ) (end : History) (then : List Frame) → admission (look_ups start past) (turn_of server times) ≡ None → word_in (word_of times) ≡ times
-      → Serves start (λ h. oldest start h server) times past end → Knows start end then → Stands start mode.Given (frames ++ turn_of server times ∷ []) end then
-  turns before server times end then a w served known =
-      one_more mode.Given before (turn_of server times) end then
-      (by_admission start past output before.known (turn_of server times) None a ∙ ap (λ n. serving n everything start (λ h. oldest start h server) (journal_of past)) w ∙ served) known
-
-  pub picks : Stands start mode.Given frames past output → (endpoint : ℕ) (end : History) (then : List Frame) → admission (look_ups start past) (pick_of endpoint) ≡ None
-      → Serves start (λ h. head start h endpoint) 1 past end → Knows start end then → Stands start mode.Given (frames ++ pick_of endpoint ∷ []) end then
-  picks before endpoint end then a served known =
-      one_more mode.Given before (pick_of endpoint) end then (by_admission start past output before.known (pick_of endpoint) None a ∙ served) known
-
-  pub frame_stays_out : Stands start mode.Given frames past output → (frame : Frame) (why : Refusal) → admission (look_ups start past) frame ≡ Some why
-      → Stands start mode.Given (frames ++ frame ∷ []) (was_refused frame.endpoint why ∷ past) (output ++ refused_frame frame.endpoint why ∷ [])
-  frame_stays_out before frame why a =
-      one_more mode.Given before frame (was_refused frame.endpoint why ∷ past) (output ++ refused_frame frame.endpoint why ∷ [])
-      (by_admission start past output before.known frame (Some why) a) (behind_refuses start past output before.known frame.endpoint why)
 
   -- ---- in mode auto
 

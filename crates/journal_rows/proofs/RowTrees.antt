@@ -23,7 +23,8 @@ use Rattle.conn_rules.specs.Nodes.{attributes_of}
 use Rattle.conn_rules.specs.Walks.{walk}
 use Rattle.io_messages.specs.declared.protocols.Protocol.{Protocol}
 use Rattle.io_rights.specs.declared.operations.Operation.{Operation}
-use Rattle.conn_rules.specs.Births.{Position, start}
+use Rattle.conn_rules.specs.Births.{Position}
+use Rattle.dirents.specs.declared.place.Place.TheVariants.{Start}
 use Rattle.vfs_journal.specs.Outcomes.{watcher_birth}
 use Rattle.journal_rows.specs.RowTree.{names_a, names_b, edges_of, looking, these, at_root}
 use Rattle.vfs_journal.specs.Starts.{Bound}
@@ -102,4 +103,4 @@ mount_end (suc (suc more)) = at_root (end_of_mount 2) 1 looking
 
 -- so many bytes into a file
 abbrev pub at : ℕ → Position
-at offset = record { offset = offset; place = start }
+at offset = record { offset = offset; place = Start }

@@ -10,31 +10,8 @@ use Rattle.io_messages.specs.Replies.{done, fails, payload, settled, token, attr
 use Rattle.path_walk.specs.Names.{dot}
 use Rattle.vfs_journal.specs.Outcomes.{close_frame}
 use Rattle.vfs_journal.specs.Output.{refused_frame}
-use Rattle.journal_rows.specs.Rows.{Asks, message_on, answer_on, epitaph_on, links_and_id, entry, Writes}
+use Rattle.journal_rows.specs.Rows.{Asks, message_on, answer_on, epitaph_on, entry, Writes}
 use Rattle.vfs_journal.specs.Watching.{deleted, added, removed, existing, idle, event_bytes, watch_frame}
-
--- a directory isn't moved into itself
-abbrev pub RenameIntoItself : Type 0
-RenameIntoItself =
-    (opening giving renaming : List ℕ)
-    → Asks protocol.Directory opening (2 ∷ []) 0 (asks.open_path (codes "d") 0x100 None 2)
-    → Asks protocol.Directory giving [] 3 asks.get_token
-    → Asks protocol.Directory renaming (0x80000000 ∷ []) 4 (asks.rename (codes "d") 0x80000000 (codes "e"))
-    → Writes mode.Auto
-    (message_on 1 opening (2 ∷ []) ∷ message_on 2 giving [] ∷ message_on 1 renaming (0x80000000 ∷ []) ∷ [])
-    (answer_on 2 3 (token 0x80000000) ∷ answer_on 1 4 (fails method.Rename status.InvalidArgs) ∷ [])
-
--- a listing wants room for its next entry
-abbrev pub ListingSizes : Type 0
-ListingSizes =
-    (short long : List ℕ)
-    → Asks protocol.Directory short [] 2 (asks.read_dirents 10)
-    → Asks protocol.Directory long [] 3 (asks.read_dirents 11)
-    → Writes mode.Auto
-    (message_on 1 short [] ∷ message_on 1 long [] ∷ [])
-    (answer_on 1 2 (fails method.ReadDirents status.BufferTooSmall)
-    ∷ answer_on 1 3 (payload method.ReadDirents (entry 1 4 (codes ".")))
-    ∷ [])
 
 -- a new watcher gets the names that are there in one message, then IDLE; and then the name of a file that is made
 abbrev pub WatchedMaking : Type 0
@@ -68,22 +45,6 @@ WatchedRename =
     ∷ watch_frame 3 (event_bytes added (codes "g"))
     ∷ [])
 
--- a listing goes on behind the last name, also where that name is gone
-abbrev pub ListingGoesOn : Type 0
-ListingGoesOn =
-    (first unlinking second third : List ℕ)
-    → Asks protocol.Directory first [] 2 (asks.read_dirents 36)
-    → Asks protocol.Directory unlinking [] 3 (asks.unlink (codes "echo") 0)
-    → Asks protocol.Directory second [] 4 (asks.read_dirents 8192)
-    → Asks protocol.Directory third [] 5 (asks.read_dirents 8192)
-    → Writes mode.Auto
-    (message_on 1 first [] ∷ message_on 1 unlinking [] ∷ message_on 1 second [] ∷ message_on 1 third [] ∷ [])
-    (answer_on 1 2 (payload method.ReadDirents (entry 1 4 (codes ".") ++ entry 2 4 (codes "d") ++ entry 5 16 (codes "echo")))
-    ∷ answer_on 1 3 (done method.Unlink)
-    ∷ answer_on 1 4 (payload method.ReadDirents (entry 6 4 (codes "m") ++ entry 7 4 (codes "r") ++ entry 4 8 (codes "ro")))
-    ∷ answer_on 1 5 (payload method.ReadDirents [])
-    ∷ [])
-
 -- a removed directory lives on where it is open: its watchers are told, nothing is made in it, and its listing is `.`
 abbrev pub RemovedDirectory : Type 0
 RemovedDirectory =
@@ -109,30 +70,6 @@ RemovedDirectory =
     ∷ epitaph_on 4 status.BadState
     ∷ close_frame 4
     ∷ answer_on 2 7 (payload method.ReadDirents (entry 2 4 (codes ".")))
-    ∷ [])
-
--- a file has the name that a Link gave it, where its first one is gone
-abbrev pub SecondName : Type 0
-SecondName =
-    (opening giving linking unlinking again looking : List ℕ)
-    → Asks protocol.Directory opening (2 ∷ []) 0 (asks.open_path (codes "d") 0x100 None 2)
-    → Asks protocol.Directory giving [] 3 asks.get_token
-    → Asks protocol.Directory linking (0x80000000 ∷ []) 4 (asks.link (codes "f") 0x80000000 (codes "g"))
-    → Asks protocol.Directory unlinking [] 5 (asks.unlink (codes "f") 0)
-    → Asks protocol.Directory again (3 ∷ []) 0 (asks.open_path (codes "d/g") 0x12 None 3)
-    → Asks protocol.File looking [] 7 (asks.get_attributes 0x30)
-    → Writes mode.Auto
-    (message_on 1 opening (2 ∷ [])
-    ∷ message_on 2 giving []
-    ∷ message_on 2 linking (0x80000000 ∷ [])
-    ∷ message_on 2 unlinking []
-    ∷ message_on 1 again (3 ∷ [])
-    ∷ message_on 3 looking []
-    ∷ [])
-    (answer_on 2 3 (token 0x80000000)
-    ∷ answer_on 2 4 (settled method.Link)
-    ∷ answer_on 2 5 (done method.Unlink)
-    ∷ answer_on 3 7 (attributes (links_and_id 1 3))
     ∷ [])
 
 -- a refused Watch is answered on the connection, and the endpoint that it carries is closed

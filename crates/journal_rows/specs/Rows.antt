@@ -16,7 +16,7 @@ use Rattle.io_messages.specs.Replies.{Answered}
 use Rattle.io_messages.specs.ReplyWriting.{reply_bytes, reply_handles}
 use Rattle.fidl_names.specs.HandleNumber.{number_of_handle}
 use Rattle.conn_rules.specs.Built.{everything}
-use Rattle.vfs_journal.specs.Outcomes.{onward_bytes}
+use Rattle.remote_forward.specs.Onward.{onward_bytes}
 use Rattle.vfs_journal.specs.Output.{frames_of}
 use Rattle.vfs_journal.specs.Past.{history_of}
 use Rattle.journal_rows.specs.RowTree.{two_servers}
@@ -28,23 +28,10 @@ use Rattle.vfs_journal.specs.Starts.{Start}
 abbrev pub Asks : Protocol → List ℕ → List ℕ → ℕ → Asked → Type 0
 Asks spoken bytes carried txid request = read_by spoken bytes carried ≡ Ok (txid, request)
 
--- the Open that goes on behind a mount with these names is the Open of this path
-abbrev pub GoesOn : List (List ℕ) → List ℕ → ℕ → ℕ → Type 0
-GoesOn names path word object = Asks protocol.Directory (onward_bytes word names object) (object ∷ []) 0 (asks.open_path path word None object)
-
 -- ---- what clients send
 
 abbrev pub message_on : ℕ → List ℕ → List ℕ → Frame
 message_on endpoint bytes carried = frame_with endpoint kind.Message carried bytes
-
-abbrev pub hang_up_on : ℕ → Frame
-hang_up_on endpoint = frame_with endpoint kind.Close [] []
-
-abbrev pub turn_of : ℕ → ℕ → Frame
-turn_of server times = frame_with server kind.Turn [] (word_of times)
-
-abbrev pub pick_of : ℕ → Frame
-pick_of endpoint = frame_with endpoint kind.Pick [] []
 
 -- ---- what is written
 
@@ -63,17 +50,6 @@ epitaph_on endpoint status = frame_with endpoint kind.Message [] (epitaph_bytes 
 abbrev pub entry : ℕ → ℕ → List ℕ → List ℕ
 entry number type name = number ∷ 0 ∷ 0 ∷ 0 ∷ 0 ∷ 0 ∷ 0 ∷ 0 ∷ length name ∷ type ∷ name
 
--- the links and the number of a node, and its number alone
-abbrev pub links_and_id : ℕ → ℕ → Attributes
-links_and_id links number = record { protocols = None; abilities = None; content_size = None; link_count = Some links; id = Some number }
-
-abbrev pub id_alone : ℕ → Attributes
-id_alone number = record { protocols = None; abilities = None; content_size = None; link_count = None; id = Some number }
-
 -- these frames, one after another over the two servers, are answered by these
 abbrev pub Writes : Mode → List Frame → List Frame → Type 0
 Writes by frames output = written two_servers by frames ≡ output
-
--- the same with the drain at the end of the input
-abbrev pub WritesAtLast : Mode → List Frame → List Frame → Type 0
-WritesAtLast by frames output = frames_of two_servers (history_of everything two_servers (ended everything two_servers by frames)) ≡ output

@@ -1,5 +1,5 @@
 -- The journal of a session: what was sent, served and refused, in order of happening.
-use Rattle.std.specs.Prelude.{ℕ, Bool, true, false, List, [], filter, Option}
+use Rattle.std.specs.Prelude.{ℕ, Bool, true, false, not, List, [], filter, Option}
 use Rattle.endpoint_link.specs.declared.kinds.Refusal.{Refusal}
 use Rattle.fidl_names.specs.HandleNumber.{is_client}
 
@@ -33,6 +33,10 @@ handles_of hang_up = []
 -- the endpoints among them
 abbrev pub endpoints_in : Sent → List ℕ
 endpoints_in sent = filter is_client (handles_of sent.sending)
+
+-- and the tokens
+abbrev pub tokens_in : Sent → List ℕ
+tokens_in sent = filter (λ number. not (is_client number)) (handles_of sent.sending)
 
 abbrev pub is_hang_up : Sending → Bool
 is_hang_up (message bytes handles) = false

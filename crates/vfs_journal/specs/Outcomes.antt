@@ -6,18 +6,16 @@ use Rattle.fidl_names.specs.StatusNumber.{number_of}
 use Rattle.fidl_wire.specs.Epitaphs.{epitaph_bytes}
 use Rattle.endpoint_link.specs.Frames.{Frame, frame_with}
 use Rattle.endpoint_link.specs.declared.kinds.FrameKind.TheVariants as kind
-use Rattle.io_messages.specs.Asked as asks
 use Rattle.io_messages.specs.declared.protocols.Protocol.{Protocol}
 use Rattle.io_messages.specs.declared.protocols.Protocol.TheVariants as protocol
 use Rattle.io_messages.specs.Replies.{Answered, done, settled}
 use Rattle.io_messages.specs.Replies as answered
 use Rattle.io_messages.specs.ReplyWriting.{reply_bytes, reply_handles, event_bytes}
 use Rattle.fidl_names.specs.HandleNumber.{number_of_handle}
-use Rattle.io_messages.specs.Writing.{request_bytes}
 use Rattle.io_rights.specs.Operations.{none}
 use Rattle.node_graph.specs.Tree.{Change, stay}
-use Rattle.path_walk.specs.Paths.{text_of}
 use Rattle.tree_file.specs.Numbering.{end_of_mount}
+use Rattle.remote_forward.specs.Onward.{onward_bytes}
 use Rattle.conn_rules.specs.Answers.{Answer, replies, closes, binds, watches, forwards, refuses, ends, hangs_up, silent, Happening, nothing_told, Act}
 use Rattle.conn_rules.specs.Births.{Birth, Position, fresh}
 use Rattle.vfs_journal.specs.Starts.{Bound}
@@ -96,10 +94,6 @@ abbrev pub bound_of : Asker → Answer → Option Bound
 bound_of asker (binds birth announced) = Some (record { endpoint = asker.object; server = asker.server; birth = birth; mask = 0 })
 bound_of asker (watches mask) = Some (record { endpoint = asker.object; server = asker.server; birth = watcher_birth asker.node; mask = mask })
 bound_of asker _ = None
-
--- the Open that goes on: the rest of the path, the flags that are left, no options, and the same object
-abbrev pub onward_bytes : ℕ → List (List ℕ) → ℕ → List ℕ
-onward_bytes flags rest object = request_bytes 0 (asks.open_path (text_of rest) flags None object)
 
 abbrev pub forward_of : Asker → Answer → Option Forwarded
 forward_of asker (forwards mount flags rest) =

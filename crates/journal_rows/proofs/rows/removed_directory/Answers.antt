@@ -12,7 +12,8 @@ use Rattle.node_graph.specs.Tree.{cut}
 use Rattle.path_walk.specs.Names.{dot}
 use Rattle.conn_rules.specs.Answers.{Act, only, replies, binds, watches, refuses}
 use Rattle.conn_rules.specs.Answers as news
-use Rattle.conn_rules.specs.Births.{fresh, after_dot}
+use Rattle.conn_rules.specs.Births.{fresh}
+use Rattle.dirents.specs.declared.place.Place.TheVariants.{AfterDot}
 use Rattle.conn_rules.specs.NameRows.{name_in}
 use Rattle.vfs_journal.specs.History.{History}
 use Rattle.vfs_journal.specs.Outcomes.{close_frame}
@@ -119,7 +120,7 @@ module _
   request_5 = asks.read_dirents 100
 
   abbrev act_5 : Act
-  act_5 = only (record { offset = 0; place = after_dot }) (replies (payload method.ReadDirents (entry 2 4 (codes "."))))
+  act_5 = only (record { offset = 0; place = AfterDot }) (replies (payload method.ReadDirents (entry 2 4 (codes "."))))
 
   acts_5 : Does two_servers (was_sent (request_sent past_4 bound_2 listing []) ∷ past_4) bound_2 request_5 act_5
   unfolding looked_through
