@@ -1,0 +1,129 @@
+-- A lawful journal entry by entry, and the transaction ids of what is sent.
+use Rattle.std.proofs.Common.{◌≡◌, ℕ, ◌<◌, List, [], ◌∷◌, ◌++◌, length, Option, Some, None, Ok, Err, refl, sym, zero, suc, subst, lit<, arith}
+use Rattle.std.specs.Prelude.{slice_index}
+use Rattle.std.proofs.lemmas.List.Elements.{All-head, All-tail}
+use Rattle.byteorder.specs.Numbers.{little_from-lt}
+use Rattle.fidl_names.specs.Numbers.{AreBytes, number_at}
+use Rattle.endpoint_link.specs.declared.kinds.Refusal.{Refusal}
+use Rattle.conn_rules.specs.Answers.{Act, Answer, replies, closes, binds, watches, forwards, refuses, ends, hangs_up, only, silent}
+use Rattle.conn_rules.specs.Built.{Built}
+use Rattle.fidl_wire.specs.Names.{method_ordinal}
+use Rattle.fidl_names.specs.declared.methods.Method.TheVariants as method
+use Rattle.io_messages.specs.Asked as asks
+use Rattle.io_messages.specs.Writing.{plain_header, request_body}
+use Rattle.io_messages.specs.declared.protocols.Protocol.{Protocol}
+use Rattle.io_messages.specs.declared.protocols.Protocol.TheVariants as protocol
+use Rattle.path_walk.specs.Paths.{text_of}
+use Rattle.remote_forward.specs.Onward.{onward_bytes}
+use Rattle.vfs_journal.specs.Entries.{Entry, Journal, Sending, Sent, message, hang_up, sends, serves, refuses}
+use Rattle.vfs_journal.specs.History.{History, bound_at}
+use Rattle.vfs_journal.specs.Lawful.{Lawful, begun, refused, sent, closed, served}
+use Rattle.vfs_journal.specs.Outcomes.{Asker, Forwarded, Outcome, forward_of, no_outcome, outcome_with}
+use Rattle.vfs_journal.specs.Past.{history_of}
+use Rattle.vfs_journal.specs.Serving.{Moment, Read, asker_of, fault_answer, fault_txid, moment_of, object_of, request_act, outcome_at, outcome_of, outcome_of_message, outcome_of_read, outcome_of_sending, read_by}
+use Rattle.vfs_journal.specs.Session.{head, with_forward}
+use Rattle.vfs_journal.specs.Starts.{Bound, Start}
+use Rattle.journal_laws.proofs.Stepping.{Stepped}
+use Rattle.journal_laws.proofs.Stepping as steps
+use Rattle.reply_laws.proofs.Framed.{IsShort, header_id}
+use Rattle.reply_laws.specs.Pipelined.{txid_in, txid_of}
+
+-- ---- outcomes are those of acts
+
+read_holds : (P : Outcome → Type 0) → ((asker : Asker) (act : Act) → P (outcome_with asker act)) → (built : Built) (moment : Moment) (read : Read) → P (outcome_of_read built moment read)
+read_holds P each built moment (Ok found) = each (asker_of moment.bound found.0 (object_of found.1)) (request_act built moment found.1)
+read_holds P each built moment (Err fault) = each (asker_of moment.bound (fault_txid fault) 0) (only moment.position (fault_answer fault))
+
+message_holds : (P : Outcome → Type 0) → ((asker : Asker) (act : Act) → P (outcome_with asker act)) → (built : Built) (moment : Moment) (p : Protocol) (bytes handles : List ℕ) → P (outcome_of_message built moment p bytes handles)
+message_holds P each built moment protocol.Directory bytes handles = read_holds P each built moment (read_by protocol.Directory bytes handles)
+message_holds P each built moment protocol.File bytes handles = read_holds P each built moment (read_by protocol.File bytes handles)
+message_holds P each built moment protocol.Node bytes handles = read_holds P each built moment (read_by protocol.Node bytes handles)
+message_holds P each built moment protocol.Echo bytes handles = read_holds P each built moment (read_by protocol.Echo bytes handles)
+message_holds P each built moment protocol.Watcher bytes handles = each (asker_of moment.bound 0 0) (only moment.position silent)
+
+sending_holds : (P : Outcome → Type 0) → ((asker : Asker) (act : Act) → P (outcome_with asker act)) → (built : Built) (moment : Moment) (sending : Sending) → P (outcome_of_sending built moment sending)
+unfolding outcome_of_sending
+sending_holds P each built moment (message bytes handles) = message_holds P each built moment moment.bound.birth.protocol bytes handles
+sending_holds P each built moment hang_up = each (asker_of moment.bound 0 0) (only moment.position hangs_up)
+
+-- what holds of each act's outcome, and of that which serves nothing, holds of each
+pub outcome_holds : (P : Outcome → Type 0) → ((asker : Asker) (act : Act) → P (outcome_with asker act)) → P no_outcome →
+    (built : Built) (start : Start) (past : History) (one : Sent) → P (outcome_of built start past one)
+outcome_holds P each none built start past one = by_bound (bound_at start past one.endpoint) where
+  by_bound : (o : Option Bound) → P (outcome_at built start past one o)
+  by_bound None = none
+  by_bound (Some bound) = sending_holds P each built (moment_of start past bound) one.sending
+
+-- ---- what goes on has no transaction id
+
+onward_id : (flags : ℕ) (rest : List (List ℕ)) (object : ℕ) → txid_in (onward_bytes flags rest object) ≡ 0
+onward_id flags rest object =
+    header_id (plain_header 0 (method_ordinal method.OpenPath)) (request_body (asks.open_path (text_of rest) flags None object)) (lit< tt)
+
+abbrev GoesOnShort : Outcome → Type 0
+GoesOnShort outcome = (f : Forwarded) → outcome.forward ≡ Some f → IsShort (txid_in f.bytes)
+
+answer_goes_on : (asker : Asker) (answer : Answer) (f : Forwarded) → forward_of asker answer ≡ Some f → IsShort (txid_in f.bytes)
+answer_goes_on asker (forwards mount flags rest) f e =
+    let same : onward_bytes flags rest asker.object ≡ f.bytes = cc in
+    subst (λ (bytes : List ℕ). IsShort (txid_in bytes)) same (subst IsShort (sym (onward_id flags rest asker.object)) (lit< tt))
+answer_goes_on asker (replies a) f e = absurd (cc)
+answer_goes_on asker closes f e = absurd (cc)
+answer_goes_on asker (binds birth announced) f e = absurd (cc)
+answer_goes_on asker (watches mask) f e = absurd (cc)
+answer_goes_on asker (refuses status) f e = absurd (cc)
+answer_goes_on asker (ends status) f e = absurd (cc)
+answer_goes_on asker hangs_up f e = absurd (cc)
+answer_goes_on asker silent f e = absurd (cc)
+
+goes_on_short : (built : Built) (start : Start) (past : History) (one : Sent) → GoesOnShort (outcome_of built start past one)
+goes_on_short built start past one = outcome_holds GoesOnShort (λ asker act. answer_goes_on asker act.answer) (λ f e. absurd (cc)) built start past one
+
+-- what is admitted has bytes, so that its id has 32 bits
+byte_below : (bytes : List ℕ) → AreBytes bytes → (k : ℕ) → slice_index bytes k < 256
+byte_below [] h k = omega arith
+byte_below (x ∷ xs) h zero = All-head (λ y. y < 256) x xs h
+byte_below (x ∷ xs) h (suc k) = byte_below xs (All-tail (λ y. y < 256) x xs h) k
+
+short_id : (bytes : List ℕ) → AreBytes bytes → IsShort (txid_in bytes)
+unfolding number_at
+short_id bytes h = little_from-lt 0 4 bytes (byte_below bytes h)
+
+-- ---- entry by entry
+
+-- each entry is a refusal, a sending at the next place whose transaction id has 32 bits, or the serving of a head
+pub data Grown (built : Built) (start : Start) : Journal → Type 0 where
+  none : Grown built start []
+  refusing : (earlier : Journal) (endpoint : ℕ) (why : Refusal) → Grown built start earlier → Grown built start (refuses endpoint why ∷ earlier)
+  sending : (earlier : Journal) (one : Sent) → Grown built start earlier → one.place ≡ length earlier → IsShort (txid_of one.sending) → Grown built start (sends one ∷ earlier)
+  serving : (earlier : Journal) (one : Sent) → Grown built start earlier → head start (history_of built start earlier) one.endpoint ≡ Some one → Grown built start (serves one ∷ earlier)
+
+grown_on : (built : Built) (start : Start) (journal : Journal) (origin : ℕ) (forward : Option Forwarded) → ((f : Forwarded) → forward ≡ Some f → IsShort (txid_in f.bytes)) →
+    Grown built start journal → Grown built start (with_forward origin journal forward)
+grown_on built start journal origin None short h = h
+grown_on built start journal origin (Some forward) short h = sending journal _ h refl (short forward refl)
+
+pub grown : (built : Built) (start : Start) (journal : Journal) → Lawful built start journal → Grown built start journal
+grown built start journal begun = none
+grown built start journal (refused earlier frame why h is admits) = refusing earlier frame.endpoint why (grown built start earlier h)
+grown built start journal (sent earlier frame h is kind admits) = sending earlier _ (grown built start earlier h) refl (short_id frame.bytes is.bytes)
+grown built start journal (closed earlier frame h is kind admits) = sending earlier _ (grown built start earlier h) refl (lit< tt)
+grown built start journal (served earlier entry h is) =
+    grown_on built start (serves entry ∷ earlier) entry.place (outcome_of built start (history_of built start earlier) entry).forward (goes_on_short built start (history_of built start earlier) entry)
+    (serving earlier entry (grown built start earlier h) is)
+
+-- so are the entries before any
+before : (built : Built) (start : Start) (entry : Entry) (earlier : Journal) → Grown built start (entry ∷ earlier) → Grown built start earlier
+before built start entry earlier (refusing _ endpoint why h) = h
+before built start entry earlier (sending _ one h at short) = h
+before built start entry earlier (serving _ one h is) = h
+
+pub earlier_grown : (built : Built) (start : Start) (newer journal : Journal) → Grown built start (newer ++ journal) → Grown built start journal
+earlier_grown built start [] journal h = h
+earlier_grown built start (entry ∷ newer) journal h = earlier_grown built start newer journal (before built start entry (newer ++ journal) h)
+
+pub stepped : (built : Built) (start : Start) (journal : Journal) → Grown built start journal → Stepped built start journal
+stepped built start journal none = steps.none
+stepped built start journal (refusing earlier endpoint why h) = steps.refusing earlier endpoint why (stepped built start earlier h)
+stepped built start journal (sending earlier one h at short) = steps.sending earlier one (stepped built start earlier h) at
+stepped built start journal (serving earlier one h is) = steps.serving earlier one (stepped built start earlier h) is

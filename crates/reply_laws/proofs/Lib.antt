@@ -1,0 +1,10 @@
+pub mod Forms
+pub mod Framed
+pub mod Grown
+pub mod Kept
+pub mod Front
+pub mod Written
+pub mod Served
+pub mod Ordered
+pub mod Once
+pub mod Settled

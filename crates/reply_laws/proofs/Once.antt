@@ -1,0 +1,150 @@
+-- What was served is answered as its endpoint answers, and nothing is served on an endpoint that is dead.
+use Rattle.std.proofs.Common.{◌≡◌, ℕ, ◌==◌, ◌⊎◌, ◌∙◌, Bool, true, false, not, [], ◌∷◌, filter, option_to_list, Some, None, All, AllPairs, Contains, refl, sym, ap, subst, inl, inr, arith}
+use Rattle.std.proofs.lemmas.Bool.{eqb-true}
+use Rattle.std.proofs.lemmas.List.Elements.{Contains-append_left}
+use Rattle.std.proofs.lemmas.List.Kept.{AllPairs-cons}
+use Rattle.endpoint_link.specs.Frames.{Frame}
+use Rattle.endpoint_link.specs.Numbering.{among}
+use Rattle.fidl_names.specs.declared.statuses.Status.{Status}
+use Rattle.conn_rules.specs.Built.{Built}
+use Rattle.vfs_journal.specs.Entries.{Journal, Sent, sends, serves, refuses}
+use Rattle.vfs_journal.specs.History.{Event, History, births, is_dead, is_watcher, served_by, serves_on}
+use Rattle.vfs_journal.specs.Outcomes.{ending}
+use Rattle.vfs_journal.specs.Past.{behind, event_of, history_of}
+use Rattle.vfs_journal.specs.Serving.{outcome_of}
+use Rattle.vfs_journal.specs.Starts.{Start}
+use Rattle.journal_laws.proofs.Members.{contains_none, none_passes}
+use Rattle.journal_laws.proofs.Places.{head_is, waits_unserved}
+use Rattle.journal_laws.proofs.Steps.{births-more}
+use Rattle.reply_laws.proofs.Framed.{AreFramed}
+use Rattle.reply_laws.proofs.Front.{bound_lives}
+use Rattle.reply_laws.proofs.Grown.{Grown, none, refusing, sending, serving}
+use Rattle.reply_laws.proofs.Kept.{all_of}
+use Rattle.reply_laws.proofs.Served.{IsServedOn, answer_before, answer_now, new_elsewhere, served_cases, served_on_bound}
+use Rattle.reply_laws.specs.Laws.{IsAnswered}
+use Rattle.reply_laws.specs.Pipelined.{EndsByEpitaph, HasOneReply, answer_to, is_reply_on, served_on, txid_in, txid_of}
+
+-- ---- answers
+
+swapped : (b : Bool) → not b ≡ false → b ≡ true
+swapped true e = refl
+swapped false e = absurd (cc)
+
+unset : (b : Bool) → not b ≡ true → b ≡ false
+unset true e = absurd (cc)
+unset false e = refl
+
+-- what is served now is answered by its outcome
+now_answered : (built : Built) (start : Start) (past : History) (new : Sent) → IsServedOn built start past new → IsAnswered start (behind built start (serves new) past) new
+now_answered built start past new h =
+    let now = behind built start (serves new) past in
+    let frames = (outcome_of built start past new).frames in
+    let answer = answer_now built start past new in
+    record {
+      bound = h.bound;
+      born = subst (λ bounds. Contains bounds h.bound) (sym (births-more start (event_of built start past (serves new)) past))
+          (Contains-append_left (births start past) (option_to_list (event_of built start past (serves new)).outcome.bound) h.bound h.born);
+      on = h.on;
+      watcher = λ is. answer ∙ h.framed.watcher is;
+      one_way = λ is. ap (filter (is_reply_on new.endpoint)) answer ∙ none_by (is_watcher h.bound.birth.protocol) refl (swapped (txid_of new.sending == 0) is);
+      two_way = λ other is. by_answer ((own other).two_way (unset (txid_of new.sending == 0) is));
+    }
+  where
+    own : is_watcher h.bound.birth.protocol ≡ false → AreFramed new.endpoint (txid_of new.sending) (outcome_of built start past new).frames
+    own other = subst (λ (n : ℕ). AreFramed n (txid_of new.sending) (outcome_of built start past new).frames) h.on (h.framed.framed other)
+
+    none_by : (b : Bool) → is_watcher h.bound.birth.protocol ≡ b → (txid_of new.sending == 0) ≡ true → filter (is_reply_on new.endpoint) (outcome_of built start past new).frames ≡ []
+    none_by true is z = ap (filter (is_reply_on new.endpoint)) (h.framed.watcher is)
+    none_by false is z = (own is).one_way z
+
+    by_answer : ((status : Status) × ((outcome_of built start past new).frames ≡ ending new.endpoint status))
+        ⊎ ((reply : Frame) × (filter (is_reply_on new.endpoint) (outcome_of built start past new).frames ≡ reply ∷ []) × (txid_in reply.bytes ≡ txid_of new.sending)) →
+        EndsByEpitaph (behind built start (serves new) past) new ⊎ HasOneReply (behind built start (serves new) past) new
+    by_answer (inl ended) = inl (ended.0, answer_now built start past new ∙ ended.1)
+    by_answer (inr replied) = inr (replied.0, ap (filter (is_reply_on new.endpoint)) (answer_now built start past new) ∙ replied.1, replied.2)
+
+-- what was answered before is so behind an event that leaves its answer
+still_answered : (start : Start) (event : Event) (past : History) (one : Sent) → answer_to (event ∷ past) one ≡ answer_to past one → IsAnswered start past one → IsAnswered start (event ∷ past) one
+still_answered start event past one same h = record {
+  bound = h.bound;
+  born = subst (λ bounds. Contains bounds h.bound) (sym (births-more start event past)) (Contains-append_left (births start past) (option_to_list event.outcome.bound) h.bound h.born);
+  on = h.on;
+  watcher = λ is. same ∙ h.watcher is;
+  one_way = λ is. ap (filter (is_reply_on one.endpoint)) same ∙ h.one_way is;
+  two_way = λ other is. by_answer (h.two_way other is);
+} where
+  by_answer : EndsByEpitaph past one ⊎ HasOneReply past one → EndsByEpitaph (event ∷ past) one ⊎ HasOneReply (event ∷ past) one
+  by_answer (inl ended) = inl (ended.0, same ∙ ended.1)
+  by_answer (inr replied) = inr (replied.0, ap (filter (is_reply_on one.endpoint)) same ∙ replied.1, replied.2)
+
+-- an event that serves nothing
+served_earlier : (event : Event) (past : History) (endpoint : ℕ) (one : Sent) → served_by event.entry ≡ None → Contains (served_on (event ∷ past) endpoint) one → Contains (served_on past endpoint) one
+served_earlier event past endpoint one idle h = by_side (served_cases event past endpoint one h) where
+  by_side : Contains (served_on past endpoint) one ⊎ (served_by event.entry ≡ Some one) → Contains (served_on past endpoint) one
+  by_side (inl there) = there
+  by_side (inr e) = absurd (cc)
+
+served_side : (built : Built) (start : Start) (past : History) (new one : Sent) → (Contains (served_on past one.endpoint) one → IsAnswered start (behind built start (serves new) past) one) →
+    IsAnswered start (behind built start (serves new) past) new → Contains (served_on past one.endpoint) one ⊎ (Some new ≡ Some one) → IsAnswered start (behind built start (serves new) past) one
+served_side built start past new one before now (inl there) = before there
+served_side built start past new one before now (inr e) = subst (λ (s : Sent). IsAnswered start (behind built start (serves new) past) s) (cc) now
+
+pub answered : (built : Built) (start : Start) (journal : Journal) (one : Sent) → Grown built start journal → Contains (served_on (history_of built start journal) one.endpoint) one → IsAnswered start (history_of built start journal) one
+unfolding history_of event_of
+answered built start journal one none there = absurd (contains_none one there)
+answered built start journal one (refusing earlier at why grown) there =
+    let past = history_of built start earlier in
+    let event = event_of built start past (refuses at why) in
+    still_answered start event past one refl (answered built start earlier one grown (served_earlier event past one.endpoint one refl there))
+answered built start journal one (sending earlier new grown at short) there =
+    let past = history_of built start earlier in
+    let event = event_of built start past (sends new) in
+    still_answered start event past one refl (answered built start earlier one grown (served_earlier event past one.endpoint one refl there))
+answered built start journal one (serving earlier new grown is) there =
+    let past = history_of built start earlier in
+    let event = event_of built start past (serves new) in
+    let not_yet = waits_unserved past new (head_is start past new is).waits in
+    served_side built start past new one
+    (λ before. still_answered start event past one (answer_before built start past new one (new_elsewhere past new one one.endpoint before not_yet)) (answered built start earlier one grown before))
+    (now_answered built start past new (served_on_bound built start earlier new grown is))
+    (served_cases event past one.endpoint one there)
+
+-- ---- the last serving
+
+-- an event's deaths are apart from who lives behind it
+died : (past : History) (endpoint : ℕ) (event : Event) → is_dead past endpoint ≡ false → Contains past event → among endpoint event.deaths ≡ false
+died past endpoint event lives there = none_passes (λ (e : Event). among endpoint e.deaths) past event lives there
+
+abbrev EndsBefore : ℕ → Event → Event → Type 0
+EndsBefore endpoint later event = among endpoint event.deaths ≡ true → serves_on endpoint later ≡ false
+
+-- what serves nothing ends nothing that is served
+idle_behind : (past : History) (endpoint : ℕ) (later : Event) → serves_on endpoint later ≡ false → All (EndsBefore endpoint later) past
+idle_behind past endpoint later idle = all_of (EndsBefore endpoint later) past (λ event there dies. idle)
+
+serving_behind : (past : History) (endpoint : ℕ) (later : Event) (new : Sent) → serves_on endpoint later ≡ (new.endpoint == endpoint) → is_dead past new.endpoint ≡ false → (b : Bool) → (new.endpoint == endpoint) ≡ b →
+    All (EndsBefore endpoint later) past
+serving_behind past endpoint later new same lives false is = idle_behind past endpoint later (same ∙ is)
+serving_behind past endpoint later new same lives true is =
+    all_of (EndsBefore endpoint later) past
+    (λ event there dies.
+    let alive = subst (λ (n : ℕ). is_dead past n ≡ false) (eqb-true new.endpoint endpoint is) lives in
+    let wrong : true ≡ false = sym dies ∙ died past endpoint event alive there in
+    absurd (cc))
+
+pub last_served : (built : Built) (start : Start) (journal : Journal) (endpoint : ℕ) → Grown built start journal → AllPairs (EndsBefore endpoint) (history_of built start journal)
+unfolding history_of event_of
+last_served built start journal endpoint none = λ i j d l m. absurd (omega arith)
+last_served built start journal endpoint (refusing earlier at why grown) =
+    let past = history_of built start earlier in
+    let event = event_of built start past (refuses at why) in
+    AllPairs-cons (EndsBefore endpoint) event past (idle_behind past endpoint event refl) (last_served built start earlier endpoint grown)
+last_served built start journal endpoint (sending earlier new grown at short) =
+    let past = history_of built start earlier in
+    let event = event_of built start past (sends new) in
+    AllPairs-cons (EndsBefore endpoint) event past (idle_behind past endpoint event refl) (last_served built start earlier endpoint grown)
+last_served built start journal endpoint (serving earlier new grown is) =
+    let past = history_of built start earlier in
+    let event = event_of built start past (serves new) in
+    let alive = bound_lives start past new.endpoint (head_is start past new is).bound in
+    AllPairs-cons (EndsBefore endpoint) event past (serving_behind past endpoint event new refl alive (new.endpoint == endpoint) refl) (last_served built start earlier endpoint grown)

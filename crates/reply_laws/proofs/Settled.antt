@@ -1,0 +1,101 @@
+-- The laws: in order, once, and after a drain.
+use Rattle.std.proofs.Common.{◌≡◌, ℕ, ◌==◌, ◌⊎◌, ◌∙◌, Bool, true, false, not, cond, if◌then◌else◌, [], ◌∷◌, ◌++◌, map, find, Option, Some, None, Contains, refl, sym, ap, subst, inl, inr}
+use Rattle.std.specs.List.{list_any}
+use Rattle.std.specs.Option.{option_map_or}
+use Rattle.std.proofs.lemmas.Bool.{eqb-true, or_parts}
+use Rattle.std.proofs.lemmas.List.{append-nil}
+use Rattle.fidl_names.specs.HandleNumber.{handle_with}
+use Rattle.conn_rules.specs.Built.{Built}
+use Rattle.io_messages.specs.Asked.{method_of}
+use Rattle.io_messages.specs.Shapes.{is_one_way}
+use Rattle.vfs_journal.specs.Entries.{Journal, Sent}
+use Rattle.vfs_journal.specs.History.{Event, History, all_sent, is_dead, serves_place, was_served}
+use Rattle.vfs_journal.specs.Past.{history_of}
+use Rattle.vfs_journal.specs.Session.{drained}
+use Rattle.vfs_journal.specs.Starts.{Start}
+use Rattle.journal_laws.proofs.Members.{kept_of}
+use Rattle.journal_laws.specs.Soundness.{DrainsServeAll, IsDrained}
+use Rattle.reply_laws.proofs.Forms.{HasId, read_has}
+use Rattle.reply_laws.proofs.Front.{front, not_served}
+use Rattle.reply_laws.proofs.Grown.{Grown, earlier_grown, grown}
+use Rattle.reply_laws.proofs.Kept.{all_of, none_kept}
+use Rattle.reply_laws.proofs.Once.{answered, last_served}
+use Rattle.reply_laws.proofs.Ordered.{ordered}
+use Rattle.reply_laws.specs.Laws.{ArePipelined, DrainsSettleAll, IsSettled, RepliesAreInOrder, RequestsAskByTheirIds, ServedIsAnswered}
+use Rattle.reply_laws.specs.Pipelined.{answer_to, is_on, sent_on, served_on, txid_in}
+
+pipelined : (built : Built) (start : Start) (journal : Journal) (endpoint : ℕ) → Grown built start journal → ArePipelined start (history_of built start journal) endpoint
+pipelined built start journal endpoint h = record {
+  front = front built start journal endpoint h;
+  last = last_served built start journal endpoint h;
+  replies = ordered built start journal endpoint h;
+}
+
+pub replies_are_in_order : RepliesAreInOrder
+replies_are_in_order built start newer journal endpoint h = pipelined built start journal endpoint (earlier_grown built start newer journal (grown built start (newer ++ journal) h))
+
+pub served_is_answered : ServedIsAnswered
+served_is_answered built start newer journal sent h there = answered built start journal sent (earlier_grown built start newer journal (grown built start (newer ++ journal) h)) there
+
+-- ---- requests
+
+way_of : (one_way zero : Bool) → (if one_way then zero else not zero) ≡ true → not zero ≡ not one_way
+way_of true true e = refl
+way_of true false e = absurd (cc)
+way_of false true e = absurd (cc)
+way_of false false e = refl
+
+pub requests_ask_by_their_ids : RequestsAskByTheirIds
+requests_ask_by_their_ids protocol bytes handles txid asked e =
+    let has = subst (HasId (txid_in bytes)) e (read_has protocol bytes (map handle_with handles)) in
+    (has.0, way_of (is_one_way (method_of asked)) (txid_in bytes == 0) has.1)
+
+-- ---- after a drain
+
+-- what wasn't served has no answer
+none_serves : (place : ℕ) (history : History) → list_any (serves_place place) history ≡ false → find (serves_place place) history ≡ None
+none_serves place [] h = refl
+none_serves place (event ∷ past) h =
+    let parts = or_parts (serves_place place event) (list_any (serves_place place) past) h in
+    ap (λ (b : Bool). cond b (Some event) (find (serves_place place) past)) parts.0 ∙ none_serves place past parts.1
+
+no_answer : (history : History) (sent : Sent) → was_served history sent ≡ false → answer_to history sent ≡ []
+no_answer history sent h = ap (λ (o : Option Event). option_map_or (λ (event : Event). event.outcome.frames) o []) (none_serves sent.place history h)
+
+-- on an endpoint that lives all was served
+served_alive : (history : History) (endpoint : ℕ) → IsDrained history → is_dead history endpoint ≡ false → (one : Sent) → Contains (sent_on history endpoint) one → not_served history one ≡ false
+served_alive history endpoint h alive one there = by_end (h.each one of.0) where
+  of : Contains (all_sent history) one × (is_on endpoint one ≡ true)
+  of = kept_of (is_on endpoint) (all_sent history) one there
+
+  by_end : (was_served history one ≡ true) ⊎ (is_dead history one.endpoint ≡ true) → not_served history one ≡ false
+  by_end (inl served) = ap not served
+  by_end (inr dead) =
+      let wrong : true ≡ false = sym dead ∙ ap (is_dead history) (eqb-true one.endpoint endpoint of.1) ∙ alive in
+      absurd (cc)
+
+dead_by : (history : History) (endpoint : ℕ) (one : Sent) → (is_on endpoint one ≡ true) → was_served history one ≡ false → (was_served history one ≡ true) ⊎ (is_dead history one.endpoint ≡ true) → is_dead history endpoint ≡ true
+dead_by history endpoint one on unserved (inl served) = let wrong : true ≡ false = sym served ∙ unserved in absurd (cc)
+dead_by history endpoint one on unserved (inr dead) = ap (is_dead history) (sym (eqb-true one.endpoint endpoint on)) ∙ dead
+
+settled : (built : Built) (start : Start) (journal : Journal) (endpoint : ℕ) → Grown built start journal → IsDrained (history_of built start journal) → IsSettled start (history_of built start journal) endpoint
+settled built start journal endpoint h drained =
+    let history = history_of built start journal in
+    let order = pipelined built start journal endpoint h in
+    record {
+      pipelined = order;
+      lives = λ alive.
+          sym
+          (order.front
+          ∙ ap (λ ones. served_on history endpoint ++ ones)
+          (none_kept (not_served history) (sent_on history endpoint) (all_of (λ one. not_served history one ≡ false) (sent_on history endpoint) (served_alive history endpoint drained alive)))
+          ∙ append-nil (served_on history endpoint));
+      dropped = λ one there unserved.
+          let of = kept_of (is_on endpoint) (all_sent history) one there in
+          (dead_by history endpoint one of.1 unserved (drained.each one of.0), no_answer history one unserved);
+    }
+
+pub drains_settle_all : DrainsServeAll → DrainsSettleAll
+drains_settle_all serve_all built start journal endpoint is h =
+    let behind = serve_all built start journal is h in
+    settled built start (drained built start journal) endpoint (grown built start (drained built start journal) behind.0) behind.1

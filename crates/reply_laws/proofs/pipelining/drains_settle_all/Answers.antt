@@ -1,0 +1,5 @@
+use Rattle.reply_laws.proofs.Settled.{drains_settle_all}
+use Rattle.reply_laws.proofs.pipelining.drains_settle_all.Goals as goal
+
+pub returns : goal.returns
+returns c = λ apart. drains_settle_all (c.drains_serve_all.ensures apart)

@@ -1,0 +1,77 @@
+-- A request that changes the tree has the authority for it.
+use Rattle.std.proofs.Common.{◌≡◌, ℕ, ◌⊎◌, Bool, true, false, not, List, [], ◌∷◌, Option, Some, None, refl, sym, ap, ◌∙◌, inl, inr}
+use Rattle.std.specs.Option.{option_map_or}
+use Rattle.fidl_names.specs.First.{cause_if, first_of}
+use Rattle.fidl_names.specs.declared.methods.Method.TheVariants as method
+use Rattle.fidl_names.specs.declared.statuses.Status.{Status}
+use Rattle.fidl_names.specs.declared.statuses.Status.TheVariants as status
+use Rattle.io_messages.specs.Asked.{Asked, method_of}
+use Rattle.io_messages.specs.Asked as asks
+use Rattle.io_rights.specs.Needs.{needed_by}
+use Rattle.io_rights.specs.declared.operations.Operation.{Operation}
+use Rattle.io_rights.specs.Operations.{OperationSet, single, is_within}
+use Rattle.node_graph.specs.Tree.{stay}
+use Rattle.conn_rules.specs.Acts.{act_of, is_beyond, lacks_right, method_refusals, row_act}
+use Rattle.conn_rules.specs.Answers.{Act}
+use Rattle.conn_rules.specs.Contexts.{Context}
+use Rattle.conn_rules.specs.NameRows.{link_act, link_into, rename_act, rename_into, two_names_refusal}
+use Rattle.conn_rules.specs.Refusals.{lacks}
+use Rattle.journal_laws.proofs.Acts.{unless_holds}
+
+-- ---- the right of a method
+
+second_passes : (a : Option Status) (x : Bool) (s : Status) (rest : List (Option Status)) → first_of (a ∷ cause_if x s ∷ rest) ≡ None → x ≡ false
+second_passes (Some f) x s rest e = absurd (cc)
+second_passes None true s rest e = absurd (cc)
+second_passes None false s rest e = refl
+
+pub has_right : (b : Bool) → not b ≡ false → b ≡ true
+has_right true e = refl
+has_right false e = absurd (cc)
+
+-- a method that isn't refused has the right that it needs
+pub right_there : (context : Context) (request : Asked) (operation : Operation) → needed_by (method_of request) ≡ Some (single operation) → first_of (method_refusals context.built context.birth (method_of request)) ≡ None → is_within (single operation) context.birth.rights ≡ true
+right_there context request operation needs e =
+    let lacks' : lacks_right context.birth (method_of request) ≡ not (is_within (single operation) context.birth.rights) = ap (λ (o : Option OperationSet). option_map_or (lacks context.birth.rights) o false) needs in
+    let passes = second_passes (cause_if (is_beyond context.birth.protocol (method_of request)) status.BadHandle) (lacks_right context.birth (method_of request)) status.BadHandle
+    (cause_if (not (context.built.methods (method_of request))) status.NotSupported ∷ []) e in
+    has_right (is_within (single operation) context.birth.rights) (sym lacks' ∙ passes)
+
+-- what changes a tree, or has this
+abbrev StaysOr : Type 0 → Act → Type 0
+StaysOr A act = (act.change ≡ stay) ⊎ A
+
+pub stays_or_right : (context : Context) (request : Asked) (operation : Operation) → needed_by (method_of request) ≡ Some (single operation) → ((act_of context request).change ≡ stay) ⊎ (is_within (single operation) context.birth.rights ≡ true)
+unfolding act_of
+stays_or_right context request operation needs =
+    unless_holds (StaysOr (is_within (single operation) context.birth.rights ≡ true)) (first_of (method_refusals context.built context.birth (method_of request))) context.position (method_of request) (row_act context request)
+    (λ s. inl refl) (λ e. inr (right_there context request operation needs e))
+
+-- ---- the directory of a token
+
+abbrev HasTarget : Context → ℕ → Act → Type 0
+HasTarget context token act = (act.change ≡ stay) ⊎ ((target : ℕ) × (context.directory token ≡ Some target))
+
+link_target : (context : Context) (src dst : List ℕ) (token : ℕ) (o : Option ℕ) → context.directory token ≡ o → HasTarget context token (link_into context src dst o)
+link_target context src dst token None is = inl refl
+link_target context src dst token (Some target) is = inr (target, is)
+
+pub link_has_target : (context : Context) (src dst : List ℕ) (token : ℕ) → ((act_of context (asks.link src token dst)).change ≡ stay) ⊎ ((target : ℕ) × (context.directory token ≡ Some target))
+unfolding act_of
+link_has_target context src dst token =
+    unless_holds (HasTarget context token) (first_of (method_refusals context.built context.birth (method_of (asks.link src token dst)))) context.position (method_of (asks.link src token dst)) (link_act context src token dst)
+    (λ s. inl refl)
+    (λ e. unless_holds (HasTarget context token) (two_names_refusal src dst (context.directory token)) context.position method.Link (link_into context src dst (context.directory token))
+    (λ s. inl refl) (λ f. link_target context src dst token (context.directory token) refl))
+
+rename_target : (context : Context) (src dst : List ℕ) (token : ℕ) (o : Option ℕ) → context.directory token ≡ o → HasTarget context token (rename_into context src dst o)
+rename_target context src dst token None is = inl refl
+rename_target context src dst token (Some target) is = inr (target, is)
+
+pub rename_has_target : (context : Context) (src dst : List ℕ) (token : ℕ) → ((act_of context (asks.rename src token dst)).change ≡ stay) ⊎ ((target : ℕ) × (context.directory token ≡ Some target))
+unfolding act_of
+rename_has_target context src dst token =
+    unless_holds (HasTarget context token) (first_of (method_refusals context.built context.birth (method_of (asks.rename src token dst)))) context.position (method_of (asks.rename src token dst)) (rename_act context src token dst)
+    (λ s. inl refl)
+    (λ e. unless_holds (HasTarget context token) (two_names_refusal src dst (context.directory token)) context.position method.Rename (rename_into context src dst (context.directory token))
+    (λ s. inl refl) (λ f. rename_target context src dst token (context.directory token) refl))

@@ -1,0 +1,15 @@
+mod Sets
+mod Crossings
+mod Opens
+mod Heard
+mod Requests
+mod Serving
+mod Beginning
+mod Keeping
+mod Served
+mod Times
+mod Wanted
+mod Allowing
+mod Opening
+mod TokensGiven
+mod Changes

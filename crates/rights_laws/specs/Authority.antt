@@ -1,0 +1,62 @@
+-- Who changes a tree has the authority to, all the way.
+use Rattle.std.specs.Prelude.{◌≡◌, ◌≢◌, ℕ, ◌==◌, List, ◌∷◌, ◌++◌, find, Some}
+use Rattle.io_messages.specs.Asked.{Asked}
+use Rattle.io_messages.specs.Asked as asks
+use Rattle.io_rights.specs.declared.operations.Operation.{Operation}
+use Rattle.io_rights.specs.declared.operations.Operation.TheVariants as op
+use Rattle.io_rights.specs.Operations.{OperationSet, single}
+use Rattle.node_graph.specs.Tree.{Change, make, fill, stay}
+use Rattle.conn_rules.specs.Built.{Built}
+use Rattle.dir_conn.specs.Laws.{masks_of}
+use Rattle.vfs_journal.specs.Entries.{Journal, Sent, serves}
+use Rattle.vfs_journal.specs.History.{History, bound_at}
+use Rattle.vfs_journal.specs.Lawful.{Lawful}
+use Rattle.vfs_journal.specs.Outcomes.{Given}
+use Rattle.vfs_journal.specs.Past.{history_of}
+use Rattle.vfs_journal.specs.Serving.{Moment, moment_of, outcome_of}
+use Rattle.vfs_journal.specs.Starts.{Bound, Start}
+use Rattle.vfs_journal.specs.Tokens.{all_given}
+use Rattle.journal_laws.specs.Soundness.{IsStart}
+use Rattle.rights_laws.specs.Lineage.{asked_by, lineage_given, lineage_of, lines_of, trail_of, walk_at}
+use Rattle.rights_laws.specs.Rights.{AreWithinEach}
+
+-- each of these sets has a right
+abbrev pub EachHas : Operation → List OperationSet → Type 0
+EachHas operation members = AreWithinEach (single operation) members
+
+-- a token was given, on an endpoint of whose lineage each member has MODIFY_DIRECTORY
+pub record IsGivenWith (start : Start) (history : History) (token : ℕ) : Type 0 where
+  pub given : Given
+  pub first : find (λ given. given.token == token) (all_given history) ≡ Some given
+  pub allowed : EachHas op.ModifyDirectory (lineage_of start history given.endpoint)
+
+-- a request that makes this change, and what authority each has: to write or resize, each member of the lineage has WRITE_BYTES; to take
+-- out, add or move a name MODIFY_DIRECTORY, and so for the token that names where to; to make a node each member of the trail and each mask
+-- of the walk has MODIFY_DIRECTORY; and to truncate each member of the lineage of what is opened has WRITE_BYTES
+abbrev pub HasAuthority : Start → History → Sent → Moment → Asked → Change → Type 0
+HasAuthority start past sent moment (asks.write bytes) change = EachHas op.WriteBytes (lineage_of start past sent.endpoint)
+HasAuthority start past sent moment (asks.write_at bytes offset) change = EachHas op.WriteBytes (lineage_of start past sent.endpoint)
+HasAuthority start past sent moment (asks.resize size) change = EachHas op.WriteBytes (lineage_of start past sent.endpoint)
+HasAuthority start past sent moment (asks.unlink name flags) change = EachHas op.ModifyDirectory (lineage_of start past sent.endpoint)
+HasAuthority start past sent moment (asks.link src token dst) change = EachHas op.ModifyDirectory (lineage_of start past sent.endpoint) × IsGivenWith start past token
+HasAuthority start past sent moment (asks.rename src token dst) change = EachHas op.ModifyDirectory (lineage_of start past sent.endpoint) × IsGivenWith start past token
+HasAuthority start past sent moment (asks.open_path path word attributes object) (make key row mask) =
+    EachHas op.ModifyDirectory (trail_of start past sent) × EachHas op.ModifyDirectory (masks_of (walk_at moment path word))
+HasAuthority start past sent moment (asks.open_path path word attributes object) (fill node bytes) =
+    EachHas op.WriteBytes (lineage_given (lines_of start past) sent moment (asks.open_path path word attributes object))
+HasAuthority start past sent moment _ change = ⊥
+
+-- the connection that served it read a request that has the authority
+pub record IsAllowed (start : Start) (past : History) (sent : Sent) (change : Change) : Type 0 where
+  pub bound : Bound
+  pub at : bound_at start past sent.endpoint ≡ Some bound
+  pub request : Asked
+  pub asked : asked_by (moment_of start past bound) sent.sending ≡ Some request
+  pub authority : HasAuthority start past sent (moment_of start past bound) request change
+
+-- each serving of a session that changes a tree, whatever came later, is allowed
+abbrev pub ChangesAreAllowed : Type 0
+ChangesAreAllowed =
+    (built : Built) (start : Start) (later past : Journal) (sent : Sent) → IsStart start → Lawful built start (later ++ serves sent ∷ past) →
+    (outcome_of built start (history_of built start past) sent).change ≢ stay →
+    IsAllowed start (history_of built start past) sent (outcome_of built start (history_of built start past) sent).change
