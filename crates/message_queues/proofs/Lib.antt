@@ -5,10 +5,11 @@ mod Changed
 mod Turns
 mod Kept
 mod Sound
-mod Buried
+mod Burials
 mod Above
 mod Served
 mod Spread
+mod PutBehind
 mod Listed
 mod Ranged
 mod Least

@@ -17,11 +17,11 @@ use Rattle.message_queues.proofs.Numbers.{among-append, among-one, either, itsel
 
 -- ---- additions
 
-append_nil : (xs : List ℕ) → xs ++ [] ≡ xs
+pub append_nil : (xs : List ℕ) → xs ++ [] ≡ xs
 append_nil [] = refl
 append_nil (x ∷ xs) = ap (λ (ys : List ℕ). x ∷ ys) (append_nil xs)
 
-append_both : (xs ys zs : List ℕ) → (xs ++ ys) ++ zs ≡ xs ++ (ys ++ zs)
+pub append_both : (xs ys zs : List ℕ) → (xs ++ ys) ++ zs ≡ xs ++ (ys ++ zs)
 append_both [] ys zs = refl
 append_both (x ∷ xs) ys zs = ap (λ (ws : List ℕ). x ∷ ws) (append_both xs ys zs)
 
@@ -74,7 +74,7 @@ adds_step xs i old mid new low before is =
 
 -- one more that passes a test, and one that doesn't
 module _ (test : ℕ → Bool) (handles : List Handle) (i number : ℕ) (handle : Handle) (low : i < length handles) (is : number ≡ number_of_handle (get_or handles i handle)) where
-  numbers_more : filter test (take (i + 1) (numbers_of handles)) ≡ filter test (take i (numbers_of handles)) ++ cond (test number) (number ∷ []) []
+  pub numbers_more : filter test (take (i + 1) (numbers_of handles)) ≡ filter test (take i (numbers_of handles)) ++ cond (test number) (number ∷ []) []
   numbers_more =
       let below : i < length (numbers_of handles) = omega (arith, length-map handles number_of_handle) in
       let it : get_or (numbers_of handles) i (number_of_handle handle) ≡ number = get_or-map number_of_handle handles i handle ∙ sym is in

@@ -1,7 +1,8 @@
 -- Which endpoints die with others, and what is left.
 use Rattle.std.specs.Prelude.{◌≡◌, ◌≢◌, ℕ, Bool, true, All, AllPairs, List, [], None, if◌then◌else◌}
+use Rattle.std.specs.List.{flat_map}
 use Rattle.endpoint_link.specs.Numbering.{among}
-use Rattle.vfs_journal.specs.Entries.{endpoints_in}
+use Rattle.vfs_journal.specs.Entries.{endpoints_in, tokens_in}
 use Rattle.message_queues.specs.Queues.{Queues, queue_of, server_of}
 
 -- a set has all of these
@@ -24,3 +25,7 @@ pub record Buries (old : Queues) (dead : List ℕ) (new : Queues) : Type 0 where
   pub waiting : (endpoint : ℕ) → queue_of new endpoint ≡ (if among endpoint dead then [] else queue_of old endpoint)
   pub bound : (endpoint : ℕ) → server_of new endpoint ≡ (if among endpoint dead then None else server_of old endpoint)
   pub those : new.servers ≡ old.servers
+
+-- the tokens that what waits on these carries
+abbrev pub tokens_on : Queues → List ℕ → List ℕ
+tokens_on queues endpoints = flat_map (λ endpoint. flat_map tokens_in (queue_of queues endpoint)) endpoints

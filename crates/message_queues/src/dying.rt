@@ -11,6 +11,13 @@ use std::alloc::Global;
 use std::collections::BTreeSet;
 use std::marker::Model;
 
+/// Who died, and the tokens that what was dropped carried.
+#[derive(Drop)]
+pub struct Buried {
+    pub dead: Vec<u32>,
+    pub tokens: Vec<u32>,
+}
+
 /// Endpoints, each once, in the order in which they were found.
 #[derive(Drop)]
 pub(crate) struct Dying {

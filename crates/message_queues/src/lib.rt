@@ -7,7 +7,9 @@ mod laws;
 mod mailbox;
 mod parcel;
 mod queues;
+mod tokens;
 
+pub use dying::Buried;
 pub use laws::queues_count_their_list;
 pub use parcel::{Parcel, Sent};
 pub use queues::Queues;

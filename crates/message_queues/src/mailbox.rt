@@ -2,11 +2,12 @@
 
 ghost use Rattle.std.specs.Prelude.{◌≡◌, ◌≤◌, ◌<◌, ◌++◌, [], ◌∷◌, None, Some, IsOk, OnOk, OnErr, drop, flat_map, length, option_to_list, slice_get};
 ghost use Rattle.std.specs.Option.{option_copied};
-ghost use Rattle.vfs_journal.specs.Entries.{endpoints_in};
+ghost use Rattle.vfs_journal.specs.Entries.{endpoints_in, tokens_in};
 ghost use Rattle.message_queues.specs.Steps.{Adds};
 
 use crate::dying::Dying;
 use crate::parcel::Sent;
+use crate::tokens::{push_all_carried, push_carried};
 use fidl_names::{MAX_WAITING, NoMemory};
 use std::alloc::Global;
 use std::collections::VecDeque;
@@ -120,5 +121,17 @@ impl Mailbox {
         let (front, back) = self.later.as_slices();
         dying.add_all_carried(front)?;
         dying.add_all_carried(back)
+    }
+
+    /// Puts the tokens behind these that the entries carry.
+    pub(crate) fn push_tokens(&self, tokens: &mut Vec<u32>) -> Result<(), NoMemory>
+        ensures { OnOk result (tokens.new.items ≡ tokens.old.items ++ flat_map tokens_in self.now.queue) }
+    {
+        if let Some(first) = &self.first {
+            push_carried(first, tokens)?;
+        }
+        let (front, back) = self.later.as_slices();
+        push_all_carried(front, tokens)?;
+        push_all_carried(back, tokens)
     }
 }

@@ -4,13 +4,13 @@ ghost use Rattle.std.specs.Prelude.{◌≡◌, ◌≢◌, AllPairs, ◌≤◌, �
 ghost use Rattle.std.specs.BTreeMap.{IsOrdered, UpdatesBy, insert_entry};
 ghost use Rattle.std.specs.Option.{option_copied};
 ghost use Rattle.std.specs.Ordering.{nat_cmp};
-ghost use Rattle.vfs_journal.specs.Entries.{endpoints_in};
+ghost use Rattle.vfs_journal.specs.Entries.{endpoints_in, tokens_in};
 ghost use Rattle.message_queues.specs.Queues.{Binds, IsAbove, IsNew, IsReady, Requeues, count, head_of, queue_of, server_of};
 ghost use Rattle.message_queues.specs.Oldest.{IsBound, IsBoundAt, IsOldest, NothingWaits};
-ghost use Rattle.message_queues.specs.Dying.{AreDeaths, Buries};
+ghost use Rattle.message_queues.specs.Dying.{AreDeaths, Buries, tokens_on};
 ghost use Rattle.message_queues.specs.Steps.{Adds, bound_box, drop_turn, first_pushed, older, popped_box, pushed_box, put_turn, turn_by};
 
-use crate::dying::Dying;
+use crate::dying::{Buried, Dying};
 use crate::heads::Heads;
 use crate::mailbox::Mailbox;
 use crate::parcel::Sent;
@@ -172,16 +172,18 @@ impl Queues {
     }
 
     /// Drops what waits on these endpoints and on all that die with them, since what is dropped carries them, and unbinds them. Answers
-    /// all that died, each once. Want of memory leaves all as it was.
-    pub fn bury(&mut self, alloc: Global, dying: &[u32]) -> Result<Vec<u32>, NoMemory>
-        ensures died { IfOk result (λ dead. AreDeaths self.old dying.now dead.items) }
-        ensures buried { IfOk result (λ dead. Buries self.old dead.items self.new) }
-        ensures dropped { IfOk result (λ dead. count self.new + sum_by (λ endpoint. length (queue_of self.old endpoint)) dead.items ≡ count self.old) }
+    /// all that died, each once, and the tokens that what is dropped carried. Want of memory leaves all as it was.
+    pub fn bury(&mut self, alloc: Global, dying: &[u32]) -> Result<Buried, NoMemory>
+        ensures died { IfOk result (λ buried. AreDeaths self.old dying.now buried.dead.items) }
+        ensures buried { IfOk result (λ buried. Buries self.old buried.dead.items self.new) }
+        ensures tokens { IfOk result (λ buried. buried.tokens.items ≡ tokens_on self.old buried.dead.items) }
+        ensures dropped { IfOk result (λ buried. count self.new + sum_by (λ endpoint. length (queue_of self.old endpoint)) buried.dead.items ≡ count self.old) }
         ensures err { OnErr result (self.new ≡ self.old) }
     {
         let dead = self.deaths(alloc, dying)?;
+        let tokens = self.tokens_on(alloc, &dead)?;
         self.close_all(&dead);
-        Ok(dead)
+        Ok(Buried { dead, tokens })
     }
 
     /// Who dies with these.
@@ -204,6 +206,27 @@ impl Queues {
     {
         match self.boxes.get(&endpoint) {
             Some(mailbox) => mailbox.add_carried(dying),
+            None => Ok(()),
+        }
+    }
+
+    /// The tokens that the entries carry which wait on these.
+    fn tokens_on(&self, alloc: Global, endpoints: &[u32]) -> Result<Vec<u32>, NoMemory>
+        ensures { IfOk result (λ tokens. tokens.items ≡ tokens_on self.now endpoints.now) }
+    {
+        let mut tokens = Vec::new(alloc);
+        for endpoint in endpoints {
+            self.push_tokens(*endpoint, &mut tokens)?;
+        }
+        Ok(tokens)
+    }
+
+    /// Puts the tokens behind these that the entries carry which wait on one.
+    fn push_tokens(&self, endpoint: u32, tokens: &mut Vec<u32>) -> Result<(), NoMemory>
+        ensures { OnOk result (tokens.new.items ≡ tokens.old.items ++ flat_map tokens_in (queue_of self.now endpoint)) }
+    {
+        match self.boxes.get(&endpoint) {
+            Some(mailbox) => mailbox.push_tokens(tokens),
             None => Ok(()),
         }
     }

@@ -3,10 +3,13 @@ use Rattle.std.proofs.Common.{◌≡◌, ◌≢◌, ◌∙◌, ℕ, ◌++◌, Li
 use Rattle.std.specs.Option.{option_map_or}
 use Rattle.fidl_wire.specs.Written.{Written}
 use Rattle.endpoint_link.specs.Frames.{Frame, spellings}
-use Rattle.io_messages.specs.Asked.{Asked}
+use Rattle.io_messages.specs.Asked.{Asked, method_of}
 use Rattle.io_messages.specs.declared.protocols.Protocol.{Protocol}
 use Rattle.io_messages.specs.declared.protocols.Protocol.TheVariants as protocol
 use Rattle.io_messages.specs.declared.requests.RequestFault.{RequestFault}
+use Rattle.io_messages.specs.Protocols.{has_method}
+use Rattle.node_graph.specs.declared.nodes.NodeRef.{NodeRef}
+use Rattle.conn_rules.specs.declared.births.Birth as code
 use Rattle.node_graph.specs.declared.nodes.NodeKind.{NodeKind}
 use Rattle.node_graph.specs.Graph.{Kept, StandsFor, number_of}
 use Rattle.node_graph.specs.Tree.{Tree}
@@ -17,17 +20,22 @@ use Rattle.conn_rules.specs.Births.{Connection}
 use Rattle.conn_rules.specs.Built.{today}
 use Rattle.conn_rules.specs.Contexts.{context_of}
 use Rattle.conn_rules.specs.Shared.{CanBeBound, is_spoken_at}
-use Rattle.vfs_journal.specs.Outcomes.{frames_of, token_of}
+use Rattle.vfs_journal.specs.Outcomes as outcomes
+use Rattle.vfs_journal.specs.Outcomes.{frames_of}
 use Rattle.vfs_journal.specs.Serving.{Moment, object_of, outcome_of_read}
 use Rattle.vfs_server.specs.declared.asking.Asking.{Asking}
 use Rattle.vfs_server.specs.declared.fate.Fate.{Fate}
+use Rattle.vfs_server.specs.declared.fate.Fate.TheVariants as fates
 use Rattle.vfs_server.specs.declared.given.Given.{Given}
 use Rattle.vfs_server.specs.declared.given.Given.TheVariants as given
-use Rattle.vfs_server.specs.Kept.{HasTree}
+use Rattle.vfs_server.specs.Effects.{Effects, effects_told, no_effects}
+use Rattle.vfs_server.specs.Kept.{HasTree, Tokens}
 use Rattle.vfs_server.specs.Servers.{bound_with}
-use Rattle.vfs_server.specs.Steps.{Acts, Answers, BindsNoWatcher, DoesFault, DoesGiven, IsAskedAt, IsGiven, asker_with, effects_by, effects_given, frames_given}
+use Rattle.vfs_server.specs.Steps.{Acts, Answers, BindsNoWatcher, DoesFault, DoesGiven, IsAskedAt, IsGiven, IsOnDirectory, NamesAsThere, asker_with, effects_by, effects_given, frames_given, names_in, token_given}
 use Rattle.vfs_server.proofs.Made.{named_kind}
-use Rattle.vfs_server.proofs.Today.{CanAct, IsOfToday, bound_has_room, conn_today, gives_no_token, onward_is_mounted, watches_none}
+use Rattle.vfs_server.proofs.Carried.{looked_up}
+use Rattle.vfs_server.proofs.Handed.{token_is}
+use Rattle.vfs_server.proofs.Today.{CanAct, IsOfToday, bound_has_room, conn_today, onward_is_mounted, token_of_directory, watches_none}
 
 -- ---- answers
 
@@ -43,19 +51,20 @@ frames_are endpoint server node txid object (ends status) what out h = rw h.0 re
 frames_are endpoint server node txid object hangs_up what out h = absurd h
 frames_are endpoint server node txid object silent what out h = absurd h
 
--- no answer of today gives a token, or binds a watcher
-effects_are : (endpoint server node txid object : ℕ) (room : Room) (tree : Tree) (answer : Answer) (what : Given) (out : Written) → IsGiven answer txid what out → IsOfToday room tree answer →
-    token_of (asker_with endpoint server node txid object) answer ≡ None →
-    effects_by (asker_with endpoint server node txid object) answer ≡ effects_given endpoint server object what
-effects_are endpoint server node txid object room tree (replies a) what out h can none = rw (h.0.1, none) refl
-effects_are endpoint server node txid object room tree closes what out h can none = rw h.0 refl
-effects_are endpoint server node txid object room tree (binds birth announced) what out h can none = rw (h.0.1.1, ← h.0.2.same) refl
-effects_are endpoint server node txid object room tree (watches mask) what out h can none = absurd can
-effects_are endpoint server node txid object room tree (forwards mount flags rest) what out h can none = rw h.0 refl
-effects_are endpoint server node txid object room tree (refuses status) what out h can none = rw h.0 refl
-effects_are endpoint server node txid object room tree (ends status) what out h can none = rw h.0 refl
-effects_are endpoint server node txid object room tree hangs_up what out h can none = absurd h
-effects_are endpoint server node txid object room tree silent what out h can none = absurd h
+-- the token that an answer gives is the one in its reply, and no watcher is bound
+effects_are : (endpoint server node txid object : ℕ) (p : Protocol) (room : Room) (tree : Tree) (answer : Answer) (what : Given) (out : Written) → IsGiven answer txid what out → IsOfToday p room tree answer →
+    effects_by (asker_with endpoint server node txid object) answer ≡ effects_given endpoint server node object what out.handles
+effects_are endpoint server node txid object p room tree (replies a) what out h can =
+    ap (λ (given : Option outcomes.Given). record no_effects { token = given }) (token_is endpoint server node txid object a ∙ ap (token_given endpoint server node) (sym h.1.handles))
+    ∙ ap (λ (one : Given). effects_given endpoint server node object one out.handles) (sym h.0.1)
+effects_are endpoint server node txid object p room tree closes what out h can = rw h.0 refl
+effects_are endpoint server node txid object p room tree (binds birth announced) what out h can = rw (h.0.1.1, ← h.0.2.same) refl
+effects_are endpoint server node txid object p room tree (watches mask) what out h can = absurd can
+effects_are endpoint server node txid object p room tree (forwards mount flags rest) what out h can = rw h.0 refl
+effects_are endpoint server node txid object p room tree (refuses status) what out h can = rw h.0 refl
+effects_are endpoint server node txid object p room tree (ends status) what out h can = rw h.0 refl
+effects_are endpoint server node txid object p room tree hangs_up what out h can = absurd h
+effects_are endpoint server node txid object p room tree silent what out h can = absurd h
 
 -- ---- no watcher is bound
 
@@ -66,10 +75,10 @@ unspoken (Some kind) e = search rules
 pub no_watcher : (p : Protocol) (kind : Option NodeKind) → option_map_or (is_spoken_at p) kind false ≡ true → p ≢ protocol.Watcher
 no_watcher p kind spoken e = unspoken kind (rw e at spoken)
 
-module _ (graph : Kept) (connection : Connection) (can : CanBeBound graph connection.birth) (room : Room) (request : Asked) (txid : ℕ) (what : Given) (out : Written) (new : Connection) (changed : Kept)
+module _ (graph : Kept) (connection : Connection) (can : CanBeBound graph connection.birth) (room : Room) (request : Asked) (known : has_method connection.birth.protocol (method_of request) ≡ true) (txid : ℕ) (what : Given) (out : Written) (new : Connection) (changed : Kept)
     (tree : Tree) (directory : ℕ → Option ℕ) (stands : StandsFor graph tree) where
-  can_act : CanAct room tree (act_of (context_of today connection room tree directory) request)
-  can_act = conn_today graph tree connection room directory request can (sym (named_kind graph tree connection.birth.node stands can.named))
+  can_act : CanAct connection.birth.protocol room tree (act_of (context_of today connection room tree directory) request)
+  can_act = conn_today graph tree connection room directory request can known (sym (named_kind graph tree connection.birth.node stands can.named))
 
   binds_none : Acts (act_of (context_of today connection room tree directory) request) txid what out new graph changed → BindsNoWatcher what
   binds_none acts = by_given what refl where
@@ -77,7 +86,7 @@ module _ (graph : Kept) (connection : Connection) (can : CanBeBound graph connec
     by_given (given.Reply changes) is = tt
     by_given given.ReplyEnd is = tt
     by_given (given.Bind birth changes) is = let bindable = acts.bound birth changes (sym is) in no_watcher birth.protocol _ bindable.spoken
-    by_given (given.WatchBy mask) is = watches_none room tree _ txid what out mask acts.answer can_act.answer (sym is)
+    by_given (given.WatchBy mask) is = watches_none connection.birth.protocol room tree _ txid what out mask acts.answer can_act.answer (sym is)
     by_given (given.Forward mount flags rest) is = tt
     by_given (given.Refused status) is = tt
     by_given (given.End status) is = tt
@@ -94,12 +103,16 @@ unless_wanting (given.Refused status) h = tt
 unless_wanting (given.End status) h = tt
 unless_wanting given.NoMemory h = tt
 
-pub binds_no_watcher : (graph : Kept) (connection : Connection) → CanBeBound graph connection.birth → HasTree graph → (room : Room) (request : Asked) (txid : ℕ) (what : Given) (out : Written) (new : Connection) (changed : Kept) →
-    ((tree : Tree) (directory : ℕ → Option ℕ) → StandsFor graph tree → what ≢ given.NoMemory → Acts (act_of (context_of today connection room tree directory) request) txid what out new graph changed) →
+pub binds_no_watcher : (graph : Kept) (tokens : Tokens) (connection : Connection) → CanBeBound graph connection.birth → HasTree graph → (room : Room) (request : Asked) →
+    has_method connection.birth.protocol (method_of request) ≡ true → (txid : ℕ) (what : Given) (out : Written) (new : Connection) (changed : Kept) →
+    ((tree : Tree) (directory : ℕ → Option ℕ) → StandsFor graph tree → NamesAsThere tokens directory request → what ≢ given.NoMemory →
+    Acts (act_of (context_of today connection room tree directory) request) txid what out new graph changed) →
     BindsNoWatcher what
-binds_no_watcher graph connection can there room request txid what out new changed acts =
+binds_no_watcher graph tokens connection can there room request known txid what out new changed acts =
     unless_wanting what
-    (λ some. binds_none graph connection can room request txid what out new changed there.0 (λ number. None) there.1 (acts there.0 (λ number. None) there.1 some))
+    (λ some.
+    binds_none graph connection can room request known txid what out new changed there.0 (names_in tokens) there.1
+    (acts there.0 (names_in tokens) there.1 (looked_up tokens request) some))
 
 -- ---- a moment by its parts
 
@@ -119,27 +132,40 @@ is_sight server asking graph connection moment asked = λ i. record {
 -- ---- what a request is answered
 
 module _ (server : ℕ) (asking : Asking) (graph changed : Kept) (connection : Connection) (can : CanBeBound graph connection.birth) (moment : Moment) (asks : IsAskedAt server asking graph connection moment)
-    (txid : ℕ) (request : Asked) (what : Given) (left : Written) (new : Connection)
+    (txid : ℕ) (request : Asked) (known : has_method connection.birth.protocol (method_of request) ≡ true) (what : Given) (left : Written) (new : Connection) (kept : new.birth ≡ connection.birth)
     (acts : Acts (act_of (context_of today connection asking.room moment.tree moment.directory) request) txid what left new graph changed)
-    (fate : Fate) (out : Written) (before after : List ℕ) (does : DoesGiven asking.endpoint (object_of request) what left fate out before after) where
+    (fate : Fate) (out : Written) (before after : List ℕ) (does : DoesGiven asking.endpoint (object_of request) connection.birth.node what left fate out before after) where
   abbrev act : Act
   act = act_of (context_of today connection asking.room moment.tree moment.directory) request
 
-  can_now : CanAct asking.room moment.tree act
-  can_now = can_act graph connection can asking.room request txid what left new changed moment.tree moment.directory asks.tree
+  can_now : CanAct connection.birth.protocol asking.room moment.tree act
+  can_now = can_act graph connection can asking.room request known txid what left new changed moment.tree moment.directory asks.tree
+
+  effects : effects_by (asker_with asking.endpoint server (number_of connection.birth.node) txid (object_of request)) act.answer ≡ effects_told asking.endpoint server fate out
+  effects =
+      effects_are asking.endpoint server (number_of connection.birth.node) txid (object_of request) connection.birth.protocol asking.room moment.tree _ what left acts.answer can_now.answer
+      ∙ does.effects server
+
+  -- a token is given on a directory's connection alone
+  on_directory : (token : ℕ) (directory : NodeRef) → fate ≡ fates.Gives token directory → IsOnDirectory directory new
+  on_directory token directory is = record {
+    node = ap (λ (birth : code.Birth). birth.node) kept ∙ does.given token directory is;
+    protocol =
+        ap (λ (birth : code.Birth). birth.protocol) kept
+        ∙ token_of_directory connection.birth.protocol asking.room moment.tree (asker_with asking.endpoint server (number_of connection.birth.node) txid (object_of request)) act.answer _ can_now.answer
+        (ap (λ (e : Effects). e.token) (effects ∙ ap (λ (one : Fate). effects_told asking.endpoint server one out) is));
+  }
 
   answered : Answers (sight server asking connection moment) (outcome_of_read today (sight server asking connection moment) (Ok (txid, request))) fate out new graph changed before after
   answered = record {
     frames = does.frames ∙ ap (λ (frames : List Frame). before ++ spellings frames) (sym (frames_are asking.endpoint server (number_of connection.birth.node) txid (object_of request) _ what left acts.answer));
-    effects =
-        effects_are asking.endpoint server (number_of connection.birth.node) txid (object_of request) asking.room moment.tree _ what left acts.answer can_now.answer
-        (gives_no_token asking.room moment.tree (asker_with asking.endpoint server (number_of connection.birth.node) txid (object_of request)) _ can_now.answer)
-        ∙ does.effects server;
+    effects = effects;
     position = acts.position;
     change = acts.change;
     bound = λ object birth is. let binds = does.bound object birth is in acts.bound birth binds.0 binds.1;
-    room = λ object birth is. bound_has_room asking.room moment.tree _ txid what left birth acts.answer can_now.answer (does.bound object birth is);
-    mounted = λ mount object is. onward_is_mounted asking.room moment.tree _ txid what left mount acts.answer can_now.answer (does.onward mount object is);
+    room = λ object birth is. bound_has_room connection.birth.protocol asking.room moment.tree _ txid what left birth acts.answer can_now.answer (does.bound object birth is);
+    given = on_directory;
+    mounted = λ mount object is. onward_is_mounted connection.birth.protocol asking.room moment.tree _ txid what left mount acts.answer can_now.answer (does.onward mount object is);
   }
 
   pub request_answers : Answers moment (outcome_of_read today moment (Ok (txid, request))) fate out new graph changed before after
@@ -156,6 +182,7 @@ module _ (server : ℕ) (asking : Asking) (graph : Kept) (connection : Connectio
     change = λ tree stands. stands;
     bound = λ object birth is. absurd (does.bound object birth is);
     room = λ object birth is. absurd (does.bound object birth is);
+    given = λ token directory is. absurd (does.given token directory is);
     mounted = λ mount object is. absurd (does.onward mount object is);
   })
 

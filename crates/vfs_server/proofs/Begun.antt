@@ -7,10 +7,10 @@ use Rattle.std.specs.List.{range_with_len}
 use Rattle.std.specs.Option.{option_map, option_map_or, option_or}
 use Rattle.std.specs.Ordering.{nat_cmp}
 use Rattle.std.proofs.lemmas.Bool.{eqb-true, eq-eqb, eqb-false, ne_eqb}
-use Rattle.std.proofs.lemmas.List.{get_or-map, length-map}
+use Rattle.std.proofs.lemmas.List.{get_or-map}
 use Rattle.std.proofs.lemmas.List.Elements.{All-filter, All-weaker}
 use Rattle.std.proofs.lemmas.List.FromFn.{get_or-range_with_len, length-range_with_len}
-use Rattle.std.proofs.lemmas.List.Sums.{count_by-le-length, sum_by-append}
+use Rattle.std.proofs.lemmas.List.Sums.{sum_by-append}
 use Rattle.io_messages.specs.declared.protocols.Protocol.TheVariants as protocol
 use Rattle.io_rights.specs.Operations.{OperationSet}
 use Rattle.node_graph.specs.declared.nodes.NodeKind.TheVariants.{Directory}
@@ -32,38 +32,38 @@ use Rattle.vfs_journal.specs.View.{at_in, bounds_in, view_of, with_position}
 use Rattle.vfs_server.specs.Binding.{Binds, HasPlace}
 use Rattle.vfs_server.specs.Growing.{HoldsJust, IsNextBound, Stands, begins_with, begun, bound_among, clients_among, path_cmp}
 use Rattle.vfs_server.specs.Holding.{HoldsAt, bound_to, if_at, living_at, named_by}
-use Rattle.vfs_server.specs.Kept.{HasTree, IsSound}
+use Rattle.vfs_server.specs.Kept.{HasTree, IsSound, Tokens}
 use Rattle.vfs_server.specs.Servers.{Server, bound_with, seen, seen_as}
 use Rattle.vfs_server.proofs.Begins.{OtherEndpoint, apart, clients_split, ends_of, ends_split, few_before, firsts_of, not_before, pairs-head, pairs-tail, stands_on, all_directories}
 use Rattle.vfs_server.proofs.Chosen.{find-map, found_none, none_chosen}
-use Rattle.vfs_server.proofs.Held.{one_if, to_node}
+use Rattle.vfs_server.proofs.Held.{at_node, to_node}
+use Rattle.vfs_server.proofs.Maps.{count_none, one_if}
 use Rattle.vfs_server.proofs.Made.{named_kind, named_some}
 use Rattle.vfs_server.proofs.Nexts.{grows_whole}
 use Rattle.vfs_server.proofs.Standing.{kept_by, leads_in, place_in}
 
 -- ---- none
 
-count_none : (p : Connection → Bool) → count_by p (finite.values (finite.empty {K = ℕ} {X = Connection} {R = nat_cmp})) ≡ 0
-count_none p =
-    let count = count_by-le-length p (finite.values (finite.empty {K = ℕ} {X = Connection} {R = nat_cmp})) in
-    let size = length-map (finite.entries (finite.empty {K = ℕ} {X = Connection} {R = nat_cmp})) (λ (e : ℕ × Connection). e.1) in
-    let entries = finite.len-entries (finite.empty {K = ℕ} {X = Connection} {R = nat_cmp}) in
-    let none = finite.len-empty nat_cmp Connection in
-    omega (arith, count, size, entries, none)
-
-pub sound_none : (graph : Kept) → HasTree graph → ((number : ℕ) → holds_at graph number ≡ 0) → IsSound graph finite.empty
+pub sound_none : (graph : Kept) → HasTree graph → ((number : ℕ) → holds_at graph number ≡ 0) → IsSound graph finite.empty finite.empty
 sound_none graph tree unheld = record {
   tree = tree;
   each = λ endpoint connection there. absurd (let wrong : None ≡ Some connection = sym (finite.get-empty nat_cmp endpoint) ∙ there in cc);
-  holds = λ number. unheld number ∙ sym (count_none (to_node number));
+  named = λ token directory there. absurd (let wrong : None ≡ Some directory = sym (finite.get-empty nat_cmp token) ∙ there in cc);
+  holds = λ number.
+      let bare = unheld number in
+      let connected = count_none (to_node number) in
+      let named = count_none (at_node number) in
+      omega (arith, bare, connected, named);
   few = let none = finite.len-empty nat_cmp Connection in omega (arith, none);
+  rare = let none = finite.len-empty nat_cmp NodeRef in omega (arith, none);
 }
 
 pub holds_none : (lists : Lists) (index : ℕ) (graph : Kept) (places : BTreeMap (Bor (List ℕ)) NodeRef) (server : Server) → Stands (named_of lists index) graph places →
-    server ≡ record { index = index; graph = graph; connections = finite.empty; watchers = [] } → HoldsJust lists index [] server places
+    server ≡ record { index = index; graph = graph; connections = finite.empty; watchers = []; tokens = finite.empty } → HoldsJust lists index [] server places
 holds_none lists index graph places server stands is = subst (λ (one : Server). HoldsJust lists index [] one places) (sym is) (record {
   at = refl;
   watchers = refl;
+  tokens = refl;
   bound = λ endpoint. ap (seen_as index [] endpoint) (finite.get-empty nat_cmp endpoint);
   count = let none = finite.len-empty nat_cmp Connection in omega (arith, none);
   holds = stands.unheld;
@@ -175,6 +175,7 @@ module _ (lists : Lists) (index endpoint : ℕ) (path : Bor (List ℕ)) (rights 
       holds_one = record {
         at = binds.index ∙ next.holds.at;
         watchers = binds.watchers ∙ next.holds.watchers;
+        tokens = binds.tokens ∙ next.holds.tokens;
         bound = λ other.
             binds.bound other ∙ among_more other (other == endpoint) refl
             ∙ ap (option_map (λ (bound : Bound). (bound, fresh))) (sym (find_push (λ (bound : Bound). bound.endpoint == other) bounds newest));
@@ -292,6 +293,7 @@ module _ (lists : Lists) (accepted : AreAccepted lists) (index : ℕ) (within : 
         ∙ ap (filter (λ (bound : Bound). is_watcher bound.birth.protocol)) living_are
         ∙ none_chosen (λ (bound : Bound). is_watcher bound.birth.protocol) (begins_with lists index)
         (All-filter (λ (bound : Bound). bound.server == index) (λ (bound : Bound). is_watcher bound.birth.protocol ≡ false) (firsts_of lists ++ ends_of lists) (all_directories lists)));
+    tokens = λ token. ap (λ (tokens : Tokens). option_map number_of (finite.get tokens token)) just.tokens ∙ ap (option_map number_of) (finite.get-empty nat_cmp token);
     tree = subst (StandsFor server.graph) (sym (ap (λ (n : ℕ). tree_at (start_of lists).trees n) just.at ∙ tree_is)) just.tree;
     holds = λ number.
         let here : bound_to (view_of built (start_of lists) []) server.index number ≡ count_by (λ (bound : Bound). bound.birth.node == number) (begins_with lists index) =

@@ -1,29 +1,22 @@
 -- What a connection of any kind gives does what its act says.
-use Rattle.std.proofs.Common.{◌≡◌, ◌≢◌, ◌∙◌, ℕ, Option, None, refl, sym, ap, subst, rules}
-use Rattle.io_messages.specs.Asked.{Asked}
-use Rattle.io_messages.specs.Asked as asks
+use Rattle.std.proofs.Common.{◌≡◌, ◌≢◌, ◌∙◌, ℕ, refl, sym, ap, subst, rules}
 use Rattle.fidl_wire.specs.Written.{Written}
 use Rattle.node_graph.specs.Graph.{Kept, Leads}
-use Rattle.node_graph.specs.Tree.{Change, Tree, after}
+use Rattle.node_graph.specs.Tree.{Change, after}
 use Rattle.conn_rules.specs.declared.births.Birth as code
 use Rattle.conn_rules.specs.declared.changes.Changes.{Changes}
 use Rattle.conn_rules.specs.declared.served.Served.{Served}
 use Rattle.conn_rules.specs.declared.served.Served.TheVariants as served
 use Rattle.conn_rules.specs.Answers.{Act, Answer, nothing_told, replies, closes, binds, watches, forwards, refuses, ends, hangs_up, silent}
-use Rattle.conn_rules.specs.declared.births.Room.{Room}
-use Rattle.conn_rules.specs.Acts.{act_of}
-use Rattle.conn_rules.specs.Births.{Connection, born}
-use Rattle.conn_rules.specs.Built.{today}
-use Rattle.conn_rules.specs.Contexts.{context_of}
+use Rattle.conn_rules.specs.Births.{Connection}
 use Rattle.conn_rules.specs.Served.{Gives, IsServed, KeepsHolds}
 use Rattle.dir_conn.specs.declared.served.DirServed.{DirServed}
 use Rattle.dir_conn.specs.declared.served.DirServed.TheVariants as dir
-use Rattle.dir_conn.specs.Served.{DirGives, IsDirServed, directory_named, told_with}
+use Rattle.dir_conn.specs.Served.{DirGives, IsDirServed, told_with}
 use Rattle.vfs_server.specs.declared.given.Given.{Given}
 use Rattle.vfs_server.specs.declared.given.Given.TheVariants as given
 use Rattle.vfs_server.specs.Kept.{HasTree}
 use Rattle.vfs_server.specs.Steps.{Acts, IsGiven, IsOf, of_directory, told_given}
-use Rattle.vfs_server.proofs.Today.{same_act}
 
 abbrev birth_in : code.Birth → Given → code.Birth
 birth_in other (given.Bind birth changes) = birth
@@ -69,39 +62,6 @@ acts_of_directory act txid what out new graph changed is = record {
   change = is.change;
   bound = λ birth changes e. is.bound birth changes (bound_of_directory what birth changes e);
 }
-
--- no request of today names a directory by a token, so that none need be known
-pub directory_acts : (old conn : Connection) (room : Room) (tree : Tree) (directory : ℕ → Option ℕ) (request : Asked) (txid : ℕ) (what : DirServed) (g : Given) (out : Written) (new : Connection) (graph changed : Kept) →
-    old ≡ conn → g ≡ of_directory what → IsDirServed (act_of (context_of today conn room tree (λ number. None)) request) txid what out new graph changed →
-    Acts (act_of (context_of today old room tree directory) request) txid g out new graph changed
-directory_acts old conn room tree directory request txid what g out new graph changed was is acts =
-    subst (λ one. Acts (act_of (context_of today old room tree directory) request) txid one out new graph changed) (sym is)
-    (subst (λ act. Acts act txid (of_directory what) out new graph changed)
-    (same_act (born conn.birth) conn.position room tree (λ number. None) directory request ∙ ap (λ (one : Connection). act_of (context_of today one room tree directory) request) (sym was))
-    (acts_of_directory _ txid what out new graph changed acts))
-
--- a request that names no directory
-pub none_named : (request : Asked) → directory_named (λ number. None) request ≡ None
-none_named (asks.clone endpoint) = refl
-none_named asks.close = refl
-none_named asks.query = refl
-none_named (asks.get_attributes bits) = refl
-none_named asks.sync = refl
-none_named (asks.open_path path flags options object) = refl
-none_named (asks.read_dirents most) = refl
-none_named asks.rewind = refl
-none_named asks.get_token = refl
-none_named (asks.rename src number dst) = refl
-none_named (asks.link src number dst) = refl
-none_named (asks.unlink name flags) = refl
-none_named (asks.watch mask options watcher) = refl
-none_named (asks.read count) = refl
-none_named (asks.read_at count offset) = refl
-none_named (asks.write bytes) = refl
-none_named (asks.write_at bytes offset) = refl
-none_named (asks.seek origin offset) = refl
-none_named (asks.resize size) = refl
-none_named (asks.echo_string value) = refl
 
 -- ---- of any other connection
 

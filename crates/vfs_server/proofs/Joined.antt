@@ -1,66 +1,18 @@
 -- What connections and their places are together, before and after each change.
-use Rattle.std.proofs.Common.{◌≡◌, ◌≢◌, ℕ, ◌+◌, ◌-◌, Bool, true, false, cond, List, [], ◌∷◌, Option, Some, None, refl, sym, ap, ◌∙◌, subst, arith, get_or}
+use Rattle.std.proofs.Common.{◌≡◌, ◌≢◌, ℕ, ◌+◌, ◌-◌, Bool, true, false, cond, List, [], ◌∷◌, Option, Some, None, refl, sym, ap, ◌∙◌, arith, get_or}
 use Rattle.std.specs.Prelude.{IsSome, is_some, filter_map}
 use Rattle.std.specs.BTreeMap as tree
-use Rattle.std.specs.Cmp.{nat_cmp_total, tied_itself}
+use Rattle.std.specs.Cmp.{nat_cmp_total}
 use Rattle.std.specs.FinMap as finite
 use Rattle.std.specs.FinMap.Entries as entry
 use Rattle.std.specs.Map.{lookup}
 use Rattle.std.specs.Ordering.{is_eq, eq_by_cmp, nat_cmp}
-use Rattle.std.specs.declared.cmp.Ordering.{Ordering}
-use Rattle.std.specs.declared.cmp.Ordering.TheVariants.{Less, Equal, Greater}
 use Rattle.slab.specs.Slab as slab
 use Rattle.slab.proofs.SlabLemmas.{ContainsKey-within}
 use Rattle.std.proofs.lemmas.List.Sums.{sum_by-set}
 use Rattle.conn_rules.specs.Births.{Connection}
-use Rattle.vfs_server.specs.Kept.{AreJoined, Connections, connections_of, entry_at}
-
--- ---- numbers that tie
-
-equal : (o : Ordering) → is_eq o ≡ true → o ≡ Equal
-equal Less h = absurd (cc)
-equal Equal h = refl
-equal Greater h = absurd (cc)
-
-pub tied : (a b : ℕ) → eq_by_cmp nat_cmp a b ≡ true → a ≡ b
-tied a b e = finite.nat_cmp-IsAntisymmetric a b (equal _ e)
-
-pub ties : (a : ℕ) → eq_by_cmp nat_cmp a a ≡ true
-ties a = ap is_eq (tied_itself nat_cmp_total a)
-
--- a number is another or isn't
-pub data Standing (a b : ℕ) : Type 0 where
-  same : a ≡ b → eq_by_cmp nat_cmp a b ≡ true → Standing a b
-  other : a ≢ b → eq_by_cmp nat_cmp a b ≡ false → Standing a b
-
-pub standing : (a b : ℕ) → Standing a b
-standing a b = by_test (eq_by_cmp nat_cmp a b) refl where
-  by_test : (t : Bool) → eq_by_cmp nat_cmp a b ≡ t → Standing a b
-  by_test true e = same (tied a b e) e
-  by_test false e = other (λ is. absurd (let yes : eq_by_cmp nat_cmp a b ≡ true = subst (λ x. eq_by_cmp nat_cmp a x ≡ true) is (ties a) in let wrong : true ≡ false = sym yes ∙ e in cc)) e
-
--- ---- maps of connections
-
-pub same_connections : (m n : Connections) → ((q : ℕ) → finite.get m q ≡ finite.get n q) → m ≡ n
-same_connections m n is = finite.same_map nat_cmp_total finite.nat_cmp-IsAntisymmetric m n is
-
-pub get_put : (m : Connections) (k : ℕ) (v : Connection) → finite.get (finite.insert m k v) k ≡ Some v
-get_put m k v = finite.get-insert nat_cmp_total m k v k ∙ ap (λ b. cond b (Some v) (finite.get m k)) (ties k)
-
-pub get_put_other : (m : Connections) (k q : ℕ) (v : Connection) → q ≢ k → finite.get (finite.insert m k v) q ≡ finite.get m q
-get_put_other m k q v apart = elim (standing q k) [
-  | same e b ↦ absurd (apart e)
-  | other e b ↦ finite.get-insert nat_cmp_total m k v q ∙ ap (λ b. cond b (Some v) (finite.get m q)) b
-]
-
-pub get_cut : (m : Connections) (k : ℕ) → finite.get (finite.remove m k) k ≡ None
-get_cut m k = finite.get-remove nat_cmp_total m k k ∙ ap (λ b. cond b None (finite.get m k)) (ties k)
-
-pub get_cut_other : (m : Connections) (k q : ℕ) → q ≢ k → finite.get (finite.remove m k) q ≡ finite.get m q
-get_cut_other m k q apart = elim (standing q k) [
-  | same e b ↦ absurd (apart e)
-  | other e b ↦ finite.get-remove nat_cmp_total m k q ∙ ap (λ b. cond b None (finite.get m q)) b
-]
+use Rattle.vfs_server.specs.Kept.{AreJoined, connections_of, entry_at}
+use Rattle.vfs_server.proofs.Maps.{standing, same, other, same_map, ties, get_put, get_put_other, get_cut, get_cut_other}
 
 -- ---- look-ups
 
@@ -182,7 +134,7 @@ module _ (kept : slab.Slab Connection) (places : tree.BTreeMap ℕ ℕ) (joined 
     ]
 
     pub inserted : connections_of kept' places' ≡ finite.insert (connections_of kept places) endpoint connection
-    inserted = same_connections _ _ (λ q. elim (standing endpoint q) [
+    inserted = same_map _ _ (λ q. elim (standing endpoint q) [
       | same e b ↦
           ap (finite.get (connections_of kept' places')) (sym e) ∙ get-connections_of kept' places' there' endpoint ∙ ap (at_place kept') here ∙ at_some kept' place ∙ fills.changed
           ∙ sym (ap (finite.get (finite.insert (connections_of kept places) endpoint connection)) (sym e) ∙ get_put (connections_of kept places) endpoint connection)
@@ -219,7 +171,7 @@ module _ (kept : slab.Slab Connection) (places : tree.BTreeMap ℕ ℕ) (joined 
     same_at (Some p) = at_some kept' p ∙ alike p ∙ sym (at_some kept p)
 
     pub unchanged : connections_of kept' places' ≡ connections_of kept places
-    unchanged = same_connections _ _ (λ q. get-connections_of kept' places' same_there q ∙ same_at (tree.get nat_cmp places' q) ∙ ap (at_place kept) (same_get q) ∙ sym (looked_up q))
+    unchanged = same_map _ _ (λ q. get-connections_of kept' places' same_there q ∙ same_at (tree.get nat_cmp places' q) ∙ ap (at_place kept) (same_get q) ∙ sym (looked_up q))
 
     pub joined_still : AreJoined kept' places'
     joined_still = record {
@@ -238,7 +190,7 @@ module _ (kept : slab.Slab Connection) (places : tree.BTreeMap ℕ ℕ) (joined 
     ]
 
     pub replaced : connections_of kept' places ≡ finite.insert (connections_of kept places) endpoint connection
-    replaced = same_connections _ _ (λ q. elim (standing endpoint q) [
+    replaced = same_map _ _ (λ q. elim (standing endpoint q) [
       | same e b ↦
           ap (finite.get (connections_of kept' places)) (sym e) ∙ get-connections_of kept' places served_there endpoint ∙ ap (at_place kept') at ∙ at_some kept' place ∙ fills.changed
           ∙ sym (ap (finite.get (finite.insert (connections_of kept places) endpoint connection)) (sym e) ∙ get_put (connections_of kept places) endpoint connection)
@@ -294,7 +246,7 @@ module _ (kept : slab.Slab Connection) (places : tree.BTreeMap ℕ ℕ) (joined 
     left_there q p there = ap is_some (clears.others p (not_place q p there)) ∙ joined.there q p (was_there q p there)
 
     pub removed : connections_of kept' places' ≡ finite.remove (connections_of kept places) endpoint
-    removed = same_connections _ _ (λ q. elim (standing endpoint q) [
+    removed = same_map _ _ (λ q. elim (standing endpoint q) [
       | same e b ↦
           ap (finite.get (connections_of kept' places')) (sym e) ∙ get-connections_of kept' places' left_there endpoint ∙ ap (at_place kept') gone ∙ at_none kept'
           ∙ sym (ap (finite.get (finite.remove (connections_of kept places) endpoint)) (sym e) ∙ get_cut (connections_of kept places) endpoint)

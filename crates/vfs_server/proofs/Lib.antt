@@ -1,8 +1,10 @@
 -- The lemmas of this crate.
+pub mod Maps
 pub mod Joined
-pub mod Lengths
 pub mod Walking
 pub mod Today
+pub mod Carried
+pub mod Handed
 pub mod Giving
 pub mod Answering
 pub mod Held

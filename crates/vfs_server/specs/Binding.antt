@@ -1,13 +1,15 @@
 -- What a server takes in and lets go.
 use Rattle.std.specs.Prelude.{◌≡◌, ℕ, ◌+◌, ◌-◌, ◌==◌, ◌<◌, not, if◌then◌else◌, filter, Some, None}
 use Rattle.fidl_names.specs.declared.limits.TheConstants as limit
-use Rattle.node_graph.specs.Graph.{HoldsNow, KeepsNames, Leads, holds_at, number_of}
+use Rattle.node_graph.specs.declared.nodes.NodeKind.TheVariants.{Directory}
+use Rattle.node_graph.specs.declared.nodes.NodeRef.{NodeRef}
+use Rattle.node_graph.specs.Graph.{HoldsNow, KeepsNames, Kept, Leads, Names, holds_at, kind_at, number_of}
 use Rattle.node_graph.specs.Tree.{stay}
 use Rattle.conn_rules.specs.declared.births.Birth as code
 use Rattle.conn_rules.specs.Births.{Position, fresh}
 use Rattle.conn_rules.specs.Shared.{CanBeBound}
 use Rattle.vfs_journal.specs.Starts.{Bound}
-use Rattle.vfs_server.specs.Servers.{Server, bound_with, in_use, seen}
+use Rattle.vfs_server.specs.Servers.{Server, bound_with, in_use, named, seen}
 
 -- the server has room, and can bind the birth
 pub record HasPlace (server : Server) (birth : code.Birth) : Type 0 where
@@ -20,6 +22,7 @@ pub record Binds (old : Server) (endpoint : ℕ) (birth : code.Birth) (new : Ser
   pub bound : (other : ℕ) → seen new other ≡ (if other == endpoint then Some (bound_with old.index endpoint birth, fresh) else seen old other)
   pub count : in_use new ≡ in_use old + 1
   pub watchers : new.watchers ≡ old.watchers
+  pub tokens : new.tokens ≡ old.tokens
   pub tree : Leads old.graph new.graph stay
   pub holds : HoldsNow old.graph new.graph (number_of birth.node) (holds_at old.graph (number_of birth.node) + 1)
   pub names : KeepsNames old.graph new.graph
@@ -30,7 +33,36 @@ pub record Unbinds (old : Server) (endpoint : ℕ) (new : Server) : Type 0 where
   pub bound : (other : ℕ) → seen new other ≡ (if other == endpoint then None else seen old other)
   pub count : in_use new + 1 ≡ in_use old
   pub watchers : new.watchers ≡ filter (λ bound. not (bound.endpoint == endpoint)) old.watchers
+  pub tokens : new.tokens ≡ old.tokens
   pub tree : Leads old.graph new.graph stay
   pub holds : (pair : Bound × Position) → seen old endpoint ≡ Some pair →
       HoldsNow old.graph new.graph pair.0.birth.node (holds_at old.graph pair.0.birth.node - 1)
   pub names : KeepsNames old.graph new.graph
+
+-- ---- tokens
+
+-- a directory that the graph keeps
+pub record IsDirectory (graph : Kept) (node : NodeRef) : Type 0 where
+  pub kept : Names graph node
+  pub kind : kind_at graph (number_of node) ≡ Some Directory
+
+-- a token names a directory from now on and no other does; the directory has one hold more
+pub record NamesBy (old : Server) (token : ℕ) (directory : NodeRef) (new : Server) : Type 0 where
+  pub index : new.index ≡ old.index
+  pub bound : new.connections ≡ old.connections
+  pub watchers : new.watchers ≡ old.watchers
+  pub tokens : (other : ℕ) → named new other ≡ (if other == token then Some (number_of directory) else named old other)
+  pub tree : Leads old.graph new.graph stay
+  pub holds : HoldsNow old.graph new.graph (number_of directory) (holds_at old.graph (number_of directory) + 1)
+  pub names : KeepsNames old.graph new.graph
+
+-- a token names nothing here and no other changes; the directory that it named has one hold less
+pub record Forgets (old : Server) (token : ℕ) (new : Server) : Type 0 where
+  pub index : new.index ≡ old.index
+  pub bound : new.connections ≡ old.connections
+  pub watchers : new.watchers ≡ old.watchers
+  pub tokens : (other : ℕ) → named new other ≡ (if other == token then None else named old other)
+  pub tree : Leads old.graph new.graph stay
+  pub holds : (node : ℕ) → named old token ≡ Some node → HoldsNow old.graph new.graph node (holds_at old.graph node - 1)
+  pub names : KeepsNames old.graph new.graph
+  pub idle : named old token ≡ None → new ≡ old

@@ -5,7 +5,8 @@ use Rattle.std.specs.FinMap as finite
 use Rattle.std.specs.Ordering.{nat_cmp}
 use Rattle.io_messages.specs.declared.protocols.Protocol.{Protocol}
 use Rattle.io_rights.specs.Operations.{OperationSet}
-use Rattle.node_graph.specs.Codes.{kept_code, mask_code}
+use Rattle.node_graph.specs.declared.nodes.NodeRef.{NodeRef}
+use Rattle.node_graph.specs.Codes.{kept_code, mask_code, node_code}
 use Rattle.node_graph.specs.Graph.{Kept}
 use Rattle.conn_rules.specs.Births.{Birth, Connection}
 use Rattle.conn_rules.specs.Codes.{connection_code, protocol_code}
@@ -25,10 +26,13 @@ bound_code =
 abbrev pub connections_code : Coded (finite.FinMap nat_cmp Connection)
 connections_code = finite.code coded_ℕ connection_code
 
+abbrev pub tokens_code : Coded (finite.FinMap nat_cmp NodeRef)
+tokens_code = finite.code coded_ℕ node_code
+
 abbrev pub server_code : Coded Server
 server_code =
-    code_by (ℕ × (Kept × (finite.FinMap nat_cmp Connection × List Bound)))
-    (coded× coded_ℕ (coded× kept_code (coded× connections_code (coded_list bound_code))))
-    (λ s. (s.index, (s.graph, (s.connections, s.watchers))))
-    (λ p. record { index = p.0; graph = p.1.0; connections = p.1.1.0; watchers = p.1.1.1 })
+    code_by (ℕ × (Kept × (finite.FinMap nat_cmp Connection × (List Bound × finite.FinMap nat_cmp NodeRef))))
+    (coded× coded_ℕ (coded× kept_code (coded× connections_code (coded× (coded_list bound_code) tokens_code))))
+    (λ s. (s.index, (s.graph, (s.connections, (s.watchers, s.tokens)))))
+    (λ p. record { index = p.0; graph = p.1.0; connections = p.1.1.0; watchers = p.1.1.1.0; tokens = p.1.1.1.1 })
     (λ _. refl)

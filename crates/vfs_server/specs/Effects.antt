@@ -2,6 +2,7 @@
 use Rattle.std.specs.Prelude.{ℕ, List, [], ◌∷◌, Option, Some, None}
 use Rattle.fidl_wire.specs.Written.{Written}
 use Rattle.tree_file.specs.Numbering.{end_of_mount}
+use Rattle.node_graph.specs.Graph.{number_of}
 use Rattle.conn_rules.specs.Births.{born}
 use Rattle.vfs_journal.specs.Outcomes.{Forwarded, Given, Outcome}
 use Rattle.vfs_journal.specs.Starts.{Bound}
@@ -22,7 +23,8 @@ effects_of outcome = record { bound = outcome.bound; ends = outcome.ends; forwar
 abbrev pub no_effects : Effects
 no_effects = record { bound = None; ends = []; forward = None; token = None }
 
--- those that a fate tells, of the endpoint that was served at this server; an Open that goes on stands in the output
+-- those that a fate tells, of the endpoint that was served at this server; an Open that goes on stands in the output, and a token is given
+-- on the endpoint
 abbrev pub effects_told : ℕ → ℕ → Fate → Written → Effects
 effects_told endpoint server fate.Stays out = no_effects
 effects_told endpoint server fate.Ends out = record no_effects { ends = endpoint ∷ [] }
@@ -31,3 +33,5 @@ effects_told endpoint server (fate.Binds object birth) out =
 effects_told endpoint server (fate.Refuses object) out = record no_effects { ends = object ∷ [] }
 effects_told endpoint server (fate.Forwards mount object) out =
     record no_effects { forward = Some (record { endpoint = end_of_mount mount; bytes = out.bytes; object = object }) }
+effects_told endpoint server (fate.Gives token directory) out =
+    record no_effects { token = Some (record { token = token; endpoint = endpoint; server = server; node = number_of directory }) }

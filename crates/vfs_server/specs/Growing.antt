@@ -3,6 +3,7 @@ use Rattle.std.specs.Prelude.{◌≡◌, ◌+◌, ◌<◌, ◌==◌, ℕ, List, 
 use Rattle.std.specs.Borrow.{Bor}
 use Rattle.std.specs.BTreeMap.{BTreeMap, get}
 use Rattle.std.specs.Cmp.Lexicographic.{slice_cmp}
+use Rattle.std.specs.FinMap as finite
 use Rattle.std.specs.List.{enumerate_from}
 use Rattle.std.specs.Option.{option_map, option_map_or}
 use Rattle.std.specs.Ordering.{nat_cmp}
@@ -88,11 +89,12 @@ abbrev pub begun : Lists → ℕ → ℕ → List ℕ → OperationSet → Bound
 begun lists server endpoint path rights =
     record { endpoint = endpoint; server = server; birth = directory_birth (number_in lists server path) rights; mask = 0 }
 
--- these and no others are bound, each at its beginning and with one hold on its node; the graph stands for the server's tree, and each path
+-- these and no others are bound, each at its beginning and with one hold on its node, and no token names one; the graph stands for the server's tree, and each path
 -- leads to a node of it that is kept
 pub record HoldsJust (lists : Lists) (index : ℕ) (bounds : List Bound) (server : Server) (places : BTreeMap (Bor (List ℕ)) NodeRef) : Type 0 where
   pub at : server.index ≡ index
   pub watchers : server.watchers ≡ []
+  pub tokens : server.tokens ≡ finite.empty
   pub bound : (endpoint : ℕ) → seen server endpoint ≡ option_map (λ bound. (bound, fresh)) (find (λ bound. bound.endpoint == endpoint) bounds)
   pub count : in_use server ≡ length bounds
   pub holds : (number : ℕ) → holds_at server.graph number ≡ count_by (λ bound. bound.birth.node == number) bounds

@@ -1,15 +1,17 @@
 -- How a server keeps what is connected, and what holds of every server. No public clause needs this.
-use Rattle.std.specs.Prelude.{◌≡◌, ℕ, ◌≤◌, ◌==◌, filter_map, count_by, Option, Some, IsSome}
+use Rattle.std.specs.Prelude.{◌≡◌, ℕ, ◌+◌, ◌≤◌, ◌==◌, filter_map, count_by, Option, Some, IsSome}
 use Rattle.std.specs.BTreeMap as tree
 use Rattle.std.specs.FinMap as finite
 use Rattle.std.specs.Option.{option_map}
 use Rattle.std.specs.Ordering.{nat_cmp}
 use Rattle.slab.specs.Slab as slab
 use Rattle.fidl_names.specs.declared.limits.TheConstants as limit
+use Rattle.node_graph.specs.declared.nodes.NodeRef.{NodeRef}
 use Rattle.node_graph.specs.Graph.{Kept, StandsFor, holds_at, number_of}
 use Rattle.node_graph.specs.Tree.{Tree}
 use Rattle.conn_rules.specs.Births.{Connection}
 use Rattle.conn_rules.specs.Shared.{CanBeBound}
+use Rattle.vfs_server.specs.Binding.{IsDirectory}
 
 abbrev pub Connections : Type 0
 Connections = finite.FinMap nat_cmp Connection
@@ -32,13 +34,27 @@ pub record AreJoined (kept : slab.Slab Connection) (places : tree.BTreeMap ℕ �
 abbrev pub connected_to : ℕ → Connections → ℕ
 connected_to number connections = count_by (λ connection. number_of connection.birth.node == number) (finite.values connections)
 
+abbrev pub Tokens : Type 0
+Tokens = finite.FinMap nat_cmp NodeRef
+
+-- how many tokens name a node
+abbrev pub naming : ℕ → Tokens → ℕ
+naming number tokens = count_by (λ node. number_of node == number) (finite.values tokens)
+
 -- the graph stands for a tree
 abbrev pub HasTree : Kept → Type 0
 HasTree graph = (tree : Tree) × StandsFor graph tree
 
--- each connection is to a node that the graph keeps, which has one hold for each; and there are no more than a server may have
-pub record IsSound (graph : Kept) (connections : Connections) : Type 0 where
+-- each token names a directory that the graph keeps
+abbrev pub NameDirectories : Kept → Tokens → Type 0
+NameDirectories graph tokens = (token : ℕ) (directory : NodeRef) → finite.get tokens token ≡ Some directory → IsDirectory graph directory
+
+-- each connection is to a node that the graph keeps, and each token names a directory that it keeps; a node has one hold for each of
+-- both; and there are no more than a server may have
+pub record IsSound (graph : Kept) (connections : Connections) (tokens : Tokens) : Type 0 where
   pub tree : HasTree graph
   pub each : (endpoint : ℕ) (connection : Connection) → finite.get connections endpoint ≡ Some connection → CanBeBound graph connection.birth
-  pub holds : (number : ℕ) → holds_at graph number ≡ connected_to number connections
+  pub named : NameDirectories graph tokens
+  pub holds : (number : ℕ) → holds_at graph number ≡ connected_to number connections + naming number tokens
   pub few : finite.len connections ≤ limit.MAX_CONNECTIONS
+  pub rare : finite.len tokens ≤ limit.MAX_TOKENS

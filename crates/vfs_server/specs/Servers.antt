@@ -1,19 +1,22 @@
--- One server as contracts see it: its graph, what is connected to it, and who watches it.
+-- One server as contracts see it: its graph, what is connected to it, who watches it, and which of its directories tokens name.
 use Rattle.std.specs.Prelude.{ℕ, ◌+◌, ◌==◌, Option, Some, None, List, length, find}
 use Rattle.std.specs.FinMap as finite
 use Rattle.std.specs.Option.{option_map}
 use Rattle.std.specs.Ordering.{nat_cmp}
-use Rattle.node_graph.specs.Graph.{Kept}
+use Rattle.node_graph.specs.declared.nodes.NodeRef.{NodeRef}
+use Rattle.node_graph.specs.Graph.{Kept, number_of}
 use Rattle.conn_rules.specs.declared.births.Birth as code
 use Rattle.conn_rules.specs.Births.{Connection, Position, born, fresh}
 use Rattle.vfs_journal.specs.Starts.{Bound}
 
--- its index among the servers, what is kept of its tree, the connections by their endpoints, and the watchers in order of their births
+-- its index among the servers, what is kept of its tree, the connections by their endpoints, the watchers in order of their births, and of
+-- each token that names a directory here the directory
 pub record Server : Type 0 where
   pub index : ℕ
   pub graph : Kept
   pub connections : finite.FinMap nat_cmp Connection
   pub watchers : List Bound
+  pub tokens : finite.FinMap nat_cmp NodeRef
 
 -- how many connections it has, watchers included
 abbrev pub in_use : Server → ℕ
@@ -39,3 +42,9 @@ seen_as index watchers endpoint None = watching watchers endpoint
 -- what an endpoint is bound to here, and where it stands
 abbrev pub seen : Server → ℕ → Option (Bound × Position)
 seen server endpoint = seen_as server.index server.watchers endpoint (finite.get server.connections endpoint)
+
+-- ---- what a token names
+
+-- the directory that a token names here
+abbrev pub named : Server → ℕ → Option ℕ
+named server token = option_map number_of (finite.get server.tokens token)

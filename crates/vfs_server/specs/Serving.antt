@@ -1,9 +1,11 @@
 -- The serving of a message on an endpoint that is bound at a server.
-use Rattle.std.specs.Prelude.{◌≡◌, ℕ, ◌==◌, ◌++◌, List, [], length, filter, Option, Some}
+use Rattle.std.specs.Prelude.{◌≡◌, ℕ, ◌==◌, ◌++◌, true, List, [], length, filter, Option, Some}
 use Rattle.std.specs.Option.{option_map, option_map_or}
 use Rattle.fidl_wire.specs.Written.{Written}
 use Rattle.endpoint_link.specs.Frames.{Frame, spellings}
+use Rattle.endpoint_link.specs.Numbering.{among}
 use Rattle.node_graph.specs.declared.nodes.NodeKind.TheVariants.{Mount}
+use Rattle.node_graph.specs.declared.nodes.NodeRef.{NodeRef}
 use Rattle.node_graph.specs.Graph.{KeepsNames, Leads, SameHolds, StandsFor}
 use Rattle.node_graph.specs.Tree.{Tree}
 use Rattle.conn_rules.specs.declared.births.Birth as code
@@ -16,9 +18,9 @@ use Rattle.vfs_journal.specs.View.{moved}
 use Rattle.vfs_journal.specs.Watching.{first_frames, told_frames}
 use Rattle.vfs_server.specs.declared.fate.Fate.{Fate}
 use Rattle.vfs_server.specs.declared.fate.Fate.TheVariants as fates
-use Rattle.vfs_server.specs.Binding.{HasPlace}
+use Rattle.vfs_server.specs.Binding.{HasPlace, IsDirectory}
 use Rattle.vfs_server.specs.Effects.{effects_of, effects_told}
-use Rattle.vfs_server.specs.Servers.{Server, in_use, seen}
+use Rattle.vfs_server.specs.Servers.{Server, in_use, named, seen}
 
 -- ---- moments
 
@@ -31,11 +33,13 @@ room_at server node token =
       token = token;
     }
 
--- a moment of the serving on an endpoint that is bound there, where this is the next token
-pub record IsMomentOf (server : Server) (endpoint : ℕ) (token : Option ℕ) (moment : Moment) : Type 0 where
+-- a moment of the serving of what has these handles on an endpoint that is bound there, where this is the next token
+pub record IsMomentOf (server : Server) (endpoint : ℕ) (token : Option ℕ) (handles : List ℕ) (moment : Moment) : Type 0 where
   pub bound : seen server endpoint ≡ Some (moment.bound, moment.position)
   pub room : moment.room ≡ room_at server moment.bound.birth.node token
   pub tree : StandsFor server.graph moment.tree
+  -- a handle that comes with it names the directory that it names here
+  pub directory : (number : ℕ) → among number handles ≡ true → moment.directory number ≡ named server number
 
 -- ---- servings
 
@@ -59,9 +63,11 @@ pub record Serves (moment : Moment) (outcome : Outcome) (fate : Fate) (out : Wri
   pub bound : (endpoint : ℕ) → seen new endpoint ≡ option_map (moved moment.bound.endpoint outcome.position) (seen old endpoint)
   pub count : in_use new ≡ in_use old
   pub watchers : new.watchers ≡ old.watchers
+  pub tokens : new.tokens ≡ old.tokens
   pub tree : Leads old.graph new.graph outcome.change
   pub holds : SameHolds old.graph new.graph
   pub names : KeepsNames old.graph new.graph
-  -- what is to be bound has its place here, and an Open goes on behind a mount of the tree
+  -- what is to be bound has its place here, a token is to name a directory, and an Open goes on behind a mount of the tree
   pub has_place : (object : ℕ) (birth : code.Birth) → fate ≡ fates.Binds object birth → HasPlace new birth
+  pub given : (token : ℕ) (directory : NodeRef) → fate ≡ fates.Gives token directory → IsDirectory new.graph directory
   pub mounted : (mount object : ℕ) → fate ≡ fates.Forwards mount object → HasMount moment.tree mount

@@ -1,18 +1,25 @@
 -- Words of the steps of a serving: who asks, what a connection gives, and what is done with it. No public clause needs these.
-use Rattle.std.specs.Prelude.{◌≡◌, ◌≢◌, ◌<◌, ℕ, false, List, [], ◌∷◌, ◌++◌, Some}
+use Rattle.std.specs.Prelude.{◌≡◌, ◌≢◌, ◌<◌, ℕ, true, false, List, [], ◌∷◌, ◌++◌, Option, Some, None}
+use Rattle.std.specs.FinMap as finite
+use Rattle.std.specs.Option.{option_map}
 use Rattle.std.specs.Str.{IsUtf8}
+use Rattle.fidl_names.specs.declared.methods.Handle.{Handle}
+use Rattle.fidl_names.specs.declared.methods.Handle.TheVariants.{Token}
 use Rattle.fidl_names.specs.declared.methods.Method.TheVariants as method
 use Rattle.fidl_wire.specs.Written.{Written}
 use Rattle.endpoint_link.specs.Frames.{Frame, frame_with, spellings}
+use Rattle.endpoint_link.specs.Numbering.{among}
 use Rattle.endpoint_link.specs.declared.kinds.FrameKind.TheVariants as kind
 use Rattle.io_messages.specs.declared.protocols.Protocol.TheVariants as protocol
 use Rattle.io_messages.specs.declared.requests.RequestFault.{RequestFault}
 use Rattle.io_messages.specs.declared.requests.RequestFault.TheVariants.{UnknownTwoWay}
 use Rattle.io_messages.specs.Asked.{Asked}
+use Rattle.io_messages.specs.Asked as asks
 use Rattle.io_messages.specs.declared.protocols.Protocol.{Protocol}
 use Rattle.io_messages.specs.Replies.{done, payload, settled}
 use Rattle.io_messages.specs.ReplyWriting.{PayloadFits}
-use Rattle.node_graph.specs.Graph.{Kept, Leads, StandsFor}
+use Rattle.node_graph.specs.declared.nodes.NodeRef.{NodeRef}
+use Rattle.node_graph.specs.Graph.{Kept, Leads, StandsFor, number_of}
 use Rattle.tree_file.specs.Numbering.{end_of_mount}
 use Rattle.conn_rules.specs.Answers.{Act, Answer, Happening, nothing_told, replies, closes, binds, watches, forwards, refuses, ends}
 use Rattle.conn_rules.specs.Births.{Connection, born, connection_with, fresh}
@@ -25,9 +32,12 @@ use Rattle.conn_rules.specs.Served.{HasNothing, HasReply, IsBirth, told_by}
 use Rattle.conn_rules.specs.Shared.{CanBeBound}
 use Rattle.dir_conn.specs.declared.served.DirServed.{DirServed}
 use Rattle.dir_conn.specs.declared.served.DirServed.TheVariants as dir
+use Rattle.dir_conn.specs.Served.{directory_named}
 use Rattle.node_conn.specs.Texts.{text_of}
 use Rattle.vfs_journal.specs.Handles.{numbers_of}
-use Rattle.vfs_journal.specs.Outcomes.{Asker, Outcome, announcement, bound_of, close_frame, ending, ends_of, forward_of, frames_of, onward_bytes, token_of}
+use Rattle.vfs_journal.specs.Outcomes as outcomes
+use Rattle.vfs_journal.specs.Outcomes.{Asker, Outcome, announcement, bound_of, close_frame, ending, ends_of, forward_of, frames_of, token_of}
+use Rattle.remote_forward.specs.Onward.{onward_bytes}
 use Rattle.vfs_journal.specs.Serving.{Moment, fault_answer, fault_txid}
 use Rattle.vfs_server.specs.declared.asking.Asking.{Asking}
 use Rattle.vfs_server.specs.declared.conn.Conn.{Conn}
@@ -37,6 +47,7 @@ use Rattle.vfs_server.specs.declared.fate.Fate.TheVariants as fates
 use Rattle.vfs_server.specs.declared.given.Given.{Given}
 use Rattle.vfs_server.specs.declared.given.Given.TheVariants as given
 use Rattle.vfs_server.specs.Effects.{Effects, effects_of, effects_told, no_effects}
+use Rattle.vfs_server.specs.Kept.{Tokens}
 use Rattle.vfs_server.specs.Servers.{bound_with}
 use Rattle.vfs_server.specs.Serving.{HasMount}
 
@@ -130,18 +141,28 @@ frames_given endpoint object (given.Refused status) out = ending object status
 frames_given endpoint object (given.End status) out = ending endpoint status
 frames_given endpoint object given.NoMemory out = []
 
--- what becomes of endpoints then, at this server; nobody watches yet
-abbrev pub effects_given : ℕ → ℕ → ℕ → Given → Effects
-effects_given endpoint server object (given.Reply changes) = no_effects
-effects_given endpoint server object given.ReplyEnd = record no_effects { ends = endpoint ∷ [] }
-effects_given endpoint server object (given.Bind birth changes) =
+-- the token that a reply with these handles gives on an endpoint, of this node
+abbrev pub token_given : ℕ → ℕ → ℕ → List Handle → Option outcomes.Given
+token_given endpoint server node (Token number ∷ later) = Some (record { token = number; endpoint = endpoint; server = server; node = node })
+token_given endpoint server node _ = None
+
+-- what becomes of the endpoint by a reply with these handles, on a connection to this node
+abbrev pub fate_by : NodeRef → List Handle → Fate
+fate_by node (Token number ∷ later) = fates.Gives number node
+fate_by node _ = fates.Stays
+
+-- what becomes of endpoints and tokens then, at this server, where the output has these handles; nobody watches yet
+abbrev pub effects_given : ℕ → ℕ → ℕ → ℕ → Given → List Handle → Effects
+effects_given endpoint server node object (given.Reply changes) handles = record no_effects { token = token_given endpoint server node handles }
+effects_given endpoint server node object given.ReplyEnd handles = record no_effects { ends = endpoint ∷ [] }
+effects_given endpoint server node object (given.Bind birth changes) handles =
     record no_effects { bound = Some (record { endpoint = object; server = server; birth = born birth; mask = 0 }) }
-effects_given endpoint server object (given.WatchBy mask) = no_effects
-effects_given endpoint server object (given.Forward mount flags rest) =
+effects_given endpoint server node object (given.WatchBy mask) handles = no_effects
+effects_given endpoint server node object (given.Forward mount flags rest) handles =
     record no_effects { forward = Some (record { endpoint = end_of_mount mount; bytes = onward_bytes flags rest object; object = object }) }
-effects_given endpoint server object (given.Refused status) = record no_effects { ends = object ∷ [] }
-effects_given endpoint server object (given.End status) = record no_effects { ends = endpoint ∷ [] }
-effects_given endpoint server object given.NoMemory = no_effects
+effects_given endpoint server node object (given.Refused status) handles = record no_effects { ends = object ∷ [] }
+effects_given endpoint server node object (given.End status) handles = record no_effects { ends = endpoint ∷ [] }
+effects_given endpoint server node object given.NoMemory handles = no_effects
 
 -- a fault that is answered has a transaction id
 abbrev pub HasTxid : RequestFault → Type 0
@@ -172,13 +193,14 @@ abbrev pub GoesOnBehind : ℕ → Given → Type 0
 GoesOnBehind mount (given.Forward index flags rest) = index ≡ mount
 GoesOnBehind mount _ = ⊥
 
--- what a connection gave was done, where it had left this output
-pub record DoesGiven (endpoint object : ℕ) (what : Given) (left : Written) (fate : Fate) (out : Written) (before after : List ℕ) : Type 0 where
+-- what a connection to this node gave was done, where it had left this output
+pub record DoesGiven (endpoint object : ℕ) (node : NodeRef) (what : Given) (left : Written) (fate : Fate) (out : Written) (before after : List ℕ) : Type 0 where
   pub some : what ≢ given.NoMemory
   pub frames : after ≡ before ++ spellings (frames_given endpoint object what left)
-  pub effects : (server : ℕ) → effects_given endpoint server object what ≡ effects_told endpoint server fate out
+  pub effects : (server : ℕ) → effects_given endpoint server (number_of node) object what left.handles ≡ effects_told endpoint server fate out
   pub bound : (from : ℕ) (birth : code.Birth) → fate ≡ fates.Binds from birth → BindsBy birth what
   pub onward : (mount from : ℕ) → fate ≡ fates.Forwards mount from → GoesOnBehind mount what
+  pub given : (token : ℕ) (directory : NodeRef) → fate ≡ fates.Gives token directory → node ≡ directory
 
 -- a message that is no request was answered
 pub record DoesFault (endpoint : ℕ) (fault : RequestFault) (fate : Fate) (out : Written) (before after : List ℕ) : Type 0 where
@@ -186,6 +208,32 @@ pub record DoesFault (endpoint : ℕ) (fault : RequestFault) (fate : Fate) (out 
   pub effects : (server node : ℕ) → effects_by (asker_with endpoint server node (fault_txid fault) 0) (fault_answer fault) ≡ effects_told endpoint server fate out
   pub bound : (from : ℕ) (birth : code.Birth) → fate ≢ fates.Binds from birth
   pub onward : (mount from : ℕ) → fate ≢ fates.Forwards mount from
+  pub given : (token : ℕ) (directory : NodeRef) → fate ≢ fates.Gives token directory
+
+-- ---- tokens
+
+-- the directory that the token of a request names among these; none where it has no token
+abbrev pub target_in : Tokens → Asked → Option NodeRef
+target_in tokens (asks.rename src token dst) = finite.get tokens token
+target_in tokens (asks.link src token dst) = finite.get tokens token
+target_in tokens _ = None
+
+-- what a number names among these
+abbrev pub names_in : Tokens → ℕ → Option ℕ
+names_in tokens number = option_map number_of (finite.get tokens number)
+
+-- each of these numbers names what it names among the tokens
+abbrev pub AreNamed : Tokens → List ℕ → (ℕ → Option ℕ) → Type 0
+AreNamed tokens numbers directory = (number : ℕ) → among number numbers ≡ true → directory number ≡ names_in tokens number
+
+-- a request's token names what it names among the tokens
+abbrev pub NamesAsThere : Tokens → (ℕ → Option ℕ) → Asked → Type 0
+NamesAsThere tokens directory request = directory_named directory request ≡ option_map number_of (target_in tokens request)
+
+-- a connection that speaks of this node as a directory
+pub record IsOnDirectory (directory : NodeRef) (connection : Connection) : Type 0 where
+  pub node : connection.birth.node ≡ directory
+  pub protocol : connection.birth.protocol ≡ protocol.Directory
 
 -- ---- one connection's serving
 
@@ -204,4 +252,5 @@ pub record Answers (moment : Moment) (outcome : Outcome) (fate : Fate) (out : Wr
   pub change : Leads graph changed outcome.change
   pub bound : (object : ℕ) (birth : code.Birth) → fate ≡ fates.Binds object birth → CanBeBound changed birth
   pub room : (object : ℕ) (birth : code.Birth) → fate ≡ fates.Binds object birth → is_full moment.room ≡ false
+  pub given : (token : ℕ) (directory : NodeRef) → fate ≡ fates.Gives token directory → IsOnDirectory directory new
   pub mounted : (mount object : ℕ) → fate ≡ fates.Forwards mount object → HasMount moment.tree mount

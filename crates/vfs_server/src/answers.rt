@@ -3,9 +3,9 @@
 ghost use Rattle.std.specs.Prelude.{◌≡◌, ◌≢◌, ◌++◌, IfOk, OnErr, OnOk};
 ghost use Rattle.endpoint_link.specs.Frames.{spellings};
 ghost use Rattle.io_messages.specs.Asked.{asked};
-ghost use Rattle.vfs_journal.specs.Outcomes.{announcement, ending, onward_bytes};
+ghost use Rattle.vfs_journal.specs.Outcomes.{announcement, ending};
 ghost use Rattle.vfs_journal.specs.Serving.{object_of};
-ghost use Rattle.vfs_server.specs.Steps.{BindsNoWatcher, DoesFault, DoesGiven, HasTxid};
+ghost use Rattle.vfs_server.specs.Steps.{BindsNoWatcher, DoesFault, DoesGiven, HasTxid, fate_by};
 
 use crate::asking::Asking;
 use crate::fate::Fate;
@@ -13,11 +13,11 @@ use crate::frames::{put_announcement, put_ending, put_last, put_message};
 use crate::given::Given;
 use conn_rules::Birth;
 use endpoint_link::Outbox;
-use fidl_names::{NoMemory, Status};
+use fidl_names::{Handle, NoMemory, Status};
 use fidl_wire::{Ordinals, Out};
-use io_flags::OpenFlags;
-use io_messages::{Protocol, Reply, Request, RequestFault, write_reply, write_request};
-use path_walk::Path;
+use io_messages::{Protocol, Reply, Request, RequestFault, write_reply};
+use node_graph::NodeRef;
+use remote_forward::forward;
 
 /// The endpoint that a request carries, 0 for none.
 pub(crate) fn object_of(request: &Request<'_>) -> u32
@@ -31,23 +31,24 @@ pub(crate) fn object_of(request: &Request<'_>) -> u32
     }
 }
 
-/// Does what the connection that is asked gave to a request that carries `object`.
+/// Does what the connection that is asked, which is to `node`, gave to a request that carries `object`.
 pub(crate) fn answer(
     asking: &Asking<'_>,
+    node: NodeRef,
     object: u32,
     given: Given<'_>,
     out: &mut Out,
     outbox: &mut Outbox,
 ) -> Result<Fate, NoMemory>
     requires watcher { BindsNoWatcher given }
-    ensures does { IfOk result (λ fate. DoesGiven asking.now.endpoint object given.entry out.old fate out.new outbox.old outbox.new) }
+    ensures does { IfOk result (λ fate. DoesGiven asking.now.endpoint object node given.entry out.old fate out.new outbox.old outbox.new) }
     ensures no_memory { OnErr result (outbox.new ≡ outbox.old) }
 {
     let endpoint = asking.endpoint;
     match given {
         Given::Reply(_) => {
             put_message(endpoint, out, outbox)?;
-            Ok(Fate::Stays)
+            Ok(replied(node, out))
         }
         Given::ReplyEnd => {
             put_last(endpoint, out, outbox)?;
@@ -56,7 +57,8 @@ pub(crate) fn answer(
         Given::Bind(birth, _) => bind(asking.ordinals, object, birth, out, outbox),
         Given::WatchBy(_) => unreachable!(),
         Given::Forward { mount, flags, rest } => {
-            write_onward(asking.ordinals, flags, rest, object, out);
+            out.clear();
+            forward(asking.ordinals, flags, rest, object, out);
             Ok(Fate::Forwards { mount, object })
         }
         Given::Refused(status) => {
@@ -65,6 +67,19 @@ pub(crate) fn answer(
         }
         Given::End(status) => end(endpoint, status, out, outbox),
         Given::NoMemory => Err(NoMemory),
+    }
+}
+
+/// What becomes of the endpoint by the reply in an output: a token that it has names the node.
+fn replied(node: NodeRef, out: &Out) -> Fate
+    ensures { result ≡ fate_by node out.now.handles }
+{
+    match out.handles().first() {
+        Some(Handle::Token(token)) => Fate::Gives {
+            token: *token,
+            directory: node,
+        },
+        _ => Fate::Stays,
     }
 }
 
@@ -90,23 +105,6 @@ fn bind(
         outbox,
     )?;
     Ok(Fate::Binds { object, birth })
-}
-
-/// Writes the Open that goes on: the rest of the path, the flags that are left, no options, and the
-/// same object.
-fn write_onward(ordinals: &Ordinals, flags: OpenFlags, rest: Path<'_>, object: u32, out: &mut Out)
-    ensures bytes { out.new.bytes ≡ onward_bytes flags rest.entry object }
-{
-    out.clear();
-    let request = Request::OpenPath {
-        path: rest.as_bytes(),
-        flags: flags.word(),
-        attributes: None,
-        object,
-    };
-    if write_request(ordinals, 0, request, out).is_err() {
-        unreachable!();
-    }
 }
 
 /// Answers a message that is no request of the endpoint's protocol.

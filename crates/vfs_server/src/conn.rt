@@ -13,11 +13,12 @@ ghost use Rattle.conn_rules.specs.Built.{today};
 ghost use Rattle.conn_rules.specs.Contexts.{context_of};
 ghost use Rattle.conn_rules.specs.Served.{HasNothing, KeepsHolds};
 ghost use Rattle.conn_rules.specs.Shared.{CanBeBound};
-ghost use Rattle.vfs_server.specs.Kept.{HasTree};
-ghost use Rattle.vfs_server.specs.Steps.{Acts, CanEcho, IsOfItsKind, connection_of};
+ghost use Rattle.vfs_server.specs.Kept.{HasTree, NameDirectories};
+ghost use Rattle.vfs_server.specs.Steps.{Acts, CanEcho, IsOfItsKind, NamesAsThere, connection_of};
 
 use crate::asking::Asking;
 use crate::given::Given;
+use crate::tokens::Tokens;
 use conn_rules::Birth;
 use dir_conn::DirConn;
 use fidl_wire::Out;
@@ -77,11 +78,12 @@ impl Conn {
         }
     }
 
-    /// Serves a request. No token is given yet, so that a request names no directory by one.
+    /// Serves a request. A directory that its token names is looked up among the server's tokens.
     pub fn serve<'a>(
         &mut self,
         asking: &Asking<'_>,
         graph: &mut Graph,
+        tokens: &Tokens,
         txid: u32,
         request: Request<'a>,
         out: &mut Out,
@@ -90,26 +92,31 @@ impl Conn {
         requires tree { HasTree graph.old }
         requires made { graph.old.made < 2 ^ 63 }
         requires node { CanBeBound graph.old (connection_of self.old).birth }
+        requires directories { NameDirectories graph.old tokens.now }
         requires method { has_method (connection_of self.old).birth.protocol (method_of (asked request)) ≡ true }
         requires txid { has_txid (is_one_way (method_of (asked request))) txid ≡ true }
         requires echo { CanEcho (connection_of self.old).birth.protocol (asked request) }
         requires empty { HasNothing out.old }
-        ensures acts { (tree : Tree) (directory : ℕ → Option ℕ) → StandsFor graph.old tree → result ≢ Given.NoMemory →
+        ensures acts { (tree : Tree) (directory : ℕ → Option ℕ) → StandsFor graph.old tree →
+            NamesAsThere tokens.now directory (asked request.entry) → result ≢ Given.NoMemory →
             Acts (act_of (context_of today (connection_of self.old) asking.now.room tree directory) (asked request.entry)) txid result out.new (connection_of self.new) graph.old graph.new }
         ensures holds { KeepsHolds (connection_of self.old) (connection_of self.new) graph.old graph.new }
         ensures tree { HasTree graph.new }
         ensures kind { IsOfItsKind self.new }
     {
         match self {
-            Conn::Directory(conn) => Given::of_directory(conn.serve(
-                asking.ordinals,
-                graph,
-                asking.room,
-                None,
-                txid,
-                request,
-                out,
-            )),
+            Conn::Directory(conn) => {
+                let target = tokens.target(&request);
+                Given::of_directory(conn.serve(
+                    asking.ordinals,
+                    graph,
+                    asking.room,
+                    target,
+                    txid,
+                    request,
+                    out,
+                ))
+            }
             Conn::File(conn) => Given::of(conn.serve(
                 asking.ordinals,
                 graph,

@@ -10,14 +10,16 @@ ghost use Rattle.conn_rules.specs.Births.{fresh};
 ghost use Rattle.conn_rules.specs.Built.{today};
 ghost use Rattle.conn_rules.specs.Served.{HasNothing, KeepsHolds};
 ghost use Rattle.conn_rules.specs.Shared.{CanBeBound};
+ghost use Rattle.vfs_journal.specs.Handles.{numbers_of};
 ghost use Rattle.vfs_journal.specs.Serving.{Moment, outcome_of_read};
-ghost use Rattle.vfs_server.specs.Kept.{HasTree};
-ghost use Rattle.vfs_server.specs.Steps.{Answers, CanEcho, IsAskedAt};
+ghost use Rattle.vfs_server.specs.Kept.{HasTree, NameDirectories};
+ghost use Rattle.vfs_server.specs.Steps.{Answers, AreNamed, CanEcho, IsAskedAt, NamesAsThere};
 
 use crate::answers::{answer, answer_fault, object_of};
 use crate::asking::Asking;
 use crate::conn::Conn;
 use crate::fate::Fate;
+use crate::tokens::Tokens;
 use conn_rules::Birth;
 use endpoint_link::Outbox;
 use fidl_names::{Handle, NoMemory};
@@ -72,6 +74,7 @@ impl Connection {
         &mut self,
         asking: &Asking<'_>,
         graph: &mut Graph,
+        tokens: &Tokens,
         bytes: &[u8],
         handles: &[Handle],
         out: &mut Out,
@@ -80,8 +83,10 @@ impl Connection {
         requires tree { HasTree graph.old }
         requires made { graph.old.made < 2 ^ 63 }
         requires node { CanBeBound graph.old self.old.birth }
+        requires directories { NameDirectories graph.old tokens.now }
         requires short { length bytes.now ≤ limit.MAX_BYTES }
         ensures answers { (server : ℕ) (moment : Moment) → IsAskedAt server asking.now graph.old self.old moment →
+            AreNamed tokens.now (numbers_of handles.now) moment.directory →
             IfOk result (λ fate. Answers moment (outcome_of_read today moment (request_of self.old.birth.protocol bytes.now handles.now)) fate out.new self.new graph.old graph.new outbox.old outbox.new) }
         ensures holds { KeepsHolds self.old self.new graph.old graph.new }
         ensures tree { HasTree graph.new }
@@ -89,7 +94,9 @@ impl Connection {
     {
         out.clear();
         match read_request(asking.ordinals, self.conn.protocol(), bytes, handles) {
-            Ok((txid, request)) => self.serve_request(asking, graph, txid, request, out, outbox),
+            Ok((txid, request)) => self.serve_request(
+                asking, graph, tokens, txid, request, out, outbox,
+            ),
             Err(fault) => answer_fault(asking, fault, out, outbox),
         }
     }
@@ -99,6 +106,7 @@ impl Connection {
         &mut self,
         asking: &Asking<'_>,
         graph: &mut Graph,
+        tokens: &Tokens,
         txid: u32,
         request: Request<'_>,
         out: &mut Out,
@@ -107,18 +115,20 @@ impl Connection {
         requires tree { HasTree graph.old }
         requires made { graph.old.made < 2 ^ 63 }
         requires node { CanBeBound graph.old self.old.birth }
+        requires directories { NameDirectories graph.old tokens.now }
         requires method { has_method self.old.birth.protocol (method_of (asked request)) ≡ true }
         requires txid { has_txid (is_one_way (method_of (asked request))) txid ≡ true }
         requires echo { CanEcho self.old.birth.protocol (asked request) }
         requires empty { HasNothing out.old }
         ensures answers { (server : ℕ) (moment : Moment) → IsAskedAt server asking.now graph.old self.old moment →
+            NamesAsThere tokens.now moment.directory (asked request.entry) →
             IfOk result (λ fate. Answers moment (outcome_of_read today moment (Ok (txid, asked request.entry))) fate out.new self.new graph.old graph.new outbox.old outbox.new) }
         ensures holds { KeepsHolds self.old self.new graph.old graph.new }
         ensures tree { HasTree graph.new }
         ensures no_memory { OnErr result (outbox.new ≡ outbox.old) }
     {
         let object = object_of(&request);
-        let given = self.conn.serve(asking, graph, txid, request, out);
-        answer(asking, object, given, out, outbox)
+        let given = self.conn.serve(asking, graph, tokens, txid, request, out);
+        answer(asking, self.conn.node(), object, given, out, outbox)
     }
 }

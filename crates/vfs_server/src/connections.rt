@@ -7,14 +7,16 @@ ghost use Rattle.conn_rules.specs.Births as births;
 ghost use Rattle.conn_rules.specs.Built.{today};
 ghost use Rattle.conn_rules.specs.Served.{KeepsHolds};
 ghost use Rattle.conn_rules.specs.Shared.{CanBeBound};
-ghost use Rattle.vfs_server.specs.Kept.{HasTree};
+ghost use Rattle.vfs_server.specs.Kept.{HasTree, NameDirectories};
 ghost use Rattle.io_messages.specs.Requests.{request_of};
+ghost use Rattle.vfs_journal.specs.Handles.{numbers_of};
 ghost use Rattle.vfs_journal.specs.Serving.{Moment, outcome_of_read};
-ghost use Rattle.vfs_server.specs.Steps.{Answers, IsAskedAt};
+ghost use Rattle.vfs_server.specs.Steps.{Answers, AreNamed, IsAskedAt};
 
 use crate::asking::Asking;
 use crate::connection::Connection;
 use crate::fate::Fate;
+use crate::tokens::Tokens;
 use endpoint_link::Outbox;
 use fidl_names::{Handle, NoMemory};
 use fidl_wire::Out;
@@ -102,6 +104,7 @@ impl Connections {
         &mut self,
         asking: &Asking<'_>,
         graph: &mut Graph,
+        tokens: &Tokens,
         bytes: &[u8],
         handles: &[Handle],
         out: &mut Out,
@@ -111,10 +114,12 @@ impl Connections {
         requires short { length bytes.now ≤ limit.MAX_BYTES }
         requires tree { HasTree graph.old }
         requires made { graph.old.made < 2 ^ 63 }
+        requires directories { NameDirectories graph.old tokens.now }
         requires node { (connection : births.Connection) → finite.get self.old asking.now.endpoint ≡ Some connection → CanBeBound graph.old connection.birth }
         ensures served { (old : births.Connection) → finite.get self.old asking.now.endpoint ≡ Some old →
             (new : births.Connection) × KeepsHolds old new graph.old graph.new × (self.new ≡ finite.insert self.old asking.now.endpoint new)
             × ((server : ℕ) (moment : Moment) → IsAskedAt server asking.now graph.old old moment →
+            AreNamed tokens.now (numbers_of handles.now) moment.directory →
             IfOk result (λ fate. Answers moment (outcome_of_read today moment (request_of old.birth.protocol bytes.now handles.now)) fate out.new new graph.old graph.new outbox.old outbox.new)) }
         ensures tree { HasTree graph.new }
         ensures no_memory { OnErr result (outbox.new ≡ outbox.old) }
@@ -122,7 +127,7 @@ impl Connections {
         match self.places.get(&asking.endpoint) {
             Some(place) => {
                 let connection = &mut self.kept[*place];
-                connection.serve(asking, graph, bytes, handles, out, outbox)
+                connection.serve(asking, graph, tokens, bytes, handles, out, outbox)
             }
             None => unreachable!(),
         }

@@ -1,4 +1,5 @@
 use conn_rules::Birth;
+use node_graph::NodeRef;
 
 /// What becomes of endpoints when an entry was served.
 #[derive(Clone, Copy, Debug, PartialEq, Eq)]
@@ -14,4 +15,6 @@ pub enum Fate {
     /// The Open goes on to the end of a mount, by the mount's index, with the endpoint `object`. It
     /// stands in the output.
     Forwards { mount: u32, object: u32 },
+    /// The endpoint stays, and the client has a token that names a directory of this server.
+    Gives { token: u32, directory: NodeRef },
 }

@@ -13,6 +13,7 @@ mod frames;
 mod given;
 mod making;
 mod server;
+mod tokens;
 
 pub use fate::Fate;
 pub use server::Server;

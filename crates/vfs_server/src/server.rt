@@ -8,10 +8,10 @@ ghost use Rattle.vfs_journal.specs.Handles.{AreByNumber, numbers_of};
 ghost use Rattle.vfs_journal.specs.Serving.{Moment, outcome_of_sending};
 ghost use Rattle.vfs_journal.specs.Starts.{start_of};
 ghost use Rattle.vfs_journal.specs.View.{view_of};
-ghost use Rattle.vfs_server.specs.Binding.{Binds, HasPlace, Unbinds};
+ghost use Rattle.vfs_server.specs.Binding.{Binds, Forgets, HasPlace, IsDirectory, NamesBy, Unbinds};
 ghost use Rattle.vfs_server.specs.Holding.{HoldsAt};
 ghost use Rattle.vfs_server.specs.Kept.{HasTree};
-ghost use Rattle.vfs_server.specs.Servers.{in_use, seen};
+ghost use Rattle.vfs_server.specs.Servers.{in_use, named, seen};
 ghost use Rattle.vfs_server.specs.Serving.{IsMomentOf, Serves};
 
 use crate::asking::Asking;
@@ -19,21 +19,24 @@ use crate::beginning;
 use crate::connection::Connection;
 use crate::connections::Connections;
 use crate::fate::Fate;
+use crate::tokens::Tokens;
 use conn_rules::{Birth, Room};
 use endpoint_link::Outbox;
 use fidl_names::{Handle, NoMemory};
 use fidl_wire::{Ordinals, Out};
-use node_graph::Graph;
+use node_graph::{Graph, NodeRef};
 use std::alloc::Global;
 use std::marker::Model;
 use tree_file::Start;
 
-/// One server: its tree, and what is connected to it. Each connection holds its node. Nothing watches yet.
+/// One server: its tree, what is connected to it, and the tokens that name directories of it. Each connection
+/// holds its node, and each token its directory. Nothing watches yet.
 #[derive(Drop)]
 pub struct Server {
     index: u32,
     graph: Graph,
     connections: Connections,
+    tokens: Tokens,
 }
 
 impl Model for Server {
@@ -46,9 +49,9 @@ impl Model for Server {
 
     ghost coded = { server_code };
 
-    ghost view = { λ server. record { index = server.index; graph = server.graph; connections = server.connections; watchers = [] } };
+    ghost view = { λ server. record { index = server.index; graph = server.graph; connections = server.connections; watchers = []; tokens = server.tokens } };
 
-    ghost invariant = { λ server. IsSound server.graph server.connections };
+    ghost invariant = { λ server. IsSound server.graph server.connections server.tokens };
 }
 
 impl Server {
@@ -66,12 +69,13 @@ impl Server {
     pub(crate) fn new(alloc: Global, index: u32, graph: Graph) -> Server
         requires tree { HasTree graph }
         requires unheld { (number : ℕ) → holds_at graph number ≡ 0 }
-        ensures { result ≡ record { index = index; graph = graph; connections = finite.empty; watchers = [] } }
+        ensures { result ≡ record { index = index; graph = graph; connections = finite.empty; watchers = []; tokens = finite.empty } }
     {
         Server {
             index,
             graph,
             connections: Connections::new(alloc),
+            tokens: Tokens::new(alloc),
         }
     }
 
@@ -90,10 +94,10 @@ impl Server {
     }
 
     /// Serves a message on an endpoint that is bound here: the frames of the answer are written to the
-    /// outbox, and the call tells what becomes of endpoints. `token` is the number that the next token
-    /// gets, `None` where none is given any more. An Open that goes on is left in the output; what
-    /// stands there otherwise is of no account. What the answer binds isn't bound yet, and what ends is
-    /// bound still.
+    /// outbox, and the call tells what becomes of endpoints and tokens. `token` is the number that the
+    /// next token gets, `None` where none is given any more. An Open that goes on is left in the output;
+    /// what stands there otherwise is of no account. What the answer binds isn't bound yet, what ends is
+    /// bound still, and a token that it gives names nothing yet.
     ///
     /// For want of memory no frame is written.
     pub fn serve(
@@ -110,7 +114,7 @@ impl Server {
         requires handles { AreByNumber handles.now }
         requires short { length bytes.now ≤ limit.MAX_BYTES }
         requires made { self.old.graph.made < 2 ^ 63 }
-        ensures serves { (moment : Moment) → IsMomentOf self.old endpoint token moment →
+        ensures serves { (moment : Moment) → IsMomentOf self.old endpoint token (numbers_of handles.now) moment →
             IfOk result (λ fate. Serves moment (outcome_of_sending today moment (message bytes.now (numbers_of handles.now))) fate out.new self.old self.new outbox.old outbox.new) }
         ensures no_memory { OnErr result (outbox.new ≡ outbox.old) }
     {
@@ -124,8 +128,15 @@ impl Server {
             endpoint,
             room,
         };
-        self.connections
-            .serve(&asking, &mut self.graph, bytes, handles, out, outbox)
+        self.connections.serve(
+            &asking,
+            &mut self.graph,
+            &self.tokens,
+            bytes,
+            handles,
+            out,
+            outbox,
+        )
     }
 
     /// Binds an endpoint that isn't bound here, and holds its node. Of want of memory the server is as
@@ -141,6 +152,29 @@ impl Server {
         self.connections.insert(endpoint, connection)?;
         self.graph.hold(node);
         Ok(())
+    }
+
+    /// Lets a token name a directory of this server, and holds that. Of want of memory the server is as it
+    /// was.
+    pub fn give(&mut self, token: u32, directory: NodeRef) -> Result<(), NoMemory>
+        requires free { named self.old token ≡ None }
+        requires directory { IsDirectory self.old.graph directory }
+        requires room { finite.len self.old.tokens < limit.MAX_TOKENS }
+        ensures named { OnOk result (NamesBy self.old token directory self.new) }
+        ensures unchanged { OnErr result (self.new ≡ self.old) }
+    {
+        self.tokens.insert(token, directory)?;
+        self.graph.hold(directory);
+        Ok(())
+    }
+
+    /// Lets a token name nothing here, and releases the directory that it named.
+    pub fn forget(&mut self, token: u32)
+        ensures { Forgets self.old token self.new }
+    {
+        if let Some(directory) = self.tokens.remove(token) {
+            self.graph.release(directory);
+        }
     }
 
     /// Lets go of an endpoint that is bound here, and releases its node.

@@ -3,14 +3,14 @@ use Rattle.std.proofs.Common.{◌≡◌, ℕ, zero, suc, List, [], ◌∷◌, �
 use Rattle.std.specs.FinMap as finite
 use Rattle.std.specs.Prelude.{slice_get}
 use Rattle.std.specs.Option.{option_map}
-use Rattle.std.specs.Result.{OnErr}
+use Rattle.std.specs.Result.{OnErr, OnOk}
 use Rattle.std.proofs.lemmas.Bool.{eqb-true}
 use Rattle.std.proofs.lemmas.Option.{none-some, same_Some}
 use Rattle.fidl_names.specs.declared.memory.NoMemory.{NoMemory}
 use Rattle.fidl_wire.specs.Written.{Written}
 use Rattle.conn_rules.specs.Births.{Connection, Position, fresh}
 use Rattle.conn_rules.specs.Built.{today}
-use Rattle.vfs_journal.specs.Entries.{Sending, Sent, hang_up}
+use Rattle.vfs_journal.specs.Entries.{Sending, Sent, handles_of, hang_up}
 use Rattle.vfs_journal.specs.Outcomes.{Outcome}
 use Rattle.vfs_journal.specs.Serving.{Moment, outcome_of_sending}
 use Rattle.vfs_journal.specs.Starts.{Bound}
@@ -29,11 +29,16 @@ set_same {X} (y ∷ xs) (suc i) x e = ap (λ (zs : List X). y ∷ zs) (set_same 
 pub some_is : {X : Type 0} (o : Option X) (x : X) → o ≡ Some x → IsSome o
 some_is o x e = subst IsSome (sym e) refl
 
+-- what is so where a call is done
+pub if_ok : {T E P Q : Type 0} (r : Result T E) → (P → Q) → OnOk r P → OnOk r Q
+if_ok (Ok x) f h = f h
+if_ok (Err e) f h = h
+
 -- ---- a message
 
 pub served_answers : (servers : List Server) (at endpoint : ℕ) (token next : Option ℕ) (sent : Sent) (one now : Server) (out : Written) (before after : List ℕ) (r : Result Fate NoMemory) (sending : Sending) → slice_get servers at ≡ Some one →
     sent.sending ≡ sending → next ≡ token →
-    ((moment : Moment) → IsMomentOf one endpoint next moment → IfOk r (λ fate. Serves moment (outcome_of_sending today moment sending) fate out one now before after)) →
+    ((moment : Moment) → IsMomentOf one endpoint next (handles_of sending) moment → IfOk r (λ fate. Serves moment (outcome_of_sending today moment sending) fate out one now before after)) →
     IfOk r (λ fate. Answers servers at endpoint token sent fate out (set servers at now) before after)
 served_answers servers at endpoint token next sent one now out before after (Err fault) sending there is same serves = tt
 served_answers servers at endpoint token next sent one now out before after (Ok fate) sending there is same serves =
@@ -41,8 +46,8 @@ served_answers servers at endpoint token next sent one now out before after (Ok 
       now,
       refl,
       subst (λ (x : Sending). Serves moment (outcome_of_sending today moment x) fate out other now before after) (sym is)
-          (subst (λ (x : Server). IsMomentOf x endpoint token moment → Serves moment (outcome_of_sending today moment sending) fate out x now before after) (same_Some one other (sym there ∙ found))
-          (λ m. serves moment (subst (λ (t : Option ℕ). IsMomentOf one endpoint t moment) (sym same) m)) moment_of),
+          (subst (λ (x : Server). IsMomentOf x endpoint token (handles_of sent.sending) moment → Serves moment (outcome_of_sending today moment sending) fate out x now before after) (same_Some one other (sym there ∙ found))
+          (λ m. serves moment (subst (λ (t : Option ℕ). IsMomentOf one endpoint t (handles_of sending) moment) (sym same) (subst (λ (x : Sending). IsMomentOf one endpoint token (handles_of x) moment) is m))) moment_of),
     )
 
 pub begins_by : (one now : Server) (moment : Moment) (o : Outcome) (out : Written) (before after : List ℕ) (r : Result Fate NoMemory) → IfOk r (λ fate. Serves moment o fate out one now before after) → OnErr r (after ≡ before) → Begins before after
@@ -68,20 +73,22 @@ seen_name one n pair e = by_found (finite.get one.connections n) e where
   by_found (Some connection) h = ap (λ (p : Bound × Position). p.0.endpoint) (sym (same_Some (connected one.index n connection) pair h))
   by_found None h = watched_name n (find (λ bound. bound.endpoint == n) one.watchers) pair (watcher_name n one.watchers) h
 
-hangs_up : (one : Server) (endpoint : ℕ) (token : Option ℕ) (moment : Moment) (out : Written) (before : List ℕ) → IsMomentOf one endpoint token moment →
+hangs_up : (one : Server) (endpoint : ℕ) (token : Option ℕ) (handles : List ℕ) (moment : Moment) (out : Written) (before : List ℕ) → IsMomentOf one endpoint token handles moment →
     Serves moment (outcome_of_sending today moment hang_up) fates.Ends out one one before before
 unfolding outcome_of_sending
-hangs_up one endpoint token moment out before m = record {
+hangs_up one endpoint token handles moment out before m = record {
   frames = sym (append-nil before);
   effects = refl;
   index = refl;
   bound = λ n. by_seen n (seen one n) refl;
   count = refl;
   watchers = refl;
+  tokens = refl;
   tree = λ tree stands. stands;
   holds = λ number. refl;
   names = λ node named kept. (named, refl);
   has_place = λ object birth e. absurd (cc);
+  given = λ token directory e. absurd (cc);
   mounted = λ mount object e. absurd (cc);
 } where
   same : moment.bound.endpoint ≡ endpoint
@@ -102,5 +109,5 @@ hang_up_answers servers at endpoint token sent out before is =
     λ one moment there m. (
       one,
       set_same servers at one there,
-      subst (λ (x : Sending). Serves moment (outcome_of_sending today moment x) fates.Ends out one one before before) (sym is) (hangs_up one endpoint token moment out before m),
+      subst (λ (x : Sending). Serves moment (outcome_of_sending today moment x) fates.Ends out one one before before) (sym is) (hangs_up one endpoint token (handles_of sent.sending) moment out before m),
     )

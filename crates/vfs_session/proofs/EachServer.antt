@@ -1,25 +1,30 @@
 -- What all servers hold behind each step of a serving.
-use Rattle.std.proofs.Common.{◌≡◌, ◌≢◌, ℕ, zero, suc, ◌+◌, ◌==◌, ◌⊎◌, ◌&&◌, false, List, [], ◌∷◌, length, filter, find, count_by, Some, None, set, inl, inr, refl, sym, ap, ◌∙◌, subst, arith, length-set}
+use Rattle.std.proofs.Common.{◌≡◌, ◌≢◌, ℕ, zero, suc, ◌<◌, ◌==◌, ◌⊎◌, ◌&&◌, ◌||◌, Bool, true, false, not, List, [], ◌∷◌, length, Contains, Some, None, set, append-nil, inl, inr, refl, sym, ap, ◌∙◌, subst, arith, length-set}
+use Rattle.std.specs.List.{list_any}
 use Rattle.std.specs.Prelude.{slice_get}
 use Rattle.std.proofs.lemmas.Option.{same_Some, slice_get_within}
 use Rattle.fidl_wire.specs.Written.{Written}
-use Rattle.node_graph.specs.Graph.{StandsFor}
-use Rattle.node_graph.specs.Tree.{Tree, after}
+use Rattle.endpoint_link.specs.Numbering.{among}
+use Rattle.node_graph.specs.declared.nodes.NodeRef.{NodeRef}
+use Rattle.node_graph.specs.Graph.{number_of}
+use Rattle.node_graph.specs.Tree.{after}
 use Rattle.conn_rules.specs.declared.births.Birth as code
 use Rattle.conn_rules.specs.Births.{Position}
 use Rattle.vfs_journal.specs.History.{is_watcher, tree_at}
+use Rattle.vfs_journal.specs.Entries.{Sent, handles_of}
 use Rattle.vfs_journal.specs.Outcomes.{Given, Outcome}
 use Rattle.vfs_journal.specs.Serving.{Moment}
 use Rattle.vfs_journal.specs.Starts.{Bound}
 use Rattle.vfs_journal.specs.View.{View, at_in, is_out_in}
-use Rattle.vfs_server.specs.Binding.{Binds}
+use Rattle.journal_laws.proofs.Lists.{eqb_sym}
+use Rattle.vfs_server.specs.Binding.{Binds, NamesBy}
 use Rattle.vfs_server.specs.declared.fate.Fate.{Fate}
-use Rattle.vfs_server.specs.Holding.{bound_to, if_at, named_by}
 use Rattle.vfs_server.specs.Servers.{Server, bound_with}
 use Rattle.vfs_server.specs.Serving.{Serves}
 use Rattle.vfs_session.specs.Holding.{HoldsEach}
-use Rattle.vfs_session.specs.Steps.{answered_in, bound_in}
-use Rattle.vfs_session.proofs.ServerSteps.{HoldsNumber, Living, answered_here, answered_there, bound_here, bound_none, bound_there, bounds, by_index, by_number}
+use Rattle.vfs_session.specs.Steps.{ForgetsAll, ForgetsEach, answered_in, bound_in, given_in}
+use Rattle.vfs_session.proofs.Outs.{HoldsOut, Rising, but, named_here, named_there, out_first, out_forgets, out_last}
+use Rattle.vfs_session.proofs.ServerSteps.{HoldsNumber, answered_here, answered_there, bound_here, bound_none, bound_there, by_index, by_number}
 
 -- ---- by their numbers
 
@@ -98,25 +103,85 @@ each_unbound view servers h = record {
   each = λ j server e. bound_none view server j (h.each j server e);
 }
 
+-- ---- a token is given
+
+pub each_given : (view : View) (servers : List Server) (i : ℕ) (one now : Server) (new : Given) (directory : NodeRef) → AreNumbered view servers → slice_get servers i ≡ Some one →
+    ((other : Given) → Contains view.given other → other.token ≢ new.token) → new.server ≡ i → new.node ≡ number_of directory → NamesBy one new.token directory now → AreNumbered (given_in view (Some new)) (set servers i now)
+each_given view servers i one now new directory h there apart at node s =
+    each_set view (given_in view (Some new)) servers i one now h there s.index refl
+    (named_here view new i one now directory apart (h.each i one there) at node s)
+    (λ j server away held. named_there view new j server apart held (λ e. away (sym e ∙ at)))
+
 -- ---- views that are looked up alike
 
-same_number : (v w : View) (index : ℕ) (one : Server) → v.living ≡ w.living → v.trees ≡ w.trees → v.given ≡ [] → w.given ≡ [] → HoldsNumber v index one → HoldsNumber w index one
-same_number v w index one living trees none nothing h = record {
-  bound = λ n. h.bound n ∙ ap (λ (l : Living). if_at index (find (λ pair. pair.0.endpoint == n) l)) living;
-  count = h.count ∙ ap (λ (l : Living). length (filter (λ (b : Bound). b.server == index) (bounds l))) living;
-  watchers = h.watchers ∙ ap (λ (l : Living). filter (λ (b : Bound). is_watcher b.birth.protocol) (filter (λ (b : Bound). b.server == index) (bounds l))) living;
-  tree = subst (λ (ts : List Tree). StandsFor one.graph (tree_at ts index)) trees h.tree;
-  holds = λ number.
-      h.holds number
-      ∙ ap (λ (l : Living). count_by (λ (b : Bound). b.birth.node == number) (filter (λ (b : Bound). b.server == index) (bounds l)) + named_by v index number) living
-      ∙ ap (λ (n : ℕ). bound_to w index number + n) (none_named v index number none ∙ sym (none_named w index number nothing));
-} where
-  none_named : (view : View) (index number : ℕ) → view.given ≡ [] → named_by view index number ≡ 0
-  none_named view index number e = ap (count_by (λ (given : Given). is_out_in view given.token && ((given.server == index) && (given.node == number)))) e
-
-pub each_same : (v w : View) (servers : List Server) → v.living ≡ w.living → v.trees ≡ w.trees → v.given ≡ [] → w.given ≡ [] → AreNumbered v servers → AreNumbered w servers
-each_same v w servers living trees none nothing h = record {
-  many = h.many ∙ ap length trees;
+pub each_same : (v w : View) (servers : List Server) → w.living ≡ v.living → w.trees ≡ v.trees → w.given ≡ v.given → ((one : Given) → Contains v.given one → is_out_in v one.token ≡ is_out_in w one.token) →
+    AreNumbered v servers → AreNumbered w servers
+each_same v w servers living trees given same h = record {
+  many = h.many ∙ ap length (sym trees);
   index = h.index;
-  each = λ j server e. same_number v w j server living trees none nothing (h.each j server e);
+  each = λ j server e. out_last v w (is_out_in v) j server living trees given same (out_first v j server (h.each j server e));
 }
+
+pub each_ungiven : (view : View) (servers : List Server) → AreNumbered view servers → AreNumbered (given_in view None) servers
+each_ungiven view servers h =
+    each_same view (given_in view None) servers refl refl (append-nil view.given)
+    (λ one c. ap (λ (held : List Given). list_any (λ (x : Given). x.token == one.token) held || list_any (λ (sent : Sent). among one.token (handles_of sent.sending)) view.waiting) (sym (append-nil view.held))) h
+
+-- ---- tokens are forgotten
+
+pub by_length : (servers : List Server) (i : ℕ) → i < length servers → (one : Server) × (slice_get servers i ≡ Some one)
+by_length [] i low = absurd (omega arith)
+by_length (one ∷ servers) zero low = (one, refl)
+by_length (one ∷ servers) (suc i) low = by_length servers i (omega arith)
+
+-- by a test of what is out
+pub record AreOut (view : View) (out : ℕ → Bool) (servers : List Server) : Type 0 where
+  pub many : length servers ≡ length view.trees
+  pub index : (index : ℕ) (server : Server) → slice_get servers index ≡ Some server → server.index ≡ index
+  pub each : (index : ℕ) (server : Server) → slice_get servers index ≡ Some server → HoldsOut view out index server
+
+all_out : (view : View) (servers : List Server) → AreNumbered view servers → AreOut view (is_out_in view) servers
+all_out view servers h = record { many = h.many; index = h.index; each = λ i server e. out_first view i server (h.each i server e) }
+
+one_forgotten : (view : View) (out : ℕ → Bool) (token : ℕ) (servers new : List Server) → Rising view.given → AreOut view out servers → ForgetsEach servers token new → AreOut view (but token out) new
+one_forgotten view out token servers new rises h f = record {
+  many = f.many ∙ h.many;
+  index = λ i now e. let one = was i now e in (f.each i one.0 now one.1 e).index ∙ h.index i one.0 one.1;
+  each = λ i now e. let one = was i now e in out_forgets view out i token one.0 now rises (h.each i one.0 one.1) (f.each i one.0 now one.1 e);
+} where
+  was : (i : ℕ) (now : Server) → slice_get new i ≡ Some now → (one : Server) × (slice_get servers i ≡ Some one)
+  was i now e = by_length servers i (let within = slice_get_within new i now e in let many = f.many in omega (arith, within, many))
+
+-- without these tokens
+abbrev pub buts : List ℕ → (ℕ → Bool) → ℕ → Bool
+buts [] out = out
+buts (token ∷ tokens) out = buts tokens (but token out)
+
+pub buts_are : (tokens : List ℕ) (out : ℕ → Bool) (n : ℕ) → buts tokens out n ≡ (not (among n tokens) && out n)
+buts_are [] out n = refl
+buts_are (token ∷ tokens) out n =
+    buts_are tokens (but token out) n
+    ∙ ap (λ (b : Bool). not (among n tokens) && (not b && out n)) (eqb_sym n token)
+    ∙ either (among n tokens) (token == n) (out n) where
+      either : (a b c : Bool) → (not a && (not b && c)) ≡ (not (b || a) && c)
+      either true true c = refl
+      either true false c = refl
+      either false true c = refl
+      either false false c = refl
+
+all_forgotten : (view : View) (tokens : List ℕ) (out : ℕ → Bool) (servers new : List Server) → Rising view.given → AreOut view out servers → ForgetsAll servers tokens new → AreOut view (buts tokens out) new
+all_forgotten view [] out servers new rises h same = subst (AreOut view out) (sym same) h
+all_forgotten view (token ∷ tokens) out servers new rises h f =
+    all_forgotten view tokens (but token out) f.0 new rises (one_forgotten view out token servers f.0 rises h f.1.0) f.1.1
+
+-- what they hold then is what a view says in which these tokens are out no more
+pub each_forgotten : (view later : View) (tokens : List ℕ) (servers new : List Server) → Rising view.given → AreNumbered view servers → ForgetsAll servers tokens new → later.living ≡ view.living → later.trees ≡ view.trees →
+    later.given ≡ view.given → ((one : Given) → Contains view.given one → (not (among one.token tokens) && is_out_in view one.token) ≡ is_out_in later one.token) → AreNumbered later new
+each_forgotten view later tokens servers new rises h f living trees given same =
+    let left = all_forgotten view tokens (is_out_in view) servers new rises (all_out view servers h) f in
+    record {
+      many = left.many ∙ ap length (sym trees);
+      index = left.index;
+      each = λ i server e.
+          out_last view later (buts tokens (is_out_in view)) i server living trees given (λ one c. buts_are tokens (is_out_in view) one.token ∙ same one c) (left.each i server e);
+    }

@@ -4,7 +4,7 @@ use Rattle.std.proofs.lemmas.List.Elements.{All-nil, All-weaker}
 use Rattle.fidl_wire.specs.Written.{Written}
 use Rattle.endpoint_link.specs.Frames.{spellings}
 use Rattle.endpoint_link.specs.Numbering.{among}
-use Rattle.endpoint_link.specs.Standings.{Known, ended}
+use Rattle.endpoint_link.specs.Standings.{Known, ended, gone}
 use Rattle.conn_rules.specs.Built.{today}
 use Rattle.vfs_journal.specs.Entries.{Sent}
 use Rattle.journal_laws.specs.Viewing.{view_behind}
@@ -14,12 +14,13 @@ use Rattle.vfs_server.specs.declared.fate.Fate.{Fate}
 use Rattle.vfs_server.specs.declared.fate.Fate.TheVariants as fates
 use Rattle.vfs_session.specs.Heads.{SettlesHead, TakesHead}
 use Rattle.vfs_session.specs.Servings.{ServesHead, ServesOne}
-use Rattle.vfs_session.specs.Steps.{Begins, IsRunning, SendsOn, closed_for, end_told, is_sent_on}
+use Rattle.vfs_session.specs.Steps.{Begins, IsRunning, SendsOn, closed_for, end_told, is_sent_on, known_told, spent_told}
 use Rattle.vfs_session.specs.World.{World}
 use Rattle.vfs_session.proofs.Ending.{ended_with, with_waiting}
 use Rattle.vfs_session.proofs.HeadServed.{head_served}
 use Rattle.vfs_session.proofs.Lasting.{lasts_served}
 use Rattle.vfs_session.proofs.OneServed.{ready_in}
+use Rattle.vfs_session.proofs.Spending.{gone_with, told_with}
 
 -- what is written behind what was
 pub begins_same : (before : List ℕ) → Begins before before
@@ -37,6 +38,18 @@ above_left old new dead place above buried n =
       by_test true = All-nil (λ (one : Sent). one.place < place + 1)
       by_test false = All-weaker (λ (one : Sent). one.place < place) (λ one. one.place < place + 1) (λ one low. omega (arith, low)) (queue_of old n) (above n)
 
+-- what is known behind tokens that go, and behind one that is given, doesn't look at how much waits
+pub spent_with : (fate : Fate) (spent : List ℕ) (known : Known) (n : ℕ) → ◌≡◌ {A = Known} (known_told fate (fold gone (record known { waiting = n }) spent)) (record (known_told fate (fold gone known spent)) { waiting = n })
+spent_with fate spent known n = ap (known_told fate) (gone_with spent known n) ∙ told_with fate (fold gone known spent) n
+
+-- what is known behind deaths, tokens that go and one that is given
+pub settled_known : (old mid left new : Known) (fate : Fate) (dead tokens spent : List ℕ) (n : ℕ) → mid ≡ record (fold ended old dead) { waiting = n } → tokens ≡ spent → left ≡ fold gone mid tokens → new ≡ known_told fate left →
+    ◌≡◌ {A = Known} new (record (known_told fate (fold gone (fold ended old dead) spent)) { waiting = n })
+settled_known old mid left new fate dead tokens spent n died same went told =
+    told
+    ∙ ap (known_told fate) (went ∙ ap (fold gone mid) same ∙ ap (λ (k : Known). fold gone k spent) died)
+    ∙ spent_with fate spent (fold ended old dead) n
+
 -- what is known behind deaths, and behind what is sent on then
 pub known_then : (old mid new : Known) (n m : ℕ) → mid ≡ record old { waiting = n } → new ≡ record mid { waiting = m } → ◌≡◌ {A = Known} new (record old { waiting = m })
 known_then old mid new n m e f = f ∙ with_waiting mid (record old { waiting = n }) m m e refl
@@ -47,6 +60,7 @@ one_at_most fates.Ends = omega arith
 one_at_most (fates.Binds object birth) = omega arith
 one_at_most (fates.Refuses object) = omega arith
 one_at_most (fates.Forwards mount object) = omega arith
+one_at_most (fates.Gives token directory) = omega arith
 
 both_parts : (old mid new : World) (endpoint server : ℕ) (sent : Sent) (fate : Fate) (out : Written) (before between after : List ℕ) → sent.endpoint ≡ endpoint →
     TakesHead old endpoint server sent fate out mid before between → SettlesHead mid sent fate out new between after → new.spent ≡ false → ServesHead old endpoint server sent new before after
@@ -55,6 +69,7 @@ both_parts old mid new endpoint server sent fate out before between after on d e
   out = out;
   s1 = d.answered;
   s2 = mid.servers;
+  s3 = e.those;
   q1 = d.left;
   q2 = mid.queues;
   q3 = e.left;
@@ -66,15 +81,19 @@ both_parts old mid new endpoint server sent fate out before between after on d e
   died = e.died;
   buried = e.buried;
   goes = e.goes;
+  forgets = e.forgets;
   closed = subst (λ (n : ℕ). after ≡ between ++ spellings (closed_for (end_told n fate) e.dead)) on e.closed;
   sends = subst (λ (n : ℕ). SendsOn (n + 1) sent.place fate out e.left new.queues) d.places e.sends;
   known =
       e.known
-      ∙ with_waiting (fold ended mid.known e.dead) (record (fold ended old.known e.dead) { waiting = old.known.waiting - 1 }) (count new.queues) (count new.queues)
-      (ap (λ (k : Known). fold ended k e.dead) d.known ∙ ended_with e.dead old.known (old.known.waiting - 1)) refl;
+      ∙ with_waiting (known_told fate (fold gone (fold ended mid.known e.dead) spent)) (record (known_told fate (fold gone (fold ended old.known e.dead) spent)) { waiting = old.known.waiting - 1 }) (count new.queues) (count new.queues)
+      (ap (λ (k : Known). known_told fate (fold gone k spent)) (ap (λ (k : Known). fold ended k e.dead) d.known ∙ ended_with e.dead old.known (old.known.waiting - 1))
+      ∙ spent_with fate spent (fold ended old.known e.dead) (old.known.waiting - 1)) refl;
   places = let a = d.places in let b = e.places in omega (arith, a, b);
   able = able;
-}
+} where
+  spent : List ℕ
+  spent = spent_told sent mid.queues e.dead
 
 pub one_served : (old mid new last : World) (run : IsRunning (2 ^ 61) old) (endpoint server : ℕ) (sent : Sent) (fate : Fate) (out : Written) (before between after : List ℕ) →
     TakesHead old endpoint server sent fate out mid before between → SettlesHead mid sent fate out new between after → last ≡ new → last.spent ≡ false → ServesOne (λ one. one ≡ endpoint) old last before after

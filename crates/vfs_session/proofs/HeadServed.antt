@@ -1,66 +1,28 @@
 -- What serves the first entry of a bound endpoint leads to the journal behind that serving.
-use Rattle.std.proofs.Common.{◌≡◌, ℕ, zero, suc, ◌<◌, ◌==◌, ◌⊎◌, true, false, List, [], ◌∷◌, ◌++◌, length, map, flat_map, Contains, Some, inl, inr, refl, sym, ap, ◌∙◌, subst, arith}
-use Rattle.std.specs.Prelude.{slice_get}
-use Rattle.std.specs.List.{list_any}
-use Rattle.std.proofs.lemmas.Bool.{true≢false, cases_Bool}
+use Rattle.std.proofs.Common.{◌≡◌, ℕ, ◌<◌, ◌==◌, ◌⊎◌, List, [], ◌∷◌, length, map, Contains, Some, inl, inr, sym, ap, subst, arith}
 use Rattle.std.proofs.lemmas.List.Elements.{All-contains}
-use Rattle.endpoint_link.specs.Numbering.{among}
 use Rattle.conn_rules.specs.Births.{Position}
 use Rattle.conn_rules.specs.Built.{today}
-use Rattle.fidl_names.specs.HandleNumber.{is_client}
 use Rattle.fidl_wire.specs.Names.{AreDistinct}
-use Rattle.vfs_journal.specs.Entries.{Journal, Sent, handles_of}
-use Rattle.vfs_journal.specs.Fit.{IsFit}
+use Rattle.vfs_journal.specs.Entries.{Journal, Sent}
 use Rattle.vfs_journal.specs.History.{living, trees_of}
 use Rattle.vfs_journal.specs.Lawful.{Lawful}
-use Rattle.vfs_journal.specs.Outcomes.{Given}
 use Rattle.vfs_journal.specs.Past.{history_of}
 use Rattle.vfs_journal.specs.Session.{after_serving}
 use Rattle.vfs_journal.specs.Starts.{Bound, Start}
-use Rattle.vfs_journal.specs.View.{View, at_in, head_in}
-use Rattle.journal_laws.specs.Choosing.{IsListOf}
-use Rattle.journal_laws.specs.Knowing.{spent_in}
+use Rattle.vfs_journal.specs.View.{at_in}
 use Rattle.journal_laws.specs.Soundness.{IsStart}
 use Rattle.journal_laws.specs.Trees.{IsOnNode}
 use Rattle.journal_laws.specs.Viewing.{view_behind}
-use Rattle.journal_laws.proofs.Fits.{views_fit}
-use Rattle.journal_laws.proofs.NoneGiven.{none_given}
-use Rattle.journal_laws.proofs.LookedUp.{is_first}
 use Rattle.journal_laws.proofs.Members.{contains_cases, contains_here, contains_later, contains_none, found}
 use Rattle.journal_laws.proofs.OnTrees.{stand_on_trees}
-use Rattle.journal_laws.proofs.Spent.{IsSpentBy, spent_by}
-use Rattle.journal_laws.proofs.Spreading.{among_back, among_front}
 use Rattle.journal_laws.proofs.ViewParts.{bounds_are}
 use Rattle.message_queues.specs.Queues.{head_of, server_of}
-use Rattle.vfs_server.specs.Servers.{Server}
 use Rattle.vfs_session.specs.Servings.{ServesHead}
 use Rattle.vfs_session.specs.World.{LeadsTo, StandsFor, World}
+use Rattle.vfs_session.proofs.EachServer.{by_length}
 use Rattle.vfs_session.proofs.Grounds.{below}
 use Rattle.vfs_session.proofs.OneServed.{IsReadyIn, ready_in, serving_leads}
-
--- ---- no token is spent where none was given
-
-among_many : (n : ℕ) (x : Sent) (ones : List Sent) → Contains ones x → among n (handles_of x.sending) ≡ true → among n (flat_map (λ sent. handles_of sent.sending) ones) ≡ true
-among_many n x [] p h = absurd (contains_none x p)
-among_many n x (one ∷ ones) p h = by_place (λ q. among_many n x ones q h) (contains_cases x one ones p) where
-  by_place : (Contains ones x → among n (flat_map (λ sent. handles_of sent.sending) ones) ≡ true) → (one ≡ x) ⊎ Contains ones x → among n (handles_of one.sending ++ flat_map (λ sent. handles_of sent.sending) ones) ≡ true
-  by_place rest (inl e) = among_front n (handles_of one.sending) (flat_map (λ sent. handles_of sent.sending) ones) (ap (λ (s : Sent). among n (handles_of s.sending)) e ∙ h)
-  by_place rest (inr q) = among_back n (handles_of one.sending) (flat_map (λ sent. handles_of sent.sending) ones) (rest q)
-
-none_spent_by : (view : View) (sent : Sent) (n : ℕ) → IsFit view → view.given ≡ [] → IsSpentBy view sent n → ⊥
-none_spent_by view sent n fit none by = by_kind (fit.carried n (among_many n by.one view.waiting by.waits by.carries)) where
-  by_kind : (is_client n ≡ true) ⊎ ((list_any (λ (given : Given). given.token == n) view.given ≡ true) × (list_any (λ (given : Given). given.token == n) view.held ≡ false)) → ⊥
-  by_kind (inl client) = true≢false (sym client ∙ by.other)
-  by_kind (inr given) = true≢false (sym given.0 ∙ ap (list_any (λ (given : Given). given.token == n)) none)
-
-pub nothing_spent : (view : View) (sent : Sent) → IsFit view → view.given ≡ [] → head_in view sent.endpoint ≡ Some sent → IsListOf (spent_in view sent) []
-nothing_spent view sent fit none first = record {
-  same = λ n. by_test n (cases_Bool (among n (spent_in view sent)));
-  once = λ i j d a b. absurd (omega arith);
-} where
-  by_test : (n : ℕ) → (among n (spent_in view sent) ≡ true) ⊎ (among n (spent_in view sent) ≡ false) → among n [] ≡ among n (spent_in view sent)
-  by_test n (inl h) = absurd (none_spent_by view sent n fit none (spent_by view sent n (is_first view sent first).waits h))
-  by_test n (inr h) = sym h
 
 -- ---- whoever is bound is at one of the servers
 
@@ -81,11 +43,6 @@ server_low start journal endpoint pair apart sound lawful' e =
     (mapped_has view.living pair (found (λ (p : Bound × Position). p.0.endpoint == endpoint) view.living pair e).0) in
     (All-contains (IsOnNode (trees_of start past)) (living start past) pair.0 (stand_on_trees (below apart) today start journal sound lawful').placed lives).server
 
-pub by_length : (servers : List Server) (i : ℕ) → i < length servers → (one : Server) × (slice_get servers i ≡ Some one)
-by_length [] i low = absurd (omega arith)
-by_length (one ∷ servers) zero low = (one, refl)
-by_length (one ∷ servers) (suc i) low = by_length servers i (omega arith)
-
 -- ---- the whole
 
 pub head_served : AreDistinct →
@@ -98,6 +55,5 @@ head_served apart start journal old new endpoint server sent before after s boun
     let many = s.holds.servers.many in
     let first_server = by_length old.servers r.pair.0.server (omega (arith, low, many)) in
     serving_leads (below apart) start journal old new sent r.pair first_server.0 before after s r.found r.first first_server.1
-    (nothing_spent view sent (views_fit (below apart) today start journal s.sound s.lawful) (none_given today start journal refl s.lawful) r.first)
     (subst (λ (n : ℕ). ServesHead old n r.pair.0.server sent new before after) (sym r.on)
     (subst (λ (n : ℕ). ServesHead old endpoint n sent new before after) (sym r.at) d))

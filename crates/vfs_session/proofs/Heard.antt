@@ -1,37 +1,48 @@
 -- What a frame leaves before anything is served for it.
-use Rattle.std.proofs.Common.{◌≡◌, ℕ, suc, ◌+◌, ◌==◌, Bool, true, false, if◌then◌else◌, List, [], ◌∷◌, ◌++◌, length, Some, None, append-nil, refl, sym, ap, ◌∙◌, subst, arith}
-use Rattle.std.proofs.lemmas.Bool.{eqb-true}
+use Rattle.std.proofs.Common.{◌≡◌, ℕ, suc, ◌+◌, ◌<◌, ◌≤◌, ◌==◌, ◌&&◌, ◌⊎◌, Bool, true, false, not, if◌then◌else◌, Contains, inl, inr, List, [], ◌∷◌, ◌++◌, length, Some, None, append-nil, refl, sym, ap, ◌∙◌, subst, arith}
+use Rattle.std.proofs.lemmas.Bool.{and_parts, eqb-true, or_cases, true≢false}
+use Rattle.std.proofs.lemmas.List.Elements.{All-contains}
 use Rattle.std.proofs.lemmas.Grind.{flat_map-append}
+use Rattle.fidl_names.specs.HandleNumber.{is_client}
+use Rattle.fidl_names.specs.declared.limits.TheConstants as limit
 use Rattle.endpoint_link.specs.Admission.{Admits, admission, look_ups as known_look_ups}
 use Rattle.endpoint_link.specs.Frames.{Frame, IsFrame, spelling}
+use Rattle.endpoint_link.specs.Numbering.{among}
 use Rattle.endpoint_link.specs.declared.kinds.FrameKind.{FrameKind}
 use Rattle.endpoint_link.specs.declared.kinds.FrameKind.TheVariants as kind
 use Rattle.endpoint_link.specs.declared.kinds.Refusal.{Refusal}
 use Rattle.endpoint_link.specs.declared.kinds.Side.TheVariants.{ToServers}
 use Rattle.conn_rules.specs.Built.{Built, today}
-use Rattle.vfs_journal.specs.Entries.{Journal, Sending, Sent, hang_up, message, refuses, sends}
+use Rattle.vfs_journal.specs.Entries.{Journal, Sending, Sent, handles_of, hang_up, message, refuses, sends}
+use Rattle.vfs_journal.specs.Fit.{IsFit}
+use Rattle.vfs_journal.specs.History.{is_used}
 use Rattle.vfs_journal.specs.Lawful.{Lawful}
+use Rattle.vfs_journal.specs.Outcomes.{Given}
 use Rattle.vfs_journal.specs.Lawful as lawful
 use Rattle.vfs_journal.specs.Output.{frames_of, output_of, refused_frame}
 use Rattle.vfs_journal.specs.Past.{event_of, history_of}
 use Rattle.vfs_journal.specs.Session.{admitted, arrives, by_refusal, look_ups, sent_behind}
 use Rattle.vfs_journal.specs.Starts.{Start}
-use Rattle.vfs_journal.specs.View.{View, queue_in, refusing_in, sending_in}
+use Rattle.vfs_journal.specs.Tokens.{is_held}
+use Rattle.vfs_journal.specs.View.{View, is_held_in, queue_in, refusing_in, sending_in}
 use Rattle.journal_laws.specs.Knowing.{Knows}
 use Rattle.journal_laws.specs.Viewing.{view_behind}
 use Rattle.journal_laws.proofs.Below.{Below}
-use Rattle.journal_laws.proofs.NoneGiven.{none_given}
+use Rattle.journal_laws.proofs.Fits.{views_fit}
+use Rattle.journal_laws.proofs.Kept.{client_low, message_admitted, refusal_of}
 use Rattle.journal_laws.proofs.KnowingAdmits.{knowers_admit, refusals_known}
 use Rattle.journal_laws.proofs.KnowingSent.{hang_ups_known, messages_known}
 use Rattle.journal_laws.proofs.Lists.{eqb_sym}
 use Rattle.journal_laws.proofs.LookedUp.{queue_sent}
 use Rattle.journal_laws.proofs.ViewLaws.{hang_up_viewed, message_viewed}
+use Rattle.journal_laws.proofs.ViewParts.{held_is}
 use Rattle.journal_laws.proofs.ViewSteps.{refused_viewed}
 use Rattle.message_queues.specs.Queues.{Requeues, queue_of}
 use Rattle.vfs_server.specs.Servers.{Server}
 use Rattle.vfs_session.specs.Holding.{HoldsEach, HoldsQueues}
 use Rattle.vfs_session.specs.World.{Holds, LeadsTo, StandsFor, World}
 use Rattle.vfs_session.proofs.EachServer.{each_same, indexed, numbered}
+use Rattle.vfs_session.proofs.Leaving.{out_sent}
 
 -- ---- what is written
 
@@ -63,7 +74,7 @@ refusing_each : (view : View) (servers : List Server) → HoldsEach view servers
 refusing_each view servers h = record {
   many = h.many;
   index = h.index;
-  each = λ i server e. let x = h.each i server e in record { bound = x.bound; count = x.count; watchers = x.watchers; tree = x.tree; holds = x.holds };
+  each = λ i server e. let x = h.each i server e in record { bound = x.bound; count = x.count; watchers = x.watchers; tokens = x.tokens; tree = x.tree; holds = x.holds };
 }
 
 refused_holds : (view : View) (old new : World) → Holds view old → TakesPlace old new → Holds (refusing_in view) new
@@ -104,11 +115,14 @@ pub record SendsIt (old : World) (frame : Frame) (sending : Sending) (new : Worl
   pub places : new.places ≡ old.places + 1
   pub able : new.spent ≡ false
 
-sent_holds : (view : View) (old new : World) (frame : Frame) (sending : Sending) (sent : Sent) → Holds view old → view.given ≡ [] → SendsIt old frame sending new →
+sent_holds : (view : View) (old new : World) (frame : Frame) (sending : Sending) (sent : Sent) → Holds view old → ((one : Given) → Contains view.given one → among one.token (handles_of sending) ≡ true → is_held_in view one.token ≡ true) → SendsIt old frame sending new →
     record { place = old.places; endpoint = frame.endpoint; sending = sending; origin = None } ≡ sent → Holds (sending_in view sent) new
-sent_holds view old new frame sending sent h none s is = record {
+sent_holds view old new frame sending sent h held s is = record {
   servers = subst (HoldsEach (sending_in view sent)) (sym s.servers)
-      (indexed (sending_in view sent) old.servers (each_same view (sending_in view sent) old.servers refl refl none none (numbered view old.servers h.servers)));
+      (indexed (sending_in view sent) old.servers
+      (each_same view (sending_in view sent) old.servers refl refl refl
+      (λ one c. out_sent view sent one.token (λ carried. held one c (ap (λ (x : Sent). among one.token (handles_of x.sending)) is ∙ carried)))
+      (numbered view old.servers h.servers)));
   queues = record {
     queue = λ n. s.queued.waiting n ∙ by_test n (n == frame.endpoint) refl ∙ sym (queue_sent view sent n);
     bound = λ n. s.queued.bound n ∙ h.queues.bound n;
@@ -145,6 +159,21 @@ history_long start (entry ∷ journal) = ap (λ (n : ℕ). suc n) (history_long 
 places_are : (start : Start) (journal : Journal) → (view_behind today start journal).places ≡ length journal
 places_are start journal = history_long start journal
 
+-- a token that an admitted message carries was held
+held_before : Below → (start : Start) (journal : Journal) (frame : Frame) {world : World} → StandsFor start world journal → frame.kind ≡ kind.Message → admission (look_ups start (history_of today start journal)) frame ≡ None →
+    (one : Given) → Contains (view_behind today start journal).given one → among one.token frame.handles ≡ true → is_held_in (view_behind today start journal) one.token ≡ true
+held_before below start journal frame s e let_in one c carried =
+    let past = history_of today start journal in
+    let view = view_behind today start journal in
+    let fit : IsFit view = views_fit below today start journal s.sound s.lawful in
+    let high = (All-contains (λ (given : Given). (limit.FIRST_TOKEN ≤ given.token) × (given.token < limit.FIRST_TOKEN + length view.given)) view.given one fit.numbered c).0 in
+    let admitted = message_admitted start past frame.endpoint frame.handles (refusal_of (look_ups start past) frame kind.Message e let_in) in
+    sym (held_is today start past one.token) ∙ by_side high (or_cases (is_client one.token && not (is_used start past one.token)) (is_held past one.token) (admitted.travel one.token carried)) where
+      by_side : limit.FIRST_TOKEN ≤ one.token → ((is_client one.token && not (is_used start (history_of today start journal) one.token)) ≡ true) ⊎ (is_held (history_of today start journal) one.token ≡ true) →
+          is_held (history_of today start journal) one.token ≡ true
+      by_side high (inl h) = let low = client_low one.token (and_parts (is_client one.token) (not (is_used start (history_of today start journal) one.token)) h).0 in absurd (omega (arith, low, high))
+      by_side high (inr h) = h
+
 pub message_on : Below → (start : Start) (journal : Journal) (old new : World) (frame : Frame) (before : List ℕ) → StandsFor start old journal → IsFrame ToServers frame → frame.kind ≡ kind.Message →
     admission (known_look_ups old.known) frame ≡ None → SendsIt old frame (message frame.bytes frame.handles) new → LeadsTo start (arrives today start journal frame) new journal before before
 message_on below start journal old new frame before s is e admits sends' =
@@ -159,7 +188,7 @@ message_on below start journal old new frame before s is e admits sends' =
         lawful = lawful.sent journal frame s.lawful is e let_in;
         knows = messages_known below today start journal frame old.known new.known s.sound s.lawful e let_in s.knows sends'.known;
         holds = subst (λ (v : View). Holds v new) (sym (message_viewed today start journal frame s.lawful let_in e))
-            (sent_holds (view_behind today start journal) old new frame (message frame.bytes frame.handles) sent s.holds (none_given today start journal refl s.lawful) sends'
+            (sent_holds (view_behind today start journal) old new frame (message frame.bytes frame.handles) sent s.holds (λ one c carried. held_before below start journal frame s e let_in one c carried) sends'
             (sent_is old.places (length journal) frame.endpoint (message frame.bytes frame.handles) (s.holds.places ∙ places_are start journal)));
       };
       part = [];
@@ -181,7 +210,7 @@ hang_up_on below start journal old new frame before s is e admits sends' =
         lawful = lawful.closed journal frame s.lawful is e let_in;
         knows = hang_ups_known below today start journal frame old.known new.known s.sound s.lawful e let_in s.knows sends'.known;
         holds = subst (λ (v : View). Holds v new) (sym (hang_up_viewed today start journal frame s.lawful let_in e))
-            (sent_holds (view_behind today start journal) old new frame hang_up sent s.holds (none_given today start journal refl s.lawful) sends'
+            (sent_holds (view_behind today start journal) old new frame hang_up sent s.holds (λ one c carried. absurd (true≢false (sym carried))) sends'
             (sent_is old.places (length journal) frame.endpoint hang_up (s.holds.places ∙ places_are start journal)));
       };
       part = [];

@@ -19,7 +19,7 @@ use Rattle.vfs_server.specs.Binding.{Unbinds}
 use Rattle.vfs_server.specs.Holding.{HoldsAt, bound_to, if_at, living_at, named_by}
 use Rattle.vfs_server.specs.Servers.{Server, seen}
 use Rattle.vfs_session.specs.Steps.{without_in}
-use Rattle.vfs_session.proofs.ServerSteps.{Apart, HoldsNumber, by_index, by_number, Living, bounds, bounds_filter, count_filter, count_without, filter_swap, found_others, one_if, others, passes_without, without_one}
+use Rattle.vfs_session.proofs.ServerSteps.{Apart, HoldsNumber, by_index, by_number, Living, bounds, bounds_filter, count_filter, count_without, filter_swap, found_others, one_if, others, passes_without, same_named, without_one}
 
 -- ---- one endpoint
 
@@ -72,6 +72,7 @@ unbound_here view one now index d pair apart h there s =
           ∙ filter_swap (λ b. not (b.endpoint == d)) (λ b. is_watcher b.birth.protocol) (living_at view index)
           ∙ ap (filter (λ (b : Bound). is_watcher b.birth.protocol)) (filter_swap (λ b. not (b.endpoint == d)) at (bounds view.living))
           ∙ ap (λ (bs : List Bound). filter (λ (b : Bound). is_watcher b.birth.protocol) (filter at bs)) (sym (bounds_filter (λ b. not (b.endpoint == d)) view.living));
+      tokens = λ token. same_named one now s.tokens token ∙ h.tokens token;
       tree = s.tree (tree_at view.trees index) h.tree;
       holds = λ number.
           let a = s.holds pair there number in
@@ -107,6 +108,7 @@ unbound_there view one index d apart h none =
           ∙ ap (if_at index) (sym (found_others d n view.living));
       count = h.count ∙ ap length (sym same);
       watchers = h.watchers ∙ ap (filter (λ (b : Bound). is_watcher b.birth.protocol)) (sym same);
+      tokens = h.tokens;
       tree = h.tree;
       holds = λ number. h.holds number ∙ ap (λ (bs : List Bound). count_by (λ (b : Bound). b.birth.node == number) bs + named_by view index number) (sym same);
     } where

@@ -1,13 +1,17 @@
 pub mod Grounds
 pub mod PlacesLeft
 pub mod ServerSteps
+pub mod Outs
 pub mod LettingGo
 pub mod Moments
 pub mod EachServer
+pub mod Leaving
 pub mod Telling
 pub mod QueueSteps
+pub mod Spending
 pub mod Then
 pub mod AllGone
+pub mod Forgotten
 pub mod OneServed
 pub mod HeadServed
 pub mod Heard
@@ -21,6 +25,7 @@ pub mod Sorted
 pub mod Carried
 pub mod Serves
 pub mod Mounts
+pub mod Room
 pub mod Ready
 pub mod NoneDie
 pub mod Halves

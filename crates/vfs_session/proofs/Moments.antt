@@ -5,6 +5,7 @@ use Rattle.std.proofs.lemmas.Bool.{eq-eqb}
 use Rattle.std.proofs.lemmas.List.Elements.{filter_agree}
 use Rattle.std.proofs.lemmas.List.Sums.{length-filter}
 use Rattle.endpoint_link.specs.Frames.{Frame}
+use Rattle.endpoint_link.specs.Numbering.{among}
 use Rattle.io_messages.specs.declared.protocols.Protocol.{Protocol}
 use Rattle.io_messages.specs.declared.protocols.Protocol.TheVariants as protocol
 use Rattle.node_graph.specs.Tree.{Tree}
@@ -20,7 +21,7 @@ use Rattle.vfs_journal.specs.Outcomes.{Asker, Outcome, bound_of}
 use Rattle.vfs_journal.specs.Output.{close_frames, frames_of_serving}
 use Rattle.vfs_journal.specs.Serving.{Moment, Read, asker_of, fault_answer, fault_txid, object_of, outcome_of_message, outcome_of_read, outcome_of_sending, read_by, request_act}
 use Rattle.vfs_journal.specs.Starts.{Bound}
-use Rattle.vfs_journal.specs.View.{View, at_in, bounds_in, moment_in, next_token_in}
+use Rattle.vfs_journal.specs.View.{View, at_in, bounds_in, directory_in, is_out_in, moment_in, next_token_in}
 use Rattle.vfs_journal.specs.Watching.{added, asks_for, deleted, event_bytes, first_frames, removed, told_by, told_frames, told_of, watch_frame}
 use Rattle.journal_laws.proofs.Lists.{filter-filter}
 use Rattle.vfs_server.specs.Holding.{if_at, living_at}
@@ -65,9 +66,9 @@ same_room : (a b : ℕ) (c d : ℕ) (s t : Option ℕ) → a ≡ b → c ≡ d �
     ◌≡◌ {A = Room} (record { connections = a; watchers = c; token = s }) (record { connections = b; watchers = d; token = t })
 same_room a b c d s t p q r = λ i. record { connections = p i; watchers = q i; token = r i }
 
-pub is_moment : (view : View) (one : Server) (endpoint : ℕ) (pair : Bound × Position) (token : Option ℕ) → HoldsNumber view pair.0.server one → at_in view endpoint ≡ Some pair → token ≡ next_token_in view →
-    IsMomentOf one endpoint token (moment_in view pair)
-is_moment view one endpoint pair token h found next =
+pub is_moment : (view : View) (one : Server) (endpoint : ℕ) (pair : Bound × Position) (token : Option ℕ) (handles : List ℕ) → HoldsNumber view pair.0.server one → at_in view endpoint ≡ Some pair → token ≡ next_token_in view →
+    ((number : ℕ) → among number handles ≡ true → is_out_in view number ≡ true) → IsMomentOf one endpoint token handles (moment_in view pair)
+is_moment view one endpoint pair token handles h found next out =
     let server = pair.0.server in
     record {
       bound =
@@ -80,6 +81,7 @@ is_moment view one endpoint pair token h found next =
           (ap length (sym (watchers_here view server pair.0.birth.node)) ∙ sym (ap (λ (ws : List Bound). length (filter (λ b. b.birth.node == pair.0.birth.node) ws)) h.watchers))
           (sym next);
       tree = h.tree;
+      directory = λ number carried. sym (h.tokens number ∙ ap (λ (b : Bool). if b then directory_in view server number else None) (out number carried));
     }
 
 -- ---- the parts of an outcome are those of its server

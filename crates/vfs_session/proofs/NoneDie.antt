@@ -38,11 +38,12 @@ none_rise : rising [] ≡ []
 unfolding IsStrictlySortedBy
 none_rise = rising_is [] [] tt (λ n. refl)
 
-pub none_die : (world : World) (sent : Sent) (fate : Fate) (bytes : List ℕ) → first_told sent fate ≡ [] → count world.queues ≡ world.known.waiting → LetsDie world sent fate world bytes bytes
-none_die world sent fate bytes none counted = record {
+pub none_die : (world : World) (sent : Sent) (fate : Fate) (dropped bytes : List ℕ) → dropped ≡ [] → first_told sent fate ≡ [] → count world.queues ≡ world.known.waiting → LetsDie world sent fate dropped world bytes bytes
+none_die world sent fate dropped bytes nothing none counted = record {
   dead = [];
   died = subst (λ (firsts : List ℕ). AreDeaths world.queues firsts []) (sym none) (nobody world.queues);
   buried = record { waiting = λ n. refl; bound = λ n. refl; those = refl };
+  tokens = nothing;
   goes = λ view apart h. none_go view world.servers h;
   closed = sym (append-nil bytes) ∙ ap (λ (ns : List ℕ). bytes ++ spellings (map close_frame ns)) (sym none_rise);
   known = nothing_waits_less world.known (count world.queues) counted;

@@ -1,5 +1,5 @@
 -- A world that stands for a journal stands, behind the steps of a serving, for the journal behind it.
-use Rattle.std.proofs.Common.{◌≡◌, ℕ, ◌+◌, ◌==◌, true, is_some, if◌then◌else◌, List, [], length, find, fold, add-zero, Contains, Option, Some, None, refl, sym, ap, ◌∙◌, subst, arith}
+use Rattle.std.proofs.Common.{◌≡◌, ℕ, ◌+◌, ◌==◌, true, is_some, if◌then◌else◌, List, length, find, add-zero, Contains, Option, Some, None, refl, sym, ap, ◌∙◌, subst, arith}
 use Rattle.std.specs.Prelude.{slice_get}
 use Rattle.std.specs.Option.{option_map}
 use Rattle.std.proofs.lemmas.Bool.{eqb-true}
@@ -8,25 +8,24 @@ use Rattle.std.proofs.lemmas.Option.{none-some, same_Some}
 use Rattle.fidl_wire.specs.Written.{Written}
 use Rattle.endpoint_link.specs.Frames.{spellings}
 use Rattle.endpoint_link.specs.Numbering.{among}
-use Rattle.endpoint_link.specs.Standings.{Known, ended, next_token_of}
+use Rattle.endpoint_link.specs.Standings.{next_token_of}
 use Rattle.conn_rules.specs.Births.{Position}
 use Rattle.conn_rules.specs.Built.{today}
 use Rattle.vfs_journal.specs.Deaths.{first_deaths}
 use Rattle.vfs_journal.specs.Entries.{Journal, Sent, endpoints_in}
 use Rattle.vfs_journal.specs.Fit.{IsFit}
 use Rattle.vfs_journal.specs.Lawful as lawful
-use Rattle.vfs_journal.specs.Outcomes.{Forwarded, Given}
+use Rattle.vfs_journal.specs.Outcomes.{Forwarded}
 use Rattle.vfs_journal.specs.Past.{history_of}
 use Rattle.vfs_journal.specs.Session.{after_serving, head}
 use Rattle.vfs_journal.specs.Starts.{Bound, Start}
 use Rattle.vfs_journal.specs.View.{View, at_in, deaths_in, event_in, frames_in, head_in, onward_in, outcome_in, serving_in, then_in}
 use Rattle.journal_laws.specs.Choosing.{AreAllThatDie, IsListOf, queue_beside}
-use Rattle.journal_laws.specs.Knowing.{Knows, known_served, spent_in}
+use Rattle.journal_laws.specs.Knowing.{Knows, spent_in}
 use Rattle.journal_laws.specs.Viewing.{view_behind}
 use Rattle.journal_laws.proofs.Below.{Below}
 use Rattle.journal_laws.proofs.Dying.{deaths_are_least}
 use Rattle.journal_laws.proofs.Fits.{views_fit}
-use Rattle.journal_laws.proofs.NoneGiven.{none_given}
 use Rattle.journal_laws.proofs.KnowingBehind.{servings_keep}
 use Rattle.journal_laws.proofs.LeastPlaces.{first_of_kept}
 use Rattle.journal_laws.proofs.Members.{found}
@@ -39,11 +38,12 @@ use Rattle.vfs_server.specs.declared.fate.Fate.{Fate}
 use Rattle.vfs_server.specs.declared.fate.Fate.TheVariants as fates
 use Rattle.vfs_server.specs.Servers.{Server}
 use Rattle.vfs_session.specs.Holding.{HoldsQueues}
-use Rattle.vfs_session.specs.Steps.{SendsOn, first_told, is_sent_on}
+use Rattle.vfs_session.specs.Steps.{SendsOn, first_told, is_sent_on, spent_told}
 use Rattle.vfs_session.specs.Servings.{ServesHead}
 use Rattle.vfs_session.specs.World.{Holds, LeadsTo, StandsFor, World}
 use Rattle.vfs_session.proofs.EachServer.{numbered}
 use Rattle.vfs_session.proofs.QueueSteps.{BindsOne, SendsOne, queue_taken, queues_then}
+use Rattle.vfs_session.proofs.Spending.{are_spent, known_then}
 use Rattle.vfs_session.proofs.Telling.{first_are_told, forward_told}
 use Rattle.vfs_session.proofs.Then.{Begun, Told, binds_one, frames_then, sends_one, servers_then, told}
 
@@ -99,17 +99,12 @@ onward_places view sent fates.Stays out o e = ap (λ (x : Option Forwarded). (on
 onward_places view sent fates.Ends out o e = ap (λ (x : Option Forwarded). (onward_in view sent x).places) e ∙ sym (add-zero view.places)
 onward_places view sent (fates.Binds object birth) out o e = ap (λ (x : Option Forwarded). (onward_in view sent x).places) e ∙ sym (add-zero view.places)
 onward_places view sent (fates.Refuses object) out o e = ap (λ (x : Option Forwarded). (onward_in view sent x).places) e ∙ sym (add-zero view.places)
-
-known_then : (known new : Known) (dead : List ℕ) (token : Option Given) (n m : ℕ) → token ≡ None → new ≡ record (fold ended known dead) { waiting = n } → n ≡ m → new ≡ known_served known dead [] token m
-known_then known new dead token n m none e same =
-    e
-    ∙ ap (λ (k : ℕ). let x : Known = record (fold ended known dead) { waiting = k } in x) same
-    ∙ ap (λ (t : Option Given). known_served known dead [] t m) (sym none)
+onward_places view sent (fates.Gives token directory) out o e = ap (λ (x : Option Forwarded). (onward_in view sent x).places) e ∙ sym (add-zero view.places)
 
 -- at the server and on the endpoint that are found
 module _ (ground : Below) (start : Start) (journal : Journal) (old new : World) (sent : Sent) (pair : Bound × Position) (one : Server) (before after : List ℕ) (s : StandsFor start old journal)
     (found_pair : at_in (view_behind today start journal) sent.endpoint ≡ Some pair) (first : head_in (view_behind today start journal) sent.endpoint ≡ Some sent)
-    (there : slice_get old.servers pair.0.server ≡ Some one) (spent : IsListOf (spent_in (view_behind today start journal) sent) []) (d : ServesHead old sent.endpoint pair.0.server sent new before after) where
+    (there : slice_get old.servers pair.0.server ≡ Some one) (d : ServesHead old sent.endpoint pair.0.server sent new before after) where
   view : View
   view = view_behind today start journal
 
@@ -121,7 +116,6 @@ module _ (ground : Below) (start : Start) (journal : Journal) (old new : World) 
     built = refl;
     fit = fit;
     first = first;
-    none = none_given today start journal refl s.lawful;
     found = found_pair;
     held = numbered (view_behind today start journal) old.servers s.holds.servers;
     there = there;
@@ -142,6 +136,9 @@ module _ (ground : Below) (start : Start) (journal : Journal) (old new : World) 
       (all_die (view_behind today start journal) sent d.q2 (first_told sent d.fate) d.dead beside_is
       (sym (first_are_told sent (outcome_in (view_behind today start journal) sent) pair.0.server d.fate d.out answered.tells)) d.died)
 
+  spent : IsListOf (spent_in (view_behind today start journal) sent) (spent_told sent d.q2 d.dead)
+  spent = are_spent (view_behind today start journal) sent d.q2 d.dead fit first beside_is same d.died.once
+
   queues_are : HoldsQueues (then_in (view_behind today start journal) sent) new.queues
   queues_are =
       queues_then (view_behind today start journal) sent d.dead old.queues d.q1 d.q2 d.q3 new.queues fit first s.holds.queues d.taken
@@ -154,7 +151,7 @@ module _ (ground : Below) (start : Start) (journal : Journal) (old new : World) 
 
   holds : Holds (then_in (view_behind today start journal) sent) new
   holds = record {
-    servers = servers_then (view_behind today start journal) sent pair old.servers d.s1 d.s2 new.servers d.q1 d.q2 one (next_token_of old.known) d.fate d.out d.dead before d.between begun answered d.binds d.goes same;
+    servers = servers_then (view_behind today start journal) sent pair old.servers d.s1 d.s2 d.s3 new.servers d.q1 d.q2 one (next_token_of old.known) d.fate d.out d.dead (spent_told sent d.q2 d.dead) before d.between begun answered d.binds d.goes d.forgets same spent.same;
     queues = queues_are;
     places =
         let a = s.holds.places in
@@ -173,9 +170,9 @@ module _ (ground : Below) (start : Start) (journal : Journal) (old new : World) 
           lawful = lawful.served journal sent s.lawful head_is;
           knows =
               subst (Knows start (history_of today start (after_serving today start journal sent)))
-              (sym (known_then old.known new.known d.dead (outcome_in (view_behind today start journal) sent).token (count new.queues) (length (then_in (view_behind today start journal) sent).waiting) answered.tells.token d.known
+              (sym (known_then old.known new.known d.dead (spent_told sent d.q2 d.dead) sent.endpoint pair.0.server d.fate (outcome_in (view_behind today start journal) sent).token (count new.queues) (length (then_in (view_behind today start journal) sent).waiting) answered.tells.token d.known
               (counts_its_list new.queues (then_in (view_behind today start journal) sent).waiting queues_are.queue)))
-              (servings_keep ground today start journal sent old.known d.dead [] s.sound s.lawful head_is s.knows (record { same = same; once = d.died.once }) spent);
+              (servings_keep ground today start journal sent old.known d.dead (spent_told sent d.q2 d.dead) s.sound s.lawful head_is s.knows (record { same = same; once = d.died.once }) spent);
           holds = subst (λ (v : View). Holds v new) (sym (served_behind_viewed ground today start journal sent s.sound s.lawful head_is)) holds;
         };
         part = spellings (frames_in (view_behind today start journal) sent);

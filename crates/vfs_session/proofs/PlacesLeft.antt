@@ -16,7 +16,8 @@ use Rattle.path_walk.specs.declared.faults.PathFault.{PathFault}
 use Rattle.path_walk.proofs.NameLemmas.{name-some}
 use Rattle.conn_rules.specs.Built.{Built}
 use Rattle.vfs_journal.specs.Entries.{Sent, Sending, Journal, message, hang_up}
-use Rattle.vfs_journal.specs.Outcomes.{Forwarded, onward_bytes}
+use Rattle.vfs_journal.specs.Outcomes.{Forwarded}
+use Rattle.remote_forward.specs.Onward.{onward_bytes}
 use Rattle.vfs_journal.specs.Past.{history_of}
 use Rattle.vfs_journal.specs.Serving.{Read, read_by, outcome_of}
 use Rattle.vfs_journal.specs.Session.{head}

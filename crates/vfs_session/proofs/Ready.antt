@@ -9,17 +9,19 @@ use Rattle.fidl_names.specs.declared.limits.TheConstants as limit
 use Rattle.fidl_wire.specs.Written.{Written}
 use Rattle.endpoint_link.specs.Numbering.{among}
 use Rattle.endpoint_link.specs.Standings.{Known, is_live, next_token_of, standing_of}
+use Rattle.node_graph.specs.declared.nodes.NodeRef.{NodeRef}
+use Rattle.node_graph.specs.Graph.{number_of}
 use Rattle.tree_file.specs.Numbering.{end_of_mount}
 use Rattle.conn_rules.specs.declared.births.Birth as code
 use Rattle.conn_rules.specs.Births.{Position}
 use Rattle.conn_rules.specs.Built.{today}
-use Rattle.vfs_journal.specs.Entries.{Sent}
+use Rattle.vfs_journal.specs.Entries.{Sent, handles_of}
 use Rattle.vfs_journal.specs.Fit.{IsFit}
 use Rattle.vfs_journal.specs.History.{tree_at}
 use Rattle.vfs_journal.specs.Past.{history_of}
 use Rattle.vfs_journal.specs.Serving.{Moment}
 use Rattle.vfs_journal.specs.Starts.{Bound}
-use Rattle.vfs_journal.specs.View.{View, at_in, head_in, moment_in, moved, outcome_in, queue_in}
+use Rattle.vfs_journal.specs.View.{View, at_in, deaths_in, head_in, moment_in, moved, outcome_in, queue_in}
 use Rattle.journal_laws.specs.Behind.{later_of}
 use Rattle.journal_laws.specs.Choosing.{queue_beside}
 use Rattle.journal_laws.specs.Viewing.{view_behind}
@@ -27,8 +29,7 @@ use Rattle.journal_laws.proofs.Among.{among_of}
 use Rattle.journal_laws.proofs.Dying.{deaths_are_least}
 use Rattle.journal_laws.proofs.Fits.{views_fit}
 use Rattle.journal_laws.proofs.Growing.{trees_grow}
-use Rattle.journal_laws.proofs.NoneGiven.{none_given}
-use Rattle.journal_laws.proofs.KnowingBehind.{numbered_of}
+use Rattle.journal_laws.proofs.KnowingBehind.{numbered_of, spent_known}
 use Rattle.journal_laws.proofs.KnowingServes.{servings_end}
 use Rattle.journal_laws.proofs.ViewLaws.{same_length}
 use Rattle.journal_laws.proofs.ViewParts.{deaths_are, head_is_in, token_is}
@@ -43,18 +44,21 @@ use Rattle.vfs_server.specs.declared.fate.Fate.TheVariants as fates
 use Rattle.vfs_server.specs.Servers.{Server, bound_with, seen}
 use Rattle.vfs_server.specs.Serving.{IsMomentOf}
 use Rattle.vfs_session.specs.Heads.{TakesHead}
-use Rattle.vfs_session.specs.Steps.{Answers, IsRunning, first_told}
+use Rattle.vfs_session.specs.Steps.{Answers, CanGo, CanName, IsRunning, answered_in, first_told, given_told, spent_told}
 use Rattle.vfs_session.specs.World.{World}
-use Rattle.vfs_session.proofs.EachServer.{numbered}
+use Rattle.vfs_session.proofs.EachServer.{by_length, numbered}
 use Rattle.vfs_session.proofs.Grounds.{below}
-use Rattle.vfs_session.proofs.HeadServed.{by_length, server_low}
+use Rattle.vfs_session.proofs.HeadServed.{server_low}
+use Rattle.vfs_session.proofs.Leaving.{new_token}
 use Rattle.vfs_session.proofs.Moments.{is_moment}
 use Rattle.vfs_session.proofs.Mounts.{mount_low}
 use Rattle.vfs_session.proofs.OneServed.{IsReadyIn, all_die, ready_in}
 use Rattle.vfs_session.proofs.QueueSteps.{queue_taken}
+use Rattle.vfs_session.proofs.Room.{named_new, room_for}
 use Rattle.vfs_session.proofs.ServerSteps.{moved_found}
+use Rattle.vfs_session.proofs.Spending.{are_spent, can_go, can_go_alike, spent_apart}
 use Rattle.vfs_session.proofs.Telling.{bound_told, first_are_told, forward_told}
-use Rattle.vfs_session.proofs.Then.{Begun, Told, binds_one, new_free, told}
+use Rattle.vfs_session.proofs.Then.{Begun, Told, binds_one, handles_are_out, new_free, told}
 
 -- what the binding of a fate counts on, at servers behind an answer
 pub record CanBind (queues : Queues) (server : ℕ) (servers : List Server) (fate : Fate) : Type 0 where
@@ -63,13 +67,14 @@ pub record CanBind (queues : Queues) (server : ℕ) (servers : List Server) (fat
   pub free : (object : ℕ) (birth : code.Birth) (one : Server) → fate ≡ fates.Binds object birth → slice_get servers server ≡ Some one → seen one object ≡ None
   pub place : (object : ℕ) (birth : code.Birth) (one : Server) → fate ≡ fates.Binds object birth → slice_get servers server ≡ Some one → HasPlace one birth
   pub unbound : (object : ℕ) (birth : code.Birth) → fate ≡ fates.Binds object birth → server_of queues object ≡ None
+  pub names : (token : ℕ) (node : NodeRef) (one : Server) → fate ≡ fates.Gives token node → slice_get servers server ≡ Some one → CanName one token node
 
 -- what the answer, the taking and the binding count on
 pub record CanTake (world : World) (endpoint server : ℕ) (sent : Sent) : Type 0 where
   pub one : Server
   pub there : slice_get world.servers server ≡ Some one
   pub moment : Moment
-  pub is : IsMomentOf one endpoint (next_token_of world.known) moment
+  pub is : IsMomentOf one endpoint (next_token_of world.known) (handles_of sent.sending) moment
   pub made : one.graph.made < 2 ^ 63
   pub counted : count world.queues ≡ world.known.waiting
   pub binds : (fate : Fate) (out : Written) (new : List Server) (before after : List ℕ) → Answers world.servers server endpoint (next_token_of world.known) sent fate out new before after →
@@ -78,6 +83,7 @@ pub record CanTake (world : World) (endpoint server : ℕ) (sent : Sent) : Type 
 -- what the deaths and the sending on count on
 pub record CanSettle (world : World) (sent : Sent) (fate : Fate) : Type 0 where
   pub live : (dead : List ℕ) → AreDeaths world.queues (first_told sent fate) dead → All (λ endpoint. is_live (standing_of world.known endpoint) ≡ true) dead
+  pub out : (dead : List ℕ) → AreDeaths world.queues (first_told sent fate) dead → CanGo world.known (spent_told sent world.queues dead)
   pub counted : count world.queues ≡ world.known.waiting
   pub low : (mount object : ℕ) → fate ≡ fates.Forwards mount object → mount < 2 ^ 30
   pub newest : IsAbove world.queues world.places
@@ -116,7 +122,6 @@ module _ (old : World) (run : IsRunning (2 ^ 61) old) (sent : Sent) (pair : Boun
     built = refl;
     fit = fit;
     first = first;
-    none = none_given today run.start run.journal refl run.stands.lawful;
     found = found;
     held = numbered (view_behind today run.start run.journal) old.servers run.stands.holds.servers;
     there = there.1;
@@ -148,6 +153,21 @@ module _ (old : World) (run : IsRunning (2 ^ 61) old) (sent : Sent) (pair : Boun
   new_at fate out new before after t object birth e =
       new_free (view_behind today run.start run.journal) sent fit first (bound_with pair.0.server object birth) (t.tells.bound ∙ ap (bound_told pair.0.server) e)
 
+  -- the token that is given is the next, which was given nowhere, and there is room for it
+  can_name : (fate : Fate) (out : Written) (new : List Server) (before after : List ℕ) → (t : Told (view_behind today run.start run.journal) sent pair old.servers there.0 fate out new before after) →
+      (token : ℕ) (node : NodeRef) → fate ≡ fates.Gives token node → CanName t.now token node
+  can_name fate out new before after t token node e =
+      let view = view_behind today run.start run.journal in
+      let o = outcome_in view sent in
+      let is : o.token ≡ Some (record { token = token; endpoint = sent.endpoint; server = pair.0.server; node = number_of node }) = t.tells.token ∙ ap (given_told sent.endpoint pair.0.server) e in
+      let held = t.held.each pair.0.server t.now t.there in
+      record {
+        free = named_new (answered_in view sent.endpoint o) pair.0.server token t.now held (λ other c. new_token view sent fit first (record { token = token; endpoint = sent.endpoint; server = pair.0.server; node = number_of node }) other is c);
+        directory = t.serves.given token node e;
+        room = room_for (answered_in view sent.endpoint o) pair.0.server token t.now held fit.tokens
+            ((fit.heads sent first).gives (record { token = token; endpoint = sent.endpoint; server = pair.0.server; node = number_of node }) is);
+      }
+
   binds_at : (fate : Fate) (out : Written) (new : List Server) (before after : List ℕ) → Told (view_behind today run.start run.journal) sent pair old.servers there.0 fate out new before after →
       CanBind old.queues pair.0.server new fate
   binds_at fate out new before after t =
@@ -162,6 +182,7 @@ module _ (old : World) (run : IsRunning (2 ^ 61) old) (sent : Sent) (pair : Boun
             (moved_found sent.endpoint o.position object (view_behind today run.start run.journal).living ∙ ap (option_map (moved sent.endpoint o.position)) (new_at fate out new before after t object birth e));
         place = λ object birth one e at. subst (λ (s : Server). HasPlace s birth) (same_Some t.now one (sym t.there ∙ at)) (t.serves.has_place object birth e);
         unbound = λ object birth e. run.stands.holds.queues.bound object ∙ ap (option_map (λ (p : Bound × Position). p.0.server)) (new_at fate out new before after t object birth e);
+        names = λ token node one e at. subst (λ (s : Server). CanName s token node) (same_Some t.now one (sym t.there ∙ at)) (can_name fate out new before after t token node e);
       }
 
   pub can_take_there : CanTake old sent.endpoint pair.0.server sent
@@ -169,7 +190,7 @@ module _ (old : World) (run : IsRunning (2 ^ 61) old) (sent : Sent) (pair : Boun
     one = there.0;
     there = there.1;
     moment = moment_in (view_behind today run.start run.journal) pair;
-    is = is_moment (view_behind today run.start run.journal) there.0 sent.endpoint pair (next_token_of old.known) (begun.held.each pair.0.server there.0 there.1) found begun.next;
+    is = is_moment (view_behind today run.start run.journal) there.0 sent.endpoint pair (next_token_of old.known) (handles_of sent.sending) (begun.held.each pair.0.server there.0 there.1) found begun.next (handles_are_out (view_behind today run.start run.journal) sent first);
     made = made_few;
     counted = counts;
     binds = λ fate out new before after answers. binds_at fate out new before after (answered fate out new before after answers);
@@ -185,17 +206,32 @@ module _ (old : World) (run : IsRunning (2 ^ 61) old) (sent : Sent) (pair : Boun
         (binds_one pair.0.server fate d.answered mid.servers d.left mid.queues d.binds).waiting n
         ∙ queue_taken (view_behind today run.start run.journal) sent old.queues d.left run.stands.holds.queues d.taken n
 
+    same_deaths : (dead : List ℕ) → AreDeaths mid.queues (first_told sent fate) dead → (n : ℕ) → among n dead ≡ among n (deaths_in (view_behind today run.start run.journal) sent)
+    same_deaths dead died =
+        deaths_are_least (view_behind today run.start run.journal) sent dead fit first
+        (all_die (view_behind today run.start run.journal) sent mid.queues (first_told sent fate) dead beside
+        (sym (first_are_told sent (outcome_in (view_behind today run.start run.journal) sent) pair.0.server fate out t.tells)) died)
+
     were_live : (dead : List ℕ) → AreDeaths mid.queues (first_told sent fate) dead → (n : ℕ) → Contains dead n → is_live (standing_of mid.known n) ≡ true
     were_live dead died n c =
         let past = history_of today run.start run.journal in
-        let same = deaths_are_least (view_behind today run.start run.journal) sent dead fit first
-        (all_die (view_behind today run.start run.journal) sent mid.queues (first_told sent fate) dead beside
-        (sym (first_are_told sent (outcome_in (view_behind today run.start run.journal) sent) pair.0.server fate out t.tells)) died) in
+        let same = same_deaths dead died in
         let ends = servings_end (below run.apart) today run.start run.journal sent run.stands.sound (numbered_of run.start run.stands.sound) run.stands.lawful
         (head_is_in today run.start past sent.endpoint ∙ first) in
         ap (λ (k : Known). is_live (standing_of k n)) d.known
         ∙ ap is_live (run.stands.knows.standing n)
         ∙ ends.were_live n (ap (among n) (deaths_are today run.start past sent) ∙ sym (same n) ∙ among_of n dead c)
+
+    can_go_then : (dead : List ℕ) → AreDeaths mid.queues (first_told sent fate) dead → CanGo mid.known (spent_told sent mid.queues dead)
+    can_go_then dead died =
+        let view = view_behind today run.start run.journal in
+        let same = same_deaths dead died in
+        let list = are_spent view sent mid.queues dead fit first beside same died.once in
+        can_go_alike (spent_told sent mid.queues dead) old.known mid.known (sym (ap (λ (k : Known). k.tokens) d.known))
+        (can_go (spent_told sent mid.queues dead) old.known (spent_apart view sent mid.queues dead fit first beside same died.once)
+        (λ n h.
+        spent_known (below run.apart) today run.start run.journal sent old.known n run.stands.sound run.stands.lawful
+        (head_is_in today run.start (history_of today run.start run.journal) sent.endpoint ∙ first) run.stands.knows (sym (list.same n) ∙ h)))
 
     places_are : mid.places ≡ (view_behind today run.start run.journal).places
     places_are = d.places ∙ run.stands.holds.places
@@ -203,6 +239,7 @@ module _ (old : World) (run : IsRunning (2 ^ 61) old) (sent : Sent) (pair : Boun
     pub can_settle_there : CanSettle mid sent fate
     can_settle_there = record {
       live = λ dead died. All-weaker (Contains dead) (λ n. is_live (standing_of mid.known n) ≡ true) (were_live dead died) dead (All-contains_itself dead);
+      out = can_go_then;
       counted = let a = d.count in let b = counts in let c : mid.known.waiting ≡ old.known.waiting - 1 = ap (λ (k : Known). k.waiting) d.known in omega (arith, a, b, c);
       low = λ mount object e.
           let goes = (fit.heads sent first).goes_to (record { endpoint = end_of_mount mount; bytes = out.bytes; object = object }) (t.tells.forward ∙ ap (λ (f : Fate). forward_told f out) e) in
@@ -238,6 +275,7 @@ can_bind old left run endpoint server sent queue fate out new before after bound
       free = can.free;
       place = can.place;
       unbound = λ object birth e. taken.bound object ∙ can.unbound object birth e;
+      names = can.names;
     }
 
 pub can_settle : (old mid : World) (run : IsRunning (2 ^ 61) old) (endpoint server : ℕ) (sent : Sent) (fate : Fate) (out : Written) (before after : List ℕ) → TakesHead old endpoint server sent fate out mid before after → CanSettle mid sent fate

@@ -1,6 +1,8 @@
 -- What a server holds behind each step of a serving.
 use Rattle.std.proofs.Common.{◌≡◌, ◌≢◌, ℕ, ◌+◌, ◌<◌, ◌==◌, ◌&&◌, Bool, true, false, not, cond, if◌then◌else◌, List, [], ◌∷◌, ◌++◌, length, map, filter, find, count_by, All, AllPairs, Option, Some, None, append-nil, refl, sym, ap, ◌∙◌, subst, arith}
+use Rattle.std.specs.FinMap as finite
 use Rattle.std.specs.Option.{option_map, option_map_or, option_or}
+use Rattle.std.specs.Ordering.{nat_cmp}
 use Rattle.std.proofs.lemmas.Bool.{eqb-true, eq-eqb, ne_eqb, true≢false}
 use Rattle.std.proofs.lemmas.List.{get_or-set_same, get_or-set_other, length-append, map-append}
 use Rattle.std.proofs.lemmas.List.Elements.{All-head, All-tail, filter-append}
@@ -9,6 +11,7 @@ use Rattle.std.proofs.lemmas.Grind.{common_steps}
 use Rattle.std.proofs.lemmas.List.Sums.{length-filter}
 use Rattle.std.proofs.lemmas.Option.{same_Some}
 use Rattle.fidl_wire.specs.Written.{Written}
+use Rattle.node_graph.specs.declared.nodes.NodeRef.{NodeRef}
 use Rattle.node_graph.specs.Graph.{StandsFor, holds_at, number_of}
 use Rattle.node_graph.specs.Tree.{after, bare_tree}
 use Rattle.conn_rules.specs.declared.births.Birth as code
@@ -21,8 +24,8 @@ use Rattle.vfs_journal.specs.View.{View, at_in, moved}
 use Rattle.journal_laws.proofs.Lists.{pairs-head, pairs-tail, eqb_sym}
 use Rattle.vfs_server.specs.Binding.{Binds}
 use Rattle.vfs_server.specs.declared.fate.Fate.{Fate}
-use Rattle.vfs_server.specs.Holding.{HoldsAt, bound_to, if_at, living_at, named_by}
-use Rattle.vfs_server.specs.Servers.{Server, bound_with, in_use, seen}
+use Rattle.vfs_server.specs.Holding.{HoldsAt, bound_to, if_at, living_at, named_by, named_in}
+use Rattle.vfs_server.specs.Servers.{Server, bound_with, in_use, named, seen}
 use Rattle.vfs_server.specs.Serving.{Serves}
 use Rattle.vfs_session.specs.Steps.{answered_in, bound_in}
 
@@ -58,17 +61,22 @@ pub record HoldsNumber (view : View) (index : ℕ) (server : Server) : Type 0 wh
   pub bound : (endpoint : ℕ) → seen server endpoint ≡ if_at index (at_in view endpoint)
   pub count : in_use server ≡ length (living_at view index)
   pub watchers : server.watchers ≡ filter (λ bound. is_watcher bound.birth.protocol) (living_at view index)
+  pub tokens : (token : ℕ) → named server token ≡ named_in view index token
   pub tree : StandsFor server.graph (tree_at view.trees index)
   pub holds : (number : ℕ) → holds_at server.graph number ≡ bound_to view index number + named_by view index number
 
 pub by_number : (view : View) (server : Server) (index : ℕ) → server.index ≡ index → HoldsAt view server → HoldsNumber view index server
 by_number view server index e h =
-    subst (λ (n : ℕ). HoldsNumber view n server) e (record { bound = h.bound; count = h.count; watchers = h.watchers; tree = h.tree; holds = h.holds })
+    subst (λ (n : ℕ). HoldsNumber view n server) e (record { bound = h.bound; count = h.count; watchers = h.watchers; tokens = h.tokens; tree = h.tree; holds = h.holds })
 
 pub by_index : (view : View) (server : Server) (index : ℕ) → server.index ≡ index → HoldsNumber view index server → HoldsAt view server
 by_index view server index e h =
     let same : HoldsNumber view server.index server = subst (λ (n : ℕ). HoldsNumber view n server) (sym e) h in
-    record { bound = same.bound; count = same.count; watchers = same.watchers; tree = same.tree; holds = same.holds }
+    record { bound = same.bound; count = same.count; watchers = same.watchers; tokens = same.tokens; tree = same.tree; holds = same.holds }
+
+-- the same tokens name the same directories
+pub same_named : (one now : Server) → now.tokens ≡ one.tokens → (token : ℕ) → named now token ≡ named one token
+same_named one now e token = ap (λ (m : finite.FinMap nat_cmp NodeRef). option_map number_of (finite.get m token)) e
 
 -- ---- positions that move
 
@@ -124,6 +132,7 @@ answered_here view one now index moment outcome fate out before after' h at with
       bound = λ n. s.bound n ∙ ap (option_map (moved k outcome.position)) (h.bound n) ∙ sym (if_at_moved k outcome.position index (at_in view n)) ∙ ap (if_at index) (sym (moved_found k outcome.position n view.living));
       count = s.count ∙ h.count ∙ ap (λ (bs : List Bound). length (filter (λ b. b.server == index) bs)) (sym same);
       watchers = s.watchers ∙ h.watchers ∙ ap (λ (bs : List Bound). filter (λ b. is_watcher b.birth.protocol) (filter (λ b. b.server == index) bs)) (sym same);
+      tokens = λ token. same_named one now s.tokens token ∙ h.tokens token;
       tree =
           let grown : StandsFor now.graph (after (tree_at view.trees index) outcome.change) = s.tree (tree_at view.trees index) h.tree in
           subst (StandsFor now.graph)
@@ -140,6 +149,7 @@ answered_there view one index k pair outcome h found apart else_where =
       bound = λ n. h.bound n ∙ unmoved n (at_in view n) refl ∙ sym (if_at_moved k outcome.position index (at_in view n)) ∙ ap (if_at index) (sym (moved_found k outcome.position n view.living));
       count = h.count ∙ ap (λ (bs : List Bound). length (filter (λ b. b.server == index) bs)) (sym same);
       watchers = h.watchers ∙ ap (λ (bs : List Bound). filter (λ b. is_watcher b.birth.protocol) (filter (λ b. b.server == index) bs)) (sym same);
+      tokens = h.tokens;
       tree = subst (StandsFor one.graph) (sym (get_or-set_other view.trees outcome.server index (after (tree_at view.trees outcome.server) outcome.change) bare_tree (λ e. else_where (sym e)))) h.tree;
       holds = λ number. h.holds number ∙ ap (λ (bs : List Bound). count_by (λ b. b.birth.node == number) (filter (λ b. b.server == index) bs) + named_by view index number) (sym same);
     } where
@@ -190,6 +200,7 @@ bound_here view one now index endpoint birth h at free speaks s =
           ∙ filter-append (λ (x : Bound). is_watcher x.birth.protocol) (living_at view index) (b ∷ [])
           ∙ ap (λ (t : Bool). filter (λ (x : Bound). is_watcher x.birth.protocol) (living_at view index) ++ cond t (b ∷ []) []) speaks
           ∙ append-nil (filter (λ (x : Bound). is_watcher x.birth.protocol) (living_at view index)));
+      tokens = λ token. same_named one now s.tokens token ∙ h.tokens token;
       tree = s.tree (tree_at view.trees index) h.tree;
       holds = λ number.
           let a = s.holds number in
@@ -233,6 +244,7 @@ bound_there view one index b h apart =
       bound = λ n. h.bound n ∙ by_found n (at_in view n) (b.endpoint == n) ∙ sym (ap (if_at index) (at_more view b n));
       count = h.count ∙ ap length (sym none_more);
       watchers = h.watchers ∙ ap (filter (λ (x : Bound). is_watcher x.birth.protocol)) (sym none_more);
+      tokens = h.tokens;
       tree = h.tree;
       holds = λ number. h.holds number ∙ ap (λ (bs : List Bound). count_by (λ (x : Bound). x.birth.node == number) bs + named_by view index number) (sym none_more);
     } where

@@ -13,7 +13,7 @@ use Rattle.vfs_server.specs.Effects.{Effects, effects_of, effects_told}
 use Rattle.vfs_server.specs.declared.fate.Fate.{Fate}
 use Rattle.vfs_server.specs.declared.fate.Fate.TheVariants as fates
 use Rattle.vfs_server.specs.Servers.{bound_with}
-use Rattle.vfs_session.specs.Steps.{end_told, first_told, is_it, settled_told}
+use Rattle.vfs_session.specs.Steps.{end_told, first_told, given_told, is_it, settled_told}
 
 -- what is bound at a server, and what goes on
 abbrev pub bound_told : ℕ → Fate → Option Bound
@@ -30,7 +30,7 @@ pub record Tells (outcome : Outcome) (endpoint server : ℕ) (fate : Fate) (out 
   pub settled : (n : ℕ) → is_settled outcome n ≡ is_it (settled_told endpoint fate) n
   pub bound : outcome.bound ≡ bound_told server fate
   pub forward : outcome.forward ≡ forward_told fate out
-  pub token : outcome.token ≡ None
+  pub token : outcome.token ≡ given_told endpoint server fate
 
 or_none : (b : Bool) → (b || false) ≡ b
 or_none true = refl
@@ -75,6 +75,13 @@ tells outcome endpoint server (fates.Refuses object) out e = record {
 tells outcome endpoint server (fates.Forwards mount object) out e = record {
   ends = ap (λ f. f.ends) e;
   settled = by_parts outcome None [] (Some (record { endpoint = end_of_mount mount; bytes = out.bytes; object = object })) (ap (λ f. f.bound) e) (ap (λ f. f.ends) e) (ap (λ f. f.forward) e);
+  bound = ap (λ f. f.bound) e;
+  forward = ap (λ f. f.forward) e;
+  token = ap (λ f. f.token) e;
+}
+tells outcome endpoint server (fates.Gives token directory) out e = record {
+  ends = ap (λ f. f.ends) e;
+  settled = by_parts outcome None [] None (ap (λ f. f.bound) e) (ap (λ f. f.ends) e) (ap (λ f. f.forward) e);
   bound = ap (λ f. f.bound) e;
   forward = ap (λ f. f.forward) e;
   token = ap (λ f. f.token) e;

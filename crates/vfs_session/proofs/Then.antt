@@ -1,8 +1,9 @@
 -- What a world holds behind a serving is the view behind it.
-use Rattle.std.proofs.Common.{◌≡◌, ◌≢◌, ℕ, zero, suc, ◌+◌, ◌==◌, Bool, true, false, not, is_some, if◌then◌else◌, List, [], ◌∷◌, ◌++◌, map, All, Contains, find, get_or, option_to_list, Option, Some, None, set, append-nil, append_assoc, refl, sym, ap, ◌∙◌, subst, arith}
+use Rattle.std.proofs.Common.{◌≡◌, ◌≢◌, ℕ, zero, suc, ◌+◌, ◌==◌, ◌&&◌, Bool, true, false, not, is_some, if◌then◌else◌, List, [], ◌∷◌, ◌++◌, map, All, Contains, find, get_or, option_to_list, Option, Some, None, set, append-nil, append_assoc, refl, sym, ap, ◌∙◌, subst, arith}
 use Rattle.std.specs.Prelude.{slice_get}
 use Rattle.std.specs.Option.{option_map, option_map_or}
-use Rattle.std.proofs.lemmas.Bool.{eqb-true, eq-eqb, true≢false}
+use Rattle.std.specs.List.{list_any}
+use Rattle.std.proofs.lemmas.Bool.{eqb-true, eq-eqb, or_right, true≢false}
 use Rattle.std.proofs.lemmas.Grind.{flat_map-append}
 use Rattle.std.proofs.lemmas.List.Elements.{All-cons, All-nil, All-weaker, All-contains_itself, filter_agree}
 use Rattle.endpoint_link.specs.Frames.{Frame, spelling, spellings}
@@ -11,20 +12,22 @@ use Rattle.fidl_wire.specs.Written.{Written}
 use Rattle.io_messages.specs.declared.protocols.Protocol.{Protocol}
 use Rattle.io_messages.specs.declared.protocols.Protocol.TheVariants as protocol
 use Rattle.node_graph.specs.declared.nodes.NodeKind.{NodeKind}
+use Rattle.node_graph.specs.Graph.{number_of}
 use Rattle.tree_file.specs.Numbering.{end_of_mount}
 use Rattle.conn_rules.specs.declared.births.Birth as code
 use Rattle.conn_rules.specs.Births.{Position, fresh}
 use Rattle.conn_rules.specs.Built.{Built, today}
 use Rattle.conn_rules.specs.Shared.{is_spoken_at}
-use Rattle.vfs_journal.specs.Entries.{Sent, serves}
+use Rattle.vfs_journal.specs.Entries.{Sent, handles_of, serves}
 use Rattle.vfs_journal.specs.Fit.{IsFit}
 use Rattle.vfs_journal.specs.History.{Event, is_watcher}
 use Rattle.vfs_journal.specs.Outcomes.{Forwarded, Given, Outcome, close_frame, no_outcome}
 use Rattle.vfs_journal.specs.Output.{close_frames, rising}
 use Rattle.vfs_journal.specs.Serving.{outcome_of_sending}
 use Rattle.vfs_journal.specs.Starts.{Bound}
-use Rattle.vfs_journal.specs.View.{View, at_in, bounds_in, deaths_in, event_in, frames_in, head_in, moment_in, moved, next_token_in, onward_in, outcome_in, serving_in, then_in}
-use Rattle.journal_laws.proofs.Among.{carrier_travels}
+use Rattle.vfs_journal.specs.View.{View, at_in, bounds_in, deaths_in, event_in, frames_in, head_in, is_held_in, is_out_in, moment_in, moved, next_token_in, onward_in, outcome_in, serving_in, then_in}
+use Rattle.journal_laws.specs.Knowing.{spent_in}
+use Rattle.journal_laws.proofs.Among.{carrier_travels, passes_any}
 use Rattle.journal_laws.proofs.Dying.{told_by_members}
 use Rattle.journal_laws.proofs.Lists.{eqb_sym, pairs-append, pairs-map}
 use Rattle.journal_laws.proofs.LookedUp.{is_first}
@@ -35,8 +38,9 @@ use Rattle.vfs_server.specs.declared.fate.Fate.TheVariants as fates
 use Rattle.vfs_server.specs.Servers.{Server, bound_with}
 use Rattle.vfs_server.specs.Serving.{Serves, frames_here}
 use Rattle.vfs_session.specs.Holding.{HoldsEach}
-use Rattle.vfs_session.specs.Steps.{Answers, BindsTold, SendsOn, answered_in, bound_in, closed_for, end_told, onward_told, without_in}
-use Rattle.vfs_session.proofs.EachServer.{AreNumbered, each_answered, each_bound, each_same, each_unbound, indexed, numbered}
+use Rattle.vfs_session.specs.Steps.{Answers, BindsTold, ForgetsAll, SendsOn, answered_in, bound_in, closed_for, end_told, given_in, given_told, onward_told, without_in}
+use Rattle.vfs_session.proofs.EachServer.{AreNumbered, each_answered, each_bound, each_forgotten, each_given, each_unbound, each_ungiven, indexed, numbered}
+use Rattle.vfs_session.proofs.Leaving.{new_token, out_then, tokens_rise}
 use Rattle.vfs_session.proofs.Moments.{IsOn, frames_same, is_moment, sending_on}
 use Rattle.vfs_session.proofs.QueueSteps.{BindsOne, SendsOne}
 use Rattle.vfs_session.proofs.ServerSteps.{Apart, Living, found_name, moved_found}
@@ -98,15 +102,29 @@ set_there [] i one now e = absurd (cc)
 set_there (x ∷ xs) zero one now e = refl
 set_there (x ∷ xs) (suc i) one now e = set_there xs i one now e
 
-each_told : (view : View) (servers new : List Server) (q1 q2 : Queues) (i : ℕ) (now : Server) (fate : Fate) → AreNumbered view servers → slice_get servers i ≡ Some now → BindsTold i fate servers q1 new q2 →
-    ((b : Bound) → bound_told i fate ≡ Some b → at_in view b.endpoint ≡ None) → ((object : ℕ) (birth : code.Birth) → fate ≡ fates.Binds object birth → is_watcher birth.protocol ≡ false) → AreNumbered (bound_in view (bound_told i fate)) new
-each_told view servers new q1 q2 i now (fates.Binds object birth) h there binds free speaks =
+-- what the fate binds, and the token that it gives
+abbrev told_in : View → ℕ → ℕ → Fate → View
+told_in view endpoint server fate = given_in (bound_in view (bound_told server fate)) (given_told endpoint server fate)
+
+same_told : (view : View) (servers new : List Server) → AreNumbered view servers → new ≡ servers → AreNumbered (given_in (bound_in view None) None) new
+same_told view servers new h same = subst (AreNumbered (given_in (bound_in view None) None)) (sym same) (each_ungiven (bound_in view None) servers (each_unbound view servers h))
+
+each_told : (view : View) (servers new : List Server) (q1 q2 : Queues) (endpoint i : ℕ) (now : Server) (fate : Fate) → AreNumbered view servers → slice_get servers i ≡ Some now → BindsTold i fate servers q1 new q2 →
+    ((b : Bound) → bound_told i fate ≡ Some b → at_in view b.endpoint ≡ None) → ((object : ℕ) (birth : code.Birth) → fate ≡ fates.Binds object birth → is_watcher birth.protocol ≡ false) →
+    ((one other : Given) → given_told endpoint i fate ≡ Some one → Contains view.given other → other.token ≢ one.token) → AreNumbered (told_in view endpoint i fate) new
+each_told view servers new q1 q2 endpoint i now (fates.Binds object birth) h there binds free speaks fresh' =
     let b = binds.0 now there in
-    subst (AreNumbered (bound_in view (Some (bound_with i object birth)))) (sym b.1) (each_bound view servers i object now b.0 birth h there (free (bound_with i object birth) refl) (speaks object birth refl) b.2)
-each_told view servers new q1 q2 i now fates.Stays h there binds free speaks = subst (AreNumbered (bound_in view None)) (sym binds.0) (each_unbound view servers h)
-each_told view servers new q1 q2 i now fates.Ends h there binds free speaks = subst (AreNumbered (bound_in view None)) (sym binds.0) (each_unbound view servers h)
-each_told view servers new q1 q2 i now (fates.Refuses object) h there binds free speaks = subst (AreNumbered (bound_in view None)) (sym binds.0) (each_unbound view servers h)
-each_told view servers new q1 q2 i now (fates.Forwards mount object) h there binds free speaks = subst (AreNumbered (bound_in view None)) (sym binds.0) (each_unbound view servers h)
+    each_ungiven (bound_in view (Some (bound_with i object birth))) new
+    (subst (AreNumbered (bound_in view (Some (bound_with i object birth)))) (sym b.1) (each_bound view servers i object now b.0 birth h there (free (bound_with i object birth) refl) (speaks object birth refl) b.2))
+each_told view servers new q1 q2 endpoint i now (fates.Gives token directory) h there binds free speaks fresh' =
+    let b = binds.0 now there in
+    let one : Given = record { token = token; endpoint = endpoint; server = i; node = number_of directory } in
+    subst (AreNumbered (given_in (bound_in view None) (Some one))) (sym b.1)
+    (each_given (bound_in view None) servers i now b.0 one directory (each_unbound view servers h) there (λ other c. fresh' one other refl c) refl refl b.2)
+each_told view servers new q1 q2 endpoint i now fates.Stays h there binds free speaks fresh' = same_told view servers new h binds.0
+each_told view servers new q1 q2 endpoint i now fates.Ends h there binds free speaks fresh' = same_told view servers new h binds.0
+each_told view servers new q1 q2 endpoint i now (fates.Refuses object) h there binds free speaks fresh' = same_told view servers new h binds.0
+each_told view servers new q1 q2 endpoint i now (fates.Forwards mount object) h there binds free speaks fresh' = same_told view servers new h binds.0
 
 same_queues : (q1 q2 : Queues) → q2 ≡ q1 → BindsOne q1 None q2
 same_queues q1 q2 e = record { waiting = λ n. ap (λ (q : Queues). queue_of q n) e; bound = λ n. ap (λ (q : Queues). server_of q n) e; those = ap (λ (q : Queues). q.servers) e }
@@ -121,6 +139,7 @@ binds_one i fates.Stays servers new q1 q2 binds = same_queues q1 q2 binds.1
 binds_one i fates.Ends servers new q1 q2 binds = same_queues q1 q2 binds.1
 binds_one i (fates.Refuses object) servers new q1 q2 binds = same_queues q1 q2 binds.1
 binds_one i (fates.Forwards mount object) servers new q1 q2 binds = same_queues q1 q2 binds.1
+binds_one i (fates.Gives token directory) servers new q1 q2 binds = same_queues q1 q2 binds.1
 
 -- ---- what goes on
 
@@ -152,6 +171,7 @@ sends_one view sent fates.Stays out q3 q4 sends = none_sent view sent q3 q4 send
 sends_one view sent fates.Ends out q3 q4 sends = none_sent view sent q3 q4 sends
 sends_one view sent (fates.Binds object birth) out q3 q4 sends = none_sent view sent q3 q4 sends
 sends_one view sent (fates.Refuses object) out q3 q4 sends = none_sent view sent q3 q4 sends
+sends_one view sent (fates.Gives token directory) out q3 q4 sends = none_sent view sent q3 q4 sends
 
 -- ---- the whole
 
@@ -172,11 +192,16 @@ pub record Begun (view : View) (sent : Sent) (pair : Bound × Position) (servers
   pub built : view.built ≡ today
   pub fit : IsFit view
   pub first : head_in view sent.endpoint ≡ Some sent
-  pub none : view.given ≡ []
   pub found : at_in view sent.endpoint ≡ Some pair
   pub held : AreNumbered view servers
   pub there : slice_get servers pair.0.server ≡ Some one
   pub next : token ≡ next_token_in view
+
+-- whatever waits next carries what is out
+pub handles_are_out : (view : View) (sent : Sent) → head_in view sent.endpoint ≡ Some sent → (number : ℕ) → among number (handles_of sent.sending) ≡ true → is_out_in view number ≡ true
+handles_are_out view sent first number carried =
+    or_right (is_held_in view number) (list_any (λ (one : Sent). among number (handles_of one.sending)) view.waiting)
+    (passes_any (λ (one : Sent). among number (handles_of one.sending)) view.waiting sent (is_first view sent first).waits carried)
 
 -- what was answered
 pub record Told (view : View) (sent : Sent) (pair : Bound × Position) (servers : List Server) (one : Server) (fate : Fate) (out : Written) (new : List Server) (before after : List ℕ) : Type 0 where
@@ -194,7 +219,7 @@ told view sent pair servers one token fate out new before after b answers =
     let i = pair.0.server in
     let name : pair.0.endpoint ≡ sent.endpoint = found_name sent.endpoint view.living pair b.found in
     let o_is = outcome_is view sent pair b.built b.found in
-    let a = answers one m b.there (is_moment view one sent.endpoint pair token (b.held.each i one b.there) b.found b.next) in
+    let a = answers one m b.there (is_moment view one sent.endpoint pair token (handles_of sent.sending) (b.held.each i one b.there) b.found b.next (handles_are_out view sent b.first)) in
     let serves : Serves m (outcome_in view sent) fate out one a.0 before after = subst (λ (o : Outcome). Serves m o fate out one a.0 before after) (sym o_is) a.2 in
     let on : (outcome_in view sent).server ≡ i = ap (λ (o : Outcome). o.server) o_is ∙ (sending_on today m sent.sending).server in
     record {
@@ -209,28 +234,30 @@ told view sent pair servers one token fate out new before after b answers =
     }
 
 -- what the servers hold behind the whole
-pub servers_then : (view : View) (sent : Sent) (pair : Bound × Position) (s0 s1 s2 s3 : List Server) (q1 q2 : Queues) (one : Server) (token : Option ℕ) (fate : Fate) (out : Written) (dead : List ℕ) (before after : List ℕ) →
+pub servers_then : (view : View) (sent : Sent) (pair : Bound × Position) (s0 s1 s2 s3 s4 : List Server) (q1 q2 : Queues) (one : Server) (token : Option ℕ) (fate : Fate) (out : Written) (dead spent : List ℕ) (before after : List ℕ) →
     Begun view sent pair s0 one token → Told view sent pair s0 one fate out s1 before after → BindsTold pair.0.server fate s1 q1 s2 q2 →
-    ((v : View) → Apart v.living → HoldsEach v s2 → HoldsEach (without_in v dead) s3) → ((endpoint : ℕ) → among endpoint dead ≡ among endpoint (deaths_in view sent)) → HoldsEach (then_in view sent) s3
-servers_then view sent pair s0 s1 s2 s3 q1 q2 one token fate out dead before after b t binds goes same =
+    ((v : View) → Apart v.living → HoldsEach v s2 → HoldsEach (without_in v dead) s3) → ForgetsAll s3 spent s4 → ((endpoint : ℕ) → among endpoint dead ≡ among endpoint (deaths_in view sent)) →
+    ((number : ℕ) → among number spent ≡ among number (spent_in view sent)) → HoldsEach (then_in view sent) s4
+servers_then view sent pair s0 s1 s2 s3 s4 q1 q2 one token fate out dead spent before after b t binds goes forgets same spent_same =
     let i = pair.0.server in
     let o = outcome_in view sent in
     let v1 = answered_in view sent.endpoint o in
-    let v2 = bound_in v1 o.bound in
+    let v2 = given_in (bound_in v1 o.bound) o.token in
     let free1 : (x : Bound) → o.bound ≡ Some x → at_in v1 x.endpoint ≡ None =
     (λ x e. moved_found sent.endpoint o.position x.endpoint view.living ∙ ap (option_map (moved sent.endpoint o.position)) (new_free view sent b.fit b.first x e)) in
     let h2 : AreNumbered v2 s2 =
-    subst (λ (x : Option Bound). AreNumbered (bound_in v1 x) s2) (sym t.tells.bound)
-    (each_told v1 s1 s2 q1 q2 i t.now fate t.held t.there binds (λ x e. free1 x (t.tells.bound ∙ e)) (λ object birth e. no_watcher birth.protocol _ (t.serves.has_place object birth e).node.spoken)) in
+    subst (λ (x : Option Given). AreNumbered (given_in (bound_in v1 o.bound) x) s2) (sym t.tells.token)
+    (subst (λ (x : Option Bound). AreNumbered (given_in (bound_in v1 x) (given_told sent.endpoint i fate)) s2) (sym t.tells.bound)
+    (each_told v1 s1 s2 q1 q2 sent.endpoint i t.now fate t.held t.there binds (λ x e. free1 x (t.tells.bound ∙ e)) (λ object birth e. no_watcher birth.protocol _ (t.serves.has_place object birth e).node.spoken)
+    (λ new other e c. new_token view sent b.fit b.first new other (t.tells.token ∙ e) c))) in
     let h3 = goes v2 (apart_more v1.living o.bound (apart_moved sent.endpoint o.position view.living b.fit.apart) free1) (indexed v2 s2 h2) in
     let mid = serving_in view sent (event_in view sent) in
-    indexed (then_in view sent) s3
-    (each_same (without_in v2 dead) (then_in view sent) s3
-    (filter_agree (λ (p : Bound × Position). not (among p.0.endpoint dead)) (λ p. not (among p.0.endpoint (deaths_in view sent))) (λ p. ap not (same p.0.endpoint)) v2.living ∙ sym (onward_living mid sent o.forward))
-    (sym (onward_trees mid sent o.forward))
-    b.none
-    (onward_given mid sent o.forward ∙ ap (λ (g : List Given). g ++ option_to_list o.token) b.none ∙ ap option_to_list t.tells.token)
-    (numbered (without_in v2 dead) s3 h3))
+    indexed (then_in view sent) s4
+    (each_forgotten (without_in v2 dead) (then_in view sent) spent s3 s4 (tokens_rise view sent b.fit b.first) (numbered (without_in v2 dead) s3 h3) forgets
+    (onward_living mid sent o.forward ∙ filter_agree (λ (p : Bound × Position). not (among p.0.endpoint (deaths_in view sent))) (λ p. not (among p.0.endpoint dead)) (λ p. ap not (sym (same p.0.endpoint))) v2.living)
+    (onward_trees mid sent o.forward)
+    (onward_given mid sent o.forward)
+    (λ new c. ap (λ (b : Bool). not b && is_out_in v2 new.token) (spent_same new.token) ∙ out_then view sent b.fit b.first new c))
 
 -- what is written
 pub frames_then : (view : View) (sent : Sent) (pair : Bound × Position) (s0 s1 : List Server) (one : Server) (token : Option ℕ) (fate : Fate) (out : Written) (dead : List ℕ) (before between after : List ℕ) →

@@ -2,15 +2,15 @@
 use Rattle.std.specs.Prelude.{◌≡◌, ◌≤◌, ◌+◌, ◌-◌, ◌++◌, ℕ, List, drop, fold, Some}
 use Rattle.fidl_wire.specs.Written.{Written}
 use Rattle.endpoint_link.specs.Frames.{spellings}
-use Rattle.endpoint_link.specs.Standings.{ended, next_token_of}
+use Rattle.endpoint_link.specs.Standings.{ended, gone, next_token_of}
 use Rattle.vfs_journal.specs.Entries.{Sent}
 use Rattle.vfs_journal.specs.View.{View}
-use Rattle.message_queues.specs.Dying.{AreDeaths, Buries}
+use Rattle.message_queues.specs.Dying.{AreDeaths, Buries, tokens_on}
 use Rattle.message_queues.specs.Queues.{Queues, Requeues, count, head_of, queue_of, server_of}
 use Rattle.vfs_server.specs.declared.fate.Fate.{Fate}
 use Rattle.vfs_server.specs.Servers.{Server}
 use Rattle.vfs_session.specs.Holding.{HoldsEach}
-use Rattle.vfs_session.specs.Steps.{Answers, AreApart, BindsTold, SendsOn, closed_for, end_told, first_told, is_sent_on, without_in}
+use Rattle.vfs_session.specs.Steps.{Answers, AreApart, BindsTold, ForgetsAll, SendsOn, closed_for, end_told, first_told, is_sent_on, known_told, spent_told, without_in}
 use Rattle.vfs_session.specs.World.{World}
 
 -- the first entry of an endpoint is answered at its server and taken, and what its fate binds is bound
@@ -26,25 +26,29 @@ pub record TakesHead (old : World) (endpoint server : ℕ) (sent : Sent) (fate :
   pub known : new.known ≡ record old.known { waiting = old.known.waiting - 1 }
   pub places : new.places ≡ old.places
 
--- whoever dies is buried and closed
-pub record LetsDie (old : World) (sent : Sent) (fate : Fate) (new : World) (before after : List ℕ) : Type 0 where
+-- whoever dies is buried and closed, and these tokens were carried by what waited on them
+pub record LetsDie (old : World) (sent : Sent) (fate : Fate) (dropped : List ℕ) (new : World) (before after : List ℕ) : Type 0 where
   pub dead : List ℕ
   pub died : AreDeaths old.queues (first_told sent fate) dead
   pub buried : Buries old.queues dead new.queues
+  pub tokens : dropped ≡ tokens_on old.queues dead
   pub goes : (view : View) → AreApart view.living → HoldsEach view old.servers → HoldsEach (without_in view dead) new.servers
   pub closed : after ≡ before ++ spellings (closed_for (end_told sent.endpoint fate) dead)
   pub known : new.known ≡ record (fold ended old.known dead) { waiting = count new.queues }
   pub count : count new.queues ≤ count old.queues
   pub places : new.places ≡ old.places
 
--- whoever dies is buried and closed, what goes on is sent, and what is known and how many places are taken follows
+-- whoever dies is buried and closed, the tokens that are spent are forgotten, what goes on is sent, and what is known and how many places
+-- are taken follows
 pub record SettlesHead (old : World) (sent : Sent) (fate : Fate) (out : Written) (new : World) (before after : List ℕ) : Type 0 where
   pub dead : List ℕ
   pub left : Queues
+  pub those : List Server
   pub died : AreDeaths old.queues (first_told sent fate) dead
   pub buried : Buries old.queues dead left
-  pub goes : (view : View) → AreApart view.living → HoldsEach view old.servers → HoldsEach (without_in view dead) new.servers
+  pub goes : (view : View) → AreApart view.living → HoldsEach view old.servers → HoldsEach (without_in view dead) those
+  pub forgets : ForgetsAll those (spent_told sent old.queues dead) new.servers
   pub closed : after ≡ before ++ spellings (closed_for (end_told sent.endpoint fate) dead)
   pub sends : SendsOn (old.places + 1) sent.place fate out left new.queues
-  pub known : new.known ≡ record (fold ended old.known dead) { waiting = count new.queues }
+  pub known : new.known ≡ record (known_told fate (fold gone (fold ended old.known dead) (spent_told sent old.queues dead))) { waiting = count new.queues }
   pub places : new.places ≡ old.places + 1 + is_sent_on fate

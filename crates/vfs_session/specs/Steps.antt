@@ -1,27 +1,33 @@
 -- Words of the steps of a world. No public clause needs these.
-use Rattle.std.specs.Prelude.{◌≡◌, ◌≢◌, AllPairs, ℕ, ◌+◌, ◌≤◌, ◌==◌, Bool, false, not, List, [], ◌∷◌, ◌++◌, map, filter, option_to_list, Option, Some, None, slice_get, slice_set}
+use Rattle.std.specs.Prelude.{◌≡◌, ◌≢◌, AllPairs, ℕ, ◌+◌, ◌<◌, ◌≤◌, ◌==◌, Bool, false, not, List, [], ◌∷◌, ◌++◌, length, map, filter, option_to_list, Option, Some, None, slice_get, slice_set}
+use Rattle.std.specs.FinMap as finite
 use Rattle.std.specs.Option.{option_map_or}
+use Rattle.fidl_names.specs.declared.limits.TheConstants as limit
 use Rattle.fidl_wire.specs.Names.{AreDistinct}
 use Rattle.fidl_wire.specs.Written.{Written}
 use Rattle.endpoint_link.specs.Frames.{Frame}
 use Rattle.endpoint_link.specs.Numbering.{among}
+use Rattle.endpoint_link.specs.Standings.{Known, given, gone}
 use Rattle.tree_file.specs.Numbering.{end_of_mount}
 use Rattle.conn_rules.specs.Births.{Position, fresh}
 use Rattle.conn_rules.specs.Built.{today}
-use Rattle.vfs_journal.specs.Entries.{Journal, Sent, endpoints_in, message}
+use Rattle.node_graph.specs.declared.nodes.NodeRef.{NodeRef}
+use Rattle.node_graph.specs.Graph.{number_of}
+use Rattle.vfs_journal.specs.Entries.{Journal, Sent, endpoints_in, handles_of, message, tokens_in}
 use Rattle.vfs_journal.specs.History.{changed}
-use Rattle.vfs_journal.specs.Outcomes.{Outcome, close_frame}
+use Rattle.vfs_journal.specs.Outcomes.{Given, Outcome, close_frame}
 use Rattle.vfs_journal.specs.Output.{rising}
 use Rattle.vfs_journal.specs.Serving.{Moment, outcome_of_sending}
 use Rattle.vfs_journal.specs.Starts.{Bound, Start}
 use Rattle.vfs_journal.specs.View.{View, moved}
 use Rattle.journal_laws.specs.Viewing.{view_behind}
+use Rattle.message_queues.specs.Dying.{tokens_on}
 use Rattle.message_queues.specs.Queues.{Queues, Requeues, queue_of}
 use Rattle.message_queues.specs.Queues.{Binds as QueuesBind}
-use Rattle.vfs_server.specs.Binding.{Binds as ServerBinds}
+use Rattle.vfs_server.specs.Binding.{Binds as ServerBinds, Forgets, IsDirectory, NamesBy}
 use Rattle.vfs_server.specs.declared.fate.Fate.{Fate}
 use Rattle.vfs_server.specs.declared.fate.Fate.TheVariants as fates
-use Rattle.vfs_server.specs.Servers.{Server}
+use Rattle.vfs_server.specs.Servers.{Server, named}
 use Rattle.vfs_server.specs.Serving.{IsMomentOf, Serves}
 use Rattle.vfs_session.specs.Places.{places_left}
 use Rattle.vfs_session.specs.World.{StandsFor, World}
@@ -36,6 +42,10 @@ answered_in view endpoint outcome =
 -- what is bound is the newest
 abbrev pub bound_in : View → Option Bound → View
 bound_in view bound = record view { living = view.living ++ map (λ one. (one, fresh)) (option_to_list bound) }
+
+-- the clients hold the token that is given
+abbrev pub given_in : View → Option Given → View
+given_in view token = record view { given = view.given ++ option_to_list token; held = view.held ++ option_to_list token }
 
 -- these live no more
 abbrev pub without_in : View → List ℕ → View
@@ -59,18 +69,26 @@ pub record IsRunning (most : ℕ) (world : World) : Type 0 where
   pub stands : StandsFor start world journal
   pub few : (view_behind today start journal).places + places_left (view_behind today start journal) ≤ most
 
+-- a token that names nothing at a server can name a directory there
+pub record CanName (server : Server) (token : ℕ) (node : NodeRef) : Type 0 where
+  pub free : named server token ≡ None
+  pub directory : IsDirectory server.graph node
+  pub room : finite.len server.tokens < limit.MAX_TOKENS
+
 -- ---- what each step of a serving says, of the server at which the endpoint is bound
 
 -- the server does what the outcome of the entry says, and no other does anything
 abbrev pub Answers : List Server → ℕ → ℕ → Option ℕ → Sent → Fate → Written → List Server → List ℕ → List ℕ → Type 0
 Answers old at endpoint token sent fate out new before after =
-    (one : Server) (moment : Moment) → slice_get old at ≡ Some one → IsMomentOf one endpoint token moment →
+    (one : Server) (moment : Moment) → slice_get old at ≡ Some one → IsMomentOf one endpoint token (handles_of sent.sending) moment →
     (now : Server) × (new ≡ slice_set old at now) × Serves moment (outcome_of_sending today moment sent.sending) fate out one now before after
 
--- what the fate binds is bound, at the server and for what waits
+-- what the fate binds is bound, at the server and for what waits, and the token that it gives names its directory at the server
 abbrev pub BindsTold : ℕ → Fate → List Server → Queues → List Server → Queues → Type 0
 BindsTold at (fates.Binds object birth) old waiting new waits =
     ((one : Server) → slice_get old at ≡ Some one → (now : Server) × (new ≡ slice_set old at now) × ServerBinds one object birth now) × QueuesBind waiting object at waits
+BindsTold at (fates.Gives token directory) old waiting new waits =
+    ((one : Server) → slice_get old at ≡ Some one → (now : Server) × (new ≡ slice_set old at now) × NamesBy one token directory now) × (waits ≡ waiting)
 BindsTold at _ old waiting new waits = (new ≡ old) × (waits ≡ waiting)
 
 -- an Open that goes on, at a place, from the one at another
@@ -97,6 +115,7 @@ end_told endpoint fates.Ends = Some endpoint
 end_told endpoint (fates.Binds object birth) = None
 end_told endpoint (fates.Refuses object) = Some object
 end_told endpoint (fates.Forwards mount object) = None
+end_told endpoint (fates.Gives token directory) = None
 
 -- the endpoint with which something was done
 abbrev pub settled_told : ℕ → Fate → Option ℕ
@@ -105,6 +124,7 @@ settled_told endpoint fates.Ends = Some endpoint
 settled_told endpoint (fates.Binds object birth) = Some object
 settled_told endpoint (fates.Refuses object) = Some object
 settled_told endpoint (fates.Forwards mount object) = Some object
+settled_told endpoint (fates.Gives token directory) = None
 
 abbrev pub is_it : Option ℕ → ℕ → Bool
 is_it one number = option_map_or (λ it. it == number) one false
@@ -120,3 +140,35 @@ first_told sent fate = option_to_list (end_told sent.endpoint fate) ++ carried_b
 -- the Close frames for deaths beside the one that the answer closed
 abbrev pub closed_for : Option ℕ → List ℕ → List Frame
 closed_for one deaths = map close_frame (rising (filter (λ number. not (is_it one number)) deaths))
+
+-- ---- tokens
+
+-- the token that a fate gives, on the endpoint that was served at this server
+abbrev pub given_told : ℕ → ℕ → Fate → Option Given
+given_told endpoint server (fates.Gives token directory) =
+    Some (record { token = token; endpoint = endpoint; server = server; node = number_of directory })
+given_told endpoint server _ = None
+
+-- the tokens that are spent: those that the served entry carried, and those of what waited on whoever died
+abbrev pub spent_told : Sent → Queues → List ℕ → List ℕ
+spent_told sent queues dead = tokens_in sent ++ tokens_on queues dead
+
+-- every server has forgotten a token
+pub record ForgetsEach (old : List Server) (token : ℕ) (new : List Server) : Type 0 where
+  pub many : length new ≡ length old
+  pub each : (index : ℕ) (one now : Server) → slice_get old index ≡ Some one → slice_get new index ≡ Some now → Forgets one token now
+
+-- every server has forgotten these tokens, one after another
+abbrev pub ForgetsAll : List Server → List ℕ → List Server → Type 0
+ForgetsAll old [] new = new ≡ old
+ForgetsAll old (token ∷ tokens) new = (next : List Server) × (ForgetsEach old token next × ForgetsAll next tokens new)
+
+-- each of these tokens is known to be out, and not held, when it goes, one after another
+abbrev pub CanGo : Known → List ℕ → Type 0
+CanGo known [] = Unit {0}
+CanGo known (token ∷ tokens) = (finite.get known.tokens token ≡ Some false) × CanGo (gone known token) tokens
+
+-- what is known when the clients have the token that a fate gives
+abbrev pub known_told : Fate → Known → Known
+known_told (fates.Gives token directory) known = given known
+known_told _ known = known

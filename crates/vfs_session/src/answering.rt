@@ -1,6 +1,7 @@
 //! The serving of an entry at its server.
 
 ghost use Rattle.std.specs.Prelude.{◌≡◌, ◌<◌, ◌^◌, IfOk, Some, length, slice_get};
+ghost use Rattle.vfs_journal.specs.Entries.{handles_of};
 ghost use Rattle.vfs_journal.specs.Serving.{Moment};
 ghost use Rattle.vfs_server.specs.Servers.{Server};
 ghost use Rattle.vfs_server.specs.Serving.{IsMomentOf};
@@ -24,7 +25,7 @@ pub(crate) fn answer(
     outbox: &mut Outbox,
 ) -> Result<Fate, NoMemory>
     requires within { server < length servers.old.items }
-    requires bound { (one : Server) → slice_get servers.old.items server ≡ Some one → (moment : Moment) × IsMomentOf one endpoint token moment }
+    requires bound { (one : Server) → slice_get servers.old.items server ≡ Some one → (moment : Moment) × IsMomentOf one endpoint token (handles_of sent.now.sending) moment }
     requires made { (one : Server) → slice_get servers.old.items server ≡ Some one → one.graph.made < 2 ^ 63 }
     ensures answers { IfOk result (λ fate. Answers servers.old.items server endpoint token sent.now fate out.new servers.new.items outbox.old outbox.new) }
     ensures begins { Begins outbox.old outbox.new }

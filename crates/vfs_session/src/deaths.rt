@@ -15,7 +15,7 @@ pub(crate) fn end_told(endpoint: u32, fate: &Fate) -> Option<u32>
     match fate {
         Fate::Ends => Some(endpoint),
         Fate::Refuses { object } => Some(*object),
-        Fate::Stays | Fate::Binds { .. } | Fate::Forwards { .. } => None,
+        Fate::Stays | Fate::Binds { .. } | Fate::Forwards { .. } | Fate::Gives { .. } => None,
     }
 }
 
@@ -24,7 +24,7 @@ fn settled_told(endpoint: u32, fate: &Fate) -> Option<u32>
     ensures { result ≡ settled_told endpoint fate.now }
 {
     match fate {
-        Fate::Stays => None,
+        Fate::Stays | Fate::Gives { .. } => None,
         Fate::Ends => Some(endpoint),
         Fate::Binds { object, .. } | Fate::Refuses { object } | Fate::Forwards { object, .. } => {
             Some(*object)

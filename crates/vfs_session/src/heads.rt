@@ -8,11 +8,12 @@ ghost use Rattle.message_queues.specs.Queues.{IsAbove, IsReady, count};
 ghost use Rattle.vfs_session.specs.Heads.{LetsDie, SettlesHead, TakesHead};
 ghost use Rattle.vfs_session.specs.Running.{whole};
 ghost use Rattle.vfs_session.specs.Servings.{ServesOne};
-ghost use Rattle.vfs_session.specs.Steps.{Begins, IsRunning, first_told};
+ghost use Rattle.vfs_session.specs.Steps.{Begins, CanGo, IsRunning, first_told, spent_told};
 
 use crate::answering::answer;
 use crate::closing::close_others;
 use crate::deaths::{end_told, first_deaths};
+use crate::forgetting::{give, spend};
 use crate::session::Session;
 use crate::settling::{bind, bury, send_on};
 use endpoint_link::Outbox;
@@ -59,9 +60,11 @@ impl Session {
         Ok((sent, fate))
     }
 
-    /// Lets whoever dies of a serving die, and sends on what goes on.
+    /// Lets whoever dies of a serving die, forgets the tokens that are spent, gives the one that is given, and
+    /// sends on what goes on.
     fn settle_head(&mut self, sent: &Sent, fate: &Fate, outbox: &mut Outbox) -> Result<(), NoMemory>
         requires live { (dead : List ℕ) → AreDeaths self.old.queues (first_told sent.now fate.now) dead → All (λ endpoint. is_live (standing_of self.old.endpoints endpoint) ≡ true) dead }
+        requires out { (dead : List ℕ) → AreDeaths self.old.queues (first_told sent.now fate.now) dead → CanGo self.old.endpoints (spent_told sent.now self.old.queues dead) }
         requires counted { count self.old.queues ≡ self.old.endpoints.waiting }
         requires low { (mount object : ℕ) → fate.now ≡ Fate.Forwards mount object → mount < 2 ^ 30 }
         requires newest { IsAbove self.old.queues self.old.places }
@@ -70,7 +73,9 @@ impl Session {
         ensures settled { OnOk result (SettlesHead (whole self.old) sent.now fate.now self.old.out (whole self.new) outbox.old outbox.new) }
         ensures begins { Begins outbox.old outbox.new }
     {
-        self.let_die(sent, fate, outbox)?;
+        let dropped = self.let_die(sent, fate, outbox)?;
+        spend(&mut self.servers, &mut self.endpoints, sent, &dropped);
+        give(&mut self.endpoints, fate)?;
         let place = self.places + 1;
         let more = send_on(
             self.alloc,
@@ -85,26 +90,37 @@ impl Session {
         Ok(())
     }
 
-    /// Buries whoever dies of a serving, and closes them.
-    fn let_die(&mut self, sent: &Sent, fate: &Fate, outbox: &mut Outbox) -> Result<(), NoMemory>
+    /// Buries whoever dies of a serving, and closes them. Tells the tokens that what waited on them carried.
+    fn let_die(
+        &mut self,
+        sent: &Sent,
+        fate: &Fate,
+        outbox: &mut Outbox,
+    ) -> Result<Vec<u32>, NoMemory>
         requires live { (dead : List ℕ) → AreDeaths self.old.queues (first_told sent.now fate.now) dead → All (λ endpoint. is_live (standing_of self.old.endpoints endpoint) ≡ true) dead }
         requires counted { count self.old.queues ≡ self.old.endpoints.waiting }
-        ensures dead { OnOk result (LetsDie (whole self.old) sent.now fate.now (whole self.new) outbox.old outbox.new) }
+        ensures dead { IfOk result (λ dropped. LetsDie (whole self.old) sent.now fate.now dropped.items (whole self.new) outbox.old outbox.new) }
         ensures out { self.new.out ≡ self.old.out }
         ensures begins { Begins outbox.old outbox.new }
     {
         let dying = first_deaths(self.alloc, sent, fate)?;
         if dying.is_empty() {
-            return Ok(());
+            return Ok(Vec::new(self.alloc));
         }
-        let dead = bury(
+        let buried = bury(
             self.alloc,
             &mut self.servers,
             &mut self.queues,
             &mut self.endpoints,
             &dying,
         )?;
-        close_others(self.alloc, end_told(sent.endpoint, fate), &dead, outbox)
+        close_others(
+            self.alloc,
+            end_told(sent.endpoint, fate),
+            &buried.dead,
+            outbox,
+        )?;
+        Ok(buried.tokens)
     }
 
     /// Keeps the room that the bytes of a message took.

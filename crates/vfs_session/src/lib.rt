@@ -4,6 +4,7 @@
 mod answering;
 mod closing;
 mod deaths;
+mod forgetting;
 mod heads;
 mod laws;
 mod serving;

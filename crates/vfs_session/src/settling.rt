@@ -3,24 +3,26 @@
 ghost use Rattle.std.specs.Prelude.{◌≡◌, ◌≢◌, ◌≤◌, ◌<◌, ◌+◌, ◌-◌, ◌^◌, ◌++◌, ℕ, true, All, AllPairs, List, None, OnOk, OnErr, Some, fold, length, slice_get, IfOk};
 ghost use Rattle.fidl_names.specs.declared.limits.TheConstants as limit;
 ghost use Rattle.endpoint_link.specs.Standings.{ended, is_live, standing_of};
+ghost use Rattle.node_graph.specs.declared.nodes.NodeRef as nodes;
 ghost use Rattle.conn_rules.specs.declared.births.Birth as code;
 ghost use Rattle.vfs_journal.specs.View.{View};
-ghost use Rattle.message_queues.specs.Dying.{AreDeaths, Buries};
+ghost use Rattle.message_queues.specs.Dying.{AreDeaths, Buries, tokens_on};
 ghost use Rattle.message_queues.specs.Queues.{IsAbove, count, server_of};
 ghost use Rattle.vfs_server.specs.Binding.{HasPlace};
 ghost use Rattle.vfs_server.specs.Holding.{HoldsAt};
 ghost use Rattle.vfs_server.specs.Servers.{Server, seen};
 ghost use Rattle.vfs_session.specs.Holding.{HoldsEach};
-ghost use Rattle.vfs_session.specs.Steps.{AreApart, BindsTold, SendsOn, is_sent_on, without_in};
+ghost use Rattle.vfs_session.specs.Steps.{AreApart, BindsTold, CanName, SendsOn, is_sent_on, without_in};
 
 use endpoint_link::Endpoints;
 use fidl_names::{FIRST_MOUNT_END, MAX_WAITING, NoMemory};
 use fidl_wire::Out;
-use message_queues::{Parcel, Queues, Sent};
+use message_queues::{Buried, Parcel, Queues, Sent};
 use std::alloc::Global;
 use vfs_server::{Fate, Server};
 
-/// Binds what a fate binds, at a server and for what waits on it.
+/// Binds what a fate binds, at a server and for what waits on it, or lets the token that it gives name its
+/// directory there.
 pub(crate) fn bind(
     servers: &mut Vec<Server>,
     queues: &mut Queues,
@@ -32,16 +34,22 @@ pub(crate) fn bind(
     requires free { (object : ℕ) (birth : code.Birth) (one : Server) → fate.now ≡ Fate.Binds object birth → slice_get servers.old.items server ≡ Some one → seen one object ≡ None }
     requires place { (object : ℕ) (birth : code.Birth) (one : Server) → fate.now ≡ Fate.Binds object birth → slice_get servers.old.items server ≡ Some one → HasPlace one birth }
     requires unbound { (object : ℕ) (birth : code.Birth) → fate.now ≡ Fate.Binds object birth → server_of queues.old object ≡ None }
+    requires names { (token : ℕ) (directory : nodes.NodeRef) (one : Server) → fate.now ≡ Fate.Gives token directory → slice_get servers.old.items server ≡ Some one → CanName one token directory }
     ensures bound { OnOk result (BindsTold server fate.now servers.old.items queues.old servers.new.items queues.new) }
     ensures count { OnOk result (count queues.new ≡ count queues.old) }
 {
-    let Fate::Binds { object, birth } = fate else {
-        return Ok(());
-    };
-    let one = &mut servers[server as usize];
-    one.bind(*object, *birth)?;
-    queues.bind(*object, server)?;
-    Ok(())
+    match fate {
+        Fate::Binds { object, birth } => {
+            let one = &mut servers[server as usize];
+            one.bind(*object, *birth)?;
+            queues.bind(*object, server)
+        }
+        Fate::Gives { token, directory } => {
+            let one = &mut servers[server as usize];
+            one.give(*token, *directory)
+        }
+        Fate::Stays | Fate::Ends | Fate::Refuses { .. } | Fate::Forwards { .. } => Ok(()),
+    }
 }
 
 /// Lets these endpoints go where they are bound at a server.
@@ -78,28 +86,30 @@ fn end_all(endpoints: &mut Endpoints, dead: &[u32])
 }
 
 /// Buries endpoints and all that die with them: they are bound no more, what was sent on them waits no
-/// more, and they are known to be dead. Tells who died, each once.
+/// more, and they are known to be dead. Tells who died, each once, and the tokens that what was dropped
+/// carried.
 pub(crate) fn bury(
     alloc: Global,
     servers: &mut Vec<Server>,
     queues: &mut Queues,
     endpoints: &mut Endpoints,
     dying: &[u32],
-) -> Result<Vec<u32>, NoMemory>
+) -> Result<Buried, NoMemory>
     requires live { (dead : List ℕ) → AreDeaths queues.old dying.now dead → All (λ endpoint. is_live (standing_of endpoints.old endpoint) ≡ true) dead }
     requires counted { count queues.old ≡ endpoints.old.waiting }
-    ensures died { IfOk result (λ dead. AreDeaths queues.old dying.now dead.items) }
-    ensures buried { IfOk result (λ dead. Buries queues.old dead.items queues.new) }
-    ensures gone { (view : View) → AreApart view.living → HoldsEach view servers.old.items → IfOk result (λ dead. HoldsEach (without_in view dead.items) servers.new.items) }
-    ensures known { IfOk result (λ dead. endpoints.new ≡ record (fold ended endpoints.old dead.items) { waiting = count queues.new }) }
+    ensures died { IfOk result (λ buried. AreDeaths queues.old dying.now buried.dead.items) }
+    ensures buried { IfOk result (λ buried. Buries queues.old buried.dead.items queues.new) }
+    ensures tokens { IfOk result (λ buried. buried.tokens.items ≡ tokens_on queues.old buried.dead.items) }
+    ensures gone { (view : View) → AreApart view.living → HoldsEach view servers.old.items → IfOk result (λ buried. HoldsEach (without_in view buried.dead.items) servers.new.items) }
+    ensures known { IfOk result (λ buried. endpoints.new ≡ record (fold ended endpoints.old buried.dead.items) { waiting = count queues.new }) }
     ensures count { OnOk result (count queues.new ≤ count queues.old) }
 {
     let before = queues.len();
-    let dead = queues.bury(alloc, dying)?;
+    let buried = queues.bury(alloc, dying)?;
     endpoints.dropped(before - queues.len());
-    end_all(endpoints, &dead);
-    let_all_go(servers, &dead);
-    Ok(dead)
+    end_all(endpoints, &buried.dead);
+    let_all_go(servers, &buried.dead);
+    Ok(buried)
 }
 
 /// Sends an Open that goes on to its mount's end, at a place, and tells how many places that takes.

@@ -1,23 +1,49 @@
 use Rattle.std.proofs.Common.{◌∙◌, refl, sym, subst}
 use Rattle.std.specs.Prelude.{slice_set}
 use Rattle.std.proofs.lemmas.Option.{same_Some, slice_get_read}
-use Rattle.vfs_server.specs.Binding.{Binds}
+use Rattle.vfs_server.specs.Binding.{Binds, NamesBy}
 use Rattle.vfs_server.specs.declared.fate.Fate.{Fate}
 use Rattle.vfs_server.specs.Servers.{Server}
 use Rattle.vfs_session.specs.Steps.{BindsTold}
+use Rattle.vfs_session.proofs.Answered.{if_ok}
 use Rattle.vfs_session.proofs.settling.bind.Goals as goal
 
 pub bind-requires-clause-place : goal.bind-requires-clause-place
 bind-requires-clause-place c = c.requires.place _ _ _ c.in-Binds.is (slice_get_read _ _ _ _ refl c.requires.within c.index_mut-one.ensures.value)
 
-pub returns-clause-bound : goal.returns-clause-bound
-returns-clause-bound c =
-    subst (λ (f : Fate). BindsTold c.args.server f c.args.servers.now.items c.args.queues.now (slice_set c.args.servers.now.items c.args.server c.bind.new.self) c.bind-2.new.self) (sym c.in-Binds.is) (
+pub give-requires-clause-free : goal.give-requires-clause-free
+give-requires-clause-free c = (c.requires.names _ _ _ c.in-Gives.is (slice_get_read _ _ _ _ refl c.requires.within c.index_mut-one-in-Gives.ensures.value)).free
+
+pub give-requires-clause-directory : goal.give-requires-clause-directory
+give-requires-clause-directory c = (c.requires.names _ _ _ c.in-Gives.is (slice_get_read _ _ _ _ refl c.requires.within c.index_mut-one-in-Gives.ensures.value)).directory
+
+pub give-requires-clause-room : goal.give-requires-clause-room
+give-requires-clause-room c = (c.requires.names _ _ _ c.in-Gives.is (slice_get_read _ _ _ _ refl c.requires.within c.index_mut-one-in-Gives.ensures.value)).room
+
+pub returns-in_ok-bind-in-Binds-clause-bound : goal.returns-in_ok-bind-in-Binds-clause-bound
+returns-in_ok-bind-in-Binds-clause-bound c =
+    if_ok c.bind-in-Binds.result
+    (λ waits.
+    subst (λ (f : Fate). BindsTold c.args.server f c.args.servers.now.items c.args.queues.now (slice_set c.args.servers.now.items c.args.server c.bind.new.self) c.bind-in-Binds.new.self) (sym c.in-Binds.is) (
       (λ one there. (
         c.bind.new.self,
         refl,
         subst (λ (s : Server). Binds s c.in-Binds.object c.in-Binds.birth c.bind.new.self)
-            (same_Some _ one (sym (slice_get_read c.args.servers.now.items _ c.args.server c.index_mut-one.result.now refl c.requires.within c.index_mut-one.ensures.value) ∙ there)) c.in_ok-bind.ensures.bound,
+            (same_Some _ one (sym (slice_get_read c.args.servers.now.items _ c.args.server c.index_mut-one.result.now refl c.requires.within c.index_mut-one.ensures.value) ∙ there)) c.in_ok-bind-in-Binds.ensures.bound,
       )),
-      c.in_ok-bind-2.ensures.bound,
-    )
+      waits,
+    )) c.bind-in-Binds.ensures.bound
+
+pub returns-in-Gives-clause-bound : goal.returns-in-Gives-clause-bound
+returns-in-Gives-clause-bound c =
+    if_ok c.give.result
+    (λ names.
+    subst (λ (f : Fate). BindsTold c.args.server f c.args.servers.now.items c.args.queues.now (slice_set c.args.servers.now.items c.args.server c.give.new.self) c.args.queues.now) (sym c.in-Gives.is) (
+      (λ one there. (
+        c.give.new.self,
+        refl,
+        subst (λ (s : Server). NamesBy s c.in-Gives.token c.in-Gives.directory c.give.new.self)
+            (same_Some _ one (sym (slice_get_read c.args.servers.now.items _ c.args.server c.index_mut-one-in-Gives.result.now refl c.requires.within c.index_mut-one-in-Gives.ensures.value) ∙ there)) names,
+      )),
+      refl,
+    )) c.give.ensures.named

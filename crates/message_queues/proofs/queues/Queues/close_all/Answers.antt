@@ -3,7 +3,7 @@ use Rattle.std.specs.Prelude.{sum_by}
 use Rattle.std.proofs.lemmas.List.{take_all}
 use Rattle.message_queues.specs.Queues.{count, queue_of}
 use Rattle.message_queues.specs.Dying.{Buries}
-use Rattle.message_queues.proofs.Buried.{buries_none, buries_step, count_step}
+use Rattle.message_queues.proofs.Burials.{buries_none, buries_step, count_step}
 use Rattle.message_queues.proofs.queues.Queues.close_all.Goals as goal
 
 pub loop-endpoint-init : goal.loop-endpoint-init

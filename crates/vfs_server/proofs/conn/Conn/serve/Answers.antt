@@ -1,29 +1,42 @@
 use Rattle.std.proofs.Common.{◌≡◌, ◌∙◌, None, ap, subst, sym}
+use Rattle.std.specs.Option.{option_map}
 use Rattle.io_messages.specs.Asked.{asked}
 use Rattle.io_messages.specs.declared.protocols.Protocol.TheVariants as protocol
 use Rattle.conn_rules.specs.Acts.{act_of}
 use Rattle.conn_rules.specs.Built.{today}
 use Rattle.conn_rules.specs.Contexts.{context_of}
+use Rattle.node_graph.specs.Graph.{number_of}
 use Rattle.vfs_server.specs.Kept.{HasTree}
-use Rattle.vfs_server.specs.Steps.{Acts, IsOfItsKind, connection_of, of_directory}
-use Rattle.vfs_server.proofs.Giving.{acts_of, by_dir_memory, by_memory, directory_acts, leads_on, none_named, same_tree, some_of}
+use Rattle.vfs_server.specs.Steps.{Acts, IsOfItsKind, connection_of, names_in, of_directory}
+use Rattle.vfs_server.proofs.Carried.{looked_up, target_is_directory}
+use Rattle.vfs_server.proofs.Giving.{acts_of, acts_of_directory, by_dir_memory, by_memory, leads_on, same_tree, some_of}
 use Rattle.vfs_server.proofs.conn.Conn.serve.Goals as goal
 
+pub serve-requires-clause-target : goal.serve-requires-clause-target
+serve-requires-clause-target c node is =
+    let one = target_is_directory c.args.graph.now c.args.tokens.now c.requires.directories (asked c.args.request) node (sym c.target-target.ensures ∙ is) in
+    (one.kept, one.kind)
+
 pub returns-in-Directory-clause-acts : goal.returns-in-Directory-clause-acts
-returns-in-Directory-clause-acts c tree directory stands some =
-    directory_acts (connection_of c.args.self.now) c.in-Directory.conn c.args.asking.now.room tree directory (asked c.args.request) c.args.txid c.serve.result c.of_directory.result
-    c.serve.new.out c.serve.new.self c.args.graph.now c.serve.new.graph (ap connection_of c.in-Directory.is) c.of_directory.ensures
-    (c.serve.ensures.serves tree (λ number. None) stands (none_named (asked c.args.request)) (λ e. some (c.of_directory.ensures ∙ ap of_directory e)))
+returns-in-Directory-clause-acts c tree directory stands named some =
+    subst (λ connection. Acts (act_of (context_of today connection c.args.asking.now.room tree directory) (asked c.args.request)) c.args.txid c.of_directory.result c.serve.new.out c.serve.new.self c.args.graph.now c.serve.new.graph)
+    (sym (ap connection_of c.in-Directory.is))
+    (subst (λ one. Acts (act_of (context_of today c.in-Directory.conn c.args.asking.now.room tree directory) (asked c.args.request)) c.args.txid one c.serve.new.out c.serve.new.self c.args.graph.now c.serve.new.graph)
+    (sym c.of_directory.ensures)
+    (acts_of_directory _ c.args.txid c.serve.result c.serve.new.out c.serve.new.self c.args.graph.now c.serve.new.graph
+    (c.serve.ensures.serves tree directory stands (named ∙ ap (option_map number_of) (sym c.target-target.ensures)) (λ e. some (c.of_directory.ensures ∙ ap of_directory e)))))
 
 pub returns-in-Directory-clause-tree : goal.returns-in-Directory-clause-tree
 returns-in-Directory-clause-tree c =
     let was = c.requires.tree in
     by_dir_memory (HasTree c.serve.new.graph) c.serve.result
     (λ none. let untouched = c.serve.ensures.untouched none in same_tree c.args.graph.now c.serve.new.graph untouched.graph was)
-    (λ some. let served = c.serve.ensures.serves was.0 (λ number. None) was.1 (none_named (asked c.args.request)) some in leads_on c.args.graph.now c.serve.new.graph _ served.change was)
+    (λ some.
+    let named = looked_up c.args.tokens.now (asked c.args.request) ∙ ap (option_map number_of) (sym c.target-target.ensures) in
+    let served = c.serve.ensures.serves was.0 (names_in c.args.tokens.now) was.1 named some in leads_on c.args.graph.now c.serve.new.graph _ served.change was)
 
 pub returns-in-File-clause-acts : goal.returns-in-File-clause-acts
-returns-in-File-clause-acts c tree directory stands some =
+returns-in-File-clause-acts c tree directory stands named some =
     subst (λ connection. Acts (act_of (context_of today connection c.args.asking.now.room tree directory) (asked c.args.request)) c.args.txid c.of.result c.serve-in-File.new.out c.serve-in-File.new.self c.args.graph.now c.serve-in-File.new.graph)
     (sym (ap connection_of c.in-File.is))
     (acts_of _ c.args.txid c.serve-in-File.result c.of.result c.serve-in-File.new.out c.serve-in-File.new.self c.args.graph.now c.serve-in-File.new.graph c.of.ensures
@@ -37,7 +50,7 @@ returns-in-File-clause-tree c =
     (λ some. let served = c.serve-in-File.ensures.serves was.0 (λ number. None) was.1 some in leads_on c.args.graph.now c.serve-in-File.new.graph _ served.change was)
 
 pub returns-in-Node-clause-acts : goal.returns-in-Node-clause-acts
-returns-in-Node-clause-acts c tree directory stands some =
+returns-in-Node-clause-acts c tree directory stands named some =
     subst (λ connection. Acts (act_of (context_of today connection c.args.asking.now.room tree directory) (asked c.args.request)) c.args.txid c.of-in-Node.result c.serve-in-Node.new.out c.serve-in-Node.new.self c.args.graph.now c.serve-in-Node.new.graph)
     (sym (ap connection_of c.in-Node.is))
     (acts_of _ c.args.txid c.serve-in-Node.result c.of-in-Node.result c.serve-in-Node.new.out c.serve-in-Node.new.self c.args.graph.now c.serve-in-Node.new.graph c.of-in-Node.ensures
@@ -50,7 +63,7 @@ returns-in-Node-clause-tree c =
     leads_on c.args.graph.now c.serve-in-Node.new.graph _ served.change was
 
 pub returns-in-Echo-clause-acts : goal.returns-in-Echo-clause-acts
-returns-in-Echo-clause-acts c tree directory stands some =
+returns-in-Echo-clause-acts c tree directory stands named some =
     let here = connection_of c.args.self.now in
     let kind : here.birth.protocol ≡ protocol.Echo = ap (λ connection. connection.birth.protocol) (ap connection_of c.in-Echo.is) ∙ subst IsOfItsKind c.in-Echo.is c.requires.kind in
     acts_of _ c.args.txid c.echo.result c.of-in-Echo.result c.echo.new.out here c.args.graph.now c.args.graph.now c.of-in-Echo.ensures

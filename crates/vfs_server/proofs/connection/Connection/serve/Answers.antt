@@ -7,6 +7,7 @@ use Rattle.node_conn.proofs.Echoes.{read_text}
 use Rattle.vfs_journal.specs.Serving.{outcome_of_read}
 use Rattle.vfs_server.specs.Steps.{Answers}
 use Rattle.vfs_server.proofs.Answering.{fault_answers, ok_map}
+use Rattle.vfs_server.proofs.Carried.{target_named}
 use Rattle.vfs_server.proofs.connection.Connection.serve.Goals as goal
 
 pub serve_request-requires-clause-echo : goal.serve_request-requires-clause-echo
@@ -16,15 +17,16 @@ serve_request-requires-clause-echo c is =
     (subst (λ p. Reads p c.args.bytes.now c.args.handles.now c.in-Ok.txid (asked c.in-Ok.request)) protocol_is c.in-Ok.ensures.found) c.requires.short
 
 pub returns-in-Ok-clause-answers : goal.returns-in-Ok-clause-answers
-returns-in-Ok-clause-answers c server moment asks =
+returns-in-Ok-clause-answers c server moment asks named =
     let protocol_is = c.protocol.ensures ∙ ap (λ connection. connection.birth.protocol) c.self.view_is in
     subst
     (λ read. IfOk c.serve_request.result (λ fate. Answers moment (outcome_of_read today moment read) fate c.serve_request.new.out c.serve_request.new.self c.args.graph.now c.serve_request.new.graph c.args.outbox.now c.serve_request.new.outbox))
     (c.in-Ok.ensures.exact ∙ ap (λ p. request_of p c.args.bytes.now c.args.handles.now) protocol_is)
-    (c.serve_request.ensures.answers server moment asks)
+    (c.serve_request.ensures.answers server moment asks
+    (target_named c.args.tokens.now c.protocol.result c.args.bytes.now c.args.handles.now c.in-Ok.txid (asked c.in-Ok.request) moment.directory c.in-Ok.ensures.found named))
 
 pub returns-in-Err-clause-answers : goal.returns-in-Err-clause-answers
-returns-in-Err-clause-answers c server moment asks =
+returns-in-Err-clause-answers c server moment asks named =
     let protocol_is = c.protocol.ensures ∙ ap (λ connection. connection.birth.protocol) c.self.view_is in
     subst
     (λ read. IfOk c.answer_fault.result (λ fate. Answers moment (outcome_of_read today moment read) fate c.answer_fault.new.out c.args.self.now c.args.graph.now c.args.graph.now c.args.outbox.now c.answer_fault.new.outbox))

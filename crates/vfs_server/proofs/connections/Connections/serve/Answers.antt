@@ -9,8 +9,9 @@ use Rattle.conn_rules.specs.Births.{Connection}
 use Rattle.conn_rules.specs.Built.{today}
 use Rattle.conn_rules.specs.Served.{KeepsHolds}
 use Rattle.io_messages.specs.Requests.{request_of}
+use Rattle.vfs_journal.specs.Handles.{numbers_of}
 use Rattle.vfs_journal.specs.Serving.{Moment, outcome_of_read}
-use Rattle.vfs_server.specs.Steps.{Answers, IsAskedAt}
+use Rattle.vfs_server.specs.Steps.{Answers, AreNamed, IsAskedAt}
 use Rattle.vfs_server.proofs.Joined.{joined_served, placed, replaced, same_length, there_at}
 use Rattle.vfs_server.proofs.connections.Connections.serve.Goals as goal
 
@@ -21,7 +22,7 @@ found_in c =
     ∙ c.index_mut-connection.ensures.value
 
 pub serve-requires : goal.serve-requires
-serve-requires c = record { tree = c.requires.tree; made = c.requires.made; node = c.requires.node c.index_mut-connection.result.now (found_in c); short = c.requires.short }
+serve-requires c = record { tree = c.requires.tree; made = c.requires.made; directories = c.requires.directories; node = c.requires.node c.index_mut-connection.result.now (found_in c); short = c.requires.short }
 
 there : (c : goal.After-self-1) → IsSome (slab.get c.self.inside.kept c.in-Some.place.now)
 there c = ap is_some c.index_mut-connection.ensures.value
@@ -57,6 +58,7 @@ returns-clause-served c old is =
           ∙ ap (λ m. finite.insert m c.args.asking.now.endpoint c.serve.new.self) c.self.view_is,
       subst
           (λ (was : Connection). (server : ℕ) (moment : Moment) → IsAskedAt server c.args.asking.now c.args.graph.now was moment →
+          AreNamed c.args.tokens.now (numbers_of c.args.handles.now) moment.directory →
           IfOk c.serve.result (λ fate. Answers moment (outcome_of_read today moment (request_of was.birth.protocol c.args.bytes.now c.args.handles.now)) fate c.serve.new.out c.serve.new.self c.args.graph.now c.serve.new.graph c.args.outbox.now c.serve.new.outbox))
           same c.serve.ensures.answers,
     )

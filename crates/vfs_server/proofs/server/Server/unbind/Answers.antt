@@ -12,20 +12,20 @@ use Rattle.vfs_server.proofs.server.Server.unbind.Goals as goal
 pub release-requires-clause-held : goal.release-requires-clause-held
 release-requires-clause-held c =
     subst (λ node. 0 < holds_at c.self.inside.graph (number_of node)) (sym c.node.ensures)
-    (held_there c.self.inside.graph c.self.inside.connections c.self.invariant c.args.endpoint c.remove-connection.result c.remove-connection.ensures.given)
+    (held_there c.self.inside.graph c.self.inside.connections c.self.inside.tokens c.self.invariant c.args.endpoint c.remove-connection.result c.remove-connection.ensures.given)
 
 released : (c : goal.After-release) → HoldsNow c.self.inside.graph c.release.new.self (number_of c.remove-connection.result.birth.node) (holds_at c.self.inside.graph (number_of c.remove-connection.result.birth.node) - 1)
 released c = subst (λ node. HoldsNow c.self.inside.graph c.release.new.self (number_of node) (holds_at c.self.inside.graph (number_of node) - 1)) c.node.ensures c.release.ensures.released
 
 pub invariant_of-self : goal.invariant_of-self
 invariant_of-self c =
-    subst (IsSound c.release.new.self) (sym c.remove-connection.ensures.removed)
-    (sound_less c.self.inside.graph c.release.new.self c.self.inside.connections c.args.endpoint c.remove-connection.result c.self.invariant c.remove-connection.ensures.given (released c) c.release.ensures.names
+    subst (λ connections. IsSound c.release.new.self connections c.self.inside.tokens) (sym c.remove-connection.ensures.removed)
+    (sound_less c.self.inside.graph c.release.new.self c.self.inside.connections c.self.inside.tokens c.args.endpoint c.remove-connection.result c.self.invariant c.remove-connection.ensures.given (released c) c.release.ensures.names
     (leads_on c.self.inside.graph c.release.new.self stay c.release.ensures.tree c.self.invariant.tree))
 
 pub returns : goal.returns
 returns c =
-    subst (λ (server : Server). Unbinds server c.args.endpoint (server_of c.self.inside.index c.release.new.self c.remove-connection.new.self)) c.self.view_is
-    (subst (λ connections. Unbinds (server_of c.self.inside.index c.self.inside.graph c.self.inside.connections) c.args.endpoint (server_of c.self.inside.index c.release.new.self connections))
+    subst (λ (server : Server). Unbinds server c.args.endpoint (server_of c.self.inside.index c.release.new.self c.remove-connection.new.self c.self.inside.tokens)) c.self.view_is
+    (subst (λ connections. Unbinds (server_of c.self.inside.index c.self.inside.graph c.self.inside.connections c.self.inside.tokens) c.args.endpoint (server_of c.self.inside.index c.release.new.self connections c.self.inside.tokens))
     (sym c.remove-connection.ensures.removed)
-    (unbinds_one c.self.inside.index c.self.inside.graph c.release.new.self c.self.inside.connections c.args.endpoint c.remove-connection.result c.remove-connection.ensures.given c.release.ensures.tree (released c) c.release.ensures.names))
+    (unbinds_one c.self.inside.index c.self.inside.graph c.release.new.self c.self.inside.connections c.self.inside.tokens c.args.endpoint c.remove-connection.result c.remove-connection.ensures.given c.release.ensures.tree (released c) c.release.ensures.names))

@@ -7,7 +7,7 @@ use Rattle.vfs_session.proofs.session.Session.serve_head.Goals as goal
 pub settle_head-requires : goal.settle_head-requires
 settle_head-requires c =
     let can = can_settle (whole c.args.self.now) (whole c.take_head.new.self) c.requires.running _ _ _ _ _ _ _ c.in_ok-sent.ensures.taken.1 in
-    record { live = can.live; counted = can.counted; low = can.low; newest = can.newest; few = can.few; places = can.places }
+    record { live = can.live; out = can.out; counted = can.counted; low = can.low; newest = can.newest; few = can.few; places = can.places }
 
 pub returns-in_err-settle_head-clause-begins : goal.returns-in_err-settle_head-clause-begins
 returns-in_err-settle_head-clause-begins c = begins_on c.args.outbox.now c.take_head.new.outbox c.settle_head.new.outbox c.take_head.ensures.begins c.settle_head.ensures.begins

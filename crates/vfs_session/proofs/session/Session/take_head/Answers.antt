@@ -1,6 +1,7 @@
 use Rattle.std.proofs.Common.{◌∙◌, ◌^◌, ◌<◌, ℕ, Option, refl, sym, subst, arith}
 use Rattle.std.proofs.lemmas.Option.{same_Some, slice_get_within}
 use Rattle.endpoint_link.specs.Standings.{next_token_of}
+use Rattle.vfs_journal.specs.Entries.{handles_of}
 use Rattle.vfs_server.specs.Servers.{Server}
 use Rattle.vfs_server.specs.Serving.{IsMomentOf}
 use Rattle.vfs_session.specs.Running.{whole}
@@ -18,8 +19,8 @@ answer-requires-clause-bound c =
     let can = can_take (whole c.args.self.now) c.requires.running c.args.endpoint c.in_ok-server.server c.in_ok-server.sent c.in_ok-server.ensures.bound c.in_ok-server.ensures.first in
     λ one there. (
       can.moment,
-      subst (λ (token : Option ℕ). IsMomentOf one c.args.endpoint token can.moment) (sym c.next_token-token.ensures)
-          (subst (λ (s : Server). IsMomentOf s c.args.endpoint (next_token_of c.args.self.now.endpoints) can.moment) (same_Some can.one one (sym can.there ∙ there)) can.is),
+      subst (λ (token : Option ℕ). IsMomentOf one c.args.endpoint token (handles_of c.in_ok-server.sent.sending) can.moment) (sym c.next_token-token.ensures)
+          (subst (λ (s : Server). IsMomentOf s c.args.endpoint (next_token_of c.args.self.now.endpoints) (handles_of c.in_ok-server.sent.sending) can.moment) (same_Some can.one one (sym can.there ∙ there)) can.is),
     )
 
 pub answer-requires-clause-made : goal.answer-requires-clause-made
@@ -41,7 +42,7 @@ bind-requires c =
     c.in_ok-fate.ensures.answers in
     let can = can_bind (whole c.args.self.now) c.take.new.self c.requires.running c.args.endpoint c.in_ok-server.server c.in_ok-server.sent _ c.in_ok-fate.fate _ _ _ _ c.in_ok-server.ensures.bound c.in_ok-server.ensures.first
     answers c.in_ok-server.ensures.later in
-    record { within = can.within; one_of = can.one_of; free = can.free; place = can.place; unbound = can.unbound }
+    record { within = can.within; one_of = can.one_of; free = can.free; place = can.place; unbound = can.unbound; names = can.names }
 
 pub returns-clause-taken : goal.returns-clause-taken
 returns-clause-taken c = (

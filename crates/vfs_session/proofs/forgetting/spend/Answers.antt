@@ -1,0 +1,21 @@
+use Rattle.std.proofs.Common.{subst, sym}
+use Rattle.endpoint_link.specs.Standings.{Known}
+use Rattle.vfs_journal.specs.Entries.{tokens_in}
+use Rattle.vfs_session.specs.Steps.{CanGo}
+use Rattle.vfs_session.proofs.Forgotten.{all_then, both_out}
+use Rattle.vfs_session.proofs.forgetting.spend.Goals as goal
+
+pub forget_carried-requires : goal.forget_carried-requires
+forget_carried-requires c = record { out = (both_out (tokens_in c.args.sent.now) c.args.dropped.now c.args.endpoints.now c.requires.out).0 }
+
+pub forget_all-requires : goal.forget_all-requires
+forget_all-requires c = record {
+  out =
+      subst (λ (known : Known). CanGo known c.args.dropped.now) (sym c.forget_carried.ensures.known)
+      (both_out (tokens_in c.args.sent.now) c.args.dropped.now c.args.endpoints.now c.requires.out).1;
+}
+
+pub returns-clause-forgets : goal.returns-clause-forgets
+returns-clause-forgets c =
+    all_then c.args.servers.now.items c.forget_carried.new.servers.items c.forget_all.new.servers.items (tokens_in c.args.sent.now) c.args.dropped.now c.forget_carried.ensures.forgets
+    c.forget_all.ensures.forgets
