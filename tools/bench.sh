@@ -47,12 +47,14 @@ for others in 100 60000; do
     one_work admit-1-beside-$others 500000 0
     one_work admit-64-beside-$others 10000 0
 done
-echo "A directory of so many names: one is looked up, made and taken out, moved and moved back; all are listed, and the first behind one"
+echo "A directory of so many names: one is looked up, made and taken out, moved and moved back, linked and the link taken out; all are listed, all are written into messages, and the first behind one is listed"
 for names in 16 256 4096; do
     one_work look-up-$names 5000000 0
     one_work make-and-unlink-$names 1000000 0
     one_work rename-and-back-$names 500000 0
+    one_work link-and-unlink-$names 500000 0
     one_work list-$names $((20000000 / names)) 0
+    one_work pack-$names $((20000000 / names)) 0
     one_work list-behind-$names 2000000 0
 done
 if [ -x /usr/bin/time ]; then
@@ -79,6 +81,16 @@ many() { # TIMES TO
 # 65,536 bytes after the first 13,108 of them, and the others get no byte.
 reads() { # ENDPOINT-IN-HEX TO
     tools/to-bytes.sh <<< "$1 01 00 0000 18000000 01000000 02000001 4c01b891c67ff240 0500000000000000" | many "$frames" "$2"
+}
+
+# So many times all names of the root: eight ReadDirents of 8,192 bytes on endpoint 1, and a Rewind.
+listings() { # TIMES TO
+    {
+        for txid in 01 02 03 04 05 06 07 08; do
+            echo "01000000 01 00 0000 18000000 ${txid}000000 02000001 14916b2a59ccb005 0020000000000000"
+        done
+        echo "01000000 01 00 0000 10000000 09000000 02000001 594705f815b1c77d"
+    } | tools/to-bytes.sh | many "$1" "$2"
 }
 
 # For each number an Open of a name of five bytes on endpoint 1, with that number as the new
@@ -137,3 +149,5 @@ opens n2000 2 100001 close > "$work/frames"
 serving "Opens, and a Close frame behind each" 200000 "$work/frames"
 { opens n2000 2 4000; opens large 4001 4001; reads a10f0000 "$work/reads"; cat "$work/reads"; } > "$work/frames"
 serving "Reads beside 4,000 connections" $((frames + 4000)) "$work/frames"
+listings 500 "$work/frames"
+serving "Listings of all names, eight and a Rewind" 4500 "$work/frames"

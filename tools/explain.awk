@@ -11,10 +11,16 @@ BEGIN {
     method["3e720da693a20716"] = "the method fuchsia.io/File.ReadAt"
     method["ed7b8da726030a75"] = "the method fuchsia.io/Directory.Unlink"
     method["3b05ea38a696433d"] = "the method fuchsia.io/Node.GetAttributes"
+    list = "14916b2a59ccb005"; method[list] = "the method fuchsia.io/Directory.ReadDirents"
+    rewind = "594705f815b1c77d"; method[rewind] = "the method fuchsia.io/Directory.Rewind"
+    get_token = "0bea77552dcc1d2c"; method[get_token] = "the method fuchsia.io/Directory.GetToken"
+    rename = "de28993b72e76070"; method[rename] = "the method fuchsia.io/Directory.Rename"
+    link = "4681a69845b4aa03"; method[link] = "the method fuchsia.io/Directory.Link"
     close_it = "58b49c8443d2f574"; method[close_it] = "the method fuchsia.unknown/Closeable.Close"
     told = "0c510ad86705b45c"; method[told] = "the event fuchsia.io/Node.OnRepresentation"
     epitaph = "ffffffffffffffff"; method[epitaph] = "an epitaph: the last message of its endpoint"
     split("node directory file", representation, " ")
+    type["04"] = "a directory"; type["08"] = "a file"; type["10"] = "a service"
     status["00000000"] = "OK"; status["feffffff"] = "NOT_SUPPORTED"
     status["f6ffffff"] = "INVALID_ARGS"; status["f5ffffff"] = "BAD_HANDLE"
     status["f2ffffff"] = "OUT_OF_RANGE"; status["e8ffffff"] = "PEER_CLOSED"
@@ -59,11 +65,16 @@ function frame(number,    kind, handles, size, digits) {
     digits = take(1); handles = number_of(digits); line(digits, handles (handles == 1 ? " handle" : " handles"))
     line(take(2), "always zero")
     digits = take(4); size = number_of(digits); line(digits, size " bytes follow")
-    for (; handles > 0; handles--) { digits = take(4); line(digits, "handle " number_of(digits)) }
+    for (; handles > 0; handles--) { digits = take(4); line(digits, handle_of(number_of(digits))) }
     if (kind == 5 && size == 4) { digits = take(4); line(digits, status_of(digits)); return }
     if (kind == 3 && size == 4) { digits = take(4); line(digits, servings(number_of(digits))); return }
     if (kind != 1 || size < 16) { if (size > 0) line(take(size), "bytes"); return }
     message(place + size)
+}
+
+# Tokens have the numbers from 2^31 on.
+function handle_of(n) {
+    return n < 2147483648 ? "handle " n : sprintf("token %.0f", n)
 }
 
 function servings(n) {
@@ -80,7 +91,7 @@ function message(end,    digits, ordinal) {
     if (ordinal == epitaph && end - place == 8) {
         digits = take(4); line(digits, status_of(digits))
         line(take(4), "padding")
-    } else if (ordinal == read && end - place == 8) {
+    } else if ((ordinal == read || ordinal == list) && end - place == 8) {
         digits = take(8); line(digits, "asks for at most " number_of(digits) " bytes")
     } else if (ordinal == open && end - place >= 48) {
         opening(end)
@@ -89,7 +100,17 @@ function message(end,    digits, ordinal) {
         line(take(4), "padding")
     } else if (ordinal == told && end - place == 32) {
         event()
-    } else if ((ordinal == read || ordinal == close_it) && end - place >= 16) {
+    } else if ((ordinal == rename || ordinal == link) && end - place >= 40) {
+        moving(end)
+    } else if (ordinal == list && end - place >= 24) {
+        listing(end)
+    } else if (ordinal == get_token && end - place == 8) {
+        digits = take(4); line(digits, status_of(digits))
+        digits = take(4); line(digits, number_of(digits) ? "the token is there" : "no token")
+    } else if ((ordinal == link || ordinal == rewind) && end - place == 8) {
+        digits = take(4); line(digits, status_of(digits))
+        line(take(4), "padding")
+    } else if ((ordinal == read || ordinal == close_it || ordinal == rename) && end - place >= 16) {
         reply(end)
     }
     if (place < end) line(take(end - place), "bytes")
@@ -105,6 +126,43 @@ function opening(end,    digits, size) {
     line(take(4), "padding")
     text(size)
     if (place < end) line(take(end - place), "padding")
+}
+
+# A name, a token for the directory that it goes to, and its name there.
+function moving(end,    digits, from, to) {
+    digits = take(8); from = number_of(digits); line(digits, "a name of " counted(from))
+    line(take(8), "which is there")
+    line(take(4), "the token is there")
+    line(take(4), "padding")
+    digits = take(8); to = number_of(digits); line(digits, "a name of " counted(to))
+    line(take(8), "which is there")
+    text(from); padding_behind(from)
+    text(to); padding_behind(to)
+}
+
+function counted(size) {
+    return size (size == 1 ? " byte" : " bytes")
+}
+
+function padding_behind(size) {
+    if (size % 8 > 0) line(take(8 - size % 8), "padding")
+}
+
+# A status, and entries one behind another.
+function listing(end,    digits, size, last) {
+    digits = take(4); line(digits, status_of(digits))
+    line(take(4), "padding")
+    digits = take(8); size = number_of(digits); line(digits, "a vector of " size " bytes")
+    line(take(8), "which is there")
+    for (last = place + size; place < last;) entry()
+    padding_behind(size)
+}
+
+function entry(    digits, size) {
+    digits = take(8); line(digits, "the node with the number " number_of(digits))
+    digits = take(1); size = number_of(digits); line(digits, "a name of " counted(size))
+    digits = take(1); line(digits, digits in type ? type[digits] : "type " number_of(digits))
+    text(size)
 }
 
 function event(    digits, branch) {

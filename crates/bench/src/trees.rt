@@ -2,7 +2,9 @@ ghost use Rattle.std.specs.Prelude.{◌≡◌, ℕ, IfOk};
 ghost use Rattle.node_graph.specs.Graph.{Names, holds_at, SameHolds};
 
 use crate::passes::Pass;
-use fidl_wire::NoMemory;
+use dirents::{Place, pack};
+use fidl_names::{MAX_CHUNK, MAX_NAMES};
+use fidl_wire::{NoMemory, Out};
 use io_rights::Rights;
 use node_graph::{Graph, GraphFault, NodeKind, NodeRef};
 use std::alloc::Global;
@@ -16,17 +18,22 @@ pub enum Deed {
     Make,
     /// Each name in turn is moved to a free one and back.
     Rename,
+    /// What each name in turn leads to gets a free name more, which is taken out.
+    Link,
     /// All names are listed.
     List,
+    /// The directory and all names are listed by so many bytes as a message may have of them.
+    Pack,
     /// The first name behind each name in turn is listed.
     ListBehind,
 }
 
 /// A directory with so many names, to which one of these is done. The sum of one is the number of the
-/// node that was found or made, or the count of names that were moved or listed.
+/// node that was found or made, or the count of names that were moved, made and taken out, or listed.
 #[derive(Drop)]
 pub struct Trees {
     graph: Graph,
+    out: Out,
     deed: Deed,
     names: u32,
     next: u32,
@@ -34,17 +41,17 @@ pub struct Trees {
 }
 
 impl Trees {
-    /// Of the names the last is missing where names are made.
+    /// Of the names the last is missing where names are made or linked.
     pub fn new(alloc: Global, deed: Deed, names: u32) -> Result<Trees, NoMemory> {
-        let first = if deed == Deed::Make {
-            names.saturating_sub(1)
-        } else {
-            names
+        let there = match deed {
+            Deed::Make | Deed::Link => names.saturating_sub(1),
+            _ => names,
         };
         Ok(Trees {
-            graph: grown(alloc, first)?,
+            graph: grown(alloc, there)?,
+            out: Out::new(alloc)?,
             deed,
-            names,
+            names: there,
             next: 0,
         })
     }
@@ -60,7 +67,9 @@ impl Trees {
             Deed::LookUp => look_up(&self.graph, name),
             Deed::Make => make_one(&mut self.graph),
             Deed::Rename => rename(&mut self.graph, name),
+            Deed::Link => link(&mut self.graph, name),
             Deed::List => list(&self.graph),
+            Deed::Pack => pack_all(&self.graph, &mut self.out),
             Deed::ListBehind => list_behind(&self.graph, name),
         }
     }
@@ -138,10 +147,37 @@ fn rename(graph: &mut Graph, name: u32) -> u64
     if away && back { 2 } else { 0 }
 }
 
+// A file has a second name for a while.
+fn link(graph: &mut Graph, name: u32) -> u64
+    ensures { SameHolds graph.old graph.new }
+{
+    let root = graph.root();
+    let linked = graph.link(root, &name.to_le_bytes(), root, &FREE).is_ok();
+    let root = graph.root();
+    let unlinked = graph.unlink(root, &FREE, false).is_ok();
+    if linked && unlinked { 2 } else { 0 }
+}
+
 fn list(graph: &Graph) -> u64 {
     let mut count = 0u64;
     for _name in graph.names_after(graph.root(), None) {
         count = count.saturating_add(1);
+    }
+    count
+}
+
+// One listing goes on behind the other until no entry follows.
+fn pack_all(graph: &Graph, out: &mut Out) -> u64 {
+    let mut place = Place::Start;
+    let mut count = 0u64;
+    for _ in 0..=MAX_NAMES {
+        out.clear();
+        let packed = pack(graph, graph.root(), &place, MAX_CHUNK as usize, out);
+        count = count.saturating_add(u64::from(packed.count));
+        if !packed.more {
+            break;
+        }
+        place = packed.next;
     }
     count
 }

@@ -53,7 +53,7 @@ const FEW: u32 = 100;
 const CROWD: u32 = 60_000;
 
 impl Work {
-    pub const ALL: [Work; 31] = [
+    pub const ALL: [Work; 37] = [
         Work::ReadRead,
         Work::ReadOpen,
         Work::WriteReply,
@@ -79,9 +79,15 @@ impl Work {
         Work::Names(Deed::Rename, Size::Small),
         Work::Names(Deed::Rename, Size::Middle),
         Work::Names(Deed::Rename, Size::Large),
+        Work::Names(Deed::Link, Size::Small),
+        Work::Names(Deed::Link, Size::Middle),
+        Work::Names(Deed::Link, Size::Large),
         Work::Names(Deed::List, Size::Small),
         Work::Names(Deed::List, Size::Middle),
         Work::Names(Deed::List, Size::Large),
+        Work::Names(Deed::Pack, Size::Small),
+        Work::Names(Deed::Pack, Size::Middle),
+        Work::Names(Deed::Pack, Size::Large),
         Work::Names(Deed::ListBehind, Size::Small),
         Work::Names(Deed::ListBehind, Size::Middle),
         Work::Names(Deed::ListBehind, Size::Large),
@@ -121,9 +127,15 @@ fn names_of(deed: Deed, size: Size) -> &'static str {
         (Deed::Rename, Size::Small) => "rename-and-back-16",
         (Deed::Rename, Size::Middle) => "rename-and-back-256",
         (Deed::Rename, Size::Large) => "rename-and-back-4096",
+        (Deed::Link, Size::Small) => "link-and-unlink-16",
+        (Deed::Link, Size::Middle) => "link-and-unlink-256",
+        (Deed::Link, Size::Large) => "link-and-unlink-4096",
         (Deed::List, Size::Small) => "list-16",
         (Deed::List, Size::Middle) => "list-256",
         (Deed::List, Size::Large) => "list-4096",
+        (Deed::Pack, Size::Small) => "pack-16",
+        (Deed::Pack, Size::Middle) => "pack-256",
+        (Deed::Pack, Size::Large) => "pack-4096",
         (Deed::ListBehind, Size::Small) => "list-behind-16",
         (Deed::ListBehind, Size::Middle) => "list-behind-256",
         (Deed::ListBehind, Size::Large) => "list-behind-4096",

@@ -1,6 +1,8 @@
 pub mod WordLists
 pub mod Pieces
-pub mod ReplyLemmas
+pub mod RowLemmas
+pub mod BoundLemmas
+pub mod ReadLemmas
 pub mod SessionLemmas
 pub mod ServingLemmas
 pub mod Progress

@@ -1,5 +1,5 @@
 -- What comes back for the frames of one file's client.
-use Rattle.std.proofs.Common.{◌≡◌, ℕ, Bool, true, false, ◌&&◌, ◌==◌, List, [], ◌∷◌, ◌++◌, refl, sym, ap, ◌∙◌, subst, append_assoc, append-nil, ◌⊎◌, inl, inr}
+use Rattle.std.proofs.Common.{◌≡◌, ℕ, ◌+◌, Bool, true, false, if◌then◌else◌, length, ◌&&◌, ◌==◌, List, [], ◌∷◌, ◌++◌, refl, sym, ap, ◌∙◌, subst, append_assoc, append-nil, ◌⊎◌, inl, inr}
 use Rattle.std.specs.Prelude.{nat_le}
 use Rattle.std.proofs.lemmas.Bool.{eqb-true}
 use Rattle.endpoint_link.specs.Frames.{Frame, frame_with}
@@ -8,21 +8,32 @@ use Rattle.fidl_names.specs.HandleNumber.{is_client}
 use Rattle.endpoint_link.specs.declared.kinds.FrameKind.{FrameKind}
 use Rattle.endpoint_link.specs.declared.kinds.FrameKind.TheVariants as kind
 use Rattle.endpoint_link.specs.declared.kinds.Refusal.TheVariants as refusal
-use Rattle.vfs_program.specs.Reads.{Meaning, Reads, Ends, meaning_of}
-use Rattle.vfs_program.specs.Replies.{reply_to, position_after}
-use Rattle.vfs_program.specs.OneFile.{Standing, Outcome, outcome, by_refusal, answered, answers, after}
-use Rattle.vfs_program.specs.Seen.{Use, Asks, EndsIt, Idle, use_of, use_by, use_of_message, reads_by, reads_of, epitaph_by, epitaph_of, message_in, messages_of, replies, position_after_all}
+use Rattle.fidl_names.specs.declared.methods.Method.TheVariants as method
+use Rattle.fidl_names.specs.declared.statuses.Status.TheVariants as status
+use Rattle.io_messages.specs.Replies.{fails, payload}
+use Rattle.io_messages.specs.ReplyWriting.{reply_bytes}
+use Rattle.conn_rules.specs.Answers.{Act}
+use Rattle.dirents.specs.declared.place.Place.TheVariants.{Start}
+use Rattle.conn_rules.specs.Births.{Position}
+use Rattle.conn_rules.specs.FileRows.{is_too_much, part_from}
+use Rattle.vfs_journal.specs.Outcomes.{frames_of}
+use Rattle.vfs_program.specs.OneFile.{Standing, Outcome, Meaning, Reads, Ends, meaning_of, asker, outcome, by_refusal, read_outcome, answered, answers, after}
+use Rattle.vfs_program.proofs.RowLemmas.{row_of, place_of, read_row}
+use Rattle.vfs_program.specs.Seen.{reply_to, position_after, Use, Asks, EndsIt, Idle, use_of, use_by, use_of_message, reads_by, reads_of, epitaph_by, epitaph_of, message_in, messages_of, replies, position_after_all}
 
 messages_of-append : (a b : List Frame) → messages_of (a ++ b) ≡ messages_of a ++ messages_of b
 messages_of-append [] b = refl
 messages_of-append (f ∷ a) b =
     ap (λ l. message_in f.kind f.bytes ++ l) (messages_of-append a b) ∙ sym (append_assoc (message_in f.kind f.bytes) (messages_of a) (messages_of b))
 
+abbrev at_byte : ℕ → Position
+at_byte p = record { offset = p; place = Start }
+
 abbrev live_at : ℕ → Standing
-live_at p = record { live = true; position = p }
+live_at p = record { live = true; position = at_byte p }
 
 abbrev dead_at : ℕ → Standing
-dead_at p = record { live = false; position = p }
+dead_at p = record { live = false; position = at_byte p }
 
 -- what a frame leads to, by what it is for the live endpoint
 abbrev Leads : Use → List ℕ → ℕ → Outcome → Type 0
@@ -34,8 +45,25 @@ Leads Idle file p o = (messages_of o.frames ≡ []) × (o.next ≡ live_at p)
 abbrev Passes : Standing → Outcome → Type 0
 Passes now o = (messages_of o.frames ≡ []) × (o.next ≡ now)
 
+read_told : (file : List ℕ) (p txid count : ℕ) (much : Bool) →
+    messages_of (frames_of (asker txid) (row_of file (at_byte p) count much).answer)
+    ≡ (if much then reply_bytes txid (fails method.Read status.OutOfRange) else reply_bytes txid (payload method.Read (part_from p count file))) ∷ []
+read_told file p txid count true = refl
+read_told file p txid count false = refl
+
+read_moves : (file : List ℕ) (p count : ℕ) (much : Bool) → place_of file (at_byte p) count much ≡ at_byte (if much then p else p + length (part_from p count file))
+read_moves file p count true = refl
+read_moves file p count false = refl
+
+read_leads : (file : List ℕ) (p txid count : ℕ) → Leads (Asks (record { txid = txid; count = count })) file p (read_outcome file (live_at p) txid count)
+read_leads file p txid count =
+    let row = read_row file (at_byte p) count in (
+      ap (λ (act : Act). messages_of (frames_of (asker txid) act.answer)) row ∙ read_told file p txid count (is_too_much count),
+      ap (λ (position : Position). record { live = true; position = position }) (ap (λ (act : Act). act.position) row ∙ read_moves file p count (is_too_much count)),
+    )
+
 answered_leads : (file : List ℕ) (p : ℕ) (m : Meaning) → Leads (use_of_message m) file p (answered file (live_at p) m)
-answered_leads file p (Reads read) = (refl, refl)
+answered_leads file p (Reads txid count) = read_leads file p txid count
 answered_leads file p (Ends status) = (refl, refl)
 
 and-false : (b : Bool) → (b && false) ≡ false
@@ -112,28 +140,28 @@ dead_law file p (f ∷ frames) =
 
 -- one frame more, by what it is
 step_by : (file : List ℕ) (p : ℕ) (frames : List Frame) (u : Use) (o : Outcome) → Leads u file p o
-    → ((q : ℕ) → (messages_of (answers file (live_at q) frames) ≡ replies file q (reads_of frames) ++ epitaph_of frames) × ((after file (live_at q) frames).position ≡ position_after_all file q (reads_of frames)))
+    → ((q : ℕ) → (messages_of (answers file (live_at q) frames) ≡ replies file q (reads_of frames) ++ epitaph_of frames) × ((after file (live_at q) frames).position.offset ≡ position_after_all file q (reads_of frames)))
     → (messages_of o.frames ++ messages_of (answers file o.next frames) ≡ replies file p (reads_by u (reads_of frames)) ++ epitaph_by u (epitaph_of frames))
-    × ((after file o.next frames).position ≡ position_after_all file p (reads_by u (reads_of frames)))
+    × ((after file o.next frames).position.offset ≡ position_after_all file p (reads_by u (reads_of frames)))
 step_by file p frames (Asks read) o l next =
     let q = position_after file p read in (
       ap (λ m. m ++ messages_of (answers file o.next frames)) l.0 ∙ ap (λ (s : Standing). reply_to file p read ∷ messages_of (answers file s frames)) l.1
           ∙ ap (λ m. reply_to file p read ∷ m) (next q).0,
-      ap (λ (s : Standing). (after file s frames).position) l.1 ∙ (next q).1,
+      ap (λ (s : Standing). (after file s frames).position.offset) l.1 ∙ (next q).1,
     )
 step_by file p frames (EndsIt told) o l next =
     let dead = dead_law file p frames in (
       ap (λ m. m ++ messages_of (answers file o.next frames)) l.0 ∙ ap (λ (s : Standing). told ++ messages_of (answers file s frames)) l.1
           ∙ ap (λ m. told ++ m) dead.0 ∙ append-nil told,
-      ap (λ (s : Standing). (after file s frames).position) l.1 ∙ ap (λ (s : Standing). s.position) dead.1,
+      ap (λ (s : Standing). (after file s frames).position.offset) l.1 ∙ ap (λ (s : Standing). s.position.offset) dead.1,
     )
 step_by file p frames Idle o l next = (
   ap (λ m. m ++ messages_of (answers file o.next frames)) l.0 ∙ ap (λ (s : Standing). messages_of (answers file s frames)) l.1 ∙ (next p).0,
-  ap (λ (s : Standing). (after file s frames).position) l.1 ∙ (next p).1,
+  ap (λ (s : Standing). (after file s frames).position.offset) l.1 ∙ (next p).1,
 )
 
 pub live_law : (file : List ℕ) (frames : List Frame) (p : ℕ) → (messages_of (answers file (live_at p) frames) ≡ replies file p (reads_of frames) ++ epitaph_of frames)
-    × ((after file (live_at p) frames).position ≡ position_after_all file p (reads_of frames))
+    × ((after file (live_at p) frames).position.offset ≡ position_after_all file p (reads_of frames))
 live_law file [] p = (refl, refl)
 live_law file (f ∷ frames) p =
     let o = outcome file (live_at p) f in

@@ -1,13 +1,14 @@
 -- The session of one file, over frames one after another.
-use Rattle.std.proofs.Common.{◌≡◌, ℕ, Bool, true, List, [], ◌∷◌, ◌++◌, Some, None, refl, sym, ap, ◌∙◌, append_assoc, append-nil, ◌⊎◌, inl, inr}
+use Rattle.std.proofs.Common.{◌≡◌, ℕ, Bool, true, List, [], ◌∷◌, ◌++◌, Some, None, refl, sym, ap, ◌∙◌, subst, append_assoc, append-nil, ◌⊎◌, inl, inr}
 use Rattle.std.proofs.lemmas.List.Concat.{flat_map-append}
 use Rattle.endpoint_link.specs.Frames.{Frame, spelling, spellings}
 use Rattle.endpoint_link.specs.declared.kinds.FrameKind.{FrameKind}
 use Rattle.endpoint_link.specs.declared.kinds.FrameKind.TheVariants as kind
 use Rattle.endpoint_link.specs.Admission.{admission}
 use Rattle.endpoint_link.specs.declared.kinds.Refusal.{Refusal}
+use Rattle.conn_rules.specs.Births.{Position, fresh}
 use Rattle.vfs_journal.specs.Output.{refused_frame}
-use Rattle.vfs_program.specs.OneFile.{Standing, at_start, look_ups, outcome, by_refusal, admitted, answers, after, file_course, IsBehind}
+use Rattle.vfs_program.specs.OneFile.{Standing, at_start, look_ups, outcome, by_refusal, admitted, Outcome, Hears, answers, after, file_course, IsBehind}
 use Rattle.vfs_program.specs.Serving.{IsGrowing, HeardOne, HeardEnd}
 
 -- a frame that is refused
@@ -28,6 +29,14 @@ pub admitted_idle : (file : List ℕ) (now : Standing) (k : FrameKind) (bytes : 
 admitted_idle file now k bytes (inl e) = ap (λ (j : FrameKind). admitted file now j bytes) (sym e)
 admitted_idle file now k bytes (inr (inl e)) = ap (λ (j : FrameKind). admitted file now j bytes) (sym e)
 admitted_idle file now k bytes (inr (inr e)) = ap (λ (j : FrameKind). admitted file now j bytes) (sym e)
+
+-- what a frame led to, told otherwise
+pub hears_as : (led led' : Outcome) (next : Standing) (held held' : List ℕ) → led ≡ led' → Hears led next held held' → Hears led' next held held'
+hears_as led led' next held held' is hears = subst (λ o. Hears o next held held') is hears
+
+-- nothing is written
+pub hears_none : (next : Standing) (held : List ℕ) → Hears (record { frames = []; next = next }) next held held
+hears_none next held = record { frames = sym (append-nil held); stands = refl }
 
 pub answers-append : (file : List ℕ) (now : Standing) (frames more : List Frame)
     → answers file now (frames ++ more) ≡ answers file now frames ++ answers file (after file now frames) more
@@ -79,5 +88,5 @@ file_grows file = record {
 }
 
 -- where a session begins
-pub first_stand : (file : List ℕ) (live : Bool) (position : ℕ) → live ≡ true → position ≡ 0 → IsBehind file (record { live = live; position = position }) []
+pub first_stand : (file : List ℕ) (live : Bool) (position : Position) → live ≡ true → position ≡ fresh → IsBehind file (record { live = live; position = position }) []
 first_stand file live position l p = ap (λ b. record { live = b; position = position }) l ∙ ap (λ n. record { live = true; position = n }) p

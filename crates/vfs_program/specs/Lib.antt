@@ -1,11 +1,10 @@
 pub mod Words
 pub mod Notes
-pub mod Reads
-pub mod Replies
-pub mod Meanings
 pub mod Outside
 pub mod Session
 pub mod OneFile
+pub mod Meanings
+pub mod Bound
 pub mod Seen
 pub mod Pieces
 pub mod Serving

@@ -1,12 +1,14 @@
 -- Values of the code as the definitions see them.
-use Rattle.vfs_program.specs.declared.reads.Read.{Read}
-use Rattle.vfs_program.specs.declared.reads.Meaning.{Meaning as TheMeaning}
-use Rattle.vfs_program.specs.declared.reads.Meaning.TheVariants as meaning
-use Rattle.vfs_program.specs.Reads.{Asked, Meaning, Reads, Ends}
-
-abbrev pub asked : Read → Asked
-asked read = record { txid = read.txid; count = read.count }
+use Rattle.std.specs.Prelude.{◌<◌}
+use Rattle.vfs_program.specs.declared.messages.Meaning.{Meaning as TheMeaning}
+use Rattle.vfs_program.specs.declared.messages.Meaning.TheVariants as meaning
+use Rattle.vfs_program.specs.OneFile.{Meaning, Reads, Ends}
 
 abbrev pub seen : TheMeaning → Meaning
-seen (meaning.Reads read) = Reads (asked read)
+seen (meaning.Reads txid count) = Reads txid count
 seen (meaning.Ends status) = Ends status
+
+-- a Read has a transaction id
+abbrev pub HasTxid : TheMeaning → Type 0
+HasTxid (meaning.Reads txid count) = 0 < txid
+HasTxid (meaning.Ends status) = Unit {0}

@@ -1,12 +1,21 @@
 -- What the client of the one file sees: its Reads up to the frame that ends its endpoint, and the messages that come back.
-use Rattle.std.specs.Prelude.{ℕ, List, [], ◌∷◌, ◌++◌, ◌==◌, if◌then◌else◌}
+use Rattle.std.specs.Prelude.{ℕ, ◌+◌, List, [], ◌∷◌, ◌++◌, ◌==◌, length, if◌then◌else◌}
+use Rattle.fidl_names.specs.declared.methods.Method.TheVariants as method
+use Rattle.fidl_names.specs.declared.statuses.Status.TheVariants as status
 use Rattle.fidl_names.specs.StatusNumber.{number_of}
 use Rattle.fidl_wire.specs.Epitaphs.{epitaph_bytes}
 use Rattle.endpoint_link.specs.Frames.{Frame}
 use Rattle.endpoint_link.specs.declared.kinds.FrameKind.{FrameKind}
 use Rattle.endpoint_link.specs.declared.kinds.FrameKind.TheVariants as kind
-use Rattle.vfs_program.specs.Reads.{Asked, Meaning, Reads, Ends, meaning_of}
-use Rattle.vfs_program.specs.Replies.{reply_to, position_after}
+use Rattle.io_messages.specs.Replies.{fails, payload}
+use Rattle.io_messages.specs.ReplyWriting.{reply_bytes}
+use Rattle.conn_rules.specs.FileRows.{is_too_much, part_from}
+use Rattle.vfs_program.specs.OneFile.{Meaning, Reads, Ends, meaning_of}
+
+-- a Read that was sent: its transaction id, and for how many bytes it asks
+pub record Asked : Type 0 where
+  pub txid : ℕ
+  pub count : ℕ
 
 -- what a frame is for endpoint 1, while it is live: a Read, its end and what that tells, or nothing
 pub data Use : Type 0 where
@@ -15,7 +24,7 @@ pub data Use : Type 0 where
   Idle : Use
 
 abbrev pub use_of_message : Meaning → Use
-use_of_message (Reads read) = Asks read
+use_of_message (Reads txid count) = Asks (record { txid = txid; count = count })
 use_of_message (Ends status) = EndsIt (epitaph_bytes (number_of status) ∷ [])
 
 -- a message without handles is heard, one with handles is refused, and a Close hangs up
@@ -61,6 +70,18 @@ message_in kind.Refused message = []
 abbrev pub messages_of : List Frame → List (List ℕ)
 messages_of [] = []
 messages_of (frame ∷ frames) = message_in frame.kind frame.bytes ++ messages_of frames
+
+-- the reply to a Read: so many of the file's bytes from a position on, or that it asks for too many
+abbrev pub reply_to : List ℕ → ℕ → Asked → List ℕ
+reply_to file position read =
+    if is_too_much read.count then reply_bytes read.txid (fails method.Read status.OutOfRange)
+    else reply_bytes read.txid (payload method.Read (part_from position read.count file))
+
+-- the position that a Read leaves: behind the bytes that it gave
+abbrev pub position_after : List ℕ → ℕ → Asked → ℕ
+position_after file position read =
+    if is_too_much read.count then position
+    else position + length (part_from position read.count file)
 
 -- the replies to Reads, each from where the one before it left the position
 abbrev pub replies : List ℕ → ℕ → List Asked → List (List ℕ)

@@ -1,4 +1,6 @@
 ghost use Rattle.std.specs.Prelude.{◌≡◌, ◌≤◌, length, true, [], IfOk};
+ghost use Rattle.conn_rules.specs.Births.{fresh};
+ghost use Rattle.vfs_program.specs.Bound.{IsBoundTo};
 ghost use Rattle.vfs_program.specs.Causes.{AfterNames, AfterFile};
 ghost use Rattle.vfs_program.specs.OneFile.{file_course, IsBehind};
 ghost use Rattle.vfs_program.specs.Outside.{files_told, streams_told};
@@ -34,9 +36,10 @@ pub fn serve_file<F: Files, S: Source, K: Sink>(
         (streams_told S.left S.faults K.written K.flushed K.faults source.new sink.new)
         (sink.new ≡ sink.old))) result }
 {
-    if let Err(OrdinalFault::Collision(first, second)) = Ordinals::new() {
-        return Status::Collision { first, second };
-    }
+    let ordinals = match Ordinals::new() {
+        Ok(ordinals) => ordinals,
+        Err(OrdinalFault::Collision(first, second)) => return Status::Collision { first, second },
+    };
     let file = match files.read_all(alloc, name, MAX_FILE) {
         Ok(file) => file,
         Err(FileFault::Failed) => return Status::FileFault,
@@ -46,7 +49,7 @@ pub fn serve_file<F: Files, S: Source, K: Sink>(
     let Ok(mut input) = Input::new(alloc) else {
         return Status::NoMemory;
     };
-    let Ok(mut session) = FileSession::new(alloc, file) else {
+    let Ok(mut session) = FileSession::new(alloc, file, ordinals) else {
         return Status::NoMemory;
     };
     run(&mut session, &mut input, source, sink)
@@ -55,51 +58,50 @@ pub fn serve_file<F: Files, S: Source, K: Sink>(
 /// The session of one file. All its memory is taken before it begins.
 #[derive(Drop)]
 struct FileSession {
-    file: Vec<u8>,
     connection: Connection,
     room: FrameRoom,
 }
 
 impl FileSession {
     /// At the start of the file.
-    fn new(alloc: Global, file: Vec<u8>) -> Result<FileSession, NoMemory>
-        ensures file { IfOk result (λ s. s.file ≡ file) }
-        ensures connection { IfOk result (λ s. (s.connection.live ≡ true) × (s.connection.position ≡ 0)) }
+    fn new(alloc: Global, file: Vec<u8>, ordinals: Ordinals) -> Result<FileSession, NoMemory>
+        requires { length file.items ≤ MAX_FILE }
+        ensures live { IfOk result (λ s. s.connection.live ≡ true) }
+        ensures position { IfOk result (λ s. s.connection.connection.position ≡ fresh) }
+        ensures bound { IfOk result (λ s. IsBoundTo file.items s.connection.graph s.connection.connection) }
         ensures room { IfOk result (λ s. (s.room.bytes ≡ []) × (s.room.size ≡ ROOM)) }
     {
-        let connection = Connection::new(alloc)?;
+        let connection = Connection::new(alloc, &file, ordinals)?;
         let room = FrameRoom::new(alloc, ROOM)?;
-        Ok(FileSession {
-            file,
-            connection,
-            room,
-        })
+        Ok(FileSession { connection, room })
     }
 }
 
 impl Session for FileSession {
     ghost use Rattle.vfs_program.specs.declared.file_session.TheConstants.{ROOM};
-    ghost use Rattle.std.specs.Prelude.{◌≡◌, ◌≤◌, length};
+    ghost use Rattle.std.specs.Prelude.{◌≡◌, ℕ, List};
+    ghost use Rattle.vfs_program.specs.Bound.{IsBoundTo};
     ghost use Rattle.vfs_program.specs.OneFile.{file_course, IsBehind};
     ghost use Rattle.endpoint_link.specs.declared.kinds.Side.TheVariants as side;
 
     ghost side = { side.ToServers };
 
-    ghost stands = { λ s course frames. (course ≡ file_course s.file.items)
-        × IsBehind s.file.items (record { live = s.connection.live; position = s.connection.position }) frames };
+    ghost stands = { λ s course frames. (file : List ℕ) × (course ≡ file_course file)
+        × IsBoundTo file s.connection.graph s.connection.connection
+        × IsBehind file (record { live = s.connection.live; position = s.connection.connection.position }) frames };
 
     ghost holds = { λ s. s.room.bytes };
 
     ghost heard = { λ s. 0 };
 
-    ghost ready = { λ s. (s.connection.position ≤ length s.file.items) × (s.room.size ≡ ROOM) };
+    ghost ready = { λ s. ((file : List ℕ) × IsBoundTo file s.connection.graph s.connection.connection) × (s.room.size ≡ ROOM) };
 
     fn side(&self) -> Side {
         Side::ToServers
     }
 
     fn hear(&mut self, frame: FrameView<'_>) -> Result<(), NoMemory> {
-        self.connection.hear(&self.file, frame, &mut self.room);
+        self.connection.hear(frame, &mut self.room);
         Ok(())
     }
 

@@ -12,5 +12,5 @@ pub fn each_read_is_answered_once()
     ensures messages { (file : List ℕ) (frames : List Frame) →
         messages_of (answers file at_start frames) ≡ replies file 0 (reads_of frames) ++ epitaph_of frames }
     ensures position { (file : List ℕ) (frames : List Frame) →
-        (after file at_start frames).position ≡ position_after_all file 0 (reads_of frames) }
+        (after file at_start frames).position.offset ≡ position_after_all file 0 (reads_of frames) }
 {}

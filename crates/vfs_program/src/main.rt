@@ -1,14 +1,14 @@
 // The program `vfs`: the words, the notes, the exit statuses, and what each command does.
 #![tactic(auto)]
 
+mod binding;
 mod checks;
 mod file_session;
 mod input;
 mod laws;
+mod messages;
 mod notes;
 mod one_file;
-mod reads;
-mod replies;
 #[cfg(test)]
 mod rows;
 mod run;

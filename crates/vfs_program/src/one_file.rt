@@ -1,94 +1,173 @@
-ghost use Rattle.std.specs.Prelude.{◌≡◌, ◌≤◌, ◌+◌, ◌++◌, [], ◌∷◌, length, nat_le, true, IfOk};
-ghost use Rattle.endpoint_link.specs.Admission.{admission, by_standing};
-ghost use Rattle.fidl_names.specs.First.{cause_if};
-ghost use Rattle.endpoint_link.specs.declared.kinds.FrameKind.TheVariants as kind;
-ghost use Rattle.endpoint_link.specs.declared.kinds.Refusal.TheVariants as refusal;
-ghost use Rattle.fidl_wire.specs.Epitaphs.{epitaph_bytes};
-ghost use Rattle.fidl_names.specs.StatusNumber.{number_of};
-ghost use Rattle.endpoint_link.specs.Frames.{frame_with, spellings};
+ghost use Rattle.std.specs.Prelude.{◌≡◌, ◌≤◌, ◌<◌, ◌+◌, ◌++◌, ℕ, List, [], ◌∷◌, length, true, IfOk};
+ghost use Rattle.conn_rules.specs.Births.{fresh};
+ghost use Rattle.endpoint_link.specs.Frames.{spellings};
 ghost use Rattle.endpoint_link.specs.Views.{frame_of};
-ghost use Rattle.vfs_program.specs.Reads.{read_ordinal, meaning_of as told};
+ghost use Rattle.vfs_journal.specs.Outcomes.{ending};
 ghost use Rattle.vfs_journal.specs.Output.{refused_frame};
-ghost use Rattle.vfs_program.specs.OneFile.{look_ups, outcome, answered};
+ghost use Rattle.vfs_program.specs.Bound.{IsBoundTo};
+ghost use Rattle.vfs_program.specs.OneFile.{Hears, outcome, answered, read_outcome, meaning_of as told};
 
-use crate::reads::{Meaning, READ_NAME, meaning_of};
-use crate::replies::put_reply;
-use endpoint_link::{FIXED_LEN, FrameKind, FrameRoom, FrameView, Refusal};
-use fidl_names::MAX_CHUNK;
-use fidl_wire::{NoMemory, Out, Status as Answer, epitaph, ordinal};
+use crate::binding::bind;
+use crate::messages::{Meaning, meaning_of};
+use conn_rules::{Room, Served};
+use endpoint_link::{
+    FIXED_LEN, FrameKind, FrameRoom, FrameView, LookUp, Refusal, Standing, first_refusal,
+};
+use fidl_names::{MAX_BYTES, MAX_FILE};
+use fidl_wire::{NoMemory, Ordinals, Out, Status as Answer, epitaph};
+use file_conn::FileConn;
+use io_messages::Request;
+use node_graph::Graph;
 use std::alloc::Global;
 
 /// The endpoint that is bound to the file.
 const ENDPOINT: u32 = 1;
 
-/// The most bytes that are written for one frame: the frame of the longest reply.
-pub const MOST_ANSWER: usize = FIXED_LEN + 48 + MAX_CHUNK as usize;
+/// The most bytes that are written for one frame: the frame of the longest message.
+pub const MOST_ANSWER: usize = FIXED_LEN + MAX_BYTES;
 
-/// The session of one file: whether its endpoint is live, from where it reads, and room for a message.
+/// What admission looks up: the file's endpoint alone was ever known, and nothing waits.
+#[derive(Clone, Copy)]
+struct OneEndpoint {
+    live: bool,
+}
+
+impl LookUp for OneEndpoint {
+    ghost use Rattle.vfs_program.specs.OneFile.{look_ups};
+
+    ghost tells = { λ known. look_ups known.live };
+
+    fn standing_at(&self, number: u32) -> Standing {
+        if number != ENDPOINT {
+            Standing::Unused
+        } else if self.live {
+            Standing::Live
+        } else {
+            Standing::Dead
+        }
+    }
+
+    fn was_used(&self, _number: u32) -> bool {
+        true
+    }
+
+    fn is_held(&self, _token: u32) -> bool {
+        false
+    }
+
+    fn waiting(&self) -> u32 {
+        0
+    }
+
+    fn live(&self) -> u32 {
+        1
+    }
+
+    fn servers(&self) -> u32 {
+        1
+    }
+}
+
+/// The session of one file: whether its endpoint is live, the connection that it is bound to, and room
+/// for a message.
 #[derive(Drop)]
 pub struct Connection {
     live: bool,
-    position: usize,
-    ordinal: u64,
+    connection: FileConn,
+    graph: Graph,
+    ordinals: Ordinals,
     out: Out,
-    ghost named: { ordinal ≡ read_ordinal },
 }
 
 impl Connection {
     /// At the start of the file. All the room is taken here.
-    pub fn new(alloc: Global) -> Result<Connection, NoMemory>
-        ensures { IfOk result (λ c. (c.live ≡ true) × (c.position ≡ 0)) }
+    pub fn new(alloc: Global, file: &[u8], ordinals: Ordinals) -> Result<Connection, NoMemory>
+        requires { length file.now ≤ MAX_FILE }
+        ensures live { IfOk result (λ c. c.live ≡ true) }
+        ensures position { IfOk result (λ c. c.connection.position ≡ fresh) }
+        ensures bound { IfOk result (λ c. IsBoundTo file.now c.graph c.connection) }
     {
+        let (graph, connection) = bind(alloc, file)?;
         Ok(Connection {
             live: true,
-            position: 0,
-            ordinal: ordinal(READ_NAME),
+            connection,
+            graph,
+            ordinals,
             out: Out::new(alloc)?,
         })
     }
 
     /// Serves one frame.
-    pub fn hear(&mut self, file: &[u8], frame: FrameView<'_>, room: &mut FrameRoom)
-        requires within { self.old.position ≤ length file.now }
+    pub fn hear(&mut self, frame: FrameView<'_>, room: &mut FrameRoom)
+        requires bound { (file : List ℕ) × IsBoundTo file self.old.graph self.old.connection }
         requires room { length room.old.bytes + MOST_ANSWER ≤ room.old.size }
-        ensures frames { room.new.bytes ≡ room.old.bytes ++
-            spellings (outcome file.now (record { live = self.old.live; position = self.old.position }) (frame_of frame.entry)).frames }
-        ensures next { record { live = self.new.live; position = self.new.position } ≡
-            (outcome file.now (record { live = self.old.live; position = self.old.position }) (frame_of frame.entry)).next }
+        ensures hears { (file : List ℕ) → IsBoundTo file self.old.graph self.old.connection →
+            Hears (outcome file (record { live = self.old.live; position = self.old.connection.position }) (frame_of frame.entry))
+            (record { live = self.new.live; position = self.new.connection.position }) room.old.bytes room.new.bytes }
+        ensures bound { (file : List ℕ) → IsBoundTo file self.old.graph self.old.connection → IsBoundTo file self.new.graph self.new.connection }
         ensures size { room.new.size ≡ room.old.size }
-        ensures within { self.new.position ≤ length file.now }
     {
-        if let Some(why) = refusal(self.live, frame) {
+        if let Some(why) = first_refusal(&OneEndpoint { live: self.live }, frame) {
             put_refusal(&mut self.out, frame.endpoint, why, room);
             return;
         }
         match frame.kind {
-            FrameKind::Message => self.answer(file, frame.bytes, room),
+            FrameKind::Message => self.answer(frame.bytes, room),
             FrameKind::Close => self.live = false,
             FrameKind::Turn | FrameKind::Pick | FrameKind::Refused => {}
         }
     }
 
     /// Answers a message: a Read by its reply, any other by an epitaph and the endpoint's end.
-    fn answer(&mut self, file: &[u8], message: &[u8], room: &mut FrameRoom)
-        requires within { self.old.position ≤ length file.now }
+    fn answer(&mut self, message: &[u8], room: &mut FrameRoom)
+        requires bound { (file : List ℕ) × IsBoundTo file self.old.graph self.old.connection }
         requires room { length room.old.bytes + MOST_ANSWER ≤ room.old.size }
-        ensures frames { room.new.bytes ≡ room.old.bytes ++
-            spellings (answered file.now (record { live = self.old.live; position = self.old.position }) (told message.now)).frames }
-        ensures next { record { live = self.new.live; position = self.new.position } ≡
-            (answered file.now (record { live = self.old.live; position = self.old.position }) (told message.now)).next }
+        ensures hears { (file : List ℕ) → IsBoundTo file self.old.graph self.old.connection →
+            Hears (answered file (record { live = self.old.live; position = self.old.connection.position }) (told message.now))
+            (record { live = self.new.live; position = self.new.connection.position }) room.old.bytes room.new.bytes }
+        ensures bound { (file : List ℕ) → IsBoundTo file self.old.graph self.old.connection → IsBoundTo file self.new.graph self.new.connection }
         ensures size { room.new.size ≡ room.old.size }
-        ensures within { self.new.position ≤ length file.now }
     {
-        match meaning_of(message, self.ordinal) {
-            Meaning::Reads(read) => {
-                self.position = put_reply(&mut self.out, file, self.position, read, self.ordinal);
-                room.put_frame(ENDPOINT, FrameKind::Message, &[], self.out.as_bytes());
-            }
+        match meaning_of(message, &self.ordinals) {
+            Meaning::Reads { txid, count } => self.read(txid, count, room),
             Meaning::Ends(status) => {
                 self.live = false;
                 put_end(&mut self.out, status, room);
             }
+        }
+    }
+
+    /// Answers a Read. It takes no memory, since it changes nothing of the file.
+    fn read(&mut self, txid: u32, count: u64, room: &mut FrameRoom)
+        requires bound { (file : List ℕ) × IsBoundTo file self.old.graph self.old.connection }
+        requires txid { 0 < txid }
+        requires room { length room.old.bytes + MOST_ANSWER ≤ room.old.size }
+        ensures hears { (file : List ℕ) → IsBoundTo file self.old.graph self.old.connection →
+            Hears (read_outcome file (record { live = self.old.live; position = self.old.connection.position }) txid count)
+            (record { live = self.new.live; position = self.new.connection.position }) room.old.bytes room.new.bytes }
+        ensures bound { (file : List ℕ) → IsBoundTo file self.old.graph self.old.connection → IsBoundTo file self.new.graph self.new.connection }
+        ensures size { room.new.size ≡ room.old.size }
+    {
+        let in_use = Room {
+            connections: 1,
+            watchers: 0,
+            token: None,
+        };
+        let request = Request::Read { count };
+        self.out.clear();
+        let served = self.connection.serve(
+            &self.ordinals,
+            &mut self.graph,
+            in_use,
+            txid,
+            request,
+            &mut self.out,
+        );
+        match served {
+            Served::Reply => {
+                room.put_frame(ENDPOINT, FrameKind::Message, &[], self.out.as_bytes());
+            }
+            _ => unreachable!(),
         }
     }
 }
@@ -96,8 +175,7 @@ impl Connection {
 /// Puts the frames by which a message ends the endpoint: an epitaph, and a Close.
 fn put_end(out: &mut Out, status: Answer, room: &mut FrameRoom)
     requires { length room.old.bytes + MOST_ANSWER ≤ room.old.size }
-    ensures frames { room.new.bytes ≡ room.old.bytes ++ spellings
-        (frame_with 1 kind.Message [] (epitaph_bytes (number_of status)) ∷ frame_with 1 kind.Close [] [] ∷ []) }
+    ensures frames { room.new.bytes ≡ room.old.bytes ++ spellings (ending 1 status) }
     ensures size { room.new.size ≡ room.old.size }
 {
     out.clear();
@@ -115,47 +193,4 @@ fn put_refusal(out: &mut Out, number: u32, why: Refusal, room: &mut FrameRoom)
     out.clear();
     out.put_i32(why.status().number());
     room.put_frame(number, FrameKind::Refused, &[], out.as_bytes());
-}
-
-/// The first reason against a frame, where the file's endpoint alone was ever known.
-fn refusal(live: bool, frame: FrameView<'_>) -> Option<Refusal>
-    ensures { result ≡ admission (look_ups live) (frame_of frame.entry) }
-{
-    match frame.kind {
-        FrameKind::Turn => refusal_of_turn(frame.endpoint),
-        FrameKind::Refused => None,
-        FrameKind::Close | FrameKind::Pick => refusal_of_number(live, frame.endpoint),
-        FrameKind::Message => {
-            let refusal = refusal_of_number(live, frame.endpoint);
-            if refusal.is_none() && !frame.handles.is_empty() {
-                return Some(Refusal::BadHandle);
-            }
-            refusal
-        }
-    }
-}
-
-/// Server 0 is the only one.
-fn refusal_of_turn(server: u32) -> Option<Refusal>
-    ensures { result ≡ cause_if (nat_le 1 server) refusal.BadHandle }
-{
-    if server == 0 {
-        None
-    } else {
-        Some(Refusal::BadHandle)
-    }
-}
-
-/// The file's endpoint is the only one that was ever known.
-fn refusal_of_number(live: bool, number: u32) -> Option<Refusal>
-    ensures { result ≡ by_standing ((look_ups live).standing number) }
-{
-    if number != ENDPOINT {
-        return Some(Refusal::BadHandle);
-    }
-    if live {
-        None
-    } else {
-        Some(Refusal::PeerClosed)
-    }
 }

@@ -3,7 +3,7 @@
 mod long;
 mod refusals;
 
-use crate::rows::{ROWS, WHOLE_TREE};
+use crate::rows::{LISTINGS, NAMES, ROWS, WHOLE_TREE};
 use crate::run::run_words;
 use crate::statuses::Status;
 use host_io::{MemFiles, MemSink, MemSource};
@@ -24,10 +24,25 @@ struct Ran {
 
 #[test]
 fn runs_end_as_their_rows_say(rt: HostRuntime) -> Result<(), Fail> {
-    let alloc = rt.alloc();
-    for row in &rows(alloc, ROWS)? {
-        let holds = runs_as_said(alloc, row)?;
-        assert!(rt; holds, "{}", row.name());
+    all_end_as_said(rt.alloc(), ROWS)
+}
+
+#[test]
+fn names_change_as_their_rows_say(rt: HostRuntime) -> Result<(), Fail> {
+    all_end_as_said(rt.alloc(), NAMES)
+}
+
+#[test]
+fn directories_are_listed_as_their_rows_say(rt: HostRuntime) -> Result<(), Fail> {
+    all_end_as_said(rt.alloc(), LISTINGS)
+}
+
+/// Fails with the name of the first row that isn't what its runs end as.
+fn all_end_as_said(alloc: Global, text: &str) -> Result<(), Fail> {
+    for row in &rows(alloc, text)? {
+        if !runs_as_said(alloc, row)? {
+            return Err(Fail::new(row.name()));
+        }
     }
     Ok(())
 }
