@@ -1,1 +1,5 @@
 mod Once
+mod Registered
+mod Rowed
+mod Told
+mod Gathered

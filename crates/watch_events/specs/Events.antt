@@ -9,9 +9,12 @@ pub record Event : Type 0 where
   pub event : ℕ
   pub name : List ℕ
 
--- the event, the length of the name, the name
-abbrev pub event_bytes : Event → List ℕ
-event_bytes e = e.event ∷ length e.name ∷ e.name
+-- an event as it is written: its number, the length of the name, the name
+abbrev pub event_bytes : ℕ → List ℕ → List ℕ
+event_bytes event name = event ∷ length name ∷ name
+
+abbrev pub bytes_of : Event → List ℕ
+bytes_of e = event_bytes e.event e.name
 
 -- no whole event stands in front
 abbrev pub IsCut : List ℕ → Type 0
@@ -19,7 +22,7 @@ IsCut bytes = (length bytes < 2) ⊎ (length bytes < 2 + slice_index bytes 1)
 
 -- the bytes are these events, and then a rest in front of which no whole event stands
 pub record AreEvents (bytes : List ℕ) (events : List Event) (rest : List ℕ) : Type 0 where
-  pub split : bytes ≡ flat_map event_bytes events ++ rest
+  pub split : bytes ≡ flat_map bytes_of events ++ rest
   pub named : All (λ e. length e.name < 256) events
   pub cut : IsCut rest
 
@@ -33,7 +36,7 @@ left events = events.bytes.now
 
 -- the next event is the one in front, and it is taken off; where none stands in front nothing changes
 abbrev pub Gives : Events → Option Seen → Events → Type 0
-Gives old (Some seen) new = (left old ≡ event_bytes (event_of seen) ++ left new) × (length seen.name.now < 256)
+Gives old (Some seen) new = (left old ≡ bytes_of (event_of seen) ++ left new) × (length seen.name.now < 256)
 Gives old None new = IsCut (left old) × (new ≡ old)
 
 -- bytes are one list of events and one rest
