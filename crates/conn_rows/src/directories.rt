@@ -56,8 +56,8 @@ fn small_tree(rt: &impl Abort, mut graph: Graph) -> Result<Graph, GraphFault> {
     Ok(graph)
 }
 
-// A connection to a directory, with all rights.
-pub(crate) fn conn_to(graph: &Graph, node: NodeRef) -> DirConn
+// A connection to a directory, with these rights.
+fn conn_with(graph: &Graph, node: NodeRef, rights: Rights) -> DirConn
     requires named { Names graph.now node }
     requires directory { kind_at graph.now (number_of node) ≡ Some Directory }
     ensures can { CanBeBound graph.now result.birth }
@@ -65,11 +65,29 @@ pub(crate) fn conn_to(graph: &Graph, node: NodeRef) -> DirConn
 {
     DirConn::new(Birth {
         node,
-        rights: Rights::all(),
+        rights,
         protocol: Protocol::Directory,
         append: false,
         announce: false,
     })
+}
+
+// A connection to a directory, with all rights.
+pub(crate) fn conn_to(graph: &Graph, node: NodeRef) -> DirConn
+    requires named { Names graph.now node }
+    requires directory { kind_at graph.now (number_of node) ≡ Some Directory }
+    ensures can { CanBeBound graph.now result.birth }
+    ensures protocol { result.birth.protocol ≡ Protocol.Directory }
+{
+    conn_with(graph, node, Rights::all())
+}
+
+// A connection to the root, with these rights.
+pub(crate) fn root_with(graph: &Graph, rights: Rights) -> DirConn
+    ensures can { CanBeBound graph.now result.birth }
+    ensures protocol { result.birth.protocol ≡ Protocol.Directory }
+{
+    conn_with(graph, graph.root(), rights)
 }
 
 // A connection to the root.

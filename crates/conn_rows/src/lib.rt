@@ -10,3 +10,5 @@ mod files;
 mod names;
 #[cfg(test)]
 mod references;
+#[cfg(test)]
+mod watching;

@@ -181,6 +181,32 @@ fn a_reference_has_no_method_of_directories_or_files(rt: HostRuntime) -> Result<
 }
 
 #[test]
+fn a_reference_watches_nothing(rt: HostRuntime) -> Result<(), Fail> {
+    let mut writer = Writer {
+        ordinals: Ordinals::new()?,
+        out: Out::new(rt.alloc())?,
+    };
+    let mut graph = Graph::new(rt.alloc())?;
+    plant(&rt, &mut graph)?;
+    let refused: &[u8] =
+        b"\x07\x00\x00\x00\x02\x00\x00\x01\x79\xd8\x51\xa5\xb9\x30\xd3\x72\xf5\xff\xff\xff\x00\x00\x00\x00";
+    let rows: [(u32, u32); 6] = [(0, 0), (1, 0), (31, 0), (32, 0), (0x2000_0000, 0), (1, 1)];
+    for (mask, options) in rows {
+        for name in NAMES {
+            let watch = Request::Watch {
+                mask,
+                options,
+                watcher: 9,
+            };
+            let served = ask(&rt, &mut graph, name, &mut writer, watch);
+            assert_eq!(rt; served, Served::Reply);
+            assert_eq!(rt; writer.out.as_bytes(), refused);
+        }
+    }
+    Ok(())
+}
+
+#[test]
 fn a_reference_opens_nothing(rt: HostRuntime) -> Result<(), Fail> {
     let mut writer = Writer {
         ordinals: Ordinals::new()?,

@@ -16,7 +16,6 @@ use Rattle.io_messages.specs.Replies.{done, payload, attributes}
 use Rattle.io_rights.specs.Needs.{needed_by}
 use Rattle.conn_rules.specs.Births.{Birth}
 use Rattle.conn_rules.specs.Answers.{Act, only, replies, closes, binds}
-use Rattle.conn_rules.specs.Built.{Built}
 use Rattle.conn_rules.specs.Contexts.{Context}
 use Rattle.conn_rules.specs.FileRows.{read_act, read_at_act, write_act, write_at_act, seek_act, resize_act}
 use Rattle.conn_rules.specs.Listings.{listing_act, rewind_act}
@@ -75,15 +74,14 @@ is_beyond _ method = false
 abbrev pub lacks_right : Birth → Method → Bool
 lacks_right birth method = option_map_or (lacks birth.rights) (needed_by method) false
 
-abbrev pub method_refusals : Built → Birth → Method → List (Option Status)
-method_refusals built birth method =
+abbrev pub method_refusals : Birth → Method → List (Option Status)
+method_refusals birth method =
     cause_if (is_beyond birth.protocol method) status.BadHandle
     ∷ cause_if (lacks_right birth method) status.BadHandle
-    ∷ cause_if (not (built.methods method)) status.NotSupported
     ∷ []
 
 -- what one request does: its method is refused, or its row says it
 unfoldable pub act_of : Context → Asked → Act
 act_of context request =
-    unless (first_of (method_refusals context.built context.birth (method_of request))) context.position (method_of request)
+    unless (first_of (method_refusals context.birth (method_of request))) context.position (method_of request)
     (row_act context request)

@@ -1,7 +1,6 @@
 pub mod Births
 pub mod Codes
 pub mod Answers
-pub mod Built
 pub mod Contexts
 pub mod Refusals
 pub mod Nodes

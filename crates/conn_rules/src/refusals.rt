@@ -4,7 +4,6 @@ ghost use Rattle.std.specs.Prelude.{◌≡◌, ◌≢◌, true, IfSome};
 ghost use Rattle.io_messages.specs.Protocols.{has_method, home_of};
 ghost use Rattle.conn_rules.specs.Acts.{is_of_every_node, is_beyond, lacks_right, method_refusals};
 ghost use Rattle.conn_rules.specs.Births.{born};
-ghost use Rattle.conn_rules.specs.Built.{today, is_method_of_today};
 ghost use Rattle.fidl_names.specs.First.{first_of};
 ghost use Rattle.conn_rules.specs.Shared.{can_fail};
 
@@ -14,9 +13,9 @@ use io_messages::{Protocol, has_method};
 use io_rights::needed;
 
 /// Why a method isn't served on a connection, whatever its arguments are: it is none of a node
-/// reference's, its right is wanting, or it isn't built yet; the first that holds.
+/// reference's, or its right is wanting; both are answered BAD_HANDLE.
 pub fn method_refusal(birth: &Birth, method: Method) -> Option<Status>
-    ensures first { result ≡ first_of (method_refusals today (born birth.now) method) }
+    ensures first { result ≡ first_of (method_refusals (born birth.now) method) }
     ensures status { IfSome result (λ status. status ≢ Status.Ok) }
     ensures form { birth.now.protocol ≢ Protocol.Echo → has_method birth.now.protocol method ≡ true → IfSome result (λ _. can_fail method ≡ true) }
 {
@@ -25,9 +24,6 @@ pub fn method_refusal(birth: &Birth, method: Method) -> Option<Status>
     }
     if lacks_right(birth, method) {
         return Some(Status::BadHandle);
-    }
-    if !is_built(method) {
-        return Some(Status::NotSupported);
     }
     None
 }
@@ -57,11 +53,4 @@ fn lacks_right(birth: &Birth, method: Method) -> bool
         Some(right) => !right.within(birth.rights),
         None => false,
     }
-}
-
-/// The method is served today.
-fn is_built(method: Method) -> bool
-    ensures { result ≡ is_method_of_today method }
-{
-    !matches!(method, Method::Watch)
 }

@@ -16,7 +16,6 @@ ghost use Rattle.node_graph.specs.Tree.{Tree};
 ghost use Rattle.conn_rules.specs.Acts.{clone_act, is_of_every_node, row_act};
 ghost use Rattle.conn_rules.specs.Answers.{closes, failure_of, only, replies};
 ghost use Rattle.conn_rules.specs.Births.{Connection, Position, born, connection_with};
-ghost use Rattle.conn_rules.specs.Built.{Built};
 ghost use Rattle.conn_rules.specs.Contexts.{context_with};
 ghost use Rattle.conn_rules.specs.Nodes.{attributes_of, protocol_name};
 ghost use Rattle.conn_rules.specs.Served.{HasNothing, IsAnswered};
@@ -77,9 +76,9 @@ fn serve_close(ordinals: &Ordinals, txid: u32, out: &mut Out) -> Served
 /// Serves Clone: the endpoint that it carries is bound like the connection, unless the server has
 /// as many connections as it may.
 fn serve_clone(birth: &Birth, room: Room) -> Served
-    ensures served { (built : Built) (position : Position) (tree : Tree) (directory : ℕ → Option ℕ) (txid : ℕ) (out : Written) (graph : Kept) →
+    ensures served { (position : Position) (tree : Tree) (directory : ℕ → Option ℕ) (txid : ℕ) (out : Written) (graph : Kept) →
         HasNothing out → CanBeBound graph birth.now →
-        IsAnswered (clone_act (context_with built (born birth.now) position room tree directory)) txid result out (connection_with birth.now position) graph }
+        IsAnswered (clone_act (context_with (born birth.now) position room tree directory)) txid result out (connection_with birth.now position) graph }
     ensures memory { result ≢ Served.NoMemory }
     ensures lives { (last : Status) → result ≢ Served.End last }
 {
@@ -122,8 +121,8 @@ pub fn serve_node(
     requires home { is_of_every_node (home_of (method_of (asked request.now))) ≡ true }
     requires txid { has_txid (is_one_way (method_of (asked request.now))) txid ≡ true }
     requires empty { HasNothing out.old }
-    ensures served { (built : Built) (position : Position) (tree : Tree) (directory : ℕ → Option ℕ) → StandsFor graph.now tree →
-        IsAnswered (row_act (context_with built (born birth.now) position room tree directory) (asked request.now)) txid result out.new (connection_with birth.now position) graph.now }
+    ensures served { (position : Position) (tree : Tree) (directory : ℕ → Option ℕ) → StandsFor graph.now tree →
+        IsAnswered (row_act (context_with (born birth.now) position room tree directory) (asked request.now)) txid result out.new (connection_with birth.now position) graph.now }
     ensures memory { result ≢ Served.NoMemory }
     ensures lives { (last : Status) → result ≢ Served.End last }
 {

@@ -4,6 +4,7 @@ pub mod Opening
 pub mod Making
 pub mod Unlinking
 pub mod ListingRows
+pub mod Watching
 pub mod Trying
 pub mod Naming
 pub mod Narrow

@@ -10,7 +10,6 @@ use Rattle.path_walk.specs.Paths.{names_of}
 use Rattle.conn_rules.specs.declared.births.Room.{Room}
 use Rattle.conn_rules.specs.Answers.{Act, only, refuses}
 use Rattle.conn_rules.specs.Births.{Birth, Position}
-use Rattle.conn_rules.specs.Built.{today}
 use Rattle.conn_rules.specs.Contexts.{context_with}
 use Rattle.conn_rules.specs.Opens.{arrival, arrival_refusals, by_walk, entry_refusals, making, making_refusals, open_act}
 use Rattle.conn_rules.specs.Walks.{Walk, arrives, missing, crosses, stops, walk}
@@ -85,7 +84,7 @@ making_bound graph tree room position word directory name limit stands none =
     rw (refusals_same graph tree room word directory stands, sym none) refl
 
 act_of_walk : (birth : Birth) (position : Position) (room : Room) (tree : Tree) (directory : ℕ → Option ℕ) (word : ℕ) (w : Walk) →
-    by_walk (context_with today birth position room tree directory) word w ≡ act_at position room tree word (reach birth.rights w)
+    by_walk (context_with birth position room tree directory) word w ≡ act_at position room tree word (reach birth.rights w)
 act_of_walk birth position room tree directory word (arrives node masks) = refl
 act_of_walk birth position room tree directory word (missing parent name masks) = refl
 act_of_walk birth position room tree directory word (crosses mount rest masks) = refl
@@ -94,7 +93,7 @@ act_of_walk birth position room tree directory word (stops status) = refl
 -- an Open that isn't refused before its walk
 pub act_of_open : (birth : Birth) (position : Position) (room : Room) (tree : Tree) (directory : ℕ → Option ℕ) (path : List ℕ) (word flags : ℕ) (names : List (List ℕ)) →
     None ≡ first_of (entry_refusals birth word path) → flags ≡ word → names ≡ names_of path →
-    open_act (context_with today birth position room tree directory) path word
+    open_act (context_with birth position room tree directory) path word
     ≡ act_at position room tree flags (reach birth.rights (walk tree flags names birth.node))
 act_of_open birth position room tree directory path word flags names none same named =
     rw (sym none, same, named) (act_of_walk birth position room tree directory word (walk tree word (names_of path) birth.node))

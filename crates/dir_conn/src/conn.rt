@@ -9,7 +9,6 @@ ghost use Rattle.node_graph.specs.Graph.{Names, StandsFor, kind_at, number_of};
 ghost use Rattle.node_graph.specs.Tree.{Tree};
 ghost use Rattle.conn_rules.specs.Acts.{act_of, row_act};
 ghost use Rattle.conn_rules.specs.Births.{born, connection_with, fresh};
-ghost use Rattle.conn_rules.specs.Built.{today, is_method_of_today};
 ghost use Rattle.conn_rules.specs.Contexts.{context_of, context_with};
 ghost use Rattle.conn_rules.specs.Served.{HasNothing, IsUntouched, KeepsHolds, takes_memory};
 ghost use Rattle.conn_rules.specs.Shared.{CanBeBound};
@@ -23,6 +22,7 @@ use crate::rename::rename;
 use crate::served::{DirServed, of_node};
 use crate::token::get_token;
 use crate::unlink::unlink;
+use crate::watch::watch;
 use conn_rules::{Birth, Room, fail, method_refusal, serve_node};
 use dirents::Place;
 use fidl_wire::{Ordinals, Out};
@@ -75,8 +75,6 @@ impl DirConn {
     ///
     /// Want of memory is answered to Link, Rename and an Open that creates alone, where nothing else
     /// refuses them; connection, graph and output are then as they were.
-    ///
-    /// What isn't built yet, Watch, is refused with NOT_SUPPORTED behind its right.
     pub fn serve<'a>(
         &mut self,
         ordinals: &Ordinals,
@@ -96,12 +94,12 @@ impl DirConn {
         requires empty { HasNothing out.old }
         ensures serves { (tree : Tree) (directory : ℕ → Option ℕ) → StandsFor graph.old tree →
             directory_named directory (asked request.entry) ≡ option_map number_of target → result ≢ DirServed.NoMemory →
-            IsDirServed (act_of (context_of today self.old room tree directory) (asked request.entry)) txid result out.new self.new graph.old graph.new }
+            IsDirServed (act_of (context_of self.old room tree directory) (asked request.entry)) txid result out.new self.new graph.old graph.new }
         ensures holds { KeepsHolds self.old self.new graph.old graph.new }
         // Only a change that takes memory finds it wanting.
         ensures memory { (tree : Tree) (directory : ℕ → Option ℕ) → StandsFor graph.old tree →
             directory_named directory (asked request.entry) ≡ option_map number_of target → result ≡ DirServed.NoMemory →
-            takes_memory (act_of (context_of today self.old room tree directory) (asked request.entry)).change ≡ true }
+            takes_memory (act_of (context_of self.old room tree directory) (asked request.entry)).change ≡ true }
         ensures untouched { result ≡ DirServed.NoMemory → IsUntouched out.new self.old self.new graph.old graph.new }
     {
         let method = request.method();
@@ -139,17 +137,16 @@ fn serve_row<'a>(
     requires made { graph.old.made < 2 ^ 63 }
     requires protocol { birth.now.protocol ≡ Protocol.Directory }
     requires method { has_method Protocol.Directory (method_of (asked request)) ≡ true }
-    requires built { is_method_of_today (method_of (asked request)) ≡ true }
     requires txid { has_txid (is_one_way (method_of (asked request))) txid ≡ true }
     requires empty { HasNothing out.old }
     ensures served { (tree : Tree) (directory : ℕ → Option ℕ) → StandsFor graph.old tree →
         directory_named directory (asked request.entry) ≡ option_map number_of target → result ≢ DirServed.NoMemory →
-        IsDirServed (row_act (context_with today (born birth.now) (standing_at place.old) room tree directory) (asked request.entry)) txid result out.new
+        IsDirServed (row_act (context_with (born birth.now) (standing_at place.old) room tree directory) (asked request.entry)) txid result out.new
         (connection_with birth.now (standing_at place.new)) graph.old graph.new }
     ensures keeps { Keeps graph.old graph.new }
     ensures memory { (tree : Tree) (directory : ℕ → Option ℕ) → StandsFor graph.old tree →
         directory_named directory (asked request.entry) ≡ option_map number_of target → result ≡ DirServed.NoMemory →
-        takes_memory (row_act (context_with today (born birth.now) (standing_at place.old) room tree directory) (asked request.entry)).change ≡ true }
+        takes_memory (row_act (context_with (born birth.now) (standing_at place.old) room tree directory) (asked request.entry)).change ≡ true }
     ensures untouched { result ≡ DirServed.NoMemory → graph.new ≡ graph.old }
     ensures stays { result ≡ DirServed.NoMemory → place.new ≡ place.old }
     ensures empty { result ≡ DirServed.NoMemory → HasNothing out.new }
@@ -168,6 +165,9 @@ fn serve_row<'a>(
             link(birth, ordinals, graph, target, txid, src, dst, out)
         }
         Request::Unlink { name, flags } => unlink(birth, ordinals, graph, txid, name, flags, out),
+        Request::Watch { mask, options, .. } => {
+            watch(birth, ordinals, room, txid, mask, options, out)
+        }
         _ => of_node(serve_node(birth, ordinals, graph, room, txid, &request, out)),
     }
 }

@@ -16,6 +16,7 @@ mod token;
 mod two_names;
 mod unlink;
 mod walk;
+mod watch;
 
 pub use conn::DirConn;
 pub use laws::opens_only_narrow;

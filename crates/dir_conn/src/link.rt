@@ -8,7 +8,6 @@ ghost use Rattle.node_graph.specs.Graph.{Names, kind_at, number_of};
 ghost use Rattle.path_walk.specs.Names.{IsName};
 ghost use Rattle.conn_rules.specs.declared.births.Room.{Room};
 ghost use Rattle.conn_rules.specs.Births.{born};
-ghost use Rattle.conn_rules.specs.Built.{today};
 ghost use Rattle.conn_rules.specs.Contexts.{context_with};
 ghost use Rattle.conn_rules.specs.NameRows.{link_act, link_into};
 ghost use Rattle.conn_rules.specs.Served.{HasNothing};
@@ -40,7 +39,7 @@ pub(crate) fn link<'a>(
     requires txid { has_txid false txid ≡ true }
     requires empty { HasNothing out.old }
     ensures tried { (room : Room) (directory : ℕ → Option ℕ) (token : ℕ) → directory token ≡ option_map number_of target →
-        IsTried (λ tree position. link_act (context_with today (born birth.now) position room tree directory) src.now token dst.now) birth.now txid result
+        IsTried (λ tree position. link_act (context_with (born birth.now) position room tree directory) src.now token dst.now) birth.now txid result
         out.new graph.old graph.new }
 {
     match directory_for(src, dst, target) {
@@ -68,7 +67,7 @@ fn link_into<'a>(
     requires txid { has_txid false txid ≡ true }
     requires empty { HasNothing out.old }
     ensures tried { (room : Room) (directory : ℕ → Option ℕ) →
-        IsTried (λ tree position. link_into (context_with today (born birth.now) position room tree directory) src.now dst.now (Some (number_of into)))
+        IsTried (λ tree position. link_into (context_with (born birth.now) position room tree directory) src.now dst.now (Some (number_of into)))
         birth.now txid result out.new graph.old graph.new }
 {
     let dir = graph.number(into);

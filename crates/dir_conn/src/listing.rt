@@ -7,7 +7,6 @@ ghost use Rattle.node_graph.specs.Graph.{Kept, Names, StandsFor, kind_at, number
 ghost use Rattle.node_graph.specs.Tree.{Tree};
 ghost use Rattle.conn_rules.specs.declared.births.Room.{Room};
 ghost use Rattle.conn_rules.specs.Births.{born, connection_with};
-ghost use Rattle.conn_rules.specs.Built.{today};
 ghost use Rattle.conn_rules.specs.Contexts.{context_with};
 ghost use Rattle.conn_rules.specs.Listings.{listing_act, rewind_act};
 ghost use Rattle.conn_rules.specs.Served.{HasNothing};
@@ -36,7 +35,7 @@ pub(crate) fn list<'a>(
     requires txid { has_txid false txid ≡ true }
     requires empty { HasNothing out.old }
     ensures served { (tree : Tree) (room : Room) (directory : ℕ → Option ℕ) → StandsFor graph.now tree →
-        IsDirServed (listing_act (context_with today (born birth.now) (standing_at place.old) room tree directory) most) txid result out.new
+        IsDirServed (listing_act (context_with (born birth.now) (standing_at place.old) room tree directory) most) txid result out.new
         (connection_with birth.now (standing_at place.new)) graph.now graph.now }
     ensures memory { result ≢ DirServed.NoMemory }
 {
@@ -74,7 +73,7 @@ pub(crate) fn rewind<'a>(
     requires txid { has_txid false txid ≡ true }
     requires empty { HasNothing out.old }
     ensures served { (tree : Tree) (room : Room) (directory : ℕ → Option ℕ) (graph : Kept) →
-        IsDirServed (rewind_act (context_with today (born birth.now) (standing_at place.old) room tree directory)) txid result out.new
+        IsDirServed (rewind_act (context_with (born birth.now) (standing_at place.old) room tree directory)) txid result out.new
         (connection_with birth.now (standing_at place.new)) graph graph }
     ensures memory { result ≢ DirServed.NoMemory }
 {

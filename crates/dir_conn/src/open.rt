@@ -4,7 +4,6 @@ ghost use Rattle.io_rights.specs.Operations.{is_within};
 ghost use Rattle.node_graph.specs.declared.nodes.NodeKind.TheVariants.{Directory};
 ghost use Rattle.node_graph.specs.Graph.{Names, kind_at, number_of};
 ghost use Rattle.conn_rules.specs.Births.{born};
-ghost use Rattle.conn_rules.specs.Built.{today};
 ghost use Rattle.conn_rules.specs.Contexts.{context_with};
 ghost use Rattle.conn_rules.specs.Opens.{open_act};
 ghost use Rattle.conn_rules.specs.Walks.{walk};
@@ -35,7 +34,7 @@ pub(crate) fn open<'a>(
     requires made { graph.old.made < 2 ^ 63 }
     requires kind { kind_at graph.old (number_of birth.now.node) ≡ Some Directory }
     ensures opened { (directory : ℕ → Option ℕ) →
-        IsOpened (λ tree position. open_act (context_with today (born birth.now) position room tree directory) text.now word) result graph.old graph.new }
+        IsOpened (λ tree position. open_act (context_with (born birth.now) position room tree directory) text.now word) result graph.old graph.new }
 {
     match enter(birth, text, word) {
         Err(status) => DirServed::Refused(status),

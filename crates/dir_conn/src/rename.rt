@@ -9,7 +9,6 @@ ghost use Rattle.path_walk.specs.Names.{IsName};
 ghost use Rattle.conn_rules.specs.declared.births.Room.{Room};
 ghost use Rattle.conn_rules.specs.Answers.{added, gone, nothing_told, removed};
 ghost use Rattle.conn_rules.specs.Births.{born};
-ghost use Rattle.conn_rules.specs.Built.{today};
 ghost use Rattle.conn_rules.specs.Contexts.{context_with};
 ghost use Rattle.conn_rules.specs.NameRows.{rename_act, rename_into};
 ghost use Rattle.conn_rules.specs.Served.{HasNothing, key_at, told_by};
@@ -40,7 +39,7 @@ pub(crate) fn rename<'a>(
     requires txid { has_txid false txid ≡ true }
     requires empty { HasNothing out.old }
     ensures tried { (room : Room) (directory : ℕ → Option ℕ) (token : ℕ) → directory token ≡ option_map number_of target →
-        IsTried (λ tree position. rename_act (context_with today (born birth.now) position room tree directory) src.now token dst.now) birth.now txid result
+        IsTried (λ tree position. rename_act (context_with (born birth.now) position room tree directory) src.now token dst.now) birth.now txid result
         out.new graph.old graph.new }
 {
     match directory_for(src, dst, target) {
@@ -68,7 +67,7 @@ fn rename_into<'a>(
     requires txid { has_txid false txid ≡ true }
     requires empty { HasNothing out.old }
     ensures tried { (room : Room) (directory : ℕ → Option ℕ) →
-        IsTried (λ tree position. rename_into (context_with today (born birth.now) position room tree directory) src.now dst.now (Some (number_of into)))
+        IsTried (λ tree position. rename_into (context_with (born birth.now) position room tree directory) src.now dst.now (Some (number_of into)))
         birth.now txid result out.new graph.old graph.new }
 {
     let dir = graph.number(birth.node);

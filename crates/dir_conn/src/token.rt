@@ -5,7 +5,6 @@ ghost use Rattle.io_messages.specs.Requests.{has_txid};
 ghost use Rattle.node_graph.specs.Graph.{Kept};
 ghost use Rattle.node_graph.specs.Tree.{Tree};
 ghost use Rattle.conn_rules.specs.Births.{Position, born, connection_with};
-ghost use Rattle.conn_rules.specs.Built.{today};
 ghost use Rattle.conn_rules.specs.Contexts.{context_with};
 ghost use Rattle.conn_rules.specs.NameRows.{token_act};
 ghost use Rattle.conn_rules.specs.Served.{HasNothing};
@@ -28,7 +27,7 @@ pub(crate) fn get_token<'a>(
     requires txid { has_txid false txid ≡ true }
     requires empty { HasNothing out.old }
     ensures served { (tree : Tree) (position : Position) (directory : ℕ → Option ℕ) (graph : Kept) →
-        IsDirServed (token_act (context_with today (born birth.now) position room tree directory)) txid result out.new (connection_with birth.now position) graph
+        IsDirServed (token_act (context_with (born birth.now) position room tree directory)) txid result out.new (connection_with birth.now position) graph
         graph }
     ensures memory { result ≢ DirServed.NoMemory }
 {

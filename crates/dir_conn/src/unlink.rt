@@ -11,7 +11,6 @@ ghost use Rattle.node_graph.specs.Tree.{Tree, cut};
 ghost use Rattle.conn_rules.specs.declared.births.Room.{Room};
 ghost use Rattle.conn_rules.specs.Answers.{gone, removed};
 ghost use Rattle.conn_rules.specs.Births.{Position, born, connection_with};
-ghost use Rattle.conn_rules.specs.Built.{today};
 ghost use Rattle.conn_rules.specs.Contexts.{context_with};
 ghost use Rattle.conn_rules.specs.NameRows.{is_bad_name, name_in, unlink_act, unlink_refusals};
 ghost use Rattle.conn_rules.specs.Served.{HasNothing, told_by};
@@ -41,7 +40,7 @@ pub(crate) fn unlink<'a>(
     requires txid { has_txid false txid ≡ true }
     requires empty { HasNothing out.old }
     ensures served { (tree : Tree) (position : Position) (room : Room) (directory : ℕ → Option ℕ) → StandsFor graph.old tree →
-        IsDirServed (unlink_act (context_with today (born birth.now) position room tree directory) name.now flags) txid result out.new
+        IsDirServed (unlink_act (context_with (born birth.now) position room tree directory) name.now flags) txid result out.new
         (connection_with birth.now position) graph.old graph.new }
     ensures keeps { Keeps graph.old graph.new }
     ensures memory { result ≢ DirServed.NoMemory }

@@ -16,7 +16,6 @@ use Rattle.conn_rules.specs.declared.served.Served.{Served}
 use Rattle.conn_rules.specs.declared.served.Served.TheVariants as served
 use Rattle.conn_rules.specs.Answers.{Act, Answer, only, failure_of, replies, nothing_told}
 use Rattle.conn_rules.specs.Births.{Connection, Position, connection_with}
-use Rattle.conn_rules.specs.Built.{today}
 use Rattle.conn_rules.specs.Contexts.{context_of}
 use Rattle.conn_rules.specs.FileRows.{at_byte, behind_written, part_from, read_act, read_at_act}
 use Rattle.conn_rules.specs.Nodes.{bytes_of}
@@ -77,20 +76,20 @@ wanting_takes refusal position m act is takes = subst (λ r. takes_memory (unles
 pub read_served : (birth : code.Birth) (offset : ℕ) (old : Connection) (room : Room) (tree : Tree) (directory : ℕ → Option ℕ) (graph : Kept) (count : ℕ) (held part : List ℕ) (txid : ℕ) (result : Served) (out : Written) →
     file_at birth offset ≡ old → StandsFor graph tree → Names graph old.birth.node → held ≡ bytes_at graph (number_of birth.node) → count ≤ limit.MAX_CHUNK → part ≡ part_from offset count held →
     Answers (replies (payload method.Read part)) txid result out →
-    IsAnswered (read_act (context_of today old room tree directory) count) txid result out (file_at birth (offset + length part)) graph
+    IsAnswered (read_act (context_of old room tree directory) count) txid result out (file_at birth (offset + length part)) graph
 read_served birth offset old room tree directory graph count held part txid result out same stands named kept few is replied =
     subst (λ act. IsAnswered act txid result out (file_at birth (offset + length part)) graph)
-    (sym (read_row (context_of today old room tree directory) count held part (held_here birth old tree graph held (ap (λ conn. conn.birth) same) stands named kept) few (subst (λ conn. part ≡ part_from conn.position.offset count held) same is)))
+    (sym (read_row (context_of old room tree directory) count held part (held_here birth old tree graph held (ap (λ conn. conn.birth) same) stands named kept) few (subst (λ conn. part ≡ part_from conn.position.offset count held) same is)))
     (moved_served (at_byte old.position (old.position.offset + length part)) (payload method.Read part) txid result out (file_at birth (offset + length part)) graph
     (ap (λ conn. at_byte conn.position (conn.position.offset + length part)) same) replied)
 
 pub read_at_served : (birth : code.Birth) (old : Connection) (room : Room) (tree : Tree) (directory : ℕ → Option ℕ) (graph : Kept) (count offset : ℕ) (held part : List ℕ) (txid : ℕ) (result : Served) (out : Written) →
     birth ≡ old.birth → StandsFor graph tree → Names graph old.birth.node → held ≡ bytes_at graph (number_of birth.node) → count ≤ limit.MAX_CHUNK → part ≡ part_from offset count held →
     Answers (replies (payload method.ReadAt part)) txid result out →
-    IsAnswered (read_at_act (context_of today old room tree directory) count offset) txid result out old graph
+    IsAnswered (read_at_act (context_of old room tree directory) count offset) txid result out old graph
 read_at_served birth old room tree directory graph count offset held part txid result out same stands named kept few is replied =
     subst (λ act. IsAnswered act txid result out old graph)
-    (sym (read_at_row (context_of today old room tree directory) count offset held part (held_here birth old tree graph held same stands named kept) few is))
+    (sym (read_at_row (context_of old room tree directory) count offset held part (held_here birth old tree graph held same stands named kept) few is))
     (replied old graph)
 
 -- ---- positions of files

@@ -7,7 +7,6 @@ ghost use Rattle.node_graph.specs.Graph.{StandsFor};
 ghost use Rattle.node_graph.specs.Tree.{Tree};
 ghost use Rattle.conn_rules.specs.Acts.{act_of, row_act};
 ghost use Rattle.conn_rules.specs.Births.{fresh};
-ghost use Rattle.conn_rules.specs.Built.{today};
 ghost use Rattle.conn_rules.specs.Contexts.{context_of};
 ghost use Rattle.conn_rules.specs.Served.{HasNothing, IsServed, IsUntouched, KeepsHolds, takes_memory};
 ghost use Rattle.conn_rules.specs.Shared.{CanBeBound};
@@ -78,11 +77,11 @@ impl FileConn {
         requires txid { has_txid (is_one_way (method_of (asked request))) txid ≡ true }
         requires empty { HasNothing out.old }
         ensures serves { (tree : Tree) (directory : ℕ → Option ℕ) → StandsFor graph.old tree → result ≢ Served.NoMemory →
-            IsServed (act_of (context_of today self.old room tree directory) (asked request.entry)) txid result out.new self.new graph.old graph.new }
+            IsServed (act_of (context_of self.old room tree directory) (asked request.entry)) txid result out.new self.new graph.old graph.new }
         ensures holds { KeepsHolds self.old self.new graph.old graph.new }
         // Only what leaves bytes in the file takes memory.
         ensures memory { (tree : Tree) (directory : ℕ → Option ℕ) → StandsFor graph.old tree → result ≡ Served.NoMemory →
-            takes_memory (act_of (context_of today self.old room tree directory) (asked request.entry)).change ≡ true }
+            takes_memory (act_of (context_of self.old room tree directory) (asked request.entry)).change ≡ true }
         ensures untouched { result ≡ Served.NoMemory → IsUntouched out.new self.old self.new graph.old graph.new }
     {
         let method = request.method();
@@ -108,10 +107,10 @@ impl FileConn {
         requires txid { has_txid (is_one_way (method_of (asked request))) txid ≡ true }
         requires empty { HasNothing out.old }
         ensures serves { (tree : Tree) (directory : ℕ → Option ℕ) → StandsFor graph.old tree → result ≢ Served.NoMemory →
-            IsServed (row_act (context_of today self.old room tree directory) (asked request.entry)) txid result out.new self.new graph.old graph.new }
+            IsServed (row_act (context_of self.old room tree directory) (asked request.entry)) txid result out.new self.new graph.old graph.new }
         ensures holds { KeepsHolds self.old self.new graph.old graph.new }
         ensures memory { (tree : Tree) (directory : ℕ → Option ℕ) → StandsFor graph.old tree → result ≡ Served.NoMemory →
-            takes_memory (row_act (context_of today self.old room tree directory) (asked request.entry)).change ≡ true }
+            takes_memory (row_act (context_of self.old room tree directory) (asked request.entry)).change ≡ true }
         ensures untouched { result ≡ Served.NoMemory → IsUntouched out.new self.old self.new graph.old graph.new }
     {
         match request {

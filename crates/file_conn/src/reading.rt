@@ -5,7 +5,6 @@ ghost use Rattle.node_graph.specs.declared.nodes.NodeKind.TheVariants.{File};
 ghost use Rattle.node_graph.specs.Graph.{Names, StandsFor, kind_at, number_of};
 ghost use Rattle.node_graph.specs.Tree.{Tree};
 ghost use Rattle.conn_rules.specs.declared.births.Room.{Room};
-ghost use Rattle.conn_rules.specs.Built.{today};
 ghost use Rattle.conn_rules.specs.Contexts.{context_of};
 ghost use Rattle.conn_rules.specs.FileRows.{part_from, read_act, read_at_act};
 ghost use Rattle.conn_rules.specs.Served.{HasNothing, IsAnswered};
@@ -32,7 +31,7 @@ impl FileConn {
         requires txid { 0 < txid }
         requires empty { HasNothing out.old }
         ensures serves { (room : Room) (tree : Tree) (directory : ℕ → Option ℕ) → StandsFor graph.now tree →
-            IsAnswered (read_act (context_of today self.old room tree directory) count) txid result out.new self.new graph.now }
+            IsAnswered (read_act (context_of self.old room tree directory) count) txid result out.new self.new graph.now }
         ensures birth { self.new.birth ≡ self.old.birth }
         ensures kind { result ≡ Served.Reply }
     {
@@ -59,7 +58,7 @@ impl FileConn {
         requires txid { 0 < txid }
         requires empty { HasNothing out.old }
         ensures serves { (room : Room) (tree : Tree) (directory : ℕ → Option ℕ) → StandsFor graph.now tree →
-            IsAnswered (read_at_act (context_of today self.now room tree directory) count offset) txid result out.new self.now graph.now }
+            IsAnswered (read_at_act (context_of self.now room tree directory) count offset) txid result out.new self.now graph.now }
         ensures kind { result ≡ Served.Reply }
     {
         if count > MAX_CHUNK {

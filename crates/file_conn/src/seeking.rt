@@ -5,7 +5,6 @@ ghost use Rattle.node_graph.specs.declared.nodes.NodeKind.TheVariants.{File};
 ghost use Rattle.node_graph.specs.Graph.{Names, StandsFor, kind_at, number_of};
 ghost use Rattle.node_graph.specs.Tree.{Tree};
 ghost use Rattle.conn_rules.specs.declared.births.Room.{Room};
-ghost use Rattle.conn_rules.specs.Built.{today};
 ghost use Rattle.conn_rules.specs.Contexts.{context_of};
 ghost use Rattle.conn_rules.specs.FileRows.{is_no_position, offset_from, seek_act, seek_base};
 ghost use Rattle.conn_rules.specs.Served.{HasNothing, IsAnswered};
@@ -34,7 +33,7 @@ impl FileConn {
         requires txid { 0 < txid }
         requires empty { HasNothing out.old }
         ensures serves { (room : Room) (tree : Tree) (directory : ℕ → Option ℕ) → StandsFor graph.now tree →
-            IsAnswered (seek_act (context_of today self.old room tree directory) origin offset) txid result out.new self.new graph.now }
+            IsAnswered (seek_act (context_of self.old room tree directory) origin offset) txid result out.new self.new graph.now }
         ensures birth { self.new.birth ≡ self.old.birth }
         ensures kind { result ≡ Served.Reply }
     {
@@ -56,7 +55,7 @@ impl FileConn {
         requires file { kind_at graph.now (number_of self.now.birth.node) ≡ Some File }
         ensures origin { is_some result ≡ nat_le origin 2 }
         ensures base { (room : Room) (tree : Tree) (directory : ℕ → Option ℕ) → StandsFor graph.now tree →
-            IfSome result (λ base. base ≡ seek_base (context_of today self.now room tree directory) origin) }
+            IfSome result (λ base. base ≡ seek_base (context_of self.now room tree directory) origin) }
     {
         match origin {
             0 => Some(0),

@@ -5,7 +5,6 @@ ghost use Rattle.node_graph.specs.declared.nodes.NodeKind.TheVariants.{File};
 ghost use Rattle.node_graph.specs.Graph.{Names, StandsFor, bytes_at, kind_at, number_of};
 ghost use Rattle.node_graph.specs.Tree.{Tree};
 ghost use Rattle.conn_rules.specs.declared.births.Room.{Room};
-ghost use Rattle.conn_rules.specs.Built.{today};
 ghost use Rattle.conn_rules.specs.Contexts.{context_of};
 ghost use Rattle.conn_rules.specs.FileRows.{behind_written, resize_act, write_act, write_at_act};
 ghost use Rattle.conn_rules.specs.Served.{HasNothing, IsServed, IsUntouched, KeepsHolds, takes_memory};
@@ -34,10 +33,10 @@ impl FileConn {
         requires txid { 0 < txid }
         requires empty { HasNothing out.old }
         ensures serves { (room : Room) (tree : Tree) (directory : ℕ → Option ℕ) → StandsFor graph.old tree → result ≢ Served.NoMemory →
-            IsServed (write_act (context_of today self.old room tree directory) bytes.now) txid result out.new self.new graph.old graph.new }
+            IsServed (write_act (context_of self.old room tree directory) bytes.now) txid result out.new self.new graph.old graph.new }
         ensures holds { KeepsHolds self.old self.new graph.old graph.new }
         ensures memory { (room : Room) (tree : Tree) (directory : ℕ → Option ℕ) → StandsFor graph.old tree → result ≡ Served.NoMemory →
-            takes_memory (write_act (context_of today self.old room tree directory) bytes.now).change ≡ true }
+            takes_memory (write_act (context_of self.old room tree directory) bytes.now).change ≡ true }
         ensures untouched { result ≡ Served.NoMemory → IsUntouched out.new self.old self.new graph.old graph.new }
     {
         let start = self.write_start(graph);
@@ -97,10 +96,10 @@ impl FileConn {
         requires txid { 0 < txid }
         requires empty { HasNothing out.old }
         ensures serves { (room : Room) (tree : Tree) (directory : ℕ → Option ℕ) → StandsFor graph.old tree → result ≢ Served.NoMemory →
-            IsServed (write_at_act (context_of today self.now room tree directory) bytes.now offset) txid result out.new self.now graph.old graph.new }
+            IsServed (write_at_act (context_of self.now room tree directory) bytes.now offset) txid result out.new self.now graph.old graph.new }
         ensures holds { KeepsHolds self.now self.now graph.old graph.new }
         ensures memory { (room : Room) (tree : Tree) (directory : ℕ → Option ℕ) → StandsFor graph.old tree → result ≡ Served.NoMemory →
-            takes_memory (write_at_act (context_of today self.now room tree directory) bytes.now offset).change ≡ true }
+            takes_memory (write_at_act (context_of self.now room tree directory) bytes.now offset).change ≡ true }
         ensures untouched { result ≡ Served.NoMemory → IsUntouched out.new self.now self.now graph.old graph.new }
     {
         match overwrite(graph, self.birth.node, offset, bytes) {
@@ -129,10 +128,10 @@ impl FileConn {
         requires txid { 0 < txid }
         requires empty { HasNothing out.old }
         ensures serves { (room : Room) (tree : Tree) (directory : ℕ → Option ℕ) → StandsFor graph.old tree → result ≢ Served.NoMemory →
-            IsServed (resize_act (context_of today self.now room tree directory) size) txid result out.new self.now graph.old graph.new }
+            IsServed (resize_act (context_of self.now room tree directory) size) txid result out.new self.now graph.old graph.new }
         ensures holds { KeepsHolds self.now self.now graph.old graph.new }
         ensures memory { (room : Room) (tree : Tree) (directory : ℕ → Option ℕ) → StandsFor graph.old tree → result ≡ Served.NoMemory →
-            takes_memory (resize_act (context_of today self.now room tree directory) size).change ≡ true }
+            takes_memory (resize_act (context_of self.now room tree directory) size).change ≡ true }
         ensures untouched { result ≡ Served.NoMemory → IsUntouched out.new self.now self.now graph.old graph.new }
     {
         match resize(graph, self.birth.node, size) {

@@ -315,5 +315,5 @@ refused_answers room tree position (asks.echo_string value) s = (tt, tt)
 pub act_answers : (context : Context) (request : Asked) → IsAct context.room context.tree request (act_of context request)
 unfolding act_of
 act_answers context request =
-    unless_holds (IsAct context.room context.tree request) (first_of (method_refusals context.built context.birth (method_of request))) context.position (method_of request) (row_act context request)
+    unless_holds (IsAct context.room context.tree request) (first_of (method_refusals context.birth (method_of request))) context.position (method_of request) (row_act context request)
     (refused_answers context.room context.tree context.position request) (λ e. row_answers context request)

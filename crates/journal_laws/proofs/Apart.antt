@@ -7,7 +7,6 @@ use Rattle.std.proofs.lemmas.List.Quantifiers.{all_pairs_push}
 use Rattle.endpoint_link.specs.declared.kinds.FrameKind.TheVariants as kind
 use Rattle.fidl_names.specs.HandleNumber.{is_client}
 use Rattle.endpoint_link.specs.Numbering.{among}
-use Rattle.conn_rules.specs.Built.{Built}
 use Rattle.vfs_journal.specs.Entries.{Sent, Journal, message, hang_up, handles_of, endpoints_in, sends, serves}
 use Rattle.vfs_journal.specs.History.{History, all_sent, births, living, waiting, travelling, is_dead}
 use Rattle.vfs_journal.specs.Lawful.{Lawful}
@@ -45,35 +44,35 @@ more_born bounds None apart new = subst (AllPairs OtherEndpoint) (sym (append-ni
 more_born bounds (Some x) apart new =
     all_pairs_push OtherEndpoint bounds x apart (λ k d l. All-weaker (Contains bounds) (λ b. b.endpoint ≢ x.endpoint) (λ b h. new x refl b h) bounds (All-contains_itself bounds) k d l)
 
-forward_born : (built : Built) (start : Start) (journal : Journal) (origin : ℕ) (o : Option Forwarded) → AllPairs OtherEndpoint (births start (history_of built start journal)) → AllPairs OtherEndpoint (births start (history_of built start (with_forward origin journal o)))
+forward_born : (start : Start) (journal : Journal) (origin : ℕ) (o : Option Forwarded) → AllPairs OtherEndpoint (births start (history_of start journal)) → AllPairs OtherEndpoint (births start (history_of start (with_forward origin journal o)))
 unfolding history_of
-forward_born built start journal origin None h = h
-forward_born built start journal origin (Some f) h =
-    subst (AllPairs OtherEndpoint) (sym (sendings_wait_last built start (history_of built start journal) (sent_behind journal f.endpoint (message f.bytes (f.object ∷ [])) (Some origin))).same.born) h
+forward_born start journal origin None h = h
+forward_born start journal origin (Some f) h =
+    subst (AllPairs OtherEndpoint) (sym (sendings_wait_last start (history_of start journal) (sent_behind journal f.endpoint (message f.bytes (f.object ∷ [])) (Some origin))).same.born) h
 
-served_born : Below → (built : Built) (start : Start) (earlier : Journal) (k : Sent) → IsStart start → Lawful built start earlier → head start (history_of built start earlier) k.endpoint ≡ Some k → AllPairs OtherEndpoint (births start (history_of built start earlier)) →
-    AllPairs OtherEndpoint (births start (history_of built start (serves k ∷ earlier)))
+served_born : Below → (start : Start) (earlier : Journal) (k : Sent) → IsStart start → Lawful start earlier → head start (history_of start earlier) k.endpoint ≡ Some k → AllPairs OtherEndpoint (births start (history_of start earlier)) →
+    AllPairs OtherEndpoint (births start (history_of start (serves k ∷ earlier)))
 unfolding history_of event_of
-served_born below built start earlier k s h first past =
-    let history = history_of built start earlier in
-    let steps = stepped built start earlier h in
-    let kept = lawful_kept below built start s earlier h in
-    let answered = (is_serving below built start earlier k s steps kept.sound first).answered in
-    subst (AllPairs OtherEndpoint) (sym (servings_take_effect built start history k).born)
-    (more_born (births start history) (outcome_of built start history k).bound past (λ x e. new_born start history k (outcome_of built start history k) x (is_view built start earlier steps) kept.transit answered e))
+served_born below start earlier k s h first past =
+    let history = history_of start earlier in
+    let steps = stepped start earlier h in
+    let kept = lawful_kept below start s earlier h in
+    let answered = (is_serving below start earlier k s steps kept.sound first).answered in
+    subst (AllPairs OtherEndpoint) (sym (servings_take_effect start history k).born)
+    (more_born (births start history) (outcome_of start history k).bound past (λ x e. new_born start history k (outcome_of start history k) x (is_view start earlier steps) kept.transit answered e))
 
-pub births_apart : Below → (built : Built) (start : Start) → IsStart start → AllPairs OtherEndpoint (start.firsts ++ start.mounts) → (journal : Journal) → Lawful built start journal → AllPairs OtherEndpoint (births start (history_of built start journal))
+pub births_apart : Below → (start : Start) → IsStart start → AllPairs OtherEndpoint (start.firsts ++ start.mounts) → (journal : Journal) → Lawful start journal → AllPairs OtherEndpoint (births start (history_of start journal))
 unfolding history_of
-births_apart below built start s apart journal lawful.begun = subst (AllPairs OtherEndpoint) (sym (append-nil (start.firsts ++ start.mounts))) apart
-births_apart below built start s apart journal (lawful.refused earlier frame why h is admits) =
-    subst (AllPairs OtherEndpoint) (sym (refusals_change_nothing built start (history_of built start earlier) frame.endpoint why).same.born) (births_apart below built start s apart earlier h)
-births_apart below built start s apart journal (lawful.sent earlier frame h is at admits) =
-    subst (AllPairs OtherEndpoint) (sym (sendings_wait_last built start (history_of built start earlier) (sent_behind earlier frame.endpoint (message frame.bytes frame.handles) None)).same.born) (births_apart below built start s apart earlier h)
-births_apart below built start s apart journal (lawful.closed earlier frame h is at admits) =
-    subst (AllPairs OtherEndpoint) (sym (sendings_wait_last built start (history_of built start earlier) (sent_behind earlier frame.endpoint hang_up None)).same.born) (births_apart below built start s apart earlier h)
-births_apart below built start s apart journal (lawful.served earlier entry h is) =
-    forward_born built start (serves entry ∷ earlier) entry.place (outcome_of built start (history_of built start earlier) entry).forward
-    (served_born below built start earlier entry s h is (births_apart below built start s apart earlier h))
+births_apart below start s apart journal lawful.begun = subst (AllPairs OtherEndpoint) (sym (append-nil (start.firsts ++ start.mounts))) apart
+births_apart below start s apart journal (lawful.refused earlier frame why h is admits) =
+    subst (AllPairs OtherEndpoint) (sym (refusals_change_nothing start (history_of start earlier) frame.endpoint why).same.born) (births_apart below start s apart earlier h)
+births_apart below start s apart journal (lawful.sent earlier frame h is at admits) =
+    subst (AllPairs OtherEndpoint) (sym (sendings_wait_last start (history_of start earlier) (sent_behind earlier frame.endpoint (message frame.bytes frame.handles) None)).same.born) (births_apart below start s apart earlier h)
+births_apart below start s apart journal (lawful.closed earlier frame h is at admits) =
+    subst (AllPairs OtherEndpoint) (sym (sendings_wait_last start (history_of start earlier) (sent_behind earlier frame.endpoint hang_up None)).same.born) (births_apart below start s apart earlier h)
+births_apart below start s apart journal (lawful.served earlier entry h is) =
+    forward_born start (serves entry ∷ earlier) entry.place (outcome_of start (history_of start earlier) entry).forward
+    (served_born below start earlier entry s h is (births_apart below start s apart earlier h))
 
 -- ---- what travels
 
@@ -100,31 +99,31 @@ more_apart ones now new past h e one p = by_side (Contains-append_cases ones (ne
 same_apart : (ones now : List Sent) → CarryApart ones → now ≡ ones → CarryApart now
 same_apart ones now past e = subst CarryApart (sym e) past
 
-forward_apart : (built : Built) (start : Start) (journal : Journal) (origin : ℕ) (o : Option Forwarded) → CarryApart (all_sent (history_of built start journal)) → CarryApart (all_sent (history_of built start (with_forward origin journal o)))
+forward_apart : (start : Start) (journal : Journal) (origin : ℕ) (o : Option Forwarded) → CarryApart (all_sent (history_of start journal)) → CarryApart (all_sent (history_of start (with_forward origin journal o)))
 unfolding history_of
-forward_apart built start journal origin None h = h
-forward_apart built start journal origin (Some f) h =
+forward_apart start journal origin None h = h
+forward_apart start journal origin (Some f) h =
     let new = sent_behind journal f.endpoint (message f.bytes (f.object ∷ [])) (Some origin) in
-    more_apart (all_sent (history_of built start journal)) (all_sent (behind built start (sends new) (history_of built start journal))) new h (λ i j d a b. absurd (omega arith))
-    (sendings_wait_last built start (history_of built start journal) new).sent_last
+    more_apart (all_sent (history_of start journal)) (all_sent (behind start (sends new) (history_of start journal))) new h (λ i j d a b. absurd (omega arith))
+    (sendings_wait_last start (history_of start journal) new).sent_last
 
-pub carry_apart : (built : Built) (start : Start) (journal : Journal) → Lawful built start journal → CarryApart (all_sent (history_of built start journal))
+pub carry_apart : (start : Start) (journal : Journal) → Lawful start journal → CarryApart (all_sent (history_of start journal))
 unfolding history_of
-carry_apart built start journal lawful.begun = λ one p. absurd (contains_none one p)
-carry_apart built start journal (lawful.refused earlier frame why h is admits) =
-    same_apart (all_sent (history_of built start earlier)) _ (carry_apart built start earlier h) (refusals_change_nothing built start (history_of built start earlier) frame.endpoint why).sent
-carry_apart built start journal (lawful.sent earlier frame h is at admits) =
+carry_apart start journal lawful.begun = λ one p. absurd (contains_none one p)
+carry_apart start journal (lawful.refused earlier frame why h is admits) =
+    same_apart (all_sent (history_of start earlier)) _ (carry_apart start earlier h) (refusals_change_nothing start (history_of start earlier) frame.endpoint why).sent
+carry_apart start journal (lawful.sent earlier frame h is at admits) =
     let new = sent_behind earlier frame.endpoint (message frame.bytes frame.handles) None in
-    let history = history_of built start earlier in
-    more_apart (all_sent history) (all_sent (behind built start (sends new) history)) new (carry_apart built start earlier h)
-    (message_admitted start history frame.endpoint frame.handles (refusal_of (look_ups start history) frame kind.Message at admits)).distinct (sendings_wait_last built start history new).sent_last
-carry_apart built start journal (lawful.closed earlier frame h is at admits) =
+    let history = history_of start earlier in
+    more_apart (all_sent history) (all_sent (behind start (sends new) history)) new (carry_apart start earlier h)
+    (message_admitted start history frame.endpoint frame.handles (refusal_of (look_ups start history) frame kind.Message at admits)).distinct (sendings_wait_last start history new).sent_last
+carry_apart start journal (lawful.closed earlier frame h is at admits) =
     let new = sent_behind earlier frame.endpoint hang_up None in
-    let history = history_of built start earlier in
-    more_apart (all_sent history) (all_sent (behind built start (sends new) history)) new (carry_apart built start earlier h) (λ i j d a b. absurd (omega arith)) (sendings_wait_last built start history new).sent_last
-carry_apart built start journal (lawful.served earlier entry h is) =
-    forward_apart built start (serves entry ∷ earlier) entry.place (outcome_of built start (history_of built start earlier) entry).forward
-    (same_apart (all_sent (history_of built start earlier)) (all_sent (behind built start (serves entry) (history_of built start earlier))) (carry_apart built start earlier h) (servings_take_effect built start (history_of built start earlier) entry).sent_same)
+    let history = history_of start earlier in
+    more_apart (all_sent history) (all_sent (behind start (sends new) history)) new (carry_apart start earlier h) (λ i j d a b. absurd (omega arith)) (sendings_wait_last start history new).sent_last
+carry_apart start journal (lawful.served earlier entry h is) =
+    forward_apart start (serves entry ∷ earlier) entry.place (outcome_of start (history_of start earlier) entry).forward
+    (same_apart (all_sent (history_of start earlier)) (all_sent (behind start (serves entry) (history_of start earlier))) (carry_apart start earlier h) (servings_take_effect start (history_of start earlier) entry).sent_same)
 
 abbrev CarriedOnce : List Sent → Type 0
 CarriedOnce ones = (one other : Sent) (n : ℕ) → Contains ones one → Contains ones other → among n (endpoints_in one) ≡ true → among n (endpoints_in other) ≡ true → one ≡ other
@@ -146,8 +145,8 @@ flat_apart (one ∷ ones) each once rises =
           let equal : one.place ≡ u.0.place = ap (λ (x : Sent). x.place) one_is in
           omega arith
 
-pub travelling_apart : (built : Built) (start : Start) (journal : Journal) → Lawful built start journal → IsView (view start (history_of built start journal)) → Transit start (view start (history_of built start journal)) nothing_left →
-    AllPairs OtherNumber (travelling (history_of built start journal))
-travelling_apart built start journal h is transit =
-    let history = history_of built start journal in
-    flat_apart (waiting history) (λ one p. carry_apart built start journal h one (is.waits one p)) transit.once is.rises
+pub travelling_apart : (start : Start) (journal : Journal) → Lawful start journal → IsView (view start (history_of start journal)) → Transit start (view start (history_of start journal)) nothing_left →
+    AllPairs OtherNumber (travelling (history_of start journal))
+travelling_apart start journal h is transit =
+    let history = history_of start journal in
+    flat_apart (waiting history) (λ one p. carry_apart start journal h one (is.waits one p)) transit.once is.rises

@@ -14,7 +14,6 @@ use Rattle.endpoint_link.specs.Frames.{Frame, IsFrame}
 use Rattle.fidl_names.specs.HandleNumber.{is_client}
 use Rattle.endpoint_link.specs.Numbering.{among}
 use Rattle.endpoint_link.specs.Numbers.{word_in}
-use Rattle.conn_rules.specs.Built.{Built}
 use Rattle.vfs_journal.specs.Entries.{Sent, Journal}
 use Rattle.vfs_journal.specs.History.{History, all_sent, waiting, waits, travelling, was_served, is_bound, is_dead, bound_at}
 use Rattle.vfs_journal.specs.Lawful.{Lawful}
@@ -85,51 +84,51 @@ pick_is_head start endpoint history one h = ap (head start history) (picked_by s
 
 -- ---- journals stay lawful
 
-served_one : (built : Built) (start : Start) (choice : History → Option Sent) (journal : Journal) (on : Journal → Journal) → ChoosesHeads start choice → Lawful built start journal → ((j : Journal) → Lawful built start j → Lawful built start (on j)) →
-    (o : Option Sent) → choice (history_of built start journal) ≡ o → Lawful built start (serving_one on (after_serving built start journal) journal o)
-served_one built start choice journal on heads h rest None e = h
-served_one built start choice journal on heads h rest (Some one) e = rest (after_serving built start journal one) (lawful.served journal one h (heads (history_of built start journal) one e))
+served_one : (start : Start) (choice : History → Option Sent) (journal : Journal) (on : Journal → Journal) → ChoosesHeads start choice → Lawful start journal → ((j : Journal) → Lawful start j → Lawful start (on j)) →
+    (o : Option Sent) → choice (history_of start journal) ≡ o → Lawful start (serving_one on (after_serving start journal) journal o)
+served_one start choice journal on heads h rest None e = h
+served_one start choice journal on heads h rest (Some one) e = rest (after_serving start journal one) (lawful.served journal one h (heads (history_of start journal) one e))
 
-pub serving_lawful : (times : ℕ) (built : Built) (start : Start) (choice : History → Option Sent) (journal : Journal) → ChoosesHeads start choice → Lawful built start journal → Lawful built start (serving times built start choice journal)
+pub serving_lawful : (times : ℕ) (start : Start) (choice : History → Option Sent) (journal : Journal) → ChoosesHeads start choice → Lawful start journal → Lawful start (serving times start choice journal)
 unfolding serving
-serving_lawful zero built start choice journal heads h = h
-serving_lawful (suc more) built start choice journal heads h =
-    served_one built start choice journal (serving more built start choice) heads h (λ j g. serving_lawful more built start choice j heads g) (choice (history_of built start journal)) refl
+serving_lawful zero start choice journal heads h = h
+serving_lawful (suc more) start choice journal heads h =
+    served_one start choice journal (serving more start choice) heads h (λ j g. serving_lawful more start choice j heads g) (choice (history_of start journal)) refl
 
-pub drained_lawful : (built : Built) (start : Start) (journal : Journal) → Lawful built start journal → Lawful built start (drained built start journal)
-drained_lawful built start journal h = serving_lawful (weight (history_of built start journal)) built start (next start) journal (next_is_head start) h
+pub drained_lawful : (start : Start) (journal : Journal) → Lawful start journal → Lawful start (drained start journal)
+drained_lawful start journal h = serving_lawful (weight (history_of start journal)) start (next start) journal (next_is_head start) h
 
-admitted_lawful : (built : Built) (start : Start) (journal : Journal) (frame : Frame) → Lawful built start journal → IsFrame ToServers frame → admission (look_ups start (history_of built start journal)) frame ≡ None →
-    (k : FrameKind) → frame.kind ≡ k → Lawful built start (admitted built start journal k frame)
-admitted_lawful built start journal frame h is admits kind.Message e = lawful.sent journal frame h is e admits
-admitted_lawful built start journal frame h is admits kind.Close e = lawful.closed journal frame h is e admits
-admitted_lawful built start journal frame h is admits kind.Turn e =
-    serving_lawful (word_in frame.bytes) built start (λ history. oldest start history frame.endpoint) journal (oldest_is_head start frame.endpoint) h
-admitted_lawful built start journal frame h is admits kind.Pick e =
-    serving_lawful 1 built start (λ history. head start history frame.endpoint) journal (pick_is_head start frame.endpoint) h
-admitted_lawful built start journal frame h is admits kind.Refused e = h
+admitted_lawful : (start : Start) (journal : Journal) (frame : Frame) → Lawful start journal → IsFrame ToServers frame → admission (look_ups start (history_of start journal)) frame ≡ None →
+    (k : FrameKind) → frame.kind ≡ k → Lawful start (admitted start journal k frame)
+admitted_lawful start journal frame h is admits kind.Message e = lawful.sent journal frame h is e admits
+admitted_lawful start journal frame h is admits kind.Close e = lawful.closed journal frame h is e admits
+admitted_lawful start journal frame h is admits kind.Turn e =
+    serving_lawful (word_in frame.bytes) start (λ history. oldest start history frame.endpoint) journal (oldest_is_head start frame.endpoint) h
+admitted_lawful start journal frame h is admits kind.Pick e =
+    serving_lawful 1 start (λ history. head start history frame.endpoint) journal (pick_is_head start frame.endpoint) h
+admitted_lawful start journal frame h is admits kind.Refused e = h
 
-arrives_by : (built : Built) (start : Start) (journal : Journal) (frame : Frame) → Lawful built start journal → IsFrame ToServers frame → (o : Option Refusal) → admission (look_ups start (history_of built start journal)) frame ≡ o →
-    Lawful built start (by_refusal built start journal frame o)
-arrives_by built start journal frame h is (Some why) e = lawful.refused journal frame why h is e
-arrives_by built start journal frame h is None e = admitted_lawful built start journal frame h is e frame.kind refl
+arrives_by : (start : Start) (journal : Journal) (frame : Frame) → Lawful start journal → IsFrame ToServers frame → (o : Option Refusal) → admission (look_ups start (history_of start journal)) frame ≡ o →
+    Lawful start (by_refusal start journal frame o)
+arrives_by start journal frame h is (Some why) e = lawful.refused journal frame why h is e
+arrives_by start journal frame h is None e = admitted_lawful start journal frame h is e frame.kind refl
 
-arrives_lawful : (built : Built) (start : Start) (journal : Journal) (frame : Frame) → Lawful built start journal → IsFrame ToServers frame → Lawful built start (arrives built start journal frame)
-arrives_lawful built start journal frame h is = arrives_by built start journal frame h is (admission (look_ups start (history_of built start journal)) frame) refl
+arrives_lawful : (start : Start) (journal : Journal) (frame : Frame) → Lawful start journal → IsFrame ToServers frame → Lawful start (arrives start journal frame)
+arrives_lawful start journal frame h is = arrives_by start journal frame h is (admission (look_ups start (history_of start journal)) frame) refl
 
-steps_lawful : (built : Built) (start : Start) (by : Mode) (journal : Journal) (frame : Frame) → Lawful built start journal → IsFrame ToServers frame → Lawful built start (steps built start by journal frame)
-steps_lawful built start mode.Auto journal frame h is = drained_lawful built start (arrives built start journal frame) (arrives_lawful built start journal frame h is)
-steps_lawful built start mode.Given journal frame h is = arrives_lawful built start journal frame h is
+steps_lawful : (start : Start) (by : Mode) (journal : Journal) (frame : Frame) → Lawful start journal → IsFrame ToServers frame → Lawful start (steps start by journal frame)
+steps_lawful start mode.Auto journal frame h is = drained_lawful start (arrives start journal frame) (arrives_lawful start journal frame h is)
+steps_lawful start mode.Given journal frame h is = arrives_lawful start journal frame h is
 
-frames_lawful : (built : Built) (start : Start) (by : Mode) (frames : List Frame) (journal : Journal) → Lawful built start journal → All (IsFrame ToServers) frames → Lawful built start (fold (steps built start by) journal frames)
-frames_lawful built start by [] journal h are = h
-frames_lawful built start by (frame ∷ frames) journal h are =
-    frames_lawful built start by frames (steps built start by journal frame) (steps_lawful built start by journal frame h (All-head (IsFrame ToServers) frame frames are)) (All-tail (IsFrame ToServers) frame frames are)
+frames_lawful : (start : Start) (by : Mode) (frames : List Frame) (journal : Journal) → Lawful start journal → All (IsFrame ToServers) frames → Lawful start (fold (steps start by) journal frames)
+frames_lawful start by [] journal h are = h
+frames_lawful start by (frame ∷ frames) journal h are =
+    frames_lawful start by frames (steps start by journal frame) (steps_lawful start by journal frame h (All-head (IsFrame ToServers) frame frames are)) (All-tail (IsFrame ToServers) frame frames are)
 
-pub sessions_are_lawful : (built : Built) (start : Start) (by : Mode) (frames : List Frame) → All (IsFrame ToServers) frames → Lawful built start (session built start by frames) × Lawful built start (ended built start by frames)
-sessions_are_lawful built start by frames are =
-    let whole = frames_lawful built start by frames [] lawful.begun are in
-    (whole, drained_lawful built start (session built start by frames) whole)
+pub sessions_are_lawful : (start : Start) (by : Mode) (frames : List Frame) → All (IsFrame ToServers) frames → Lawful start (session start by frames) × Lawful start (ended start by frames)
+sessions_are_lawful start by frames are =
+    let whole = frames_lawful start by frames [] lawful.begun are in
+    (whole, drained_lawful start (session start by frames) whole)
 
 -- ---- a drain serves all
 
@@ -139,20 +138,20 @@ none_next_by start history (Some one) e h =
     let some = something_weighs (waiting history) one (found (λ sent. is_bound start history sent.endpoint) (waiting history) one e).0 in
     absurd (omega arith)
 
-emptied_by : Below → (built : Built) (start : Start) (journal : Journal) (more : ℕ) (on : Journal → Journal) → IsStart start → Lawful built start journal → weight (history_of built start journal) ≤ suc more →
-    ((j : Journal) → Lawful built start j → weight (history_of built start j) ≤ more → next start (history_of built start (on j)) ≡ None) →
-    (o : Option Sent) → next start (history_of built start journal) ≡ o → next start (history_of built start (serving_one on (after_serving built start journal) journal o)) ≡ None
-emptied_by below built start journal more on s h enough rest None e = e
-emptied_by below built start journal more on s h enough rest (Some one) e =
-    let first = next_is_head start (history_of built start journal) one e in
-    let less = serving_weighs below built start journal one s (stepped built start journal h) (lawful_kept below built start s journal h) first in
-    rest (after_serving built start journal one) (lawful.served journal one h first) (omega arith)
+emptied_by : Below → (start : Start) (journal : Journal) (more : ℕ) (on : Journal → Journal) → IsStart start → Lawful start journal → weight (history_of start journal) ≤ suc more →
+    ((j : Journal) → Lawful start j → weight (history_of start j) ≤ more → next start (history_of start (on j)) ≡ None) →
+    (o : Option Sent) → next start (history_of start journal) ≡ o → next start (history_of start (serving_one on (after_serving start journal) journal o)) ≡ None
+emptied_by below start journal more on s h enough rest None e = e
+emptied_by below start journal more on s h enough rest (Some one) e =
+    let first = next_is_head start (history_of start journal) one e in
+    let less = serving_weighs below start journal one s (stepped start journal h) (lawful_kept below start s journal h) first in
+    rest (after_serving start journal one) (lawful.served journal one h first) (omega arith)
 
-emptied : Below → (times : ℕ) (built : Built) (start : Start) (journal : Journal) → IsStart start → Lawful built start journal → weight (history_of built start journal) ≤ times → next start (history_of built start (serving times built start (next start) journal)) ≡ None
+emptied : Below → (times : ℕ) (start : Start) (journal : Journal) → IsStart start → Lawful start journal → weight (history_of start journal) ≤ times → next start (history_of start (serving times start (next start) journal)) ≡ None
 unfolding serving
-emptied below zero built start journal s h enough = none_next_by start (history_of built start journal) (next start (history_of built start journal)) refl enough
-emptied below (suc more) built start journal s h enough =
-    emptied_by below built start journal more (serving more built start (next start)) s h enough (λ j g less. emptied below more built start j s g less) (next start (history_of built start journal)) refl
+emptied below zero start journal s h enough = none_next_by start (history_of start journal) (next start (history_of start journal)) refl enough
+emptied below (suc more) start journal s h enough =
+    emptied_by below start journal more (serving more start (next start)) s h enough (λ j g less. emptied below more start j s g less) (next start (history_of start journal)) refl
 
 -- where nothing can be served, nothing waits
 unbound : (start : Start) (history : History) → next start history ≡ None → (one : Sent) → Contains (waiting history) one → is_bound start history one.endpoint ≡ false
@@ -196,20 +195,20 @@ served_or_dead history none one p = by_tests (was_served history one) (is_dead h
       let there = subst (λ xs. Contains xs one) none (kept (waits history) (all_sent history) one p it_waits) in
       absurd (omega (arith, there.1))
 
-pub drains_serve_all : Below → (built : Built) (start : Start) (journal : Journal) → IsStart start → Lawful built start journal →
-    Lawful built start (drained built start journal) × IsDrained (history_of built start (drained built start journal))
-drains_serve_all below built start journal s h =
-    let all = drained_lawful built start journal h in
-    let history = history_of built start (drained built start journal) in
-    let over = emptied below (weight (history_of built start journal)) built start journal s h (same_le (weight (history_of built start journal))) in
-    let none = none_by start history over (in_transit below built start (drained built start journal) s all) (waiting history) refl (waiting_rises built start (drained built start journal) (stepped built start (drained built start journal) all)) in
+pub drains_serve_all : Below → (start : Start) (journal : Journal) → IsStart start → Lawful start journal →
+    Lawful start (drained start journal) × IsDrained (history_of start (drained start journal))
+drains_serve_all below start journal s h =
+    let all = drained_lawful start journal h in
+    let history = history_of start (drained start journal) in
+    let over = emptied below (weight (history_of start journal)) start journal s h (same_le (weight (history_of start journal))) in
+    let none = none_by start history over (in_transit below start (drained start journal) s all) (waiting history) refl (waiting_rises start (drained start journal) (stepped start (drained start journal) all)) in
     (all, record { none = none; each = λ sent p. served_or_dead history none sent p }) where
       same_le : (n : ℕ) → n ≤ n
       same_le n = omega arith
 
-pub sessions_serve_all : Below → (built : Built) (start : Start) (by : Mode) (frames : List Frame) → IsStart start → All (IsFrame ToServers) frames → IsDrained (history_of built start (ended built start by frames))
-sessions_serve_all below built start by frames s are = (drains_serve_all below built start (session built start by frames) s (sessions_are_lawful built start by frames are).0).1
+pub sessions_serve_all : Below → (start : Start) (by : Mode) (frames : List Frame) → IsStart start → All (IsFrame ToServers) frames → IsDrained (history_of start (ended start by frames))
+sessions_serve_all below start by frames s are = (drains_serve_all below start (session start by frames) s (sessions_are_lawful start by frames are).0).1
 
-pub servings_lower_the_weight : Below → (built : Built) (start : Start) (journal : Journal) (sent : Sent) → IsStart start → Lawful built start journal → head start (history_of built start journal) sent.endpoint ≡ Some sent →
-    weight (history_of built start (after_serving built start journal sent)) < weight (history_of built start journal)
-servings_lower_the_weight below built start journal sent s h first = serving_weighs below built start journal sent s (stepped built start journal h) (lawful_kept below built start s journal h) first
+pub servings_lower_the_weight : Below → (start : Start) (journal : Journal) (sent : Sent) → IsStart start → Lawful start journal → head start (history_of start journal) sent.endpoint ≡ Some sent →
+    weight (history_of start (after_serving start journal sent)) < weight (history_of start journal)
+servings_lower_the_weight below start journal sent s h first = serving_weighs below start journal sent s (stepped start journal h) (lawful_kept below start s journal h) first

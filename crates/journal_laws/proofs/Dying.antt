@@ -152,7 +152,6 @@ told_by_members view sent event deaths same =
       given = view.given ++ option_to_list event.outcome.token;
       held = view.held ++ option_to_list event.outcome.token;
       places = view.places + 1;
-      built = view.built;
     } in seen in
     record {
       follows = ap (λ (living : List (Bound × Position)). made living (filter (λ (other : Sent). not (among other.endpoint deaths)) (others_in view sent))) lives

@@ -6,7 +6,6 @@ use Rattle.std.proofs.lemmas.List.{length-append, length-set}
 use Rattle.std.proofs.lemmas.List.Elements.{All-head, All-set, All-tail, All-weaker}
 use Rattle.fidl_names.specs.declared.limits.TheConstants as limit
 use Rattle.node_graph.specs.Tree.{Change, NodeRow, Tree, add, after, cut, fill, filled, make, move, row_of, stay}
-use Rattle.conn_rules.specs.Built.{Built}
 use Rattle.vfs_journal.specs.Entries.{Journal}
 use Rattle.vfs_journal.specs.History.{History, changed, tree_at, trees_of}
 use Rattle.vfs_journal.specs.Past.{history_of}
@@ -49,9 +48,9 @@ history_small start (event ∷ earlier) s =
     subst (λ (most : ℕ). All (HasAtMost most) (trees_of start (event ∷ earlier))) more
     (changed_small (trees_of start earlier) event.outcome.server (1 + limit.MAX_NAMES + length earlier) event.outcome.change (omega arith) (history_small start earlier s))
 
-pub trees_grow : (built : Built) (start : Start) (journal : Journal) (server : ℕ) → IsStart start → length (tree_at (trees_of start (history_of built start journal)) server).nodes ≤ 1 + limit.MAX_NAMES + length journal
-trees_grow built start journal server s =
-    let history = history_of built start journal in
+pub trees_grow : (start : Start) (journal : Journal) (server : ℕ) → IsStart start → length (tree_at (trees_of start (history_of start journal)) server).nodes ≤ 1 + limit.MAX_NAMES + length journal
+trees_grow start journal server s =
+    let history = history_of start journal in
     let few = tree_small (trees_of start history) server (1 + limit.MAX_NAMES + length history) (omega arith) (history_small start history s) in
-    let same = same_length built start journal in
+    let same = same_length start journal in
     omega (arith, few, same)

@@ -19,7 +19,6 @@ use Rattle.io_messages.specs.Asked.{Asked}
 use Rattle.io_messages.specs.Asked as asks
 use Rattle.node_graph.specs.Tree.{Tree}
 use Rattle.path_walk.specs.Paths.{IsPath, text_of, names_of}
-use Rattle.conn_rules.specs.Built.{Built}
 use Rattle.vfs_journal.specs.Entries.{Sent, Sending, Journal, message, hang_up, handles_of, endpoints_in, sends, serves, refuses}
 use Rattle.vfs_journal.specs.History.{History, all_sent, births, living, waiting, travelling, is_dead, is_bound, is_live, hung_up, bound_at, standing_of, trees_of, tree_at}
 use Rattle.vfs_journal.specs.Lawful.{Lawful, begun, refused, sent, closed, served}
@@ -58,12 +57,12 @@ carried_client start ones one n right c = by_kind (right.handles n c.here) where
 
 -- ---- a serving
 
-pub record IsServing (built : Built) (start : Start) (history : History) (k : Sent) : Type 0 where
-  pub answered : IsAnswered (view start history) k (outcome_of built start history k)
-  pub keeps : KeepsMounts (outcome_of built start history k).change
+pub record IsServing (start : Start) (history : History) (k : Sent) : Type 0 where
+  pub answered : IsAnswered (view start history) k (outcome_of start history k)
+  pub keeps : KeepsMounts (outcome_of start history k).change
   pub at : Bound
   pub bound : bound_at start history k.endpoint ≡ Some at
-  pub parts : HasParts (next_token history) (tree_at (trees_of start history) at.server) at k.sending (outcome_of built start history k).ends (outcome_of built start history k).bound (outcome_of built start history k).forward (outcome_of built start history k).token
+  pub parts : HasParts (next_token history) (tree_at (trees_of start history) at.server) at k.sending (outcome_of start history k).ends (outcome_of start history k).bound (outcome_of start history k).forward (outcome_of start history k).token
 
 -- the connection that serves what was forwarded is a directory
 forwarded_to : (start : Start) (history : History) (b : Bound) (k : Sent) → IsStart start → Sound start (view start history) → Contains (births start history) b → b.endpoint ≡ k.endpoint → IsForwarded start k → b.birth.protocol ≡ protocol.Directory
@@ -76,34 +75,34 @@ forwarded_to start history b k s past born at f = by_birth (past.born b born) wh
 forwarded_read : Below → (start : Start) (k : Sent) (f : IsForwarded start k) → read_by protocol.Directory (onward_bytes f.flags f.rest f.object) (f.object ∷ []) ≡ Ok (0, asks.open_path (text_of f.rest) f.flags None f.object)
 forwarded_read below start k f = onward_reads below f.flags f.rest f.object f.path f.small (let low = client_low f.object f.client in omega arith)
 
-ends_by : Below → (built : Built) (start : Start) (history : History) (k : Sent) (b : Bound) → IsStart start → Sound start (view start history) → Contains (births start history) b → b.endpoint ≡ k.endpoint → bound_at start history k.endpoint ≡ Some b →
-    IsRight start (all_sent history) k → (o : Option ℕ) → ByOrigin start (all_sent history) k o → (n : ℕ) → (n ≡ b.endpoint) ⊎ IsCarried n (handles_of k.sending) → among n (outcome_of built start history k).ends ≡ true →
+ends_by : Below → (start : Start) (history : History) (k : Sent) (b : Bound) → IsStart start → Sound start (view start history) → Contains (births start history) b → b.endpoint ≡ k.endpoint → bound_at start history k.endpoint ≡ Some b →
+    IsRight start (all_sent history) k → (o : Option ℕ) → ByOrigin start (all_sent history) k o → (n : ℕ) → (n ≡ b.endpoint) ⊎ IsCarried n (handles_of k.sending) → among n (outcome_of start history k).ends ≡ true →
     ((n ≡ k.endpoint) × (is_client n ≡ true)) ⊎ (among n (endpoints_in k) ≡ true)
-ends_by below built start history k b s past born at is right o origin n (inr c) h = inr (carried_client start (all_sent history) k n right c)
-ends_by below built start history k b s past born at is right None origin n (inl e) h = inl (e ∙ at, ap is_client (e ∙ at) ∙ origin.client)
-ends_by below built start history k b s past born at is right (Some from) origin n (inl e) h =
-    let c = opened_ends below built start history k b (onward_bytes origin.flags origin.rest origin.object) (origin.object ∷ []) 0 (text_of origin.rest) origin.flags None origin.object is
+ends_by below start history k b s past born at is right o origin n (inr c) h = inr (carried_client start (all_sent history) k n right c)
+ends_by below start history k b s past born at is right None origin n (inl e) h = inl (e ∙ at, ap is_client (e ∙ at) ∙ origin.client)
+ends_by below start history k b s past born at is right (Some from) origin n (inl e) h =
+    let c = opened_ends below start history k b (onward_bytes origin.flags origin.rest origin.object) (origin.object ∷ []) 0 (text_of origin.rest) origin.flags None origin.object is
     (forwarded_to start history b k s past born at origin) origin.sent (forwarded_read below start k origin)
     (record { here = among_here origin.object origin.object [] refl; low = let low = client_low origin.object origin.client in omega arith }) n h in
     inr (carried_client start (all_sent history) k n right (subst (λ (x : Sending). IsCarried n (handles_of x)) (sym origin.sent) c))
 
-pub is_serving : Below → (built : Built) (start : Start) (journal : Journal) (k : Sent) → IsStart start → Stepped built start journal → Sound start (view start (history_of built start journal)) →
-    head start (history_of built start journal) k.endpoint ≡ Some k → IsServing built start (history_of built start journal) k
-is_serving below built start journal k s steps past h =
-    let history = history_of built start journal in
+pub is_serving : Below → (start : Start) (journal : Journal) (k : Sent) → IsStart start → Stepped start journal → Sound start (view start (history_of start journal)) →
+    head start (history_of start journal) k.endpoint ≡ Some k → IsServing start (history_of start journal) k
+is_serving below start journal k s steps past h =
+    let history = history_of start journal in
     let first = head_is start history k h in
     let b = some_found (λ bound. bound.endpoint == k.endpoint) (living start history) first.bound in
     let at : b.0.endpoint ≡ k.endpoint = eqb-true b.0.endpoint k.endpoint b.3 in
-    let is = is_view built start journal steps in
+    let is = is_view start journal steps in
     let right = past.right k (is.waits k first.waits) in
-    let parts = outcome_is below built start history k b.0 b.1 in
+    let parts = outcome_is below start history k b.0 b.1 in
     record {
       answered = record {
         waits = first.waits;
         bound = b.0;
         lives = b.2;
         at = at;
-        ends_in = λ n e. ends_by below built start history k b.0 s past (is.living_born b.0 b.2).0 at b.1 right k.origin right.by_origin n (parts.0.ends_in n e) e;
+        ends_in = λ n e. ends_by below start history k b.0 s past (is.living_born b.0 b.2).0 at b.1 right k.origin right.by_origin n (parts.0.ends_in n e) e;
         bound_in = λ x e. carried_client start (all_sent history) k x.endpoint right (parts.0.bound_in x e);
         token_in = λ g e. token_is_high history g.token (parts.0.token_next g e);
         goes_on = λ f e.
@@ -159,9 +158,9 @@ pub record GoesRight (flags : ℕ) (rest : List (List ℕ)) : Type 0 where
 some_same : {x y : Bound} → Some x ≡ Some y → x ≡ y
 some_same e = cc
 
-pub goes_right : (below : Below) (built : Built) (start : Start) (history : History) (k : Sent) (f : Forwarded) (s : IsStart start) (past : Sound start (view start history)) (is : IsView (view start history)) (serving' : IsServing built start history k)
-    (e : (outcome_of built start history k).forward ≡ Some f) → GoesRight (serving'.parts.goes_on f e).flags (serving'.parts.goes_on f e).rest
-goes_right below built start history k f s past is serving' e =
+pub goes_right : (below : Below) (start : Start) (history : History) (k : Sent) (f : Forwarded) (s : IsStart start) (past : Sound start (view start history)) (is : IsView (view start history)) (serving' : IsServing start history k)
+    (e : (outcome_of start history k).forward ≡ Some f) → GoesRight (serving'.parts.goes_on f e).flags (serving'.parts.goes_on f e).rest
+goes_right below start history k f s past is serving' e =
     let on = serving'.parts.goes_on f e in
     let b = serving'.at in
     let found_b = some_found (λ bound. bound.endpoint == k.endpoint) (living start history) (ap is_some serving'.bound) in
@@ -174,12 +173,12 @@ goes_right below built start history k f s past is serving' e =
       small = subst (λ (n : ℕ). n < 256 ^ 8) (sym on.onward.left) (onward_small on.word on.onward.limit word);
     }
 
-pub is_forwarded : Below → (built : Built) (start : Start) (history : History) (k new : Sent) (f : Forwarded) → IsStart start → Sound start (view start history) → IsView (view start history) → IsServing built start history k →
-    (outcome_of built start history k).forward ≡ Some f → new.endpoint ≡ f.endpoint → new.sending ≡ message f.bytes (f.object ∷ []) → IsForwarded start new
-is_forwarded below built start history k new f s past is serving' e at sending' =
+pub is_forwarded : Below → (start : Start) (history : History) (k new : Sent) (f : Forwarded) → IsStart start → Sound start (view start history) → IsView (view start history) → IsServing start history k →
+    (outcome_of start history k).forward ≡ Some f → new.endpoint ≡ f.endpoint → new.sending ≡ message f.bytes (f.object ∷ []) → IsForwarded start new
+is_forwarded below start history k new f s past is serving' e at sending' =
     let on = serving'.parts.goes_on f e in
     let b = serving'.at in
-    let right = goes_right below built start history k f s past is serving' e in
+    let right = goes_right below start history k f s past is serving' e in
     record {
       end = subst (Contains (mount_ends start)) (sym (at ∙ on.to))
           (mount_there start (tree_at (trees_of start history) b.server) on.onward.walked.node on.mount (tree_mounted start (trees_of start history) b.server past.mounted) on.onward.walked.kind);
@@ -204,9 +203,9 @@ mounts_born start history b h = Contains-append_left (start.firsts ++ start.moun
 
 -- ---- what is kept
 
-pub record IsKept (built : Built) (start : Start) (journal : Journal) : Type 0 where
-  pub sound : Sound start (view start (history_of built start journal))
-  pub transit : Transit start (view start (history_of built start journal)) nothing_left
+pub record IsKept (start : Start) (journal : Journal) : Type 0 where
+  pub sound : Sound start (view start (history_of start journal))
+  pub transit : Transit start (view start (history_of start journal)) nothing_left
 
 pub one_handle : (n m : ℕ) → among n (m ∷ []) ≡ true → n ≡ m
 one_handle n m h = by_test (cases_Bool (m == n)) where
@@ -214,30 +213,30 @@ one_handle n m h = by_test (cases_Bool (m == n)) where
   by_test (inl e) = sym (eqb-true m n e)
   by_test (inr e) = let wrong : false ≡ true = sym (ap (λ (b : Bool). b || false) e) ∙ h in absurd (cc)
 
-forward_kept : Below → (built : Built) (start : Start) (earlier : Journal) (k : Sent) (f : Forwarded) → IsStart start → Stepped built start earlier → IsKept built start earlier → head start (history_of built start earlier) k.endpoint ≡ Some k →
-    (outcome_of built start (history_of built start earlier) k).forward ≡ Some f → IsKept built start (with_forward k.place (serves k ∷ earlier) (Some f))
+forward_kept : Below → (start : Start) (earlier : Journal) (k : Sent) (f : Forwarded) → IsStart start → Stepped start earlier → IsKept start earlier → head start (history_of start earlier) k.endpoint ≡ Some k →
+    (outcome_of start (history_of start earlier) k).forward ≡ Some f → IsKept start (with_forward k.place (serves k ∷ earlier) (Some f))
 unfolding history_of
-forward_kept below built start earlier k f s steps past h e =
-    let history = history_of built start earlier in
-    let o = outcome_of built start history k in
-    let is = is_view built start earlier steps in
-    let serving' = is_serving below built start earlier k s steps past.sound h in
-    let serves' = served_view built start history k serving'.keeps in
-    let mid = behind built start (serves k) history in
-    let mid_steps : Stepped built start (serves k ∷ earlier) = serving earlier k steps h in
+forward_kept below start earlier k f s steps past h e =
+    let history = history_of start earlier in
+    let o = outcome_of start history k in
+    let is = is_view start earlier steps in
+    let serving' = is_serving below start earlier k s steps past.sound h in
+    let serves' = served_view start history k serving'.keeps in
+    let mid = behind start (serves k) history in
+    let mid_steps : Stepped start (serves k ∷ earlier) = serving earlier k steps h in
     let mid_sound = serving_sound start (view start history) (view start mid) k o s past.sound is serving'.answered serves' in
     let mid_transit = serving_transit start (view start history) (view start mid) k o s past.sound is past.transit serving'.answered serves' in
-    let mid_is = is_view built start (serves k ∷ earlier) mid_steps in
+    let mid_is = is_view start (serves k ∷ earlier) mid_steps in
     let new = sent_behind (serves k ∷ earlier) f.endpoint (message f.bytes (f.object ∷ [])) (Some k.place) in
-    let adds = sent_view built start mid new in
-    let forwarded = is_forwarded below built start history k new f s past.sound is serving' e refl refl in
-    let places = in_order built start (serves k ∷ earlier) mid_steps in
+    let adds = sent_view start mid new in
+    let forwarded = is_forwarded below start history k new f s past.sound is serving' e refl refl in
+    let places = in_order start (serves k ∷ earlier) mid_steps in
     let gone = gone_on start (view start history) (view start mid) k o f past.transit serving'.answered serves' e in
     let lives = end_lives start (view start mid) f.endpoint s mid_sound mid_is (mounts_born start mid) forwarded.end in
     let client : is_client f.object ≡ true = (carried_is k f.object (serving'.answered.goes_on f e).0).0 in
     let object_of : (n : ℕ) → among n (endpoints_in new) ≡ true → n ≡ f.object = λ n c. one_handle n f.object (carried_is new n c).1 in
     record {
-      sound = sending_sound start (view start mid) (view start (behind built start (sends new) mid)) new s mid_sound
+      sound = sending_sound start (view start mid) (view start (behind start (sends new) mid)) new s mid_sound
           (record {
             last = λ one p. All-contains (λ (x : Sent). x.place < suc (length earlier)) (all_sent mid) one places.below p;
             right = record {
@@ -248,7 +247,7 @@ forward_kept below built start earlier k f s steps past h e =
             unknown = λ n c none. absurd (cc);
           })
           adds;
-      transit = sending_transit start (view start mid) (view start (behind built start (sends new) mid)) new (goes_on_with o) mid_transit adds
+      transit = sending_transit start (view start mid) (view start (behind start (sends new) mid)) new (goes_on_with o) mid_transit adds
           (record {
             alone = λ n c one p d. gone.0 one p (ap (λ (m : ℕ). among m (endpoints_in one)) (sym (object_of n c)) ∙ d);
             unbound = λ n c. ap (bound_in (living start mid)) (object_of n c) ∙ gone.1;
@@ -257,7 +256,7 @@ forward_kept below built start earlier k f s steps past h e =
             fills = λ n (g, eg, at).
                 carried_from new n (ap is_client (sym at ∙ object_same (sym eg ∙ e)) ∙ client)
                 (among_here n f.object [] (sym (sym at ∙ object_same (sym eg ∙ e))));
-            waits = λ n left. new_waits built start mid new (fresh_unserved built start (serves k ∷ earlier) new mid_steps (le_refl_of (suc (length earlier)))) lives.0;
+            waits = λ n left. new_waits start mid new (fresh_unserved start (serves k ∷ earlier) new mid_steps (le_refl_of (suc (length earlier)))) lives.0;
           });
     } where
       object_same : {x y : Forwarded} → Some x ≡ Some y → x.object ≡ y.object
@@ -380,20 +379,20 @@ live_known start history n s past is client h = by_side (or_cases (is_bound star
 bound_known : (start : Start) (history : History) (n : ℕ) → IsStart start → Sound start (view start history) → IsView (view start history) → is_client n ≡ true → bound_in (living start history) n ≡ true → used start (all_sent history) n ≡ true
 bound_known start history n s past is client h = (live_known start history n s past is client (or_left (is_bound start history n) (among n (travelling history)) h)).1
 
-admitted_kept : (built : Built) (start : Start) (earlier : Journal) (endpoint : ℕ) (sending' : Sending) → IsStart start → Stepped built start earlier → IsKept built start earlier →
-    IsAdmitted start (history_of built start earlier) endpoint (handles_of sending') → AreBytes (bytes_in sending') → IsKept built start (sends (sent_behind earlier endpoint sending' None) ∷ earlier)
+admitted_kept : (start : Start) (earlier : Journal) (endpoint : ℕ) (sending' : Sending) → IsStart start → Stepped start earlier → IsKept start earlier →
+    IsAdmitted start (history_of start earlier) endpoint (handles_of sending') → AreBytes (bytes_in sending') → IsKept start (sends (sent_behind earlier endpoint sending' None) ∷ earlier)
 unfolding history_of
-admitted_kept built start earlier endpoint sending' s steps past admitted bytes =
-    let history = history_of built start earlier in
+admitted_kept start earlier endpoint sending' s steps past admitted bytes =
+    let history = history_of start earlier in
     let new = sent_behind earlier endpoint sending' None in
-    let is = is_view built start earlier steps in
-    let adds = sent_view built start history new in
+    let is = is_view start earlier steps in
+    let adds = sent_view start history new in
     let live = live_known start history endpoint s past.sound is admitted.client admitted.live in
-    let places = in_order built start earlier steps in
+    let places = in_order start earlier steps in
     let fresh : (n : ℕ) → among n (endpoints_in new) ≡ true → used start (all_sent history) n ≡ false =
     λ n c. let at = carried_is new n c in unused n at.0 (may_by start history n past.sound (admitted.travel n at.1)) in
     record {
-      sound = sending_sound start (view start history) (view start (behind built start (sends new) history)) new s past.sound
+      sound = sending_sound start (view start history) (view start (behind start (sends new) history)) new s past.sound
           (record {
             last = λ one p. All-contains (λ (x : Sent). x.place < length earlier) (all_sent history) one places.below p;
             right = record {
@@ -404,7 +403,7 @@ admitted_kept built start earlier endpoint sending' s steps past admitted bytes 
             unknown = λ n c none. fresh n c;
           })
           adds;
-      transit = sending_transit start (view start history) (view start (behind built start (sends new) history)) new nothing_left past.transit adds
+      transit = sending_transit start (view start history) (view start (behind start (sends new) history)) new nothing_left past.transit adds
           (record {
             alone = λ n c one p d. true≢false (sym (carried_used start (all_sent history) one n (is.waits one p) (carried_is one n d).1) ∙ fresh n c);
             unbound = λ n c. false_from_ne_true (bound_in (living start history) n) (λ yes. true≢false (sym (bound_known start history n s past.sound is (carried_is new n c).0 yes) ∙ fresh n c));
@@ -414,29 +413,29 @@ admitted_kept built start earlier endpoint sending' s steps past admitted bytes 
             waits = λ n left. absurd left;
           });
     } where
-      unused : (n : ℕ) → is_client n ≡ true → May start (history_of built start earlier) n → used start (all_sent (history_of built start earlier)) n ≡ false
+      unused : (n : ℕ) → is_client n ≡ true → May start (history_of start earlier) n → used start (all_sent (history_of start earlier)) n ≡ false
       unused n client (inl may) = may.1
       unused n client (inr high) = let low = client_low n client in absurd (omega arith)
 
-      kind_of_handle : (n : ℕ) → May start (history_of built start earlier) n → (is_client n ≡ true) ⊎ (0x80000000 ≤ n)
+      kind_of_handle : (n : ℕ) → May start (history_of start earlier) n → (is_client n ≡ true) ⊎ (0x80000000 ≤ n)
       kind_of_handle n (inl may) = inl may.0
       kind_of_handle n (inr high) = inr high
 
 -- ---- every lawful journal
 
-served_kept : Below → (built : Built) (start : Start) (earlier : Journal) (k : Sent) → IsStart start → Stepped built start earlier → IsKept built start earlier → head start (history_of built start earlier) k.endpoint ≡ Some k →
-    (o : Option Forwarded) → (outcome_of built start (history_of built start earlier) k).forward ≡ o → IsKept built start (with_forward k.place (serves k ∷ earlier) o)
+served_kept : Below → (start : Start) (earlier : Journal) (k : Sent) → IsStart start → Stepped start earlier → IsKept start earlier → head start (history_of start earlier) k.endpoint ≡ Some k →
+    (o : Option Forwarded) → (outcome_of start (history_of start earlier) k).forward ≡ o → IsKept start (with_forward k.place (serves k ∷ earlier) o)
 unfolding history_of
-served_kept below built start earlier k s steps past h (Some f) e = forward_kept below built start earlier k f s steps past h e
-served_kept below built start earlier k s steps past h None e =
-    let history = history_of built start earlier in
-    let o = outcome_of built start history k in
-    let is = is_view built start earlier steps in
-    let serving' = is_serving below built start earlier k s steps past.sound h in
-    let serves' = served_view built start history k serving'.keeps in
-    let transit = serving_transit start (view start history) (view start (behind built start (serves k) history)) k o s past.sound is past.transit serving'.answered serves' in
+served_kept below start earlier k s steps past h (Some f) e = forward_kept below start earlier k f s steps past h e
+served_kept below start earlier k s steps past h None e =
+    let history = history_of start earlier in
+    let o = outcome_of start history k in
+    let is = is_view start earlier steps in
+    let serving' = is_serving below start earlier k s steps past.sound h in
+    let serves' = served_view start history k serving'.keeps in
+    let transit = serving_transit start (view start history) (view start (behind start (serves k) history)) k o s past.sound is past.transit serving'.answered serves' in
     record {
-      sound = serving_sound start (view start history) (view start (behind built start (serves k) history)) k o s past.sound is serving'.answered serves';
+      sound = serving_sound start (view start history) (view start (behind start (serves k) history)) k o s past.sound is serving'.answered serves';
       transit = record {
         once = transit.once;
         unbound = transit.unbound;
@@ -444,15 +443,15 @@ served_kept below built start earlier k s steps past h None e =
         reached = λ one p. reached one (transit.reached one p);
       };
     } where
-      reached : {A : Type 0} (one : Sent) → A ⊎ goes_on_with (outcome_of built start (history_of built start earlier) k) one.endpoint → A ⊎ nothing_left one.endpoint
+      reached : {A : Type 0} (one : Sent) → A ⊎ goes_on_with (outcome_of start (history_of start earlier) k) one.endpoint → A ⊎ nothing_left one.endpoint
       reached one (inl h) = inl h
       reached one (inr left) = absurd (none_left (sym e ∙ left.1)) where
         none_left : {f : Forwarded} → None ≡ Some f → ⊥
         none_left g = cc
 
-begun_kept : (built : Built) (start : Start) → IsStart start → IsKept built start []
+begun_kept : (start : Start) → IsStart start → IsKept start []
 unfolding history_of
-begun_kept built start s = record {
+begun_kept start s = record {
   sound = record {
     right = λ one p. absurd (contains_none one p);
     order = λ one other p q none h. absurd (contains_none one p);
@@ -479,10 +478,10 @@ begun_kept built start s = record {
   born_first b (inl h) = by_list b (Contains-append_cases start.firsts start.mounts b h)
   born_first b (inr h) = absurd (contains_none b h)
 
-refused_kept : (built : Built) (start : Start) (earlier : Journal) (endpoint : ℕ) (why : Refusal) → IsKept built start earlier → IsKept built start (refuses endpoint why ∷ earlier)
+refused_kept : (start : Start) (earlier : Journal) (endpoint : ℕ) (why : Refusal) → IsKept start earlier → IsKept start (refuses endpoint why ∷ earlier)
 unfolding history_of
-refused_kept built start earlier endpoint why past =
-    let same = refused_view built start (history_of built start earlier) endpoint why in
+refused_kept start earlier endpoint why past =
+    let same = refused_view start (history_of start earlier) endpoint why in
     record {
       sound = subst (Sound start) same past.sound;
       transit = subst (λ v. Transit start v nothing_left) same past.transit;
@@ -491,15 +490,15 @@ refused_kept built start earlier endpoint why past =
 pub refusal_of : (l : LookUps) (frame : Frame) (k : FrameKind) → frame.kind ≡ k → admission l frame ≡ None → refusal_by k l frame.endpoint frame.handles ≡ None
 refusal_of l frame k is h = ap (λ (x : FrameKind). refusal_by x l frame.endpoint frame.handles) (sym is) ∙ h
 
-pub lawful_kept : Below → (built : Built) (start : Start) → IsStart start → (journal : Journal) → Lawful built start journal → IsKept built start journal
-lawful_kept below built start s journal begun = begun_kept built start s
-lawful_kept below built start s journal (refused earlier frame why h is admits) = refused_kept built start earlier frame.endpoint why (lawful_kept below built start s earlier h)
-lawful_kept below built start s journal (sent earlier frame h is at admits) =
-    admitted_kept built start earlier frame.endpoint (message frame.bytes frame.handles) s (stepped built start earlier h) (lawful_kept below built start s earlier h)
-    (message_admitted start (history_of built start earlier) frame.endpoint frame.handles (refusal_of (look_ups start (history_of built start earlier)) frame kind.Message at admits)) is.bytes
-lawful_kept below built start s journal (closed earlier frame h is at admits) =
-    admitted_kept built start earlier frame.endpoint hang_up s (stepped built start earlier h) (lawful_kept below built start s earlier h)
-    (close_admitted start (history_of built start earlier) frame.endpoint frame.handles (refusal_of (look_ups start (history_of built start earlier)) frame kind.Close at admits)) (λ k d l. absurd (omega arith))
-lawful_kept below built start s journal (served earlier entry h is) =
-    served_kept below built start earlier entry s (stepped built start earlier h) (lawful_kept below built start s earlier h) is
-    (outcome_of built start (history_of built start earlier) entry).forward refl
+pub lawful_kept : Below → (start : Start) → IsStart start → (journal : Journal) → Lawful start journal → IsKept start journal
+lawful_kept below start s journal begun = begun_kept start s
+lawful_kept below start s journal (refused earlier frame why h is admits) = refused_kept start earlier frame.endpoint why (lawful_kept below start s earlier h)
+lawful_kept below start s journal (sent earlier frame h is at admits) =
+    admitted_kept start earlier frame.endpoint (message frame.bytes frame.handles) s (stepped start earlier h) (lawful_kept below start s earlier h)
+    (message_admitted start (history_of start earlier) frame.endpoint frame.handles (refusal_of (look_ups start (history_of start earlier)) frame kind.Message at admits)) is.bytes
+lawful_kept below start s journal (closed earlier frame h is at admits) =
+    admitted_kept start earlier frame.endpoint hang_up s (stepped start earlier h) (lawful_kept below start s earlier h)
+    (close_admitted start (history_of start earlier) frame.endpoint frame.handles (refusal_of (look_ups start (history_of start earlier)) frame kind.Close at admits)) (λ k d l. absurd (omega arith))
+lawful_kept below start s journal (served earlier entry h is) =
+    served_kept below start earlier entry s (stepped start earlier h) (lawful_kept below start s earlier h) is
+    (outcome_of start (history_of start earlier) entry).forward refl

@@ -17,7 +17,6 @@ use Rattle.fidl_names.specs.HandleNumber.{is_client}
 use Rattle.endpoint_link.specs.Numbering.{among}
 use Rattle.endpoint_link.specs.Standings.{Known, holds, is_used as is_used_standing, standing_of as known_standing}
 use Rattle.io_rights.specs.Operations.{none}
-use Rattle.conn_rules.specs.Built.{Built}
 use Rattle.vfs_journal.specs.Entries.{Sent, Journal, handles_of, refuses}
 use Rattle.vfs_journal.specs.History.{all_sent, waiting, is_dead, is_live, is_used, hung_up}
 use Rattle.journal_laws.specs.Knowing.{Knows}
@@ -45,13 +44,13 @@ use Rattle.journal_laws.proofs.Views.{is_view}
 some_bound : Bound
 some_bound = record { endpoint = 0; server = 0; birth = directory_birth 0 none; mask = 0 }
 
-pub refusals_known : (built : Built) (start : Start) (journal : Journal) (endpoint : ℕ) (why : Refusal) (known : Known) →
-    Knows start (history_of built start journal) known → Knows start (history_of built start (refuses endpoint why ∷ journal)) known
+pub refusals_known : (start : Start) (journal : Journal) (endpoint : ℕ) (why : Refusal) (known : Known) →
+    Knows start (history_of start journal) known → Knows start (history_of start (refuses endpoint why ∷ journal)) known
 unfolding history_of
-refusals_known built start journal endpoint why known k =
-    let h = refusals_change_nothing built start (history_of built start journal) endpoint why in
-    let past = history_of built start journal in
-    let now = behind built start (refuses endpoint why) past in
+refusals_known start journal endpoint why known k =
+    let h = refusals_change_nothing start (history_of start journal) endpoint why in
+    let past = history_of start journal in
+    let now = behind start (refuses endpoint why) past in
     let carried = λ (n : ℕ). ap (list_any (λ (sent : Sent). among n (handles_of sent.sending))) h.sent in
     let waits = λ (n : ℕ). ap (list_any (λ (sent : Sent). among n (handles_of sent.sending))) h.queue in
     record {
@@ -122,20 +121,20 @@ used_by false true false = refl
 used_by false false closed' = refl
 
 -- a client's number was known where it is dead or lives
-pub used_where : Below → (built : Built) (start : Start) (journal : Journal) (n : ℕ) → IsStart start → Lawful built start journal → is_client n ≡ true →
-    is_used start (history_of built start journal) n ≡ (is_dead (history_of built start journal) n || is_live start (history_of built start journal) n)
-used_where below built start journal n s lawful client =
-    let history = history_of built start journal in
-    let past = lawful_kept below built start s journal lawful in
-    let is = is_view built start journal (stepped built start journal lawful) in
+pub used_where : Below → (start : Start) (journal : Journal) (n : ℕ) → IsStart start → Lawful start journal → is_client n ≡ true →
+    is_used start (history_of start journal) n ≡ (is_dead (history_of start journal) n || is_live start (history_of start journal) n)
+used_where below start journal n s lawful client =
+    let history = history_of start journal in
+    let past = lawful_kept below start s journal lawful in
+    let is = is_view start journal (stepped start journal lawful) in
     same_bool (is_used start history n) (is_dead history n || is_live start history n)
-    (λ h. either (is_dead history n) (is_live start history n) ((lawful_accounted below built start s journal lawful).known n client h))
+    (λ h. either (is_dead history n) (is_live start history n) ((lawful_accounted below start s journal lawful).known n client h))
     (λ h. known_by (past.sound.dead n) (λ g. lives_known start (view start history) n s past.sound is client (how_it_lives (view start history) n g)) (or_cases (is_dead history n) (is_live start history n) h)) where
       either : (a b : Bool) → (a ≡ true) ⊎ (b ≡ true) → (a || b) ≡ true
       either a b (inl h) = or_left a b h
       either a b (inr h) = or_right a b h
 
-      known_by : {A B : Type 0} → (A → IsKnown start (all_sent (history_of built start journal)) n) → (B → is_used start (history_of built start journal) n ≡ true) → A ⊎ B → is_used start (history_of built start journal) n ≡ true
+      known_by : {A B : Type 0} → (A → IsKnown start (all_sent (history_of start journal)) n) → (B → is_used start (history_of start journal) n ≡ true) → A ⊎ B → is_used start (history_of start journal) n ≡ true
       known_by f g (inl a) = (f a).1
       known_by f g (inr b) = g b
 
@@ -143,15 +142,15 @@ travel_by : (client used' used'' held held' : Bool) → (client ≡ true → use
 travel_by true used' used'' held held' same h = ap (λ (b : Bool). not b || held) (same refl) ∙ ap (λ (b : Bool). not used'' || b) h
 travel_by false used' used'' held held' same h = h
 
-pub knowers_admit : Below → (built : Built) (start : Start) (journal : Journal) (known : Known) (frame : Frame) → IsStart start → Lawful built start journal → Knows start (history_of built start journal) known →
-    admission (known_look_ups known) frame ≡ admission (look_ups start (history_of built start journal)) frame
-knowers_admit below built start journal known frame s lawful k =
-    let history = history_of built start journal in
+pub knowers_admit : Below → (start : Start) (journal : Journal) (known : Known) (frame : Frame) → IsStart start → Lawful start journal → Knows start (history_of start journal) known →
+    admission (known_look_ups known) frame ≡ admission (look_ups start (history_of start journal)) frame
+knowers_admit below start journal known frame s lawful k =
+    let history = history_of start journal in
     alike_admit (known_look_ups known) (look_ups start history)
     (record {
       standing = k.standing;
       travel = λ n. travel_by (is_client n) (is_used_standing (known_standing known n)) (is_used start history n) (holds known n) (is_held history n)
-          (λ client. ap is_used_standing (k.standing n) ∙ used_by (is_dead history n) (is_live start history n) (hung_up history n) ∙ sym (used_where below built start journal n s lawful client))
+          (λ client. ap is_used_standing (k.standing n) ∙ used_by (is_dead history n) (is_live start history n) (hung_up history n) ∙ sym (used_where below start journal n s lawful client))
           (k.holds n);
       waiting = k.waiting;
       live = k.live;

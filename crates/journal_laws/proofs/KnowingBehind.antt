@@ -18,7 +18,6 @@ use Rattle.endpoint_link.specs.declared.kinds.Standing.{Standing}
 use Rattle.endpoint_link.specs.declared.kinds.Standing.TheVariants as standing
 use Rattle.endpoint_link.specs.Numbering.{among}
 use Rattle.endpoint_link.specs.Standings.{Known, standing_of as known_standing, ended as ended_in, given, gone}
-use Rattle.conn_rules.specs.Built.{Built}
 use Rattle.vfs_journal.specs.Entries.{Sent, Journal, message, handles_of, serves}
 use Rattle.vfs_journal.specs.Deaths.{deaths_of}
 use Rattle.vfs_journal.specs.History.{History, all_sent, waiting, was_carried}
@@ -388,43 +387,43 @@ given_onward : (view : View) (sent : Sent) (o : Option Forwarded) → (onward_in
 given_onward view sent None = refl
 given_onward view sent (Some f) = refl
 
-carried_then : (built : Built) (start : Start) (journal : Journal) (sent : Sent) (n : ℕ) (o : Option Forwarded) → ((f : Forwarded) → o ≡ Some f → among n (f.object ∷ []) ≡ false) →
-    was_carried (history_of built start (with_forward sent.place (serves sent ∷ journal) o)) n ≡ was_carried (history_of built start journal) n
+carried_then : (start : Start) (journal : Journal) (sent : Sent) (n : ℕ) (o : Option Forwarded) → ((f : Forwarded) → o ≡ Some f → among n (f.object ∷ []) ≡ false) →
+    was_carried (history_of start (with_forward sent.place (serves sent ∷ journal) o)) n ≡ was_carried (history_of start journal) n
 unfolding history_of
-carried_then built start journal sent n None apart = (servings_take_effect built start (history_of built start journal) sent).carried n
-carried_then built start journal sent n (Some f) apart =
-    let past = history_of built start journal in
-    let mid = behind built start (serves sent) past in
+carried_then start journal sent n None apart = (servings_take_effect start (history_of start journal) sent).carried n
+carried_then start journal sent n (Some f) apart =
+    let past = history_of start journal in
+    let mid = behind start (serves sent) past in
     let new = sent_behind (serves sent ∷ journal) f.endpoint (message f.bytes (f.object ∷ [])) (Some sent.place) in
-    (sendings_wait_last built start mid new).carried n
+    (sendings_wait_last start mid new).carried n
     ∙ ap (λ (b : Bool). was_carried mid n || b) (apart f refl)
     ∙ or_none (was_carried mid n)
-    ∙ (servings_take_effect built start past sent).carried n where
+    ∙ (servings_take_effect start past sent).carried n where
       or_none : (b : Bool) → (b || false) ≡ b
       or_none true = refl
       or_none false = refl
 
-pub told_behind : Below → (built : Built) (start : Start) (journal : Journal) (sent : Sent) (spent : List ℕ) → IsStart start → Lawful built start journal → head start (history_of built start journal) sent.endpoint ≡ Some sent →
-    ((n : ℕ) → among n spent ≡ among n (spent_in (view_behind built start journal) sent)) →
-    IsTold (history_of built start journal) (history_of built start (after_serving built start journal sent)) (outcome_in (view_behind built start journal) sent).token (λ n. among n spent)
-told_behind below built start journal sent spent s h first same =
-    let past = history_of built start journal in
-    let after = after_serving built start journal sent in
-    let now = history_of built start after in
-    let view = view_behind built start journal in
+pub told_behind : Below → (start : Start) (journal : Journal) (sent : Sent) (spent : List ℕ) → IsStart start → Lawful start journal → head start (history_of start journal) sent.endpoint ≡ Some sent →
+    ((n : ℕ) → among n spent ≡ among n (spent_in (view_behind start journal) sent)) →
+    IsTold (history_of start journal) (history_of start (after_serving start journal sent)) (outcome_in (view_behind start journal) sent).token (λ n. among n spent)
+told_behind below start journal sent spent s h first same =
+    let past = history_of start journal in
+    let after = after_serving start journal sent in
+    let now = history_of start after in
+    let view = view_behind start journal in
     let mid = serving_in view sent (event_in view sent) in
     let on = (outcome_in view sent).forward in
-    let on_is : (outcome_of built start past sent).forward ≡ on = ap (λ (o : Outcome). o.forward) (outcome_is_in built start past sent) in
-    let token_is_in : (outcome_of built start past sent).token ≡ (outcome_in view sent).token = ap (λ (o : Outcome). o.token) (outcome_is_in built start past sent) in
-    let seen = served_behind_viewed below built start journal sent s h first in
-    let fit = views_fit below built start journal s h in
-    let first_in : head_in view sent.endpoint ≡ Some sent = sym (head_is_in built start past sent.endpoint) ∙ first in
+    let on_is : (outcome_of start past sent).forward ≡ on = ap (λ (o : Outcome). o.forward) (outcome_is_in start past sent) in
+    let token_is_in : (outcome_of start past sent).token ≡ (outcome_in view sent).token = ap (λ (o : Outcome). o.token) (outcome_is_in start past sent) in
+    let seen = served_behind_viewed below start journal sent s h first in
+    let fit = views_fit below start journal s h in
+    let first_in : head_in view sent.endpoint ≡ Some sent = sym (head_is_in start past sent.endpoint) ∙ first in
     let waits = (is_first view sent first_in).waits in
-    let kept = lawful_kept below built start s journal h in
+    let kept = lawful_kept below start s journal h in
     let later = lawful.served journal sent h first in
-    let kept_now = lawful_kept below built start s after later in
-    let tokens_past = lawful_given below built start s journal h in
-    let serving' = is_serving below built start journal sent s (stepped built start journal h) kept.sound first in
+    let kept_now = lawful_kept below start s after later in
+    let tokens_past = lawful_given below start s journal h in
+    let serving' = is_serving below start journal sent s (stepped start journal h) kept.sound first in
     let object_apart = λ (n : ℕ) (o : is_client n ≡ false) (f : Forwarded) (e : on ≡ Some f).
     false_from_ne_true (among n (f.object ∷ [])) (λ there.
     true≢false (sym (carried_is sent f.object ((fit.heads sent first_in).sends_on f e)).0 ∙ ap is_client (sym (one_handle n f.object there)) ∙ o)) in
@@ -435,8 +434,8 @@ told_behind below built start journal sent spent s h first same =
     record {
       given = ap (λ (v : View). v.given) seen ∙ given_onward mid sent on;
       carried = λ n o.
-          ap (λ (x : Option Forwarded). was_carried (history_of built start (with_forward sent.place (serves sent ∷ journal) x)) n) on_is
-          ∙ carried_then built start journal sent n on (object_apart n o);
+          ap (λ (x : Option Forwarded). was_carried (history_of start (with_forward sent.place (serves sent ∷ journal) x)) n) on_is
+          ∙ carried_then start journal sent n on (object_apart n o);
       waits = λ n o.
           ap (λ (v : View). carry n v.waiting) seen
           ∙ carry_onward mid sent on n (object_apart n o)
@@ -455,31 +454,31 @@ told_behind below built start journal sent spent s h first same =
             let at = eqb-true one.0.token g.token one.2 in
             let is = next g e in
             omega (arith, low, at, is)),
-        (brings_new below built start journal sent s h first).uncarried g (token_is_in ∙ e),
+        (brings_new below start journal sent s h first).uncarried g (token_is_in ∙ e),
       );
       clients_past = λ n c. no_token start past n kept.sound c;
       clients_now = λ n c. no_token start now n kept_now.sound c;
       rise_past = tokens_past.rise;
-      rise_now = (lawful_given below built start s after later).rise;
+      rise_now = (lawful_given below start s after later).rise;
     } where
       was_given_by : (past : History) (n : ℕ) → is_client n ≡ false → was_carried past n ≡ true → (limit.FIRST_TOKEN ≤ n → was_carried past n ≡ true → was_given past n ≡ true) → (is_client n ≡ true) ⊎ (0x80000000 ≤ n) → was_given past n ≡ true
       was_given_by past n apart carried from (inl c) = absurd (true≢false (sym c ∙ apart))
       was_given_by past n apart carried from (inr high) = from high carried
 
-pub servings_keep : Below → (built : Built) (start : Start) (journal : Journal) (sent : Sent) (known : Known) (deaths spent : List ℕ) → IsStart start → Lawful built start journal →
-    head start (history_of built start journal) sent.endpoint ≡ Some sent → Knows start (history_of built start journal) known →
-    IsListOf (deaths_in (view_behind built start journal) sent) deaths → IsListOf (spent_in (view_behind built start journal) sent) spent →
-    Knows start (history_of built start (after_serving built start journal sent))
-    (known_served known deaths spent (outcome_in (view_behind built start journal) sent).token (length (then_in (view_behind built start journal) sent).waiting))
-servings_keep below built start journal sent known deaths spent s h first k dead gone' =
-    let past = history_of built start journal in
-    let now = history_of built start (after_serving built start journal sent) in
-    let view = view_behind built start journal in
+pub servings_keep : Below → (start : Start) (journal : Journal) (sent : Sent) (known : Known) (deaths spent : List ℕ) → IsStart start → Lawful start journal →
+    head start (history_of start journal) sent.endpoint ≡ Some sent → Knows start (history_of start journal) known →
+    IsListOf (deaths_in (view_behind start journal) sent) deaths → IsListOf (spent_in (view_behind start journal) sent) spent →
+    Knows start (history_of start (after_serving start journal sent))
+    (known_served known deaths spent (outcome_in (view_behind start journal) sent).token (length (then_in (view_behind start journal) sent).waiting))
+servings_keep below start journal sent known deaths spent s h first k dead gone' =
+    let past = history_of start journal in
+    let now = history_of start (after_serving start journal sent) in
+    let view = view_behind start journal in
     let token = (outcome_in view sent).token in
     let all = deaths_in view sent in
-    let deaths_same = deaths_are built start past sent in
-    let died = servings_end below built start journal sent s (numbered_of start s) h first in
-    let told = told_behind below built start journal sent spent s h first gone'.same in
+    let deaths_same = deaths_are start past sent in
+    let died = servings_end below start journal sent s (numbered_of start s) h first in
+    let told = told_behind below start journal sent spent s h first gone'.same in
     let ended' = fold ended_in known deaths in
     let same = ended_same deaths known in
     let spent' = are_gone spent ended' in
@@ -503,12 +502,12 @@ servings_keep below built start journal sent known deaths spent s h first k dead
           ap (λ (m : finite.FinMap nat_cmp Standing). unwrap_or (finite.get m n) standing.Unused) (given'.standings ∙ spent'.standings)
           ∙ ended_standing deaths known n
           ∙ ap (λ (b : Bool). if b then standing.Dead else known_standing known n) (dead.same n ∙ ap (among n) (sym deaths_same))
-          ∙ ap (λ (x : Standing). if among n (deaths_of past sent (outcome_of built start past sent)) then standing.Dead else x) (k.standing n)
+          ∙ ap (λ (x : Standing). if among n (deaths_of past sent (outcome_of start past sent)) then standing.Dead else x) (k.standing n)
           ∙ sym (died.stand n);
       live =
           let a = given'.live in let b = spent'.live in let c = ended_live deaths known in let d = k.live in let e = died.count in let f = as_many in let g = ap length deaths_same in
           omega (arith, a, b, c, d, e, f, g);
-      waiting = sym (ap (λ (v : View). length v.waiting) (served_behind_viewed below built start journal sent s h first));
+      waiting = sym (ap (λ (v : View). length v.waiting) (served_behind_viewed below start journal sent s h first));
       servers = given'.servers ∙ spent'.servers ∙ same.servers ∙ k.servers;
       holds = λ n. holds_from now new n (tokens n);
       next = next_from now new out given'';
@@ -525,11 +524,11 @@ gone_out false c w a b d = absurd (true≢false (sym a))
 gone_out true false w a b d = absurd (true≢false (sym b))
 gone_out true true false a b d = absurd (true≢false (sym d))
 
-pub spent_known : Below → (built : Built) (start : Start) (journal : Journal) (sent : Sent) (known : Known) (token : ℕ) → IsStart start → Lawful built start journal →
-    head start (history_of built start journal) sent.endpoint ≡ Some sent → Knows start (history_of built start journal) known →
-    among token (spent_in (view_behind built start journal) sent) ≡ true → finite.get known.tokens token ≡ Some false
-spent_known below built start journal sent known token s h first k gone' =
-    let past = history_of built start journal in
-    let told = told_behind below built start journal sent (spent_in (view_behind built start journal) sent) s h first (λ n. refl) in
+pub spent_known : Below → (start : Start) (journal : Journal) (sent : Sent) (known : Known) (token : ℕ) → IsStart start → Lawful start journal →
+    head start (history_of start journal) sent.endpoint ≡ Some sent → Knows start (history_of start journal) known →
+    among token (spent_in (view_behind start journal) sent) ≡ true → finite.get known.tokens token ≡ Some false
+spent_known below start journal sent known token s h first k gone' =
+    let past = history_of start journal in
+    let told = told_behind below start journal sent (spent_in (view_behind start journal) sent) s h first (λ n. refl) in
     let at = told.gone token gone' in
     k.tokens token ∙ gone_out (was_given past token) (was_carried past token) (waits_with past token) at.1 (told.waiting_carried token at.2) at.2

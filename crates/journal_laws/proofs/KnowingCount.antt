@@ -18,7 +18,6 @@ use Rattle.io_messages.specs.declared.protocols.Protocol.{Protocol}
 use Rattle.io_messages.specs.declared.protocols.Protocol.TheVariants as protocol
 use Rattle.tree_file.specs.Numbering.{end_of_mount}
 use Rattle.conn_rules.specs.Answers.{Answer, replies, closes, binds, watches, forwards, refuses as refuses_to, ends, hangs_up, silent}
-use Rattle.conn_rules.specs.Built.{Built}
 use Rattle.vfs_journal.specs.Deaths.{first_deaths, is_settled, deaths_of, others}
 use Rattle.vfs_journal.specs.Entries.{Sent, Sending, Journal, message, hang_up, handles_of, endpoints_in, sends, serves}
 use Rattle.vfs_journal.specs.History.{History, all_sent, births, living, waiting, travelling, is_dead, is_live, bound_at, hung_up, live_count}
@@ -110,10 +109,10 @@ pub record IsAccounted (start : Start) (v : View) : Type 0 where
   pub each : (one : Sent) → Contains v.waiting one → Apart (endpoints_in one)
   pub known : (n : ℕ) → is_client n ≡ true → used start v.sent n ≡ true → (v.dead n ≡ true) ⊎ (live_in v n ≡ true)
 
-begun_accounted : (built : Built) (start : Start) → IsAccounted start (view start (history_of built start []))
+begun_accounted : (start : Start) → IsAccounted start (view start (history_of start []))
 unfolding history_of
-begun_accounted built start =
-    let is = is_view built start [] none in
+begun_accounted start =
+    let is = is_view start [] none in
     record {
       each = λ one p. absurd (contains_none one p);
       known = λ n client h. inr (first_lives is n (or_cases (list_any (λ (bound : Bound). bound.endpoint == n) start.firsts) false h));
@@ -127,21 +126,21 @@ begun_accounted built start =
       first_lives is n (inr h) = absurd (true≢false (sym h))
 
 -- an admitted sending
-sent_accounted : (built : Built) (start : Start) (earlier : Journal) (endpoint : ℕ) (sending' : Sending) → Stepped built start earlier → is_dead (history_of built start earlier) endpoint ≡ false → Apart (handles_of sending') →
-    IsAccounted start (view start (history_of built start earlier)) → IsAccounted start (view start (history_of built start (sends (sent_behind earlier endpoint sending' None) ∷ earlier)))
+sent_accounted : (start : Start) (earlier : Journal) (endpoint : ℕ) (sending' : Sending) → Stepped start earlier → is_dead (history_of start earlier) endpoint ≡ false → Apart (handles_of sending') →
+    IsAccounted start (view start (history_of start earlier)) → IsAccounted start (view start (history_of start (sends (sent_behind earlier endpoint sending' None) ∷ earlier)))
 unfolding history_of
-sent_accounted built start earlier endpoint sending' steps alive apart past =
-    let history = history_of built start earlier in
+sent_accounted start earlier endpoint sending' steps alive apart past =
+    let history = history_of start earlier in
     let new = sent_behind earlier endpoint sending' None in
-    let now = behind built start (sends new) history in
-    let adds = sent_view built start history new in
-    let waits = new_waits built start history new (fresh_unserved built start earlier new steps (le_refl_of (length earlier))) alive in
+    let now = behind start (sends new) history in
+    let adds = sent_view start history new in
+    let waits = new_waits start history new (fresh_unserved start earlier new steps (le_refl_of (length earlier))) alive in
     let lives = λ (n : ℕ). sent_lives (view start history) (view start now) new n adds waits in
     record {
       each = λ one p. each_by one (apart_filter is_client (handles_of sending') apart) (adds.waited one p);
       known = λ n client h. by_used n client (lives n) (adds.dead n) (used_more start (all_sent history) new n (subst (λ sents. used start sents n ≡ true) adds.sent h));
     } where
-      each_by : (one : Sent) → Apart (endpoints_in (sent_behind earlier endpoint sending' None)) → Contains (waiting (history_of built start earlier)) one ⊎ (sent_behind earlier endpoint sending' None ≡ one) → Apart (endpoints_in one)
+      each_by : (one : Sent) → Apart (endpoints_in (sent_behind earlier endpoint sending' None)) → Contains (waiting (history_of start earlier)) one ⊎ (sent_behind earlier endpoint sending' None ≡ one) → Apart (endpoints_in one)
       each_by one own (inl p) = past.each one p
       each_by one own (inr e) = subst (λ (x : Sent). Apart (endpoints_in x)) e own
 
@@ -149,38 +148,38 @@ sent_accounted built start earlier endpoint sending' steps alive apart past =
       still d e a b c p q (inl h) = inl (p ∙ h)
       still d e a b c p q (inr h) = inr (q ∙ or_left b c h)
 
-      by_used : {d a : Bool} (n : ℕ) → is_client n ≡ true → a ≡ (live_in (view start (history_of built start earlier)) n || among n (endpoints_in (sent_behind earlier endpoint sending' None))) →
-          d ≡ is_dead (history_of built start earlier) n → (used start (all_sent (history_of built start earlier)) n ≡ true) ⊎ (among n (handles_of sending') ≡ true) → (d ≡ true) ⊎ (a ≡ true)
-      by_used {d} {a} n client lives dead (inl h) = still d (is_dead (history_of built start earlier) n) a (live_in (view start (history_of built start earlier)) n) (among n (endpoints_in (sent_behind earlier endpoint sending' None))) dead lives (past.known n client h)
+      by_used : {d a : Bool} (n : ℕ) → is_client n ≡ true → a ≡ (live_in (view start (history_of start earlier)) n || among n (endpoints_in (sent_behind earlier endpoint sending' None))) →
+          d ≡ is_dead (history_of start earlier) n → (used start (all_sent (history_of start earlier)) n ≡ true) ⊎ (among n (handles_of sending') ≡ true) → (d ≡ true) ⊎ (a ≡ true)
+      by_used {d} {a} n client lives dead (inl h) = still d (is_dead (history_of start earlier) n) a (live_in (view start (history_of start earlier)) n) (among n (endpoints_in (sent_behind earlier endpoint sending' None))) dead lives (past.known n client h)
       by_used n client lives dead (inr h) =
-          inr (lives ∙ or_right (live_in (view start (history_of built start earlier)) n) (among n (endpoints_in (sent_behind earlier endpoint sending' None))) (carried_from (sent_behind earlier endpoint sending' None) n client h))
+          inr (lives ∙ or_right (live_in (view start (history_of start earlier)) n) (among n (endpoints_in (sent_behind earlier endpoint sending' None))) (carried_from (sent_behind earlier endpoint sending' None) n client h))
 
 -- what waits behind a serving carries nothing twice
-served_each : Below → (built : Built) (start : Start) (earlier : Journal) (k : Sent) → IsStart start → Lawful built start earlier → head start (history_of built start earlier) k.endpoint ≡ Some k →
-    ((one : Sent) → Contains (waiting (history_of built start earlier)) one → Apart (endpoints_in one)) →
-    (x : Option Forwarded) → (one : Sent) → Contains (waiting (history_of built start (with_forward k.place (serves k ∷ earlier) x))) one → Apart (endpoints_in one)
+served_each : Below → (start : Start) (earlier : Journal) (k : Sent) → IsStart start → Lawful start earlier → head start (history_of start earlier) k.endpoint ≡ Some k →
+    ((one : Sent) → Contains (waiting (history_of start earlier)) one → Apart (endpoints_in one)) →
+    (x : Option Forwarded) → (one : Sent) → Contains (waiting (history_of start (with_forward k.place (serves k ∷ earlier) x))) one → Apart (endpoints_in one)
 unfolding history_of
-served_each below built start earlier k s lawful h past None one p =
-    let serving' = is_serving below built start earlier k s (stepped built start earlier lawful) (lawful_kept below built start s earlier lawful).sound h in
-    past one ((served_view built start (history_of built start earlier) k serving'.keeps).waited one p).0
-served_each below built start earlier k s lawful h past (Some f) one p =
-    let serving' = is_serving below built start earlier k s (stepped built start earlier lawful) (lawful_kept below built start s earlier lawful).sound h in
-    let mid = behind built start (serves k) (history_of built start earlier) in
+served_each below start earlier k s lawful h past None one p =
+    let serving' = is_serving below start earlier k s (stepped start earlier lawful) (lawful_kept below start s earlier lawful).sound h in
+    past one ((served_view start (history_of start earlier) k serving'.keeps).waited one p).0
+served_each below start earlier k s lawful h past (Some f) one p =
+    let serving' = is_serving below start earlier k s (stepped start earlier lawful) (lawful_kept below start s earlier lawful).sound h in
+    let mid = behind start (serves k) (history_of start earlier) in
     let new = sent_behind (serves k ∷ earlier) f.endpoint (message f.bytes (f.object ∷ [])) (Some k.place) in
-    by_side (λ q. past one ((served_view built start (history_of built start earlier) k serving'.keeps).waited one q).0) ((sent_view built start mid new).waited one p) where
+    by_side (λ q. past one ((served_view start (history_of start earlier) k serving'.keeps).waited one q).0) ((sent_view start mid new).waited one p) where
       by_side : {A : Type 0} → (A → Apart (endpoints_in one)) → A ⊎ (sent_behind (serves k ∷ earlier) f.endpoint (message f.bytes (f.object ∷ [])) (Some k.place) ≡ one) → Apart (endpoints_in one)
       by_side old (inl q) = old q
       by_side old (inr e) = subst (λ (x : Sent). Apart (endpoints_in x)) e (apart_filter is_client (f.object ∷ []) (apart_one f.object))
 
-served_accounted : Below → (built : Built) (start : Start) (earlier : Journal) (k : Sent) → IsStart start → Lawful built start earlier → head start (history_of built start earlier) k.endpoint ≡ Some k →
-    IsAccounted start (view start (history_of built start earlier)) → IsAccounted start (view start (history_of built start (after_serving built start earlier k)))
-served_accounted below built start earlier k s lawful h past =
-    let history = history_of built start earlier in
-    let now = history_of built start (after_serving built start earlier k) in
-    let deaths = deaths_of history k (outcome_of built start history k) in
-    let after = after_served below built start earlier k s lawful h in
+served_accounted : Below → (start : Start) (earlier : Journal) (k : Sent) → IsStart start → Lawful start earlier → head start (history_of start earlier) k.endpoint ≡ Some k →
+    IsAccounted start (view start (history_of start earlier)) → IsAccounted start (view start (history_of start (after_serving start earlier k)))
+served_accounted below start earlier k s lawful h past =
+    let history = history_of start earlier in
+    let now = history_of start (after_serving start earlier k) in
+    let deaths = deaths_of history k (outcome_of start history k) in
+    let after = after_served below start earlier k s lawful h in
     record {
-      each = λ one p. served_each below built start earlier k s lawful h past.each (outcome_of built start history k).forward one p;
+      each = λ one p. served_each below start earlier k s lawful h past.each (outcome_of start history k).forward one p;
       known = λ n client u. now_by (is_dead now n) (is_live start now n) (among n deaths) (is_dead history n) (is_live start history n) (after.dead n) (after.live n) (past.known n client (after.known n u));
     } where
       now_by : (d a among' e b : Bool) → d ≡ (among' || e) → a ≡ (b && not among') → (e ≡ true) ⊎ (b ≡ true) → (d ≡ true) ⊎ (a ≡ true)
@@ -188,18 +187,18 @@ served_accounted below built start earlier k s lawful h past =
       now_by d a true e b p q (inr h) = inl p
       now_by d a false e b p q (inr h) = inr (q ∙ ap (λ (x : Bool). x && true) h)
 
-pub lawful_accounted : Below → (built : Built) (start : Start) → IsStart start → (journal : Journal) → Lawful built start journal → IsAccounted start (view start (history_of built start journal))
+pub lawful_accounted : Below → (start : Start) → IsStart start → (journal : Journal) → Lawful start journal → IsAccounted start (view start (history_of start journal))
 unfolding history_of
-lawful_accounted below built start s journal begun = begun_accounted built start
-lawful_accounted below built start s journal (refused earlier frame why h is admits) =
-    subst (IsAccounted start) (refused_view built start (history_of built start earlier) frame.endpoint why) (lawful_accounted below built start s earlier h)
-lawful_accounted below built start s journal (sent earlier frame h is at admits) =
-    let admitted = message_let_in start (history_of built start earlier) frame at admits in
-    sent_accounted built start earlier frame.endpoint (message frame.bytes frame.handles) (stepped built start earlier h) admitted.0.alive (handles_apart (look_ups start (history_of built start earlier)) frame.handles admitted.1)
-    (lawful_accounted below built start s earlier h)
-lawful_accounted below built start s journal (closed earlier frame h is at admits) =
-    sent_accounted built start earlier frame.endpoint hang_up (stepped built start earlier h) (close_let_in start (history_of built start earlier) frame at admits).alive tt (lawful_accounted below built start s earlier h)
-lawful_accounted below built start s journal (served earlier entry h is) = served_accounted below built start earlier entry s h is (lawful_accounted below built start s earlier h)
+lawful_accounted below start s journal begun = begun_accounted start
+lawful_accounted below start s journal (refused earlier frame why h is admits) =
+    subst (IsAccounted start) (refused_view start (history_of start earlier) frame.endpoint why) (lawful_accounted below start s earlier h)
+lawful_accounted below start s journal (sent earlier frame h is at admits) =
+    let admitted = message_let_in start (history_of start earlier) frame at admits in
+    sent_accounted start earlier frame.endpoint (message frame.bytes frame.handles) (stepped start earlier h) admitted.0.alive (handles_apart (look_ups start (history_of start earlier)) frame.handles admitted.1)
+    (lawful_accounted below start s earlier h)
+lawful_accounted below start s journal (closed earlier frame h is at admits) =
+    sent_accounted start earlier frame.endpoint hang_up (stepped start earlier h) (close_let_in start (history_of start earlier) frame at admits).alive tt (lawful_accounted below start s earlier h)
+lawful_accounted below start s journal (served earlier entry h is) = served_accounted below start earlier entry s h is (lawful_accounted below start s earlier h)
 
 -- ---- no endpoint lives twice
 
@@ -291,16 +290,16 @@ born_name n (Some b) h = (b, refl, by_test (cases_Bool (b.endpoint == n))) where
   by_test (inr e) = absurd (true≢false (sym h ∙ ap (λ (c : Bool). c || false) e))
 
 -- what a serving binds wasn't bound
-served_apart : (built : Built) (start : Start) (history : History) (k : Sent) → IsAnswered (view start history) k (outcome_of built start history k) → Transit start (view start history) nothing_left →
-    Apart (ends_of (living start history)) → Apart (ends_of (living start (behind built start (serves k) history)))
+served_apart : (start : Start) (history : History) (k : Sent) → IsAnswered (view start history) k (outcome_of start history k) → Transit start (view start history) nothing_left →
+    Apart (ends_of (living start history)) → Apart (ends_of (living start (behind start (serves k) history)))
 unfolding event_of
-served_apart built start history k answered transit past =
-    let o = outcome_of built start history k in
-    let event = event_of built start history (serves k) in
-    let now = behind built start (serves k) history in
+served_apart start history k answered transit past =
+    let o = outcome_of start history k in
+    let event = event_of start history (serves k) in
+    let now = behind start (serves k) history in
     let kept = but_for event.deaths (living start history) in
     let new = newly_living now o.bound in
-    subst (λ bounds. Apart (ends_of bounds)) (sym (servings_take_effect built start history k).alive)
+    subst (λ bounds. Apart (ends_of bounds)) (sym (servings_take_effect start history k).alive)
     (subst Apart (sym (map-append (λ (bound : Bound). bound.endpoint) kept new))
     (apart_append (ends_of kept) (ends_of new)
     (apart_kept (λ bound. not (among bound.endpoint event.deaths)) (living start history) past)
@@ -313,30 +312,30 @@ served_apart built start history k answered transit past =
     true≢false (sym was ∙ named_is_bound (living start history) n ∙ transit.unbound k n answered.waits carried)))))
 
 -- and behind what it forwards
-forward_apart : (built : Built) (start : Start) (journal : Journal) (origin : ℕ) (x : Option Forwarded) → Apart (ends_of (living start (history_of built start journal))) →
-    Apart (ends_of (living start (history_of built start (with_forward origin journal x))))
+forward_apart : (start : Start) (journal : Journal) (origin : ℕ) (x : Option Forwarded) → Apart (ends_of (living start (history_of start journal))) →
+    Apart (ends_of (living start (history_of start (with_forward origin journal x))))
 unfolding history_of
-forward_apart built start journal origin None past = past
-forward_apart built start journal origin (Some f) past =
+forward_apart start journal origin None past = past
+forward_apart start journal origin (Some f) past =
     subst (λ bounds. Apart (ends_of bounds))
-    (sym (sendings_wait_last built start (history_of built start journal) (sent_behind journal f.endpoint (message f.bytes (f.object ∷ [])) (Some origin))).same.alive) past
+    (sym (sendings_wait_last start (history_of start journal) (sent_behind journal f.endpoint (message f.bytes (f.object ∷ [])) (Some origin))).same.alive) past
 
-pub lawful_apart : Below → (built : Built) (start : Start) → IsStart start → IsNumbered start → (journal : Journal) → Lawful built start journal → Apart (ends_of (living start (history_of built start journal)))
+pub lawful_apart : Below → (start : Start) → IsStart start → IsNumbered start → (journal : Journal) → Lawful start journal → Apart (ends_of (living start (history_of start journal)))
 unfolding history_of
-lawful_apart below built start s numbered journal begun = apart_kept (λ bound. not (is_dead [] bound.endpoint)) (births start []) (births_apart start s numbered)
-lawful_apart below built start s numbered journal (refused earlier frame why h is admits) =
-    subst (λ bounds. Apart (ends_of bounds)) (sym (refusals_change_nothing built start (history_of built start earlier) frame.endpoint why).same.alive) (lawful_apart below built start s numbered earlier h)
-lawful_apart below built start s numbered journal (sent earlier frame h is at admits) =
+lawful_apart below start s numbered journal begun = apart_kept (λ bound. not (is_dead [] bound.endpoint)) (births start []) (births_apart start s numbered)
+lawful_apart below start s numbered journal (refused earlier frame why h is admits) =
+    subst (λ bounds. Apart (ends_of bounds)) (sym (refusals_change_nothing start (history_of start earlier) frame.endpoint why).same.alive) (lawful_apart below start s numbered earlier h)
+lawful_apart below start s numbered journal (sent earlier frame h is at admits) =
     subst (λ bounds. Apart (ends_of bounds))
-    (sym (sendings_wait_last built start (history_of built start earlier) (sent_behind earlier frame.endpoint (message frame.bytes frame.handles) None)).same.alive) (lawful_apart below built start s numbered earlier h)
-lawful_apart below built start s numbered journal (closed earlier frame h is at admits) =
+    (sym (sendings_wait_last start (history_of start earlier) (sent_behind earlier frame.endpoint (message frame.bytes frame.handles) None)).same.alive) (lawful_apart below start s numbered earlier h)
+lawful_apart below start s numbered journal (closed earlier frame h is at admits) =
     subst (λ bounds. Apart (ends_of bounds))
-    (sym (sendings_wait_last built start (history_of built start earlier) (sent_behind earlier frame.endpoint hang_up None)).same.alive) (lawful_apart below built start s numbered earlier h)
-lawful_apart below built start s numbered journal (served earlier entry h is) =
-    let past = lawful_kept below built start s earlier h in
-    let serving' = is_serving below built start earlier entry s (stepped built start earlier h) past.sound is in
-    forward_apart built start (serves entry ∷ earlier) entry.place (outcome_of built start (history_of built start earlier) entry).forward
-    (served_apart built start (history_of built start earlier) entry serving'.answered past.transit (lawful_apart below built start s numbered earlier h))
+    (sym (sendings_wait_last start (history_of start earlier) (sent_behind earlier frame.endpoint hang_up None)).same.alive) (lawful_apart below start s numbered earlier h)
+lawful_apart below start s numbered journal (served earlier entry h is) =
+    let past = lawful_kept below start s earlier h in
+    let serving' = is_serving below start earlier entry s (stepped start earlier h) past.sound is in
+    forward_apart start (serves entry ∷ earlier) entry.place (outcome_of start (history_of start earlier) entry).forward
+    (served_apart start (history_of start earlier) entry serving'.answered past.transit (lawful_apart below start s numbered earlier h))
 
 -- ---- deaths, once each
 
@@ -351,33 +350,33 @@ answer_ends asker (ends status) = apart_one asker.endpoint
 answer_ends asker hangs_up = apart_one asker.endpoint
 answer_ends asker silent = tt
 
-read_ends : (built : Built) (moment : Moment) (read : Read) → Apart (outcome_of_read built moment read).ends
-read_ends built moment (Ok found) = answer_ends (asker_of moment.bound found.0 (object_of found.1)) (request_act built moment found.1).answer
-read_ends built moment (Err fault) = answer_ends (asker_of moment.bound (fault_txid fault) 0) (fault_answer fault)
+read_ends : (moment : Moment) (read : Read) → Apart (outcome_of_read moment read).ends
+read_ends moment (Ok found) = answer_ends (asker_of moment.bound found.0 (object_of found.1)) (request_act moment found.1).answer
+read_ends moment (Err fault) = answer_ends (asker_of moment.bound (fault_txid fault) 0) (fault_answer fault)
 
-message_ends : (built : Built) (moment : Moment) (p : Protocol) (bytes handles : List ℕ) → Apart (outcome_of_message built moment p bytes handles).ends
-message_ends built moment protocol.Watcher bytes handles = tt
-message_ends built moment protocol.Directory bytes handles = read_ends built moment (read_by protocol.Directory bytes handles)
-message_ends built moment protocol.File bytes handles = read_ends built moment (read_by protocol.File bytes handles)
-message_ends built moment protocol.Node bytes handles = read_ends built moment (read_by protocol.Node bytes handles)
-message_ends built moment protocol.Echo bytes handles = read_ends built moment (read_by protocol.Echo bytes handles)
+message_ends : (moment : Moment) (p : Protocol) (bytes handles : List ℕ) → Apart (outcome_of_message moment p bytes handles).ends
+message_ends moment protocol.Watcher bytes handles = tt
+message_ends moment protocol.Directory bytes handles = read_ends moment (read_by protocol.Directory bytes handles)
+message_ends moment protocol.File bytes handles = read_ends moment (read_by protocol.File bytes handles)
+message_ends moment protocol.Node bytes handles = read_ends moment (read_by protocol.Node bytes handles)
+message_ends moment protocol.Echo bytes handles = read_ends moment (read_by protocol.Echo bytes handles)
 
-sending_ends : (built : Built) (moment : Moment) (sending' : Sending) → Apart (outcome_of_sending built moment sending').ends
+sending_ends : (moment : Moment) (sending' : Sending) → Apart (outcome_of_sending moment sending').ends
 unfolding outcome_of_sending
-sending_ends built moment (message bytes handles) = message_ends built moment moment.bound.birth.protocol bytes handles
-sending_ends built moment hang_up = apart_one moment.bound.endpoint
+sending_ends moment (message bytes handles) = message_ends moment moment.bound.birth.protocol bytes handles
+sending_ends moment hang_up = apart_one moment.bound.endpoint
 
-outcome_ends : (built : Built) (start : Start) (history : History) (k : Sent) (o : Option Bound) → Apart (outcome_at built start history k o).ends
-outcome_ends built start history k None = tt
-outcome_ends built start history k (Some b) = sending_ends built (moment_of start history b) k.sending
+outcome_ends : (start : Start) (history : History) (k : Sent) (o : Option Bound) → Apart (outcome_at start history k o).ends
+outcome_ends start history k None = tt
+outcome_ends start history k (Some b) = sending_ends (moment_of start history b) k.sending
 
 -- what waits carries nothing twice
-pub waiting_own : Below → (built : Built) (start : Start) (journal : Journal) → IsStart start → Lawful built start journal → AreOwn (waiting (history_of built start journal))
-waiting_own below built start journal s lawful =
-    let transit = (lawful_kept below built start s journal lawful).transit in
+pub waiting_own : Below → (start : Start) (journal : Journal) → IsStart start → Lawful start journal → AreOwn (waiting (history_of start journal))
+waiting_own below start journal s lawful =
+    let transit = (lawful_kept below start s journal lawful).transit in
     record {
-      rises = (is_view built start journal (stepped built start journal lawful)).rises;
-      each = (lawful_accounted below built start s journal lawful).each;
+      rises = (is_view start journal (stepped start journal lawful)).rises;
+      each = (lawful_accounted below start s journal lawful).each;
       once = transit.once;
     }
 
@@ -389,38 +388,38 @@ unsettled_is k o n h =
 ends_settle : (o : Outcome) (n : ℕ) → among n o.ends ≡ true → is_settled o n ≡ true
 ends_settle o n h = or_right _ _ (or_left _ _ h)
 
-pub deaths_apart : Below → (built : Built) (start : Start) (journal : Journal) (k : Sent) → IsStart start → Lawful built start journal → head start (history_of built start journal) k.endpoint ≡ Some k →
-    Apart (deaths_of (history_of built start journal) k (outcome_of built start (history_of built start journal) k))
-deaths_apart below built start journal k s lawful h =
-    let history = history_of built start journal in
-    let o = outcome_of built start history k in
-    let past = lawful_kept below built start s journal lawful in
-    let own = waiting_own below built start journal s lawful in
-    let answered = (is_serving below built start journal k s (stepped built start journal lawful) past.sound h).answered in
+pub deaths_apart : Below → (start : Start) (journal : Journal) (k : Sent) → IsStart start → Lawful start journal → head start (history_of start journal) k.endpoint ≡ Some k →
+    Apart (deaths_of (history_of start journal) k (outcome_of start (history_of start journal) k))
+deaths_apart below start journal k s lawful h =
+    let history = history_of start journal in
+    let o = outcome_of start history k in
+    let past = lawful_kept below start s journal lawful in
+    let own = waiting_own below start journal s lawful in
+    let answered = (is_serving below start journal k s (stepped start journal lawful) past.sound h).answered in
     apart_spread (first_deaths k o) (others history k) (own_filter (λ other. not (other.place == k.place)) (waiting history) own)
-    (apart_append o.ends (unsettled k o) (outcome_ends built start history k (bound_at start history k.endpoint)) (apart_filter (λ endpoint. not (is_settled o endpoint)) (endpoints_in k) (own.each k answered.waits))
+    (apart_append o.ends (unsettled k o) (outcome_ends start history k (bound_at start history k.endpoint)) (apart_filter (λ endpoint. not (is_settled o endpoint)) (endpoints_in k) (own.each k answered.waits))
     (λ n e. false_from_ne_true (among n (unsettled k o)) (λ g. true≢false (sym (ends_settle o n e) ∙ not-true (is_settled o n) (unsettled_is k o n g).1))))
     (λ n one dies there. false_from_ne_true (among n (endpoints_in one))
     (λ c.
     let at = other_of (waiting history) k one there in
     carried_twice n one at.0 at.1 c past.transit answered (among_sides n o.ends (unsettled k o) dies))) where
-      both : (n : ℕ) (one : Sent) → Transit start (view start (history_of built start journal)) nothing_left → Contains (waiting (history_of built start journal)) one → one.place ≢ k.place → among n (endpoints_in one) ≡ true →
-          Contains (waiting (history_of built start journal)) k → among n (endpoints_in k) ≡ true → ⊥
+      both : (n : ℕ) (one : Sent) → Transit start (view start (history_of start journal)) nothing_left → Contains (waiting (history_of start journal)) one → one.place ≢ k.place → among n (endpoints_in one) ≡ true →
+          Contains (waiting (history_of start journal)) k → among n (endpoints_in k) ≡ true → ⊥
       both n one transit there apart c waits g = apart (ap (λ (x : Sent). x.place) (transit.once one k n there waits c g))
 
-      by_end : (n : ℕ) (one : Sent) → Transit start (view start (history_of built start journal)) nothing_left → Contains (waiting (history_of built start journal)) one → one.place ≢ k.place → among n (endpoints_in one) ≡ true →
-          IsAnswered (view start (history_of built start journal)) k (outcome_of built start (history_of built start journal) k) → ((n ≡ k.endpoint) × (is_client n ≡ true)) ⊎ (among n (endpoints_in k) ≡ true) → ⊥
+      by_end : (n : ℕ) (one : Sent) → Transit start (view start (history_of start journal)) nothing_left → Contains (waiting (history_of start journal)) one → one.place ≢ k.place → among n (endpoints_in one) ≡ true →
+          IsAnswered (view start (history_of start journal)) k (outcome_of start (history_of start journal) k) → ((n ≡ k.endpoint) × (is_client n ≡ true)) ⊎ (among n (endpoints_in k) ≡ true) → ⊥
       by_end n one transit there apart c answered (inl at) =
           true≢false
-          (sym (is_found (λ bound. bound.endpoint == n) (living start (history_of built start journal)) answered.bound answered.lives (eq-eqb answered.bound.endpoint n (answered.at ∙ sym at.0)))
+          (sym (is_found (λ bound. bound.endpoint == n) (living start (history_of start journal)) answered.bound answered.lives (eq-eqb answered.bound.endpoint n (answered.at ∙ sym at.0)))
           ∙ transit.unbound one n there c)
       by_end n one transit there apart c answered (inr g) = both n one transit there apart c answered.waits g
 
-      carried_twice : (n : ℕ) (one : Sent) → Contains (waiting (history_of built start journal)) one → one.place ≢ k.place → among n (endpoints_in one) ≡ true → Transit start (view start (history_of built start journal)) nothing_left →
-          IsAnswered (view start (history_of built start journal)) k (outcome_of built start (history_of built start journal) k) →
-          (among n (outcome_of built start (history_of built start journal) k).ends ≡ true) ⊎ (among n (unsettled k (outcome_of built start (history_of built start journal) k)) ≡ true) → ⊥
+      carried_twice : (n : ℕ) (one : Sent) → Contains (waiting (history_of start journal)) one → one.place ≢ k.place → among n (endpoints_in one) ≡ true → Transit start (view start (history_of start journal)) nothing_left →
+          IsAnswered (view start (history_of start journal)) k (outcome_of start (history_of start journal) k) →
+          (among n (outcome_of start (history_of start journal) k).ends ≡ true) ⊎ (among n (unsettled k (outcome_of start (history_of start journal) k)) ≡ true) → ⊥
       carried_twice n one there apart c transit answered (inl e) = by_end n one transit there apart c answered (answered.ends_in n e)
-      carried_twice n one there apart c transit answered (inr g) = both n one transit there apart c answered.waits (unsettled_is k (outcome_of built start (history_of built start journal) k) n g).0
+      carried_twice n one there apart c transit answered (inr g) = both n one transit there apart c answered.waits (unsettled_is k (outcome_of start (history_of start journal) k) n g).0
 
 -- ---- the count
 
@@ -436,27 +435,27 @@ ends_count start history =
     length-append (ends_of (living start history)) (travelling history) ∙ ap (λ (n : ℕ). n + length (travelling history)) (length-map (living start history) (λ (bound : Bound). bound.endpoint))
 
 -- no endpoint lives twice
-pub ends_apart : Below → (built : Built) (start : Start) (journal : Journal) → IsStart start → IsNumbered start → Lawful built start journal → Apart (all_ends start (history_of built start journal))
-ends_apart below built start journal s numbered lawful =
-    let history = history_of built start journal in
-    let transit = (lawful_kept below built start s journal lawful).transit in
-    apart_append (ends_of (living start history)) (travelling history) (lawful_apart below built start s numbered journal lawful) (apart_carried (waiting history) (waiting_own below built start journal s lawful))
+pub ends_apart : Below → (start : Start) (journal : Journal) → IsStart start → IsNumbered start → Lawful start journal → Apart (all_ends start (history_of start journal))
+ends_apart below start journal s numbered lawful =
+    let history = history_of start journal in
+    let transit = (lawful_kept below start s journal lawful).transit in
+    apart_append (ends_of (living start history)) (travelling history) (lawful_apart below start s numbered journal lawful) (apart_carried (waiting history) (waiting_own below start journal s lawful))
     (λ n h. false_from_ne_true (among n (travelling history))
     (λ g.
     let one = carrier_of n (waiting history) g in
     true≢false (sym h ∙ named_is_bound (living start history) n ∙ transit.unbound one.0 n one.1 one.2)))
 
 -- so many fewer live as die
-pub fewer_live : Below → (built : Built) (start : Start) (journal : Journal) (k : Sent) → IsStart start → IsNumbered start → Lawful built start journal → head start (history_of built start journal) k.endpoint ≡ Some k →
-    live_count start (history_of built start (after_serving built start journal k)) + length (deaths_of (history_of built start journal) k (outcome_of built start (history_of built start journal) k)) ≡ live_count start (history_of built start journal)
-fewer_live below built start journal k s numbered lawful h =
-    let history = history_of built start journal in
-    let now = history_of built start (after_serving built start journal k) in
-    let deaths = deaths_of history k (outcome_of built start history k) in
-    let after = after_served below built start journal k s lawful h in
-    let was = ends_apart below built start journal s numbered lawful in
-    let still = ends_apart below built start (after_serving built start journal k) s numbered (served journal k lawful h) in
-    let none = deaths_apart below built start journal k s lawful h in
+pub fewer_live : Below → (start : Start) (journal : Journal) (k : Sent) → IsStart start → IsNumbered start → Lawful start journal → head start (history_of start journal) k.endpoint ≡ Some k →
+    live_count start (history_of start (after_serving start journal k)) + length (deaths_of (history_of start journal) k (outcome_of start (history_of start journal) k)) ≡ live_count start (history_of start journal)
+fewer_live below start journal k s numbered lawful h =
+    let history = history_of start journal in
+    let now = history_of start (after_serving start journal k) in
+    let deaths = deaths_of history k (outcome_of start history k) in
+    let after = after_served below start journal k s lawful h in
+    let was = ends_apart below start journal s numbered lawful in
+    let still = ends_apart below start (after_serving start journal k) s numbered (served journal k lawful h) in
+    let none = deaths_apart below start journal k s lawful h in
     let whole : Apart (all_ends start now ++ deaths) = apart_append (all_ends start now) deaths still none
     (λ n l. spared (is_live start history n) (among n deaths) (sym (after.live n) ∙ sym (ends_live start now n) ∙ l)) in
     let same : (n : ℕ) → among n (all_ends start now ++ deaths) ≡ among n (all_ends start history) = λ n.

@@ -21,7 +21,6 @@ use Rattle.fidl_names.specs.HandleNumber.{is_client}
 use Rattle.endpoint_link.specs.Numbering.{among}
 use Rattle.endpoint_link.specs.Standings.{Known, Sends, hung_up as hung_up_in}
 use Rattle.endpoint_link.proofs.Travelling.{travel_each, unused_by, held_by as held_when}
-use Rattle.conn_rules.specs.Built.{Built}
 use Rattle.vfs_journal.specs.Entries.{Sent, Sending, Journal, message, hang_up, handles_of, endpoints_in, is_hang_up, sends}
 use Rattle.vfs_journal.specs.History.{History, all_sent, waiting, travelling, waits, was_served, was_carried, is_dead, is_live, is_used, hung_up, live_count}
 use Rattle.journal_laws.specs.Knowing.{Knows, token_out}
@@ -67,20 +66,20 @@ record IsBehind (start : Start) (now past : History) (new : Sent) : Type 0 where
 waits_so : (past : History) (new : Sent) → was_served past new ≡ false → is_dead past new.endpoint ≡ false → waits past new ≡ true
 waits_so past new unserved alive = ap (λ (b : Bool). not b && not (is_dead past new.endpoint)) unserved ∙ ap not alive
 
-is_behind : (built : Built) (start : Start) (journal : Journal) (endpoint : ℕ) (sending' : Sending) → Lawful built start journal → is_dead (history_of built start journal) endpoint ≡ false →
-    IsBehind start (history_of built start (sends (sent_behind journal endpoint sending' None) ∷ journal)) (history_of built start journal) (sent_behind journal endpoint sending' None)
+is_behind : (start : Start) (journal : Journal) (endpoint : ℕ) (sending' : Sending) → Lawful start journal → is_dead (history_of start journal) endpoint ≡ false →
+    IsBehind start (history_of start (sends (sent_behind journal endpoint sending' None) ∷ journal)) (history_of start journal) (sent_behind journal endpoint sending' None)
 unfolding history_of
-is_behind built start journal endpoint sending' lawful alive =
-    let past = history_of built start journal in
+is_behind start journal endpoint sending' lawful alive =
+    let past = history_of start journal in
     let new = sent_behind journal endpoint sending' None in
-    let now = behind built start (sends new) past in
-    let h = sendings_wait_last built start past new in
-    let unserved = fresh_unserved built start journal new (stepped built start journal lawful) (le_refl_of (length journal)) in
+    let now = behind start (sends new) past in
+    let h = sendings_wait_last start past new in
+    let unserved = fresh_unserved start journal new (stepped start journal lawful) (le_refl_of (length journal)) in
     let w = waits_so past new unserved alive in
     let travels : travelling now ≡ travelling past ++ endpoints_in new = h.travels ∙ ap (λ (b : Bool). travelling past ++ (if b then endpoints_in new else [])) w in
     record {
       dead = h.same.dead;
-      live = λ n. sent_lives (view start past) (view start now) new n (sent_view built start past new) (new_waits built start past new unserved alive);
+      live = λ n. sent_lives (view start past) (view start now) new n (sent_view start past new) (new_waits start past new unserved alive);
       closed = h.closed;
       carried = h.carried;
       given = h.same.tokens;
@@ -160,14 +159,14 @@ message_stands d l c true x h = let at = h refl in rw (at.0, at.1, live_either l
   live_either false = refl
 
 -- what a message carries of clients' numbers is new
-new_numbers : Below → (built : Built) (start : Start) (journal : Journal) (handles : List ℕ) (n : ℕ) → IsStart start → Lawful built start journal → all_may_travel (look_ups start (history_of built start journal)) handles ≡ true →
-    is_client n ≡ true → among n handles ≡ true → (is_dead (history_of built start journal) n ≡ false) × (hung_up (history_of built start journal) n ≡ false)
-new_numbers below built start journal handles n s lawful travel client h =
-    let history = history_of built start journal in
-    let past = (lawful_kept below built start s journal lawful).sound in
+new_numbers : Below → (start : Start) (journal : Journal) (handles : List ℕ) (n : ℕ) → IsStart start → Lawful start journal → all_may_travel (look_ups start (history_of start journal)) handles ≡ true →
+    is_client n ≡ true → among n handles ≡ true → (is_dead (history_of start journal) n ≡ false) × (hung_up (history_of start journal) n ≡ false)
+new_numbers below start journal handles n s lawful travel client h =
+    let history = history_of start journal in
+    let past = (lawful_kept below start s journal lawful).sound in
     let unheld : is_held history n ≡ false = ap (λ (b : Bool). b && not (was_carried history n)) (no_token start history n past client) in
     let unused : is_used start history n ≡ false = unused_by (look_ups start history) n (travel_each (look_ups start history) handles travel n h) unheld in (
-      (or_parts (is_dead history n) (is_live start history n) (sym (used_where below built start journal n s lawful client) ∙ unused)).0,
+      (or_parts (is_dead history n) (is_live start history n) (sym (used_where below start journal n s lawful client) ∙ unused)).0,
       false_from_ne_true (hung_up history n)
           (λ g.
           let one = one_passes (λ (sent : Sent). is_hang_up sent.sending && (sent.endpoint == n)) (all_sent history) g in
@@ -180,17 +179,17 @@ among_clients one n = same_bool (among n (endpoints_in one)) (is_client n && amo
     (λ h. let at = carried_is one n h in and_from (is_client n) (among n (handles_of one.sending)) at.0 at.1)
     (λ h. let at = and_parts (is_client n) (among n (handles_of one.sending)) h in carried_from one n at.0 at.1)
 
-pub messages_known : Below → (built : Built) (start : Start) (journal : Journal) (frame : Frame) (known new : Known) → IsStart start → Lawful built start journal → frame.kind ≡ kind.Message →
-    admission (look_ups start (history_of built start journal)) frame ≡ None → Knows start (history_of built start journal) known → Admits known frame new →
-    Knows start (history_of built start (sends (sent_behind journal frame.endpoint (message frame.bytes frame.handles) None) ∷ journal)) new
-messages_known below built start journal frame known new s lawful is admits k became =
-    let past = history_of built start journal in
+pub messages_known : Below → (start : Start) (journal : Journal) (frame : Frame) (known new : Known) → IsStart start → Lawful start journal → frame.kind ≡ kind.Message →
+    admission (look_ups start (history_of start journal)) frame ≡ None → Knows start (history_of start journal) known → Admits known frame new →
+    Knows start (history_of start (sends (sent_behind journal frame.endpoint (message frame.bytes frame.handles) None) ∷ journal)) new
+messages_known below start journal frame known new s lawful is admits k became =
+    let past = history_of start journal in
     let one = sent_behind journal frame.endpoint (message frame.bytes frame.handles) None in
-    let now = history_of built start (sends one ∷ journal) in
-    let sound = (lawful_kept below built start s journal lawful).sound in
+    let now = history_of start (sends one ∷ journal) in
+    let sound = (lawful_kept below start s journal lawful).sound in
     let sent' : Sends known frame.handles new = subst (λ (x : FrameKind). AdmitsKind x known frame.endpoint frame.handles new) is became in
     let admitted = message_let_in start past frame is admits in
-    let h = is_behind built start journal frame.endpoint (message frame.bytes frame.handles) lawful admitted.0.alive in
+    let h = is_behind start journal frame.endpoint (message frame.bytes frame.handles) lawful admitted.0.alive in
     let travels = λ (n : ℕ) (carried : among n frame.handles ≡ true). travel_each (look_ups start past) frame.handles admitted.1 n carried in
     let tokens : (n : ℕ) → map.get new.tokens n ≡ token_out now n = λ n.
     sent'.tokens n
@@ -204,7 +203,7 @@ messages_known below built start journal frame known new s lawful is admits k be
           sent'.standing n
           ∙ ap (λ (x : Standing). if m then standing.Live else x) (k.standing n)
           ∙ message_stands (is_dead past n) (is_live start past n) (hung_up past n) m (frame.endpoint == n)
-          (λ e. let at = and_parts (is_client n) (among n frame.handles) e in new_numbers below built start journal frame.handles n s lawful admitted.1 at.0 at.1)
+          (λ e. let at = and_parts (is_client n) (among n frame.handles) e in new_numbers below start journal frame.handles n s lawful admitted.1 at.0 at.1)
           ∙ ap (λ (b : Bool). stands (is_dead past n) (is_live start past n || b) (hung_up past n || (false && (frame.endpoint == n)))) (sym (among_clients one n))
           ∙ ap (λ (b : Bool). stands b (is_live start past n || among n (endpoints_in one)) (hung_up past n || (false && (frame.endpoint == n)))) (sym (h.dead n))
           ∙ ap (λ (b : Bool). stands (is_dead now n) b (hung_up past n || (false && (frame.endpoint == n)))) (sym (h.live n))
@@ -218,9 +217,9 @@ messages_known below built start journal frame known new s lawful is admits k be
       out = out;
       given = given;
     } where
-      held_is : (n : ℕ) → was_given (history_of built start journal) n ≡ true → may_travel (look_ups start (history_of built start journal)) n ≡ true → is_held (history_of built start journal) n ≡ true
-      held_is n given may = held_when (look_ups start (history_of built start journal)) n may
-          (false_from_ne_true (is_client n) (λ client. true≢false (sym given ∙ no_token start (history_of built start journal) n (lawful_kept below built start s journal lawful).sound client)))
+      held_is : (n : ℕ) → was_given (history_of start journal) n ≡ true → may_travel (look_ups start (history_of start journal)) n ≡ true → is_held (history_of start journal) n ≡ true
+      held_is n given may = held_when (look_ups start (history_of start journal)) n may
+          (false_from_ne_true (is_client n) (λ client. true≢false (sym given ∙ no_token start (history_of start journal) n (lawful_kept below start s journal lawful).sound client)))
 
 -- ---- a hang-up
 
@@ -231,17 +230,17 @@ close_stands d l c true h = let at = h refl in rw (at.0, at.1, closed_either c) 
   closed_either true = refl
   closed_either false = refl
 
-pub hang_ups_known : Below → (built : Built) (start : Start) (journal : Journal) (frame : Frame) (known new : Known) → IsStart start → Lawful built start journal → frame.kind ≡ kind.Close →
-    admission (look_ups start (history_of built start journal)) frame ≡ None → Knows start (history_of built start journal) known → Admits known frame new →
-    Knows start (history_of built start (sends (sent_behind journal frame.endpoint hang_up None) ∷ journal)) new
-hang_ups_known below built start journal frame known new s lawful is admits k became =
-    let past = history_of built start journal in
+pub hang_ups_known : Below → (start : Start) (journal : Journal) (frame : Frame) (known new : Known) → IsStart start → Lawful start journal → frame.kind ≡ kind.Close →
+    admission (look_ups start (history_of start journal)) frame ≡ None → Knows start (history_of start journal) known → Admits known frame new →
+    Knows start (history_of start (sends (sent_behind journal frame.endpoint hang_up None) ∷ journal)) new
+hang_ups_known below start journal frame known new s lawful is admits k became =
+    let past = history_of start journal in
     let one = sent_behind journal frame.endpoint hang_up None in
-    let now = history_of built start (sends one ∷ journal) in
+    let now = history_of start (sends one ∷ journal) in
     let e = frame.endpoint in
     let is_new : new ≡ hung_up_in known e = subst (λ (x : FrameKind). AdmitsKind x known e frame.handles new) is became in
     let admitted = close_let_in start past frame is admits in
-    let h = is_behind built start journal e hang_up lawful admitted.alive in
+    let h = is_behind start journal e hang_up lawful admitted.alive in
     let carries_none = λ (n : ℕ) (carried : among n [] ≡ true). true≢false (sym carried) in
     let tokens : (n : ℕ) → map.get known.tokens n ≡ token_out now n = λ n.
     k.tokens n ∙ token_same past now n (sym h.given) (sym (h.carried n ∙ or-none (was_carried past n))) (sym (waits_too start past now one h n ∙ or-none (waits_with past n))) in

@@ -7,7 +7,6 @@ use Rattle.std.proofs.lemmas.List.Elements.{Contains-append_right}
 use Rattle.std.proofs.lemmas.List.Folds.{list_any-append}
 use Rattle.fidl_names.specs.HandleNumber.{is_client}
 use Rattle.endpoint_link.specs.Numbering.{among}
-use Rattle.conn_rules.specs.Built.{Built}
 use Rattle.vfs_journal.specs.Deaths.{first_deaths, is_settled, deaths_of}
 use Rattle.vfs_journal.specs.Entries.{Sent, Journal, message, handles_of, endpoints_in, sends, serves}
 use Rattle.vfs_journal.specs.History.{History, all_sent, waiting, is_dead, is_live, is_used, hung_up}
@@ -216,55 +215,55 @@ sent_lives v w new n adds waits =
         never (inr e) = true≢false (sym e)
 
 -- what is dead, known and alive behind a serving that forwards nothing
-after_alone : Below → (built : Built) (start : Start) (earlier : Journal) (k : Sent) → IsStart start → Stepped built start earlier → IsKept built start earlier → head start (history_of built start earlier) k.endpoint ≡ Some k →
-    (outcome_of built start (history_of built start earlier) k).forward ≡ None →
-    After start (history_of built start earlier) (behind built start (serves k) (history_of built start earlier)) (dying (waiting (history_of built start earlier)) k (outcome_of built start (history_of built start earlier) k))
+after_alone : Below → (start : Start) (earlier : Journal) (k : Sent) → IsStart start → Stepped start earlier → IsKept start earlier → head start (history_of start earlier) k.endpoint ≡ Some k →
+    (outcome_of start (history_of start earlier) k).forward ≡ None →
+    After start (history_of start earlier) (behind start (serves k) (history_of start earlier)) (dying (waiting (history_of start earlier)) k (outcome_of start (history_of start earlier) k))
 unfolding history_of
-after_alone below built start earlier k s steps past h none =
-    let history = history_of built start earlier in
-    let o = outcome_of built start history k in
-    let now = behind built start (serves k) history in
-    let is = is_view built start earlier steps in
-    let serving' = is_serving below built start earlier k s steps past.sound h in
-    let serves' = served_view built start history k serving'.keeps in
-    let is_now = is_view built start (serves k ∷ earlier) (serving earlier k steps h) in
+after_alone below start earlier k s steps past h none =
+    let history = history_of start earlier in
+    let o = outcome_of start history k in
+    let now = behind start (serves k) history in
+    let is = is_view start earlier steps in
+    let serving' = is_serving below start earlier k s steps past.sound h in
+    let serves' = served_view start history k serving'.keeps in
+    let is_now = is_view start (serves k ∷ earlier) (serving earlier k steps h) in
     let transit_now = serving_transit start (view start history) (view start now) k o s past.sound is past.transit serving'.answered serves' in
     let h = leaves start (view start history) (view start now) k o s past.sound is is_now past.transit transit_now serving'.answered serves' in
     record {
       dead = λ n. serves'.dead n;
       live = λ n. lives_by (live_in (view start now) n) (live_in (view start history) n) (among n (dying (waiting history) k o)) (h.was n) (h.spared n) (λ a b. stays_by o n none (h.left n a b));
-      closed = λ n. (servings_take_effect built start history k).closed n;
+      closed = λ n. (servings_take_effect start history k).closed n;
       died = λ n d. h.died n d;
       known = λ n u. subst (λ sent'. used start sent' n ≡ true) serves'.sent u;
     }
 
 -- and behind one that forwards a message
-after_forward : Below → (built : Built) (start : Start) (earlier : Journal) (k : Sent) (f : Forwarded) → IsStart start → Lawful built start earlier → head start (history_of built start earlier) k.endpoint ≡ Some k →
-    (outcome_of built start (history_of built start earlier) k).forward ≡ Some f → IsKept built start (with_forward k.place (serves k ∷ earlier) (Some f)) →
-    After start (history_of built start earlier) (history_of built start (with_forward k.place (serves k ∷ earlier) (Some f))) (dying (waiting (history_of built start earlier)) k (outcome_of built start (history_of built start earlier) k))
+after_forward : Below → (start : Start) (earlier : Journal) (k : Sent) (f : Forwarded) → IsStart start → Lawful start earlier → head start (history_of start earlier) k.endpoint ≡ Some k →
+    (outcome_of start (history_of start earlier) k).forward ≡ Some f → IsKept start (with_forward k.place (serves k ∷ earlier) (Some f)) →
+    After start (history_of start earlier) (history_of start (with_forward k.place (serves k ∷ earlier) (Some f))) (dying (waiting (history_of start earlier)) k (outcome_of start (history_of start earlier) k))
 unfolding history_of
-after_forward below built start earlier k f s lawful h e kept_now =
-    let steps = stepped built start earlier lawful in
-    let past = lawful_kept below built start s earlier lawful in
-    let history = history_of built start earlier in
-    let o = outcome_of built start history k in
+after_forward below start earlier k f s lawful h e kept_now =
+    let steps = stepped start earlier lawful in
+    let past = lawful_kept below start s earlier lawful in
+    let history = history_of start earlier in
+    let o = outcome_of start history k in
     let deaths = dying (waiting history) k o in
-    let mid = behind built start (serves k) history in
+    let mid = behind start (serves k) history in
     let new = sent_behind (serves k ∷ earlier) f.endpoint (message f.bytes (f.object ∷ [])) (Some k.place) in
-    let now = behind built start (sends new) mid in
-    let is = is_view built start earlier steps in
-    let mid_steps : Stepped built start (serves k ∷ earlier) = serving earlier k steps h in
-    let serving' = is_serving below built start earlier k s steps past.sound h in
-    let serves' = served_view built start history k serving'.keeps in
-    let is_mid = is_view built start (serves k ∷ earlier) mid_steps in
+    let now = behind start (sends new) mid in
+    let is = is_view start earlier steps in
+    let mid_steps : Stepped start (serves k ∷ earlier) = serving earlier k steps h in
+    let serving' = is_serving below start earlier k s steps past.sound h in
+    let serves' = served_view start history k serving'.keeps in
+    let is_mid = is_view start (serves k ∷ earlier) mid_steps in
     let mid_sound = serving_sound start (view start history) (view start mid) k o s past.sound is serving'.answered serves' in
     let mid_transit = serving_transit start (view start history) (view start mid) k o s past.sound is past.transit serving'.answered serves' in
     let l = leaves start (view start history) (view start mid) k o s past.sound is is_mid past.transit mid_transit serving'.answered serves' in
-    let adds = sent_view built start mid new in
+    let adds = sent_view start mid new in
     let sent_now : Contains (all_sent now) new = subst (λ ones. Contains ones new) (sym adds.sent) (Contains-append_right (all_sent mid) (new ∷ []) new (contains_here new [])) in
     let forwarded = (kept_now.sound.right new sent_now).by_origin in
     let lives = end_lives start (view start mid) f.endpoint s mid_sound is_mid (mounts_born start mid) forwarded.end in
-    let waits = new_waits built start mid new (fresh_unserved built start (serves k ∷ earlier) new mid_steps (le_refl_of (suc (length earlier)))) lives.0 in
+    let waits = new_waits start mid new (fresh_unserved start (serves k ∷ earlier) new mid_steps (le_refl_of (suc (length earlier)))) lives.0 in
     let on = serving'.answered.goes_on f e in
     let gone = gone_on start (view start history) (view start mid) k o f past.transit serving'.answered serves' e in
     let client : is_client f.object ≡ true = (carried_is k f.object on.0).0 in
@@ -278,7 +277,7 @@ after_forward below built start earlier k f s lawful h e kept_now =
           ∙ with_object (live_in (view start mid) n) (among n (endpoints_in new)) (live_in (view start history) n) (among n deaths) (l.was n) (l.spared n)
           (λ c. ap (live_in (view start history)) (object_of n c) ∙ carried_k) (λ c. ap (λ (m : ℕ). among m deaths) (object_of n c) ∙ spared_k)
           (λ a b. goes_by n (carries n) (l.left n a b));
-      closed = λ n. (sendings_wait_last built start mid new).closed n ∙ or-none (hung_up mid n) ∙ (servings_take_effect built start history k).closed n;
+      closed = λ n. (sendings_wait_last start mid new).closed n ∙ or-none (hung_up mid n) ∙ (servings_take_effect start history k).closed n;
       died = λ n d. l.died n d;
       known = λ n u. known_by n (λ c. carried_used start (all_sent history) k n (is.waits k serving'.answered.waits) (ap (λ (m : ℕ). among m (handles_of k.sending)) (one_handle n f.object c) ∙ (carried_is k f.object on.0).1))
           (used_more start (all_sent mid) new n (subst (λ sent'. used start sent' n ≡ true) adds.sent u)) serves'.sent;
@@ -296,22 +295,22 @@ after_forward below built start earlier k f s lawful h e kept_now =
         or_by (inl e) = or_left a c e
         or_by (inr e) = or_right a c e
 
-      goes_by : {A C : Type 0} (n : ℕ) → (n ≡ f.object → C) → A ⊎ goes_on_with (outcome_of built start (history_of built start earlier) k) n → A ⊎ C
+      goes_by : {A C : Type 0} (n : ℕ) → (n ≡ f.object → C) → A ⊎ goes_on_with (outcome_of start (history_of start earlier) k) n → A ⊎ C
       goes_by n carries (inl a) = inl a
       goes_by n carries (inr on) = inr (carries (sym on.2 ∙ object_same (sym on.1 ∙ e)))
 
-      known_by : {sent' : List Sent} {A : Type 0} (n : ℕ) → (A → used start (all_sent (history_of built start earlier)) n ≡ true) → (used start sent' n ≡ true) ⊎ A → sent' ≡ all_sent (history_of built start earlier) → used start (all_sent (history_of built start earlier)) n ≡ true
+      known_by : {sent' : List Sent} {A : Type 0} (n : ℕ) → (A → used start (all_sent (history_of start earlier)) n ≡ true) → (used start sent' n ≡ true) ⊎ A → sent' ≡ all_sent (history_of start earlier) → used start (all_sent (history_of start earlier)) n ≡ true
       known_by n by_k (inl u) same = subst (λ sents. used start sents n ≡ true) same u
       known_by n by_k (inr c) same = by_k c
 
 -- what is dead, known and alive behind a serving and what it forwards
-pub after_served : Below → (built : Built) (start : Start) (earlier : Journal) (k : Sent) → IsStart start → Lawful built start earlier → head start (history_of built start earlier) k.endpoint ≡ Some k →
-    After start (history_of built start earlier) (history_of built start (after_serving built start earlier k)) (deaths_of (history_of built start earlier) k (outcome_of built start (history_of built start earlier) k))
+pub after_served : Below → (start : Start) (earlier : Journal) (k : Sent) → IsStart start → Lawful start earlier → head start (history_of start earlier) k.endpoint ≡ Some k →
+    After start (history_of start earlier) (history_of start (after_serving start earlier k)) (deaths_of (history_of start earlier) k (outcome_of start (history_of start earlier) k))
 unfolding history_of
-after_served below built start earlier k s lawful h = by_forward (outcome_of built start (history_of built start earlier) k).forward refl where
-  by_forward : (x : Option Forwarded) → (outcome_of built start (history_of built start earlier) k).forward ≡ x →
-      After start (history_of built start earlier) (history_of built start (with_forward k.place (serves k ∷ earlier) x)) (deaths_of (history_of built start earlier) k (outcome_of built start (history_of built start earlier) k))
-  by_forward None e = after_alone below built start earlier k s (stepped built start earlier lawful) (lawful_kept below built start s earlier lawful) h e
+after_served below start earlier k s lawful h = by_forward (outcome_of start (history_of start earlier) k).forward refl where
+  by_forward : (x : Option Forwarded) → (outcome_of start (history_of start earlier) k).forward ≡ x →
+      After start (history_of start earlier) (history_of start (with_forward k.place (serves k ∷ earlier) x)) (deaths_of (history_of start earlier) k (outcome_of start (history_of start earlier) k))
+  by_forward None e = after_alone below start earlier k s (stepped start earlier lawful) (lawful_kept below start s earlier lawful) h e
   by_forward (Some f) e =
-      after_forward below built start earlier k f s lawful h e
-      (lawful_kept below built start s (with_forward k.place (serves k ∷ earlier) (Some f)) (subst (λ x. Lawful built start (with_forward k.place (serves k ∷ earlier) x)) e (served earlier k lawful h)))
+      after_forward below start earlier k f s lawful h e
+      (lawful_kept below start s (with_forward k.place (serves k ∷ earlier) (Some f)) (subst (λ x. Lawful start (with_forward k.place (serves k ∷ earlier) x)) e (served earlier k lawful h)))

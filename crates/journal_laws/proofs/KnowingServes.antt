@@ -10,7 +10,6 @@ use Rattle.endpoint_link.specs.declared.kinds.Standing.TheVariants as standing
 use Rattle.fidl_names.specs.HandleNumber.{is_mount_end}
 use Rattle.endpoint_link.specs.Numbering.{among}
 use Rattle.endpoint_link.specs.Standings.{Known, Starts, is_live as is_live_standing, standing_of as known_standing, ended as ended_in}
-use Rattle.conn_rules.specs.Built.{Built}
 use Rattle.vfs_journal.specs.Entries.{Sent, Journal}
 use Rattle.vfs_journal.specs.History.{births, living, is_dead, is_live, hung_up}
 use Rattle.journal_laws.specs.Knowing.{Knows, IsNumbered, AreDeaths, deaths_at}
@@ -44,24 +43,24 @@ lives_so closed' p q = rw (p, q, either closed') where
   either true = refl
   either false = refl
 
-pub servings_end : Below → (built : Built) (start : Start) (journal : Journal) (sent : Sent) → IsStart start → IsNumbered start → Lawful built start journal → head start (history_of built start journal) sent.endpoint ≡ Some sent →
-    AreDeaths start (history_of built start journal) (history_of built start (after_serving built start journal sent)) (deaths_at built start journal sent)
-servings_end below built start journal sent s numbered lawful h =
-    let past = history_of built start journal in
-    let now = history_of built start (after_serving built start journal sent) in
-    let deaths = deaths_at built start journal sent in
-    let after = after_served below built start journal sent s lawful h in
-    let transit = (lawful_kept below built start s journal lawful).transit in
-    let is = is_view built start journal (stepped built start journal lawful) in
+pub servings_end : Below → (start : Start) (journal : Journal) (sent : Sent) → IsStart start → IsNumbered start → Lawful start journal → head start (history_of start journal) sent.endpoint ≡ Some sent →
+    AreDeaths start (history_of start journal) (history_of start (after_serving start journal sent)) (deaths_at start journal sent)
+servings_end below start journal sent s numbered lawful h =
+    let past = history_of start journal in
+    let now = history_of start (after_serving start journal sent) in
+    let deaths = deaths_at start journal sent in
+    let after = after_served below start journal sent s lawful h in
+    let transit = (lawful_kept below start s journal lawful).transit in
+    let is = is_view start journal (stepped start journal lawful) in
     record {
-      distinct = apart_pairs deaths (deaths_apart below built start journal sent s lawful h);
+      distinct = apart_pairs deaths (deaths_apart below start journal sent s lawful h);
       were_live = λ n h. lives_so (hung_up past n) (lives_undead start (view start past) n is transit (after.died n h)) (after.died n h);
       stand = λ n.
           ap (λ (b : Bool). stands b (is_live start now n) (hung_up now n)) (after.dead n)
           ∙ ap (λ (b : Bool). stands (among n deaths || is_dead past n) b (hung_up now n)) (after.live n)
           ∙ ap (λ (b : Bool). stands (among n deaths || is_dead past n) (is_live start past n && not (among n deaths)) b) (after.closed n)
           ∙ death_stands (is_dead past n) (is_live start past n) (hung_up past n) (among n deaths);
-      count = fewer_live below built start journal sent s numbered lawful h;
+      count = fewer_live below start journal sent s numbered lawful h;
     }
 
 -- ---- what is known behind deaths

@@ -1,5 +1,6 @@
 pub mod Lists
 pub mod Members
+pub mod Filters
 pub mod Steps
 pub mod Stepping
 pub mod Places

@@ -238,11 +238,11 @@ places_by view sent (Some forward) = omega arith
 
 pub places_counted : Below → (view : View) (sent : Sent) → IsReached view → head_in view sent.endpoint ≡ Some sent → (then_in view sent).places + 2 * weight_in (then_in view sent) ≤ view.places + 2 * weight_in view
 places_counted below view sent r h =
-    let past = history_of r.built r.start r.journal in
-    let first : head r.start past sent.endpoint ≡ Some sent = head_is_in r.built r.start past sent.endpoint ∙ ap (λ (v : View). head_in v sent.endpoint) r.seen ∙ h in
-    let less = servings_lower_the_weight below r.built r.start r.journal sent r.sound r.lawful first in
-    let now : weight (history_of r.built r.start (after_serving r.built r.start r.journal sent)) ≡ weight_in (then_in view sent) =
-    ap weight_in (served_behind_viewed below r.built r.start r.journal sent r.sound r.lawful first) ∙ ap (λ (v : View). weight_in (then_in v sent)) r.seen in
+    let past = history_of r.start r.journal in
+    let first : head r.start past sent.endpoint ≡ Some sent = head_is_in r.start past sent.endpoint ∙ ap (λ (v : View). head_in v sent.endpoint) r.seen ∙ h in
+    let less = servings_lower_the_weight below r.start r.journal sent r.sound r.lawful first in
+    let now : weight (history_of r.start (after_serving r.start r.journal sent)) ≡ weight_in (then_in view sent) =
+    ap weight_in (served_behind_viewed below r.start r.journal sent r.sound r.lawful first) ∙ ap (λ (v : View). weight_in (then_in v sent)) r.seen in
     let was : weight past ≡ weight_in view = ap weight_in r.seen in
     let places = places_by (serving_in view sent (event_in view sent)) sent (outcome_in view sent).forward in
     omega (arith, less, now, was, places)

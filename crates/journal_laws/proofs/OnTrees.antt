@@ -13,7 +13,6 @@ use Rattle.node_graph.specs.Tree.{IsSound, NodeRow, Tree, Change, after, bare_tr
 use Rattle.node_graph.specs.declared.nodes.NodeKind.{NodeKind}
 use Rattle.node_graph.specs.declared.nodes.NodeKind.TheVariants.{Directory, Mount}
 use Rattle.tree_file.specs.Sound.{HasOneEdge}
-use Rattle.conn_rules.specs.Built.{Built}
 use Rattle.vfs_journal.specs.Entries.{Journal, Sent, message, hang_up, sends, serves}
 use Rattle.vfs_journal.specs.History.{History, changed, is_dead, living, tree_at, trees_of}
 use Rattle.vfs_journal.specs.Lawful.{Lawful}
@@ -174,33 +173,33 @@ same_stand start now past same h =
     (subst (λ (lives : List Bound). Stand start (trees_of start now) lives (all_given past)) (sym same.alive)
     (subst (λ (trees : List Tree). Stand start trees (living start past) (all_given past)) (sym same.trees) h))
 
-served_stand : Below → (built : Built) (start : Start) (journal : Journal) (sent : Sent) → IsStart start → Lawful built start journal → head start (history_of built start journal) sent.endpoint ≡ Some sent → StandAt start (history_of built start journal) →
-    StandAt start (behind built start (serves sent) (history_of built start journal))
+served_stand : Below → (start : Start) (journal : Journal) (sent : Sent) → IsStart start → Lawful start journal → head start (history_of start journal) sent.endpoint ≡ Some sent → StandAt start (history_of start journal) →
+    StandAt start (behind start (serves sent) (history_of start journal))
 unfolding event_of
-served_stand below built start journal sent s lawful' first h =
-    let past = history_of built start journal in
-    let now = behind built start (serves sent) past in
-    let event = event_of built start past (serves sent) in
-    let effect = servings_take_effect built start past sent in
-    let serving' = is_serving below built start journal sent s (stepped built start journal lawful') (lawful_kept below built start s journal lawful').sound first in
+served_stand below start journal sent s lawful' first h =
+    let past = history_of start journal in
+    let now = behind start (serves sent) past in
+    let event = event_of start past (serves sent) in
+    let effect = servings_take_effect start past sent in
+    let serving' = is_serving below start journal sent s (stepped start journal lawful') (lawful_kept below start s journal lawful').sound first in
     let bound = serving'.at in
     let lives = (found (λ (b : Bound). b.endpoint == sent.endpoint) (living start past) bound serving'.bound).0 in
     let on = All-contains (IsOnNode (trees_of start past)) (living start past) bound h.placed lives in
-    let whole : outcome_of built start past sent ≡ outcome_at built start past sent (Some bound) = ap (outcome_at built start past sent) serving'.bound in
+    let whole : outcome_of start past sent ≡ outcome_at start past sent (Some bound) = ap (outcome_at start past sent) serving'.bound in
     let placed' = subst (IsPlacedOutcome (tree_at (trees_of start past) bound.server) bound) (sym whole)
-    (sending_placed below.spelled built (moment_of start past bound) sent.sending (record { children = h.children bound.server; kind = on.kind; node = on.node; suited = on.suited })) in
+    (sending_placed below.spelled (moment_of start past bound) sent.sending (record { children = h.children bound.server; kind = on.kind; node = on.node; suited = on.suited })) in
     subst (λ (tokens : List Given). Stand start (trees_of start now) (living start now) tokens) (sym effect.tokens)
     (subst (λ (lives : List Bound). Stand start (trees_of start now) lives (all_given past ++ option_to_list event.outcome.token)) (sym effect.alive)
     (subst (λ (trees : List Tree). Stand start trees (but_for event.deaths (living start past) ++ newly_living now event.outcome.bound) (all_given past ++ option_to_list event.outcome.token)) (sym effect.trees)
     (served_by start (trees_of start past) (living start past) (all_given past) bound event.outcome (λ b. not (among b.endpoint event.deaths)) (λ b. not (is_dead now b.endpoint)) h on.server placed' event.outcome.server refl placed'.server)))
 
-onward_stand : (built : Built) (start : Start) (journal : Journal) (origin : ℕ) (o : Option Forwarded) → StandAt start (history_of built start journal) → StandAt start (history_of built start (with_forward origin journal o))
+onward_stand : (start : Start) (journal : Journal) (origin : ℕ) (o : Option Forwarded) → StandAt start (history_of start journal) → StandAt start (history_of start (with_forward origin journal o))
 unfolding history_of
-onward_stand built start journal origin None h = h
-onward_stand built start journal origin (Some f) h =
-    let past = history_of built start journal in
+onward_stand start journal origin None h = h
+onward_stand start journal origin (Some f) h =
+    let past = history_of start journal in
     let new = sent_behind journal f.endpoint (message f.bytes (f.object ∷ [])) (Some origin) in
-    same_stand start (behind built start (sends new) past) past (sendings_wait_last built start past new).same h
+    same_stand start (behind start (sends new) past) past (sendings_wait_last start past new).same h
 
 -- ---- the start
 
@@ -242,23 +241,23 @@ first_stand start s = record {
   given = All-nil (NamesDirectory start.trees);
 }
 
-pub lawful_stand : Below → (built : Built) (start : Start) (journal : Journal) → IsStart start → Lawful built start journal → StandAt start (history_of built start journal)
+pub lawful_stand : Below → (start : Start) (journal : Journal) → IsStart start → Lawful start journal → StandAt start (history_of start journal)
 unfolding history_of
-lawful_stand below built start journal s lawful.begun = first_stand start s
-lawful_stand below built start journal s (lawful.refused earlier frame why h is admits) =
-    let past = history_of built start earlier in
-    same_stand start _ past (refusals_change_nothing built start past frame.endpoint why).same (lawful_stand below built start earlier s h)
-lawful_stand below built start journal s (lawful.sent earlier frame h is at admits) =
-    let past = history_of built start earlier in
-    same_stand start _ past (sendings_wait_last built start past (sent_behind earlier frame.endpoint (message frame.bytes frame.handles) None)).same (lawful_stand below built start earlier s h)
-lawful_stand below built start journal s (lawful.closed earlier frame h is at admits) =
-    let past = history_of built start earlier in
-    same_stand start _ past (sendings_wait_last built start past (sent_behind earlier frame.endpoint hang_up None)).same (lawful_stand below built start earlier s h)
-lawful_stand below built start journal s (lawful.served earlier entry h is) =
-    onward_stand built start (serves entry ∷ earlier) entry.place (outcome_of built start (history_of built start earlier) entry).forward
-    (served_stand below built start earlier entry s h is (lawful_stand below built start earlier s h))
+lawful_stand below start journal s lawful.begun = first_stand start s
+lawful_stand below start journal s (lawful.refused earlier frame why h is admits) =
+    let past = history_of start earlier in
+    same_stand start _ past (refusals_change_nothing start past frame.endpoint why).same (lawful_stand below start earlier s h)
+lawful_stand below start journal s (lawful.sent earlier frame h is at admits) =
+    let past = history_of start earlier in
+    same_stand start _ past (sendings_wait_last start past (sent_behind earlier frame.endpoint (message frame.bytes frame.handles) None)).same (lawful_stand below start earlier s h)
+lawful_stand below start journal s (lawful.closed earlier frame h is at admits) =
+    let past = history_of start earlier in
+    same_stand start _ past (sendings_wait_last start past (sent_behind earlier frame.endpoint hang_up None)).same (lawful_stand below start earlier s h)
+lawful_stand below start journal s (lawful.served earlier entry h is) =
+    onward_stand start (serves entry ∷ earlier) entry.place (outcome_of start (history_of start earlier) entry).forward
+    (served_stand below start earlier entry s h is (lawful_stand below start earlier s h))
 
-pub stand_on_trees : Below → (built : Built) (start : Start) (journal : Journal) → IsStart start → Lawful built start journal → StandOnTrees start (history_of built start journal)
-stand_on_trees below built start journal s h =
-    let stand = lawful_stand below built start journal s h in
+pub stand_on_trees : Below → (start : Start) (journal : Journal) → IsStart start → Lawful start journal → StandOnTrees start (history_of start journal)
+stand_on_trees below start journal s h =
+    let stand = lawful_stand below start journal s h in
     record { many = stand.many; mounts = stand.mounts; placed = stand.placed; tokens = stand.given }

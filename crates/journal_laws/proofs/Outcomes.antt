@@ -14,7 +14,6 @@ use Rattle.node_graph.specs.Tree.{Tree}
 use Rattle.tree_file.specs.Numbering.{end_of_mount}
 use Rattle.conn_rules.specs.declared.births.Room.{Room}
 use Rattle.conn_rules.specs.Answers.{Answer, replies, closes, binds, watches, forwards, refuses, ends, hangs_up, silent}
-use Rattle.conn_rules.specs.Built.{Built}
 use Rattle.vfs_journal.specs.Entries.{Sent, Sending, message, hang_up, handles_of}
 use Rattle.vfs_journal.specs.History.{History, bound_at, trees_of, tree_at}
 use Rattle.vfs_journal.specs.Outcomes.{Asker, Forwarded, Given, Outcome, bound_of, forward_of, ends_of, token_of}
@@ -263,28 +262,28 @@ request_parts tree room bound bytes handles txid (asks.seek origin offset) answe
 request_parts tree room bound bytes handles txid (asks.resize size) answer read c h = plain_parts room.token tree bound (message bytes handles) (asker_of bound txid 0) answer h
 request_parts tree room bound bytes handles txid (asks.echo_string value) answer read c h = plain_parts room.token tree bound (message bytes handles) (asker_of bound txid 0) answer h
 
-read_outcome : Below → (built : Built) (moment : Moment) (bytes handles : List ℕ) → (r : Read) → read_by moment.bound.birth.protocol bytes handles ≡ r →
-    IsOutcome moment.room.token moment.tree moment.bound (message bytes handles) (outcome_of_read built moment r)
-read_outcome below built moment bytes handles (Ok (txid, a)) read =
-    let act = act_answers (context_at built moment) a in
-    (request_parts moment.tree moment.room moment.bound bytes handles txid a (request_act built moment a).answer read (carries below.spelled moment.bound.birth.protocol bytes handles txid a read) act.0, act.1)
-read_outcome below built moment bytes handles (Err (Malformed fault)) read = (own_ended moment.room.token moment.tree moment.bound (message bytes handles), tt)
-read_outcome below built moment bytes handles (Err UnknownStrict) read = (own_ended moment.room.token moment.tree moment.bound (message bytes handles), tt)
-read_outcome below built moment bytes handles (Err UnknownOneWay) read = (nothing_done moment.room.token moment.tree moment.bound (message bytes handles), tt)
-read_outcome below built moment bytes handles (Err (UnknownTwoWay txid ordinal)) read = (nothing_done moment.room.token moment.tree moment.bound (message bytes handles), tt)
+read_outcome : Below → (moment : Moment) (bytes handles : List ℕ) → (r : Read) → read_by moment.bound.birth.protocol bytes handles ≡ r →
+    IsOutcome moment.room.token moment.tree moment.bound (message bytes handles) (outcome_of_read moment r)
+read_outcome below moment bytes handles (Ok (txid, a)) read =
+    let act = act_answers (context_at moment) a in
+    (request_parts moment.tree moment.room moment.bound bytes handles txid a (request_act moment a).answer read (carries below.spelled moment.bound.birth.protocol bytes handles txid a read) act.0, act.1)
+read_outcome below moment bytes handles (Err (Malformed fault)) read = (own_ended moment.room.token moment.tree moment.bound (message bytes handles), tt)
+read_outcome below moment bytes handles (Err UnknownStrict) read = (own_ended moment.room.token moment.tree moment.bound (message bytes handles), tt)
+read_outcome below moment bytes handles (Err UnknownOneWay) read = (nothing_done moment.room.token moment.tree moment.bound (message bytes handles), tt)
+read_outcome below moment bytes handles (Err (UnknownTwoWay txid ordinal)) read = (nothing_done moment.room.token moment.tree moment.bound (message bytes handles), tt)
 
-message_outcome : Below → (built : Built) (moment : Moment) (bytes handles : List ℕ) → (p : Protocol) → moment.bound.birth.protocol ≡ p →
-    IsOutcome moment.room.token moment.tree moment.bound (message bytes handles) (outcome_of_message built moment p bytes handles)
-message_outcome below built moment bytes handles protocol.Watcher is = (nothing_done moment.room.token moment.tree moment.bound (message bytes handles), tt)
-message_outcome below built moment bytes handles protocol.Directory is = read_outcome below built moment bytes handles (read_by protocol.Directory bytes handles) (ap (λ (p : Protocol). read_by p bytes handles) is)
-message_outcome below built moment bytes handles protocol.File is = read_outcome below built moment bytes handles (read_by protocol.File bytes handles) (ap (λ (p : Protocol). read_by p bytes handles) is)
-message_outcome below built moment bytes handles protocol.Node is = read_outcome below built moment bytes handles (read_by protocol.Node bytes handles) (ap (λ (p : Protocol). read_by p bytes handles) is)
-message_outcome below built moment bytes handles protocol.Echo is = read_outcome below built moment bytes handles (read_by protocol.Echo bytes handles) (ap (λ (p : Protocol). read_by p bytes handles) is)
+message_outcome : Below → (moment : Moment) (bytes handles : List ℕ) → (p : Protocol) → moment.bound.birth.protocol ≡ p →
+    IsOutcome moment.room.token moment.tree moment.bound (message bytes handles) (outcome_of_message moment p bytes handles)
+message_outcome below moment bytes handles protocol.Watcher is = (nothing_done moment.room.token moment.tree moment.bound (message bytes handles), tt)
+message_outcome below moment bytes handles protocol.Directory is = read_outcome below moment bytes handles (read_by protocol.Directory bytes handles) (ap (λ (p : Protocol). read_by p bytes handles) is)
+message_outcome below moment bytes handles protocol.File is = read_outcome below moment bytes handles (read_by protocol.File bytes handles) (ap (λ (p : Protocol). read_by p bytes handles) is)
+message_outcome below moment bytes handles protocol.Node is = read_outcome below moment bytes handles (read_by protocol.Node bytes handles) (ap (λ (p : Protocol). read_by p bytes handles) is)
+message_outcome below moment bytes handles protocol.Echo is = read_outcome below moment bytes handles (read_by protocol.Echo bytes handles) (ap (λ (p : Protocol). read_by p bytes handles) is)
 
-sending_outcome : Below → (built : Built) (moment : Moment) (sending : Sending) → IsOutcome moment.room.token moment.tree moment.bound sending (outcome_of_sending built moment sending)
+sending_outcome : Below → (moment : Moment) (sending : Sending) → IsOutcome moment.room.token moment.tree moment.bound sending (outcome_of_sending moment sending)
 unfolding outcome_of_sending
-sending_outcome below built moment (message bytes handles) = message_outcome below built moment bytes handles moment.bound.birth.protocol refl
-sending_outcome below built moment hang_up = (own_ended moment.room.token moment.tree moment.bound hang_up, tt)
+sending_outcome below moment (message bytes handles) = message_outcome below moment bytes handles moment.bound.birth.protocol refl
+sending_outcome below moment hang_up = (own_ended moment.room.token moment.tree moment.bound hang_up, tt)
 
 -- the next token is a token's number
 pub token_is_high : (past : History) (n : ℕ) → next_token past ≡ Some n → 0x80000000 ≤ n
@@ -293,30 +292,30 @@ token_is_high past n e = by_test (nat_le limit.MAX_TOKENS (length (tokens_out pa
   by_test true e = absurd (cc)
   by_test false e = let same : limit.FIRST_TOKEN + length (all_given past) ≡ n = cc in omega arith
 
-pub outcome_is : Below → (built : Built) (start : Start) (past : History) (one : Sent) (bound : Bound) → bound_at start past one.endpoint ≡ Some bound →
-    IsOutcome (next_token past) (tree_at (trees_of start past) bound.server) bound one.sending (outcome_of built start past one)
-outcome_is below built start past one bound is =
-    subst (λ (o : Option Bound). IsOutcome (next_token past) (tree_at (trees_of start past) bound.server) bound one.sending (outcome_at built start past one o)) (sym is)
-    (sending_outcome below built (moment_of start past bound) one.sending)
+pub outcome_is : Below → (start : Start) (past : History) (one : Sent) (bound : Bound) → bound_at start past one.endpoint ≡ Some bound →
+    IsOutcome (next_token past) (tree_at (trees_of start past) bound.server) bound one.sending (outcome_of start past one)
+outcome_is below start past one bound is =
+    subst (λ (o : Option Bound). IsOutcome (next_token past) (tree_at (trees_of start past) bound.server) bound one.sending (outcome_at start past one o)) (sym is)
+    (sending_outcome below (moment_of start past bound) one.sending)
 
 -- where an Open is read by a directory connection, nothing ends but what it carries
-opened_by : Below → (built : Built) (moment : Moment) (bytes handles : List ℕ) (txid : ℕ) (path : List ℕ) (word : ℕ) (given : Option ℕ) (object : ℕ) (r : Read) → r ≡ Ok (txid, asks.open_path path word given object) →
-    IsCarried object handles → (n : ℕ) → among n (outcome_of_read built moment r).ends ≡ true → IsCarried n handles
-opened_by below built moment bytes handles txid path word given object r is c =
-    subst (λ (x : Read). (n : ℕ) → among n (outcome_of_read built moment x).ends ≡ true → IsCarried n handles) (sym is)
-    (open_ends moment.tree moment.bound handles txid path word object (request_act built moment (asks.open_path path word given object)).answer c
-    (act_answers (context_at built moment) (asks.open_path path word given object)).0)
+opened_by : Below → (moment : Moment) (bytes handles : List ℕ) (txid : ℕ) (path : List ℕ) (word : ℕ) (given : Option ℕ) (object : ℕ) (r : Read) → r ≡ Ok (txid, asks.open_path path word given object) →
+    IsCarried object handles → (n : ℕ) → among n (outcome_of_read moment r).ends ≡ true → IsCarried n handles
+opened_by below moment bytes handles txid path word given object r is c =
+    subst (λ (x : Read). (n : ℕ) → among n (outcome_of_read moment x).ends ≡ true → IsCarried n handles) (sym is)
+    (open_ends moment.tree moment.bound handles txid path word object (request_act moment (asks.open_path path word given object)).answer c
+    (act_answers (context_at moment) (asks.open_path path word given object)).0)
 
-pub opened_ends : Below → (built : Built) (start : Start) (past : History) (one : Sent) (bound : Bound) (bytes handles : List ℕ) (txid : ℕ) (path : List ℕ) (word : ℕ) (given : Option ℕ) (object : ℕ) →
+pub opened_ends : Below → (start : Start) (past : History) (one : Sent) (bound : Bound) (bytes handles : List ℕ) (txid : ℕ) (path : List ℕ) (word : ℕ) (given : Option ℕ) (object : ℕ) →
     bound_at start past one.endpoint ≡ Some bound → bound.birth.protocol ≡ protocol.Directory → one.sending ≡ message bytes handles →
     read_by protocol.Directory bytes handles ≡ Ok (txid, asks.open_path path word given object) → IsCarried object handles →
-    (n : ℕ) → among n (outcome_of built start past one).ends ≡ true → IsCarried n handles
+    (n : ℕ) → among n (outcome_of start past one).ends ≡ true → IsCarried n handles
 unfolding outcome_of_sending
-opened_ends below built start past one bound bytes handles txid path word given object at directory sent read c =
+opened_ends below start past one bound bytes handles txid path word given object at directory sent read c =
     let moment = moment_of start past bound in
-    let whole : outcome_of built start past one ≡ outcome_of_read built moment (read_by protocol.Directory bytes handles) =
-    ap (λ (o : Option Bound). outcome_at built start past one o) at
-    ∙ ap (λ (s : Sending). outcome_of_sending built moment s) sent
-    ∙ ap (λ (p : Protocol). outcome_of_message built moment p bytes handles) directory in
+    let whole : outcome_of start past one ≡ outcome_of_read moment (read_by protocol.Directory bytes handles) =
+    ap (λ (o : Option Bound). outcome_at start past one o) at
+    ∙ ap (λ (s : Sending). outcome_of_sending moment s) sent
+    ∙ ap (λ (p : Protocol). outcome_of_message moment p bytes handles) directory in
     subst (λ (o : Outcome). (n : ℕ) → among n o.ends ≡ true → IsCarried n handles) (sym whole)
-    (opened_by below built moment bytes handles txid path word given object (read_by protocol.Directory bytes handles) read c)
+    (opened_by below moment bytes handles txid path word given object (read_by protocol.Directory bytes handles) read c)

@@ -36,7 +36,6 @@ use Rattle.path_walk.specs.Paths.{names_of}
 use Rattle.conn_rules.specs.Acts.{act_of, is_beyond, is_of_every_node, method_refusals, row_act}
 use Rattle.conn_rules.specs.Answers.{Answer, replies, closes, binds, watches, forwards, refuses, ends, hangs_up, silent, Act, only, failure_of}
 use Rattle.conn_rules.specs.Births.{Birth, Position}
-use Rattle.conn_rules.specs.Built.{Built}
 use Rattle.conn_rules.specs.Contexts.{Context}
 use Rattle.conn_rules.specs.FileRows.{is_no_position, is_too_much, reading_refusal, seek_sum, write_start, writing_refusal}
 use Rattle.dirents.specs.Listings.{fits_none, listing}
@@ -305,7 +304,7 @@ module _ (context : Context) (kind : NodeKind) (children : HasChildren context.t
   act_placed : (request : Asked) → has_method context.birth.protocol (method_of request) ≡ true → IsPlaced context.tree context.birth (act_of context request)
   unfolding act_of
   act_placed request has =
-      unless_holds (IsPlaced context.tree context.birth) (first_of (method_refusals context.built context.birth (method_of request))) context.position (method_of request) (row_act context request) (refused_placed context.tree context.birth context.position (method_of request))
+      unless_holds (IsPlaced context.tree context.birth) (first_of (method_refusals context.birth (method_of request))) context.position (method_of request) (row_act context request) (refused_placed context.tree context.birth context.position (method_of request))
       (λ e. row_placed request has (not_refused (is_beyond context.birth.protocol (method_of request)) status.BadHandle _ e))
 
 -- ---- what outcomes have
@@ -404,24 +403,24 @@ pub record IsServedOn (tree : Tree) (bound : Bound) : Type 0 where
   pub node : kind_of tree bound.birth.node ≡ Some kind
   pub suited : suits bound.birth.protocol kind ≡ true
 
-read_placed : SpelledWhereRead → (built : Built) (moment : Moment) (bytes handles : List ℕ) → IsServedOn moment.tree moment.bound → (r : Read) → read_by moment.bound.birth.protocol bytes handles ≡ r → IsPlacedOutcome moment.tree moment.bound (outcome_of_read built moment r)
-read_placed law built moment bytes handles h (Ok (txid, a)) read =
-    placed_outcome moment.tree moment.bound txid (object_of a) (request_act built moment a)
-    (act_placed (context_at built moment) h.kind h.children h.node h.suited a (has_read law moment.bound.birth.protocol bytes handles txid a read))
-read_placed law built moment bytes handles h (Err (Malformed fault)) read = placed_outcome moment.tree moment.bound 0 0 (only moment.position (ends status.InvalidArgs)) (placed moment.tree moment.bound.birth moment.position (ends status.InvalidArgs) tt)
-read_placed law built moment bytes handles h (Err UnknownStrict) read = placed_outcome moment.tree moment.bound 0 0 (only moment.position (ends status.NotSupported)) (placed moment.tree moment.bound.birth moment.position (ends status.NotSupported) tt)
-read_placed law built moment bytes handles h (Err UnknownOneWay) read = placed_outcome moment.tree moment.bound 0 0 (only moment.position silent) (placed moment.tree moment.bound.birth moment.position silent tt)
-read_placed law built moment bytes handles h (Err (UnknownTwoWay txid ordinal)) read =
+read_placed : SpelledWhereRead → (moment : Moment) (bytes handles : List ℕ) → IsServedOn moment.tree moment.bound → (r : Read) → read_by moment.bound.birth.protocol bytes handles ≡ r → IsPlacedOutcome moment.tree moment.bound (outcome_of_read moment r)
+read_placed law moment bytes handles h (Ok (txid, a)) read =
+    placed_outcome moment.tree moment.bound txid (object_of a) (request_act moment a)
+    (act_placed (context_at moment) h.kind h.children h.node h.suited a (has_read law moment.bound.birth.protocol bytes handles txid a read))
+read_placed law moment bytes handles h (Err (Malformed fault)) read = placed_outcome moment.tree moment.bound 0 0 (only moment.position (ends status.InvalidArgs)) (placed moment.tree moment.bound.birth moment.position (ends status.InvalidArgs) tt)
+read_placed law moment bytes handles h (Err UnknownStrict) read = placed_outcome moment.tree moment.bound 0 0 (only moment.position (ends status.NotSupported)) (placed moment.tree moment.bound.birth moment.position (ends status.NotSupported) tt)
+read_placed law moment bytes handles h (Err UnknownOneWay) read = placed_outcome moment.tree moment.bound 0 0 (only moment.position silent) (placed moment.tree moment.bound.birth moment.position silent tt)
+read_placed law moment bytes handles h (Err (UnknownTwoWay txid ordinal)) read =
     placed_outcome moment.tree moment.bound txid 0 (only moment.position (replies (answered.unknown ordinal))) (placed moment.tree moment.bound.birth moment.position (replies (answered.unknown ordinal)) tt)
 
-message_placed : SpelledWhereRead → (built : Built) (moment : Moment) (bytes handles : List ℕ) → IsServedOn moment.tree moment.bound → (p : Protocol) → moment.bound.birth.protocol ≡ p → IsPlacedOutcome moment.tree moment.bound (outcome_of_message built moment p bytes handles)
-message_placed law built moment bytes handles h protocol.Watcher is = placed_outcome moment.tree moment.bound 0 0 (only moment.position silent) (placed moment.tree moment.bound.birth moment.position silent tt)
-message_placed law built moment bytes handles h protocol.Directory is = read_placed law built moment bytes handles h (read_by protocol.Directory bytes handles) (ap (λ (p : Protocol). read_by p bytes handles) is)
-message_placed law built moment bytes handles h protocol.File is = read_placed law built moment bytes handles h (read_by protocol.File bytes handles) (ap (λ (p : Protocol). read_by p bytes handles) is)
-message_placed law built moment bytes handles h protocol.Node is = read_placed law built moment bytes handles h (read_by protocol.Node bytes handles) (ap (λ (p : Protocol). read_by p bytes handles) is)
-message_placed law built moment bytes handles h protocol.Echo is = read_placed law built moment bytes handles h (read_by protocol.Echo bytes handles) (ap (λ (p : Protocol). read_by p bytes handles) is)
+message_placed : SpelledWhereRead → (moment : Moment) (bytes handles : List ℕ) → IsServedOn moment.tree moment.bound → (p : Protocol) → moment.bound.birth.protocol ≡ p → IsPlacedOutcome moment.tree moment.bound (outcome_of_message moment p bytes handles)
+message_placed law moment bytes handles h protocol.Watcher is = placed_outcome moment.tree moment.bound 0 0 (only moment.position silent) (placed moment.tree moment.bound.birth moment.position silent tt)
+message_placed law moment bytes handles h protocol.Directory is = read_placed law moment bytes handles h (read_by protocol.Directory bytes handles) (ap (λ (p : Protocol). read_by p bytes handles) is)
+message_placed law moment bytes handles h protocol.File is = read_placed law moment bytes handles h (read_by protocol.File bytes handles) (ap (λ (p : Protocol). read_by p bytes handles) is)
+message_placed law moment bytes handles h protocol.Node is = read_placed law moment bytes handles h (read_by protocol.Node bytes handles) (ap (λ (p : Protocol). read_by p bytes handles) is)
+message_placed law moment bytes handles h protocol.Echo is = read_placed law moment bytes handles h (read_by protocol.Echo bytes handles) (ap (λ (p : Protocol). read_by p bytes handles) is)
 
-pub sending_placed : SpelledWhereRead → (built : Built) (moment : Moment) (sending : Sending) → IsServedOn moment.tree moment.bound → IsPlacedOutcome moment.tree moment.bound (outcome_of_sending built moment sending)
+pub sending_placed : SpelledWhereRead → (moment : Moment) (sending : Sending) → IsServedOn moment.tree moment.bound → IsPlacedOutcome moment.tree moment.bound (outcome_of_sending moment sending)
 unfolding outcome_of_sending
-sending_placed law built moment (message bytes handles) h = message_placed law built moment bytes handles h moment.bound.birth.protocol refl
-sending_placed law built moment hang_up h = placed_outcome moment.tree moment.bound 0 0 (only moment.position hangs_up) (placed moment.tree moment.bound.birth moment.position hangs_up tt)
+sending_placed law moment (message bytes handles) h = message_placed law moment bytes handles h moment.bound.birth.protocol refl
+sending_placed law moment hang_up h = placed_outcome moment.tree moment.bound 0 0 (only moment.position hangs_up) (placed moment.tree moment.bound.birth moment.position hangs_up tt)

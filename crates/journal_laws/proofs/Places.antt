@@ -5,7 +5,6 @@ use Rattle.std.proofs.lemmas.List.Elements.{All-nil, All-cons, All-push, All-wea
 use Rattle.std.proofs.lemmas.List.Kept.{AllPairs-cons, AllPairs-filter}
 use Rattle.std.proofs.lemmas.List.Quantifiers.{all_pairs_push}
 use Rattle.endpoint_link.specs.Numbering.{among}
-use Rattle.conn_rules.specs.Built.{Built}
 use Rattle.vfs_journal.specs.Deaths.{others}
 use Rattle.vfs_journal.specs.Entries.{Sent, Journal, sends, serves, refuses}
 use Rattle.vfs_journal.specs.History.{History, all_sent, was_served, waits, waiting, is_bound}
@@ -41,22 +40,22 @@ head_is start history one h = head_by start history one (is_bound start history 
 
 -- ---- places
 
-pub in_order : (built : Built) (start : Start) (journal : Journal) → Stepped built start journal → AreInOrder journal (history_of built start journal)
+pub in_order : (start : Start) (journal : Journal) → Stepped start journal → AreInOrder journal (history_of start journal)
 unfolding history_of
-in_order built start journal none = record { at = tt; below = All-nil (λ one. one.place < 0); rise = λ i j d l m. absurd (omega arith) }
-in_order built start journal (refusing earlier endpoint why h) =
-    let past = in_order built start earlier h in
-    let same = sym (refusals_change_nothing built start (history_of built start earlier) endpoint why).sent in
+in_order start journal none = record { at = tt; below = All-nil (λ one. one.place < 0); rise = λ i j d l m. absurd (omega arith) }
+in_order start journal (refusing earlier endpoint why h) =
+    let past = in_order start earlier h in
+    let same = sym (refusals_change_nothing start (history_of start earlier) endpoint why).sent in
     record {
       at = past.at;
       below = subst (All (λ one. one.place < suc (length earlier))) same
-          (All-weaker (λ one. one.place < length earlier) (λ one. one.place < suc (length earlier)) (λ one l. omega arith) (all_sent (history_of built start earlier)) past.below);
+          (All-weaker (λ one. one.place < length earlier) (λ one. one.place < suc (length earlier)) (λ one l. omega arith) (all_sent (history_of start earlier)) past.below);
       rise = subst (AllPairs Before) same past.rise;
     }
-in_order built start journal (sending earlier new h at) =
-    let past = in_order built start earlier h in
-    let sent = all_sent (history_of built start earlier) in
-    let more = sym (sendings_wait_last built start (history_of built start earlier) new).sent_last in
+in_order start journal (sending earlier new h at) =
+    let past = in_order start earlier h in
+    let sent = all_sent (history_of start earlier) in
+    let more = sym (sendings_wait_last start (history_of start earlier) new).sent_last in
     record {
       at = (at, past.at);
       below = subst (All (λ one. one.place < suc (length earlier))) more
@@ -65,32 +64,32 @@ in_order built start journal (sending earlier new h at) =
       rise = subst (AllPairs Before) more
           (all_pairs_push Before sent new past.rise (λ k d l. let low : (slice_index_or sent k d).place < length earlier = past.below k d l in omega arith));
     }
-in_order built start journal (serving earlier new h is) =
-    let past = in_order built start earlier h in
-    let same = sym (servings_take_effect built start (history_of built start earlier) new).sent_same in
+in_order start journal (serving earlier new h is) =
+    let past = in_order start earlier h in
+    let same = sym (servings_take_effect start (history_of start earlier) new).sent_same in
     record {
       at = past.at;
       below = subst (All (λ one. one.place < suc (length earlier))) same
-          (All-weaker (λ one. one.place < length earlier) (λ one. one.place < suc (length earlier)) (λ one l. omega arith) (all_sent (history_of built start earlier)) past.below);
+          (All-weaker (λ one. one.place < length earlier) (λ one. one.place < suc (length earlier)) (λ one l. omega arith) (all_sent (history_of start earlier)) past.below);
       rise = subst (AllPairs Before) same past.rise;
     }
 
 -- what waits rises too
-pub waiting_rises : (built : Built) (start : Start) (journal : Journal) → Stepped built start journal → AllPairs Before (waiting (history_of built start journal))
-waiting_rises built start journal h =
-    AllPairs-filter Before (waits (history_of built start journal)) (all_sent (history_of built start journal)) (in_order built start journal h).rise
+pub waiting_rises : (start : Start) (journal : Journal) → Stepped start journal → AllPairs Before (waiting (history_of start journal))
+waiting_rises start journal h =
+    AllPairs-filter Before (waits (history_of start journal)) (all_sent (history_of start journal)) (in_order start journal h).rise
 
 -- ---- servings
 
 -- what wasn't served is none of what was
-pub unserved : (built : Built) (start : Start) (journal : Journal) (one : Sent) → was_served (history_of built start journal) one ≡ false → All (λ served. one.place ≢ served.place) (servings journal)
+pub unserved : (start : Start) (journal : Journal) (one : Sent) → was_served (history_of start journal) one ≡ false → All (λ served. one.place ≢ served.place) (servings journal)
 unfolding history_of event_of
-unserved built start [] one h = All-nil (λ served. one.place ≢ served.place)
-unserved built start (sends sent ∷ earlier) one h = unserved built start earlier one h
-unserved built start (refuses endpoint why ∷ earlier) one h = unserved built start earlier one h
-unserved built start (serves sent ∷ earlier) one h =
-    let parts = or_parts (sent.place == one.place) (was_served (history_of built start earlier) one) h in
-    All-cons (λ served. one.place ≢ served.place) sent (servings earlier) (λ e. eqb-false sent.place one.place parts.0 (sym e)) (unserved built start earlier one parts.1)
+unserved start [] one h = All-nil (λ served. one.place ≢ served.place)
+unserved start (sends sent ∷ earlier) one h = unserved start earlier one h
+unserved start (refuses endpoint why ∷ earlier) one h = unserved start earlier one h
+unserved start (serves sent ∷ earlier) one h =
+    let parts = or_parts (sent.place == one.place) (was_served (history_of start earlier) one) h in
+    All-cons (λ served. one.place ≢ served.place) sent (servings earlier) (λ e. eqb-false sent.place one.place parts.0 (sym e)) (unserved start earlier one parts.1)
 
 -- what waits wasn't served
 left_waiting : (a b : Bool) → (not a && not b) ≡ true → a ≡ false
@@ -101,11 +100,11 @@ pub waits_unserved : (history : History) (one : Sent) → Contains (waiting hist
 waits_unserved history one h = left_waiting (was_served history one) _ (kept_of (waits history) (all_sent history) one h).1
 
 -- what waits behind a serving waited before, and is another one
-pub waited : (built : Built) (start : Start) (past : History) (new one : Sent) → Contains (waiting (behind built start (serves new) past)) one →
-    Contains (waiting past) one × (one.place ≢ new.place) × (among one.endpoint (event_of built start past (serves new)).deaths ≡ false)
-waited built start past new one h =
-    let event = event_of built start past (serves new) in
-    let left = kept_of (λ other. not (among other.endpoint event.deaths)) (others past new) one (subst (λ ones. Contains ones one) (servings_take_effect built start past new).queue h) in
+pub waited : (start : Start) (past : History) (new one : Sent) → Contains (waiting (behind start (serves new) past)) one →
+    Contains (waiting past) one × (one.place ≢ new.place) × (among one.endpoint (event_of start past (serves new)).deaths ≡ false)
+waited start past new one h =
+    let event = event_of start past (serves new) in
+    let left = kept_of (λ other. not (among other.endpoint event.deaths)) (others past new) one (subst (λ ones. Contains ones one) (servings_take_effect start past new).queue h) in
     let other = kept_of (λ other. not (other.place == new.place)) (waiting past) one left.0 in
     (other.0, λ e. eqb-false one.place new.place (not-true (one.place == new.place) other.1) e, not-true (among one.endpoint event.deaths) left.1)
 
@@ -123,9 +122,9 @@ waited_by past new one b h = by_side b (Contains-append_cases (waiting past) (if
   by_side b (inl h) = inl h
   by_side b (inr h) = inr (last b h)
 
-pub waited_or_sent : (built : Built) (start : Start) (past : History) (new one : Sent) → Contains (waiting (behind built start (sends new) past)) one → Contains (waiting past) one ⊎ (new ≡ one)
-waited_or_sent built start past new one h =
-    waited_by past new one (waits past new) (subst (λ ones. Contains ones one) (sendings_wait_last built start past new).queue h)
+pub waited_or_sent : (start : Start) (past : History) (new one : Sent) → Contains (waiting (behind start (sends new) past)) one → Contains (waiting past) one ⊎ (new ≡ one)
+waited_or_sent start past new one h =
+    waited_by past new one (waits past new) (subst (λ ones. Contains ones one) (sendings_wait_last start past new).queue h)
 
 -- what waits on an endpoint that was served was sent behind what was served
 abbrev IsAhead : History → Sent → Type 0
@@ -143,17 +142,17 @@ ahead_by : (history : History) (new served one : Sent) → Before served new →
 ahead_by history new served one before ahead (inl h) e = ahead one h e
 ahead_by history new served one before ahead (inr same) e = subst (λ (s : Sent). served.place < s.place) same before
 
-servings_of : (built : Built) (start : Start) (journal : Journal) → Stepped built start journal → Servings journal (history_of built start journal)
+servings_of : (start : Start) (journal : Journal) → Stepped start journal → Servings journal (history_of start journal)
 unfolding history_of
-servings_of built start journal none = record {
+servings_of start journal none = record {
   known = record { sent_before = All-nil (Contains []); once = λ i j d l m. absurd (omega arith); in_order = λ i j d l m. absurd (omega arith) };
   ahead = All-nil (IsAhead []);
 }
-servings_of built start journal (refusing earlier endpoint why h) =
-    let past = servings_of built start earlier h in
-    let history = history_of built start earlier in
-    let now = behind built start (refuses endpoint why) history in
-    let kept = refusals_change_nothing built start history endpoint why in
+servings_of start journal (refusing earlier endpoint why h) =
+    let past = servings_of start earlier h in
+    let history = history_of start earlier in
+    let now = behind start (refuses endpoint why) history in
+    let kept = refusals_change_nothing start history endpoint why in
     record {
       known = record {
         sent_before = subst (λ ones. All (Contains ones) (servings earlier)) (sym kept.sent) past.known.sent_before;
@@ -162,12 +161,12 @@ servings_of built start journal (refusing earlier endpoint why h) =
       };
       ahead = All-weaker (IsAhead history) (IsAhead now) (λ served ahead one w e. ahead one (subst (λ ones. Contains ones one) kept.queue w) e) (servings earlier) past.ahead;
     }
-servings_of built start journal (sending earlier new h at) =
-    let past = servings_of built start earlier h in
-    let history = history_of built start earlier in
-    let now = behind built start (sends new) history in
-    let places = in_order built start earlier h in
-    let more = (sendings_wait_last built start history new).sent_last in
+servings_of start journal (sending earlier new h at) =
+    let past = servings_of start earlier h in
+    let history = history_of start earlier in
+    let now = behind start (sends new) history in
+    let places = in_order start earlier h in
+    let more = (sendings_wait_last start history new).sent_last in
     record {
       known = record {
         sent_before = All-weaker (Contains (all_sent history)) (Contains (all_sent now)) (λ served c. subst (λ ones. Contains ones served) (sym more) (Contains-append_left (all_sent history) (new ∷ []) served c)) (servings earlier) past.known.sent_before;
@@ -178,34 +177,34 @@ servings_of built start journal (sending earlier new h at) =
           let served = slice_index_or (servings earlier) k d in
           let low : served.place < length earlier = All-contains (λ one. one.place < length earlier) (all_sent history) served places.below (past.known.sent_before k d l) in
           let before : Before served new = omega arith in
-          λ one w e. ahead_by history new served one before (past.ahead k d l) (waited_or_sent built start history new one w) e;
+          λ one w e. ahead_by history new served one before (past.ahead k d l) (waited_or_sent start history new one w) e;
     }
-servings_of built start journal (serving earlier new h is) =
-    let past = servings_of built start earlier h in
-    let history = history_of built start earlier in
-    let now = behind built start (serves new) history in
+servings_of start journal (serving earlier new h is) =
+    let past = servings_of start earlier h in
+    let history = history_of start earlier in
+    let now = behind start (serves new) history in
     let first = head_is start history new is in
-    let same = sym (servings_take_effect built start history new).sent_same in
+    let same = sym (servings_take_effect start history new).sent_same in
     record {
       known = record {
         sent_before = subst (λ ones. All (Contains ones) (new ∷ servings earlier)) same
             (All-cons (Contains (all_sent history)) new (servings earlier) (waits_of_sent history new first.waits) past.known.sent_before);
-        once = AllPairs-cons (λ served other. served.place ≢ other.place) new (servings earlier) (unserved built start earlier new (waits_unserved history new first.waits)) past.known.once;
+        once = AllPairs-cons (λ served other. served.place ≢ other.place) new (servings earlier) (unserved start earlier new (waits_unserved history new first.waits)) past.known.once;
         in_order = AllPairs-cons (λ served other. served.endpoint ≡ other.endpoint → other.place < served.place) new (servings earlier)
             (λ k d l e. past.ahead k d l new first.waits (sym e)) past.known.in_order;
       };
       ahead = All-cons (IsAhead now) new (servings earlier)
           (λ one w e.
-          let before = waited built start history new one w in
+          let before = waited start history new one w in
           behind_served new one before.1
-          (first_found Before (λ sent. sent.endpoint == new.endpoint) (waiting history) new one (waiting_rises built start earlier h) first.first before.0 (eq-eqb one.endpoint new.endpoint (sym e))))
-          (All-weaker (IsAhead history) (IsAhead now) (λ served ahead one w e. ahead one (waited built start history new one w).0 e) (servings earlier) past.ahead);
+          (first_found Before (λ sent. sent.endpoint == new.endpoint) (waiting history) new one (waiting_rises start earlier h) first.first before.0 (eq-eqb one.endpoint new.endpoint (sym e))))
+          (All-weaker (IsAhead history) (IsAhead now) (λ served ahead one w e. ahead one (waited start history new one w).0 e) (servings earlier) past.ahead);
     }
 
 -- ---- the laws
 
-pub places_rise : (built : Built) (start : Start) (journal : Journal) → Lawful built start journal → AreInOrder journal (history_of built start journal)
-places_rise built start journal h = in_order built start journal (stepped built start journal h)
+pub places_rise : (start : Start) (journal : Journal) → Lawful start journal → AreInOrder journal (history_of start journal)
+places_rise start journal h = in_order start journal (stepped start journal h)
 
-pub served_once : (built : Built) (start : Start) (journal : Journal) → Lawful built start journal → AreServedOnce journal (history_of built start journal)
-served_once built start journal h = (servings_of built start journal (stepped built start journal h)).known
+pub served_once : (start : Start) (journal : Journal) → Lawful start journal → AreServedOnce journal (history_of start journal)
+served_once start journal h = (servings_of start journal (stepped start journal h)).known

@@ -1,6 +1,5 @@
 -- What is sent waits last.
 use Rattle.std.proofs.Common.{◌≡◌, ℕ, ◌≤◌, ◌&&◌, Bool, true, false, not, if◌then◌else◌, [], ◌∷◌, ◌++◌, length, Option, Some, refl, ap, ◌∙◌, arith}
-use Rattle.conn_rules.specs.Built.{Built}
 use Rattle.vfs_journal.specs.Entries.{Sent, Sending, Journal, message, sends, serves}
 use Rattle.vfs_journal.specs.History.{History, waiting, waits, was_served, is_dead}
 use Rattle.vfs_journal.specs.Lawful.{Lawful}
@@ -18,46 +17,46 @@ use Rattle.journal_laws.proofs.Stepping.{Stepped, stepped, serving}
 use Rattle.journal_laws.proofs.Steps.{sendings_wait_last}
 use Rattle.journal_laws.proofs.Views.{is_view, served_view, fresh_unserved}
 
-queue_of : (built : Built) (start : Start) (past : History) (new : Sent) → was_served past new ≡ false → is_dead past new.endpoint ≡ false → waiting (behind built start (sends new) past) ≡ waiting past ++ new ∷ []
-queue_of built start past new unserved alive =
+queue_of : (start : Start) (past : History) (new : Sent) → was_served past new ≡ false → is_dead past new.endpoint ≡ false → waiting (behind start (sends new) past) ≡ waiting past ++ new ∷ []
+queue_of start past new unserved alive =
     let it_waits : waits past new ≡ true = ap (λ (b : Bool). not b && not (is_dead past new.endpoint)) unserved ∙ ap not alive in
-    (sendings_wait_last built start past new).queue ∙ ap (λ (b : Bool). waiting past ++ (if b then new ∷ [] else [])) it_waits
+    (sendings_wait_last start past new).queue ∙ ap (λ (b : Bool). waiting past ++ (if b then new ∷ [] else [])) it_waits
 
-sent_queue : (built : Built) (start : Start) (journal : Journal) (endpoint : ℕ) (sending : Sending) (origin : Option ℕ) → Stepped built start journal → is_dead (history_of built start journal) endpoint ≡ false →
-    waiting (history_of built start (sends (sent_behind journal endpoint sending origin) ∷ journal)) ≡ waiting (history_of built start journal) ++ sent_behind journal endpoint sending origin ∷ []
+sent_queue : (start : Start) (journal : Journal) (endpoint : ℕ) (sending : Sending) (origin : Option ℕ) → Stepped start journal → is_dead (history_of start journal) endpoint ≡ false →
+    waiting (history_of start (sends (sent_behind journal endpoint sending origin) ∷ journal)) ≡ waiting (history_of start journal) ++ sent_behind journal endpoint sending origin ∷ []
 unfolding history_of
-sent_queue built start journal endpoint sending origin steps alive =
-    queue_of built start (history_of built start journal) (sent_behind journal endpoint sending origin)
-    (fresh_unserved built start journal (sent_behind journal endpoint sending origin) steps (same_le (length journal))) alive where
+sent_queue start journal endpoint sending origin steps alive =
+    queue_of start (history_of start journal) (sent_behind journal endpoint sending origin)
+    (fresh_unserved start journal (sent_behind journal endpoint sending origin) steps (same_le (length journal))) alive where
       same_le : (n : ℕ) → n ≤ n
       same_le n = omega arith
 
-pub what_is_sent_waits : (built : Built) (start : Start) (journal : Journal) (endpoint : ℕ) (sending : Sending) (origin : Option ℕ) → Lawful built start journal → is_dead (history_of built start journal) endpoint ≡ false →
-    waiting (history_of built start (sends (sent_behind journal endpoint sending origin) ∷ journal)) ≡ waiting (history_of built start journal) ++ sent_behind journal endpoint sending origin ∷ []
-what_is_sent_waits built start journal endpoint sending origin h alive = sent_queue built start journal endpoint sending origin (stepped built start journal h) alive
+pub what_is_sent_waits : (start : Start) (journal : Journal) (endpoint : ℕ) (sending : Sending) (origin : Option ℕ) → Lawful start journal → is_dead (history_of start journal) endpoint ≡ false →
+    waiting (history_of start (sends (sent_behind journal endpoint sending origin) ∷ journal)) ≡ waiting (history_of start journal) ++ sent_behind journal endpoint sending origin ∷ []
+what_is_sent_waits start journal endpoint sending origin h alive = sent_queue start journal endpoint sending origin (stepped start journal h) alive
 
 -- the end of a mount lives behind the serving whose Open goes on to it
-end_alive : Below → (built : Built) (start : Start) (journal : Journal) (sent : Sent) (forward : Forwarded) → IsStart start → Lawful built start journal → head start (history_of built start journal) sent.endpoint ≡ Some sent →
-    (outcome_of built start (history_of built start journal) sent).forward ≡ Some forward → is_dead (history_of built start (serves sent ∷ journal)) forward.endpoint ≡ false
+end_alive : Below → (start : Start) (journal : Journal) (sent : Sent) (forward : Forwarded) → IsStart start → Lawful start journal → head start (history_of start journal) sent.endpoint ≡ Some sent →
+    (outcome_of start (history_of start journal) sent).forward ≡ Some forward → is_dead (history_of start (serves sent ∷ journal)) forward.endpoint ≡ false
 unfolding history_of
-end_alive below built start journal sent forward s h first e =
-    let history = history_of built start journal in
-    let mid = behind built start (serves sent) history in
-    let steps = stepped built start journal h in
-    let kept = lawful_kept below built start s journal h in
-    let is = is_view built start journal steps in
-    let served = is_serving below built start journal sent s steps kept.sound first in
+end_alive below start journal sent forward s h first e =
+    let history = history_of start journal in
+    let mid = behind start (serves sent) history in
+    let steps = stepped start journal h in
+    let kept = lawful_kept below start s journal h in
+    let is = is_view start journal steps in
+    let served = is_serving below start journal sent s steps kept.sound first in
     let new = sent_behind (serves sent ∷ journal) forward.endpoint (message forward.bytes (forward.object ∷ [])) (Some sent.place) in
-    let sound = serving_sound start (view start history) (view start mid) sent (outcome_of built start history sent) s kept.sound is served.answered (served_view built start history sent served.keeps) in
-    let mid_is = is_view built start (serves sent ∷ journal) (serving journal sent steps first) in
-    (end_lives start (view start mid) forward.endpoint s sound mid_is (mounts_born start mid) (is_forwarded below built start history sent new forward s kept.sound is served e refl refl).end).0
+    let sound = serving_sound start (view start history) (view start mid) sent (outcome_of start history sent) s kept.sound is served.answered (served_view start history sent served.keeps) in
+    let mid_is = is_view start (serves sent ∷ journal) (serving journal sent steps first) in
+    (end_lives start (view start mid) forward.endpoint s sound mid_is (mounts_born start mid) (is_forwarded below start history sent new forward s kept.sound is served e refl refl).end).0
 
-pub what_goes_on_waits : Below → (built : Built) (start : Start) (journal : Journal) (sent : Sent) (forward : Forwarded) → IsStart start → Lawful built start journal → head start (history_of built start journal) sent.endpoint ≡ Some sent →
-    (outcome_of built start (history_of built start journal) sent).forward ≡ Some forward →
-    waiting (history_of built start (after_serving built start journal sent))
-    ≡ waiting (history_of built start (serves sent ∷ journal))
+pub what_goes_on_waits : Below → (start : Start) (journal : Journal) (sent : Sent) (forward : Forwarded) → IsStart start → Lawful start journal → head start (history_of start journal) sent.endpoint ≡ Some sent →
+    (outcome_of start (history_of start journal) sent).forward ≡ Some forward →
+    waiting (history_of start (after_serving start journal sent))
+    ≡ waiting (history_of start (serves sent ∷ journal))
     ++ sent_behind (serves sent ∷ journal) forward.endpoint (message forward.bytes (forward.object ∷ [])) (Some sent.place) ∷ []
-what_goes_on_waits below built start journal sent forward s h first e =
-    ap (λ (o : Option Forwarded). waiting (history_of built start (with_forward sent.place (serves sent ∷ journal) o))) e
-    ∙ sent_queue built start (serves sent ∷ journal) forward.endpoint (message forward.bytes (forward.object ∷ [])) (Some sent.place) (serving journal sent (stepped built start journal h) first)
-    (end_alive below built start journal sent forward s h first e)
+what_goes_on_waits below start journal sent forward s h first e =
+    ap (λ (o : Option Forwarded). waiting (history_of start (with_forward sent.place (serves sent ∷ journal) o))) e
+    ∙ sent_queue start (serves sent ∷ journal) forward.endpoint (message forward.bytes (forward.object ∷ [])) (Some sent.place) (serving journal sent (stepped start journal h) first)
+    (end_alive below start journal sent forward s h first e)

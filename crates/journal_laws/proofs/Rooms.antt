@@ -17,7 +17,6 @@ use Rattle.io_messages.specs.declared.requests.RequestFault.TheVariants.{Malform
 use Rattle.conn_rules.specs.declared.births.Room.{Room}
 use Rattle.conn_rules.specs.Acts.{act_of, method_refusals, row_act}
 use Rattle.conn_rules.specs.Answers.{Act, Answer, replies, closes, binds, watches, forwards, refuses, ends, hangs_up, silent}
-use Rattle.conn_rules.specs.Built.{Built}
 use Rattle.conn_rules.specs.Contexts.{Context}
 use Rattle.conn_rules.specs.NameRows.{watch_refusals}
 use Rattle.conn_rules.specs.Nodes.{kind_here}
@@ -111,14 +110,14 @@ walk_room context word (stops status) = tt
 binding_room : (context : Context) (request : Asked) → HasRoomFor context.room (act_of context request)
 unfolding act_of
 binding_room context (asks.clone endpoint) =
-    unless_holds (HasRoomFor context.room) (first_of (method_refusals context.built context.birth (method_of (asks.clone endpoint)))) context.position method.Clone (row_act context (asks.clone endpoint)) (λ s. tt)
+    unless_holds (HasRoomFor context.room) (first_of (method_refusals context.birth (method_of (asks.clone endpoint)))) context.position method.Clone (row_act context (asks.clone endpoint)) (λ s. tt)
     (λ e. unless_holds (HasRoomFor context.room) (first_of (cause_if (is_full context.room) status.NoResources ∷ [])) context.position method.Clone _ (λ s. tt) (λ f. not_told (is_full context.room) status.NoResources (last_none (cause_if (is_full context.room) status.NoResources ∷ []) f)))
 binding_room context (asks.open_path path word given object) =
-    unless_holds (HasRoomFor context.room) (first_of (method_refusals context.built context.birth (method_of (asks.open_path path word given object)))) context.position method.OpenPath (row_act context (asks.open_path path word given object)) (λ s. tt)
+    unless_holds (HasRoomFor context.room) (first_of (method_refusals context.birth (method_of (asks.open_path path word given object)))) context.position method.OpenPath (row_act context (asks.open_path path word given object)) (λ s. tt)
     (λ e. unless_holds (HasRoomFor context.room) (first_of (entry_refusals context.birth word path)) context.position method.OpenPath _ (λ s. tt)
     (λ f. walk_room context word (walk context.tree word (names_of path) context.birth.node)))
 binding_room context (asks.watch mask options watcher) =
-    unless_holds (HasRoomFor context.room) (first_of (method_refusals context.built context.birth (method_of (asks.watch mask options watcher)))) context.position method.Watch (row_act context (asks.watch mask options watcher)) (λ s. tt)
+    unless_holds (HasRoomFor context.room) (first_of (method_refusals context.birth (method_of (asks.watch mask options watcher)))) context.position method.Watch (row_act context (asks.watch mask options watcher)) (λ s. tt)
     (λ e. unless_holds (HasRoomFor context.room) (first_of (watch_refusals context.room mask options)) context.position method.Watch _ (λ s. tt)
     (λ f. (or_parts (nat_le limit.MAX_WATCHERS context.room.watchers) (is_full context.room) (not_told (nat_le limit.MAX_WATCHERS context.room.watchers || is_full context.room) status.NoResources (last_none (watch_refusals context.room mask options) f))).1))
 binding_room context asks.close = close_room context.room _ (act_answers context asks.close).0
@@ -162,24 +161,24 @@ bound_room room asker (ends status) h new e = absurd (cc)
 bound_room room asker hangs_up h new e = absurd (cc)
 bound_room room asker silent h new e = absurd (cc)
 
-read_room : (built : Built) (moment : Moment) (r : Read) → IsRoomy moment (outcome_of_read built moment r)
-read_room built moment (Ok (txid, a)) = λ new e. bound_room moment.room (asker_of moment.bound txid (object_of a)) (request_act built moment a).answer (binding_room (context_at built moment) a) new e
-read_room built moment (Err (Malformed fault)) = λ new e. absurd (cc)
-read_room built moment (Err UnknownStrict) = λ new e. absurd (cc)
-read_room built moment (Err UnknownOneWay) = λ new e. absurd (cc)
-read_room built moment (Err (UnknownTwoWay txid ordinal)) = λ new e. absurd (cc)
+read_room : (moment : Moment) (r : Read) → IsRoomy moment (outcome_of_read moment r)
+read_room moment (Ok (txid, a)) = λ new e. bound_room moment.room (asker_of moment.bound txid (object_of a)) (request_act moment a).answer (binding_room (context_at moment) a) new e
+read_room moment (Err (Malformed fault)) = λ new e. absurd (cc)
+read_room moment (Err UnknownStrict) = λ new e. absurd (cc)
+read_room moment (Err UnknownOneWay) = λ new e. absurd (cc)
+read_room moment (Err (UnknownTwoWay txid ordinal)) = λ new e. absurd (cc)
 
-message_room : (built : Built) (moment : Moment) (bytes handles : List ℕ) (p : Protocol) → IsRoomy moment (outcome_of_message built moment p bytes handles)
-message_room built moment bytes handles protocol.Watcher = λ new e. absurd (cc)
-message_room built moment bytes handles protocol.Directory = read_room built moment (read_by protocol.Directory bytes handles)
-message_room built moment bytes handles protocol.File = read_room built moment (read_by protocol.File bytes handles)
-message_room built moment bytes handles protocol.Node = read_room built moment (read_by protocol.Node bytes handles)
-message_room built moment bytes handles protocol.Echo = read_room built moment (read_by protocol.Echo bytes handles)
+message_room : (moment : Moment) (bytes handles : List ℕ) (p : Protocol) → IsRoomy moment (outcome_of_message moment p bytes handles)
+message_room moment bytes handles protocol.Watcher = λ new e. absurd (cc)
+message_room moment bytes handles protocol.Directory = read_room moment (read_by protocol.Directory bytes handles)
+message_room moment bytes handles protocol.File = read_room moment (read_by protocol.File bytes handles)
+message_room moment bytes handles protocol.Node = read_room moment (read_by protocol.Node bytes handles)
+message_room moment bytes handles protocol.Echo = read_room moment (read_by protocol.Echo bytes handles)
 
-sending_room : (built : Built) (moment : Moment) (sending : Sending) → IsRoomy moment (outcome_of_sending built moment sending)
+sending_room : (moment : Moment) (sending : Sending) → IsRoomy moment (outcome_of_sending moment sending)
 unfolding outcome_of_sending
-sending_room built moment (message bytes handles) = message_room built moment bytes handles moment.bound.birth.protocol
-sending_room built moment hang_up = λ new e. absurd (cc)
+sending_room moment (message bytes handles) = message_room moment bytes handles moment.bound.birth.protocol
+sending_room moment hang_up = λ new e. absurd (cc)
 
 -- ---- counts
 
@@ -205,49 +204,49 @@ fewer connections e = let low = leb-false limit.MAX_CONNECTIONS connections e in
 
 -- ---- lawful journals
 
-outcome_room : (built : Built) (start : Start) (past : History) (sent : Sent) (o : Option Bound) (new : Bound) → (outcome_at built start past sent o).bound ≡ Some new → nat_le limit.MAX_CONNECTIONS (connections_at start past new.server) ≡ false
-outcome_room built start past sent None new e = absurd (cc)
-outcome_room built start past sent (Some bound) new e =
-    let is = sending_room built (moment_of start past bound) sent.sending new e in
+outcome_room : (start : Start) (past : History) (sent : Sent) (o : Option Bound) (new : Bound) → (outcome_at start past sent o).bound ≡ Some new → nat_le limit.MAX_CONNECTIONS (connections_at start past new.server) ≡ false
+outcome_room start past sent None new e = absurd (cc)
+outcome_room start past sent (Some bound) new e =
+    let is = sending_room (moment_of start past bound) sent.sending new e in
     ap (λ (server : ℕ). nat_le limit.MAX_CONNECTIONS (connections_at start past server)) is.0 ∙ is.1
 
-served_few : (built : Built) (start : Start) (past : History) (sent : Sent) (server : ℕ) → connections_at start past server ≤ limit.MAX_CONNECTIONS → connections_at start (behind built start (serves sent) past) server ≤ limit.MAX_CONNECTIONS
+served_few : (start : Start) (past : History) (sent : Sent) (server : ℕ) → connections_at start past server ≤ limit.MAX_CONNECTIONS → connections_at start (behind start (serves sent) past) server ≤ limit.MAX_CONNECTIONS
 unfolding event_of
-served_few built start past sent server few =
-    let event = event_of built start past (serves sent) in
-    let now = behind built start (serves sent) past in
-    let alive = ap (count_by (λ (bound : Bound). bound.server == server)) (servings_take_effect built start past sent).alive in
+served_few start past sent server few =
+    let event = event_of start past (serves sent) in
+    let now = behind start (serves sent) past in
+    let alive = ap (count_by (λ (bound : Bound). bound.server == server)) (servings_take_effect start past sent).alive in
     let both = count_more server (but_for event.deaths (living start past)) (newly_living now event.outcome.bound) in
     let old = count_kept server (λ bound. not (among bound.endpoint event.deaths)) (living start past) in
     let new = count_kept server (λ bound. not (is_dead now bound.endpoint)) (option_to_list event.outcome.bound) in
     let room = count_new server event.outcome.bound (connections_at start past server) few
-    (λ bound e at. fewer (connections_at start past server) (ap (λ (s : ℕ). nat_le limit.MAX_CONNECTIONS (connections_at start past s)) (sym at) ∙ outcome_room built start past sent (bound_at start past sent.endpoint) bound e)) in
+    (λ bound e at. fewer (connections_at start past server) (ap (λ (s : ℕ). nat_le limit.MAX_CONNECTIONS (connections_at start past s)) (sym at) ∙ outcome_room start past sent (bound_at start past sent.endpoint) bound e)) in
     omega (arith, alive, both, old, new, room)
 
-sent_few : (built : Built) (start : Start) (past : History) (sent : Sent) (server : ℕ) → connections_at start past server ≤ limit.MAX_CONNECTIONS → connections_at start (behind built start (sends sent) past) server ≤ limit.MAX_CONNECTIONS
-sent_few built start past sent server few =
-    subst (λ (bounds : List Bound). count_by (λ bound. bound.server == server) bounds ≤ limit.MAX_CONNECTIONS) (sym (sendings_wait_last built start past sent).same.alive) few
+sent_few : (start : Start) (past : History) (sent : Sent) (server : ℕ) → connections_at start past server ≤ limit.MAX_CONNECTIONS → connections_at start (behind start (sends sent) past) server ≤ limit.MAX_CONNECTIONS
+sent_few start past sent server few =
+    subst (λ (bounds : List Bound). count_by (λ bound. bound.server == server) bounds ≤ limit.MAX_CONNECTIONS) (sym (sendings_wait_last start past sent).same.alive) few
 
-onward_few : (built : Built) (start : Start) (journal : Journal) (origin : ℕ) (o : Option Forwarded) (server : ℕ) → connections_at start (history_of built start journal) server ≤ limit.MAX_CONNECTIONS →
-    connections_at start (history_of built start (with_forward origin journal o)) server ≤ limit.MAX_CONNECTIONS
+onward_few : (start : Start) (journal : Journal) (origin : ℕ) (o : Option Forwarded) (server : ℕ) → connections_at start (history_of start journal) server ≤ limit.MAX_CONNECTIONS →
+    connections_at start (history_of start (with_forward origin journal o)) server ≤ limit.MAX_CONNECTIONS
 unfolding history_of
-onward_few built start journal origin None server few = few
-onward_few built start journal origin (Some f) server few =
-    sent_few built start (history_of built start journal) (sent_behind journal f.endpoint (message f.bytes (f.object ∷ [])) (Some origin)) server few
+onward_few start journal origin None server few = few
+onward_few start journal origin (Some f) server few =
+    sent_few start (history_of start journal) (sent_behind journal f.endpoint (message f.bytes (f.object ∷ [])) (Some origin)) server few
 
-pub lawful_few : (built : Built) (start : Start) (journal : Journal) (server : ℕ) → HasRoom start → Lawful built start journal → connections_at start (history_of built start journal) server ≤ limit.MAX_CONNECTIONS
+pub lawful_few : (start : Start) (journal : Journal) (server : ℕ) → HasRoom start → Lawful start journal → connections_at start (history_of start journal) server ≤ limit.MAX_CONNECTIONS
 unfolding history_of
-lawful_few built start journal server room lawful.begun =
+lawful_few start journal server room lawful.begun =
     let all = ap (count_by (λ (bound : Bound). bound.server == server)) (append-nil (start.firsts ++ start.mounts)) in
     let less = count_kept server (λ bound. not (is_dead [] bound.endpoint)) ((start.firsts ++ start.mounts) ++ []) in
     let few = room server in
     omega (arith, all, less, few)
-lawful_few built start journal server room (lawful.refused earlier frame why h is admits) =
-    subst (λ (bounds : List Bound). count_by (λ bound. bound.server == server) bounds ≤ limit.MAX_CONNECTIONS) (sym (refusals_change_nothing built start (history_of built start earlier) frame.endpoint why).same.alive) (lawful_few built start earlier server room h)
-lawful_few built start journal server room (lawful.sent earlier frame h is at admits) =
-    sent_few built start (history_of built start earlier) (sent_behind earlier frame.endpoint (message frame.bytes frame.handles) None) server (lawful_few built start earlier server room h)
-lawful_few built start journal server room (lawful.closed earlier frame h is at admits) =
-    sent_few built start (history_of built start earlier) (sent_behind earlier frame.endpoint hang_up None) server (lawful_few built start earlier server room h)
-lawful_few built start journal server room (lawful.served earlier entry h is) =
-    onward_few built start (serves entry ∷ earlier) entry.place (outcome_of built start (history_of built start earlier) entry).forward server
-    (served_few built start (history_of built start earlier) entry server (lawful_few built start earlier server room h))
+lawful_few start journal server room (lawful.refused earlier frame why h is admits) =
+    subst (λ (bounds : List Bound). count_by (λ bound. bound.server == server) bounds ≤ limit.MAX_CONNECTIONS) (sym (refusals_change_nothing start (history_of start earlier) frame.endpoint why).same.alive) (lawful_few start earlier server room h)
+lawful_few start journal server room (lawful.sent earlier frame h is at admits) =
+    sent_few start (history_of start earlier) (sent_behind earlier frame.endpoint (message frame.bytes frame.handles) None) server (lawful_few start earlier server room h)
+lawful_few start journal server room (lawful.closed earlier frame h is at admits) =
+    sent_few start (history_of start earlier) (sent_behind earlier frame.endpoint hang_up None) server (lawful_few start earlier server room h)
+lawful_few start journal server room (lawful.served earlier entry h is) =
+    onward_few start (serves entry ∷ earlier) entry.place (outcome_of start (history_of start earlier) entry).forward server
+    (served_few start (history_of start earlier) entry server (lawful_few start earlier server room h))

@@ -33,7 +33,6 @@ use Rattle.path_walk.specs.Paths.{names_of}
 use Rattle.path_walk.proofs.PartLemmas.{name_short}
 use Rattle.conn_rules.specs.Acts.{act_of, is_beyond, is_of_every_node, method_refusals, row_act}
 use Rattle.conn_rules.specs.Answers.{Act}
-use Rattle.conn_rules.specs.Built.{Built}
 use Rattle.conn_rules.specs.Contexts.{Context}
 use Rattle.conn_rules.specs.FileRows.{is_no_position, is_too_much, reading_refusal, seek_sum, write_start, writing_refusal}
 use Rattle.dirents.specs.Listings.{fits_none, listing}
@@ -271,7 +270,7 @@ module _ (below : Below) (context : Context) (kind : NodeKind) (sound : IsSound 
   act_sound : (request : Asked) → has_method context.birth.protocol (method_of request) ≡ true → IsLeftSound context.tree (act_of context request)
   unfolding act_of
   act_sound request has' =
-      unless_holds (IsLeftSound context.tree) (first_of (method_refusals context.built context.birth (method_of request))) context.position (method_of request) (row_act context request) (λ s. sound)
+      unless_holds (IsLeftSound context.tree) (first_of (method_refusals context.birth (method_of request))) context.position (method_of request) (row_act context request) (λ s. sound)
       (λ e.
       row_sound request has' (not_refused (is_beyond context.birth.protocol (method_of request)) status.BadHandle _ e))
 
@@ -281,47 +280,47 @@ module _ (below : Below) (context : Context) (kind : NodeKind) (sound : IsSound 
 abbrev TokensName : Moment → Type 0
 TokensName moment = (token d : ℕ) → moment.directory token ≡ Some d → kind_of moment.tree d ≡ Some Directory
 
-read_sound : Below → (built : Built) → (moment : Moment) (bytes handles : List ℕ) (kind : NodeKind) → IsSound moment.tree → kind_of moment.tree moment.bound.birth.node ≡ Some kind → suits moment.bound.birth.protocol kind ≡ true → TokensName moment → (r : Read) → read_by moment.bound.birth.protocol bytes handles ≡ r →
-    IsSound (after moment.tree (outcome_of_read built moment r).change)
-read_sound below built moment bytes handles kind sound at suited tokens (Ok (txid, a)) read =
-    act_sound below (context_at built moment) kind sound at suited tokens a (has_read below.spelled moment.bound.birth.protocol bytes handles txid a read)
-read_sound below built moment bytes handles kind sound at suited tokens (Err (Malformed fault)) read = sound
-read_sound below built moment bytes handles kind sound at suited tokens (Err UnknownStrict) read = sound
-read_sound below built moment bytes handles kind sound at suited tokens (Err UnknownOneWay) read = sound
-read_sound below built moment bytes handles kind sound at suited tokens (Err (UnknownTwoWay txid ordinal)) read = sound
+read_sound : Below → (moment : Moment) (bytes handles : List ℕ) (kind : NodeKind) → IsSound moment.tree → kind_of moment.tree moment.bound.birth.node ≡ Some kind → suits moment.bound.birth.protocol kind ≡ true → TokensName moment → (r : Read) → read_by moment.bound.birth.protocol bytes handles ≡ r →
+    IsSound (after moment.tree (outcome_of_read moment r).change)
+read_sound below moment bytes handles kind sound at suited tokens (Ok (txid, a)) read =
+    act_sound below (context_at moment) kind sound at suited tokens a (has_read below.spelled moment.bound.birth.protocol bytes handles txid a read)
+read_sound below moment bytes handles kind sound at suited tokens (Err (Malformed fault)) read = sound
+read_sound below moment bytes handles kind sound at suited tokens (Err UnknownStrict) read = sound
+read_sound below moment bytes handles kind sound at suited tokens (Err UnknownOneWay) read = sound
+read_sound below moment bytes handles kind sound at suited tokens (Err (UnknownTwoWay txid ordinal)) read = sound
 
-message_sound : Below → (built : Built) → (moment : Moment) (bytes handles : List ℕ) (kind : NodeKind) → IsSound moment.tree → kind_of moment.tree moment.bound.birth.node ≡ Some kind → suits moment.bound.birth.protocol kind ≡ true → TokensName moment → (p : Protocol) → moment.bound.birth.protocol ≡ p →
-    IsSound (after moment.tree (outcome_of_message built moment p bytes handles).change)
-message_sound below built moment bytes handles kind sound at suited tokens protocol.Watcher is = sound
-message_sound below built moment bytes handles kind sound at suited tokens protocol.Directory is = read_sound below built moment bytes handles kind sound at suited tokens (read_by protocol.Directory bytes handles) (ap (λ (p : Protocol). read_by p bytes handles) is)
-message_sound below built moment bytes handles kind sound at suited tokens protocol.File is = read_sound below built moment bytes handles kind sound at suited tokens (read_by protocol.File bytes handles) (ap (λ (p : Protocol). read_by p bytes handles) is)
-message_sound below built moment bytes handles kind sound at suited tokens protocol.Node is = read_sound below built moment bytes handles kind sound at suited tokens (read_by protocol.Node bytes handles) (ap (λ (p : Protocol). read_by p bytes handles) is)
-message_sound below built moment bytes handles kind sound at suited tokens protocol.Echo is = read_sound below built moment bytes handles kind sound at suited tokens (read_by protocol.Echo bytes handles) (ap (λ (p : Protocol). read_by p bytes handles) is)
+message_sound : Below → (moment : Moment) (bytes handles : List ℕ) (kind : NodeKind) → IsSound moment.tree → kind_of moment.tree moment.bound.birth.node ≡ Some kind → suits moment.bound.birth.protocol kind ≡ true → TokensName moment → (p : Protocol) → moment.bound.birth.protocol ≡ p →
+    IsSound (after moment.tree (outcome_of_message moment p bytes handles).change)
+message_sound below moment bytes handles kind sound at suited tokens protocol.Watcher is = sound
+message_sound below moment bytes handles kind sound at suited tokens protocol.Directory is = read_sound below moment bytes handles kind sound at suited tokens (read_by protocol.Directory bytes handles) (ap (λ (p : Protocol). read_by p bytes handles) is)
+message_sound below moment bytes handles kind sound at suited tokens protocol.File is = read_sound below moment bytes handles kind sound at suited tokens (read_by protocol.File bytes handles) (ap (λ (p : Protocol). read_by p bytes handles) is)
+message_sound below moment bytes handles kind sound at suited tokens protocol.Node is = read_sound below moment bytes handles kind sound at suited tokens (read_by protocol.Node bytes handles) (ap (λ (p : Protocol). read_by p bytes handles) is)
+message_sound below moment bytes handles kind sound at suited tokens protocol.Echo is = read_sound below moment bytes handles kind sound at suited tokens (read_by protocol.Echo bytes handles) (ap (λ (p : Protocol). read_by p bytes handles) is)
 
-sending_sound : Below → (built : Built) → (moment : Moment) (sending : Sending) (kind : NodeKind) → IsSound moment.tree → kind_of moment.tree moment.bound.birth.node ≡ Some kind → suits moment.bound.birth.protocol kind ≡ true → TokensName moment → IsSound (after moment.tree (outcome_of_sending built moment sending).change)
+sending_sound : Below → (moment : Moment) (sending : Sending) (kind : NodeKind) → IsSound moment.tree → kind_of moment.tree moment.bound.birth.node ≡ Some kind → suits moment.bound.birth.protocol kind ≡ true → TokensName moment → IsSound (after moment.tree (outcome_of_sending moment sending).change)
 unfolding outcome_of_sending
-sending_sound below built moment (message bytes handles) kind sound at suited tokens = message_sound below built moment bytes handles kind sound at suited tokens moment.bound.birth.protocol refl
-sending_sound below built moment hang_up kind sound at suited tokens = sound
+sending_sound below moment (message bytes handles) kind sound at suited tokens = message_sound below moment bytes handles kind sound at suited tokens moment.bound.birth.protocol refl
+sending_sound below moment hang_up kind sound at suited tokens = sound
 
 -- the change is of the server's own tree
-read_server : (built : Built) (moment : Moment) (r : Read) → (outcome_of_read built moment r).server ≡ moment.bound.server
-read_server built moment (Ok (txid, a)) = refl
-read_server built moment (Err (Malformed fault)) = refl
-read_server built moment (Err UnknownStrict) = refl
-read_server built moment (Err UnknownOneWay) = refl
-read_server built moment (Err (UnknownTwoWay txid ordinal)) = refl
+read_server : (moment : Moment) (r : Read) → (outcome_of_read moment r).server ≡ moment.bound.server
+read_server moment (Ok (txid, a)) = refl
+read_server moment (Err (Malformed fault)) = refl
+read_server moment (Err UnknownStrict) = refl
+read_server moment (Err UnknownOneWay) = refl
+read_server moment (Err (UnknownTwoWay txid ordinal)) = refl
 
-message_server : (built : Built) (moment : Moment) (bytes handles : List ℕ) (p : Protocol) → (outcome_of_message built moment p bytes handles).server ≡ moment.bound.server
-message_server built moment bytes handles protocol.Watcher = refl
-message_server built moment bytes handles protocol.Directory = read_server built moment (read_by protocol.Directory bytes handles)
-message_server built moment bytes handles protocol.File = read_server built moment (read_by protocol.File bytes handles)
-message_server built moment bytes handles protocol.Node = read_server built moment (read_by protocol.Node bytes handles)
-message_server built moment bytes handles protocol.Echo = read_server built moment (read_by protocol.Echo bytes handles)
+message_server : (moment : Moment) (bytes handles : List ℕ) (p : Protocol) → (outcome_of_message moment p bytes handles).server ≡ moment.bound.server
+message_server moment bytes handles protocol.Watcher = refl
+message_server moment bytes handles protocol.Directory = read_server moment (read_by protocol.Directory bytes handles)
+message_server moment bytes handles protocol.File = read_server moment (read_by protocol.File bytes handles)
+message_server moment bytes handles protocol.Node = read_server moment (read_by protocol.Node bytes handles)
+message_server moment bytes handles protocol.Echo = read_server moment (read_by protocol.Echo bytes handles)
 
-server_is : (built : Built) (moment : Moment) (sending : Sending) → (outcome_of_sending built moment sending).server ≡ moment.bound.server
+server_is : (moment : Moment) (sending : Sending) → (outcome_of_sending moment sending).server ≡ moment.bound.server
 unfolding outcome_of_sending
-server_is built moment (message bytes handles) = message_server built moment bytes handles moment.bound.birth.protocol
-server_is built moment hang_up = refl
+server_is moment (message bytes handles) = message_server moment bytes handles moment.bound.birth.protocol
+server_is moment hang_up = refl
 
 -- ---- lawful journals
 
@@ -330,42 +329,42 @@ tree_sound [] server h = bare_sound
 tree_sound (tree ∷ trees) zero h = All-head IsSound tree trees h
 tree_sound (tree ∷ trees) (suc server) h = tree_sound trees server (All-tail IsSound tree trees h)
 
-served_sound : Below → (built : Built) → (start : Start) (journal : Journal) (sent : Sent) → IsStart start → Lawful built start journal → head start (history_of built start journal) sent.endpoint ≡ Some sent →
-    All IsSound (trees_of start (history_of built start journal)) → All IsSound (trees_of start (behind_entry built start (serves sent) (history_of built start journal)))
+served_sound : Below → (start : Start) (journal : Journal) (sent : Sent) → IsStart start → Lawful start journal → head start (history_of start journal) sent.endpoint ≡ Some sent →
+    All IsSound (trees_of start (history_of start journal)) → All IsSound (trees_of start (behind_entry start (serves sent) (history_of start journal)))
 unfolding event_of
-served_sound below built start journal sent s h first sound =
-    let past = history_of built start journal in
+served_sound below start journal sent s h first sound =
+    let past = history_of start journal in
     let trees = trees_of start past in
-    let outcome = outcome_of built start past sent in
-    let effect = servings_take_effect built start past sent in
-    let serving' = is_serving below built start journal sent s (stepped built start journal h) (lawful_kept below built start s journal h).sound first in
+    let outcome = outcome_of start past sent in
+    let effect = servings_take_effect start past sent in
+    let serving' = is_serving below start journal sent s (stepped start journal h) (lawful_kept below start s journal h).sound first in
     let bound = serving'.at in
-    let stand = lawful_stand below built start journal s h in
+    let stand = lawful_stand below start journal s h in
     let lives = (found (λ (b : Bound). b.endpoint == sent.endpoint) (living start past) bound serving'.bound).0 in
     let on = All-contains (IsOnNode trees) (living start past) bound stand.placed lives in
-    let whole : outcome ≡ outcome_at built start past sent (Some bound) = ap (outcome_at built start past sent) serving'.bound in
-    let one = sending_sound below built (moment_of start past bound) sent.sending on.kind (tree_sound trees bound.server sound) on.node on.suited (λ token d e. named_directory trees (all_given past) bound.server token d stand.given e) in
-    let left : IsSound (after (tree_at trees outcome.server) outcome.change) = subst (λ (o : Outcome). IsSound (after (tree_at trees o.server) o.change)) (sym whole) (same_server built (moment_of start past bound) sent.sending trees one) in
+    let whole : outcome ≡ outcome_at start past sent (Some bound) = ap (outcome_at start past sent) serving'.bound in
+    let one = sending_sound below (moment_of start past bound) sent.sending on.kind (tree_sound trees bound.server sound) on.node on.suited (λ token d e. named_directory trees (all_given past) bound.server token d stand.given e) in
+    let left : IsSound (after (tree_at trees outcome.server) outcome.change) = subst (λ (o : Outcome). IsSound (after (tree_at trees o.server) o.change)) (sym whole) (same_server (moment_of start past bound) sent.sending trees one) in
     subst (All IsSound) (sym effect.trees) (All-set IsSound trees outcome.server (after (tree_at trees outcome.server) outcome.change) left sound) where
-      same_server : (built : Built) (moment : Moment) (sending : Sending) (trees : List Tree) → IsSound (after (tree_at trees moment.bound.server) (outcome_of_sending built moment sending).change) →
-          IsSound (after (tree_at trees (outcome_of_sending built moment sending).server) (outcome_of_sending built moment sending).change)
-      same_server built moment sending trees h = subst (λ (n : ℕ). IsSound (after (tree_at trees n) (outcome_of_sending built moment sending).change)) (sym (server_is built moment sending)) h
+      same_server : (moment : Moment) (sending : Sending) (trees : List Tree) → IsSound (after (tree_at trees moment.bound.server) (outcome_of_sending moment sending).change) →
+          IsSound (after (tree_at trees (outcome_of_sending moment sending).server) (outcome_of_sending moment sending).change)
+      same_server moment sending trees h = subst (λ (n : ℕ). IsSound (after (tree_at trees n) (outcome_of_sending moment sending).change)) (sym (server_is moment sending)) h
 
-onward_sound : (built : Built) (start : Start) (journal : Journal) (origin : ℕ) (o : Option Forwarded) → All IsSound (trees_of start (history_of built start journal)) → All IsSound (trees_of start (history_of built start (with_forward origin journal o)))
+onward_sound : (start : Start) (journal : Journal) (origin : ℕ) (o : Option Forwarded) → All IsSound (trees_of start (history_of start journal)) → All IsSound (trees_of start (history_of start (with_forward origin journal o)))
 unfolding history_of
-onward_sound built start journal origin None sound = sound
-onward_sound built start journal origin (Some f) sound =
-    subst (All IsSound) (sym (sendings_wait_last built start (history_of built start journal) (sent_behind journal f.endpoint (message f.bytes (f.object ∷ [])) (Some origin))).same.trees) sound
+onward_sound start journal origin None sound = sound
+onward_sound start journal origin (Some f) sound =
+    subst (All IsSound) (sym (sendings_wait_last start (history_of start journal) (sent_behind journal f.endpoint (message f.bytes (f.object ∷ [])) (Some origin))).same.trees) sound
 
-pub trees_sound : Below → (built : Built) (start : Start) (journal : Journal) → IsStart start → Lawful built start journal → All IsSound (trees_of start (history_of built start journal))
+pub trees_sound : Below → (start : Start) (journal : Journal) → IsStart start → Lawful start journal → All IsSound (trees_of start (history_of start journal))
 unfolding history_of
-trees_sound below built start journal s lawful.begun = s.trees
-trees_sound below built start journal s (lawful.refused earlier frame why h is admits) =
-    subst (All IsSound) (sym (refusals_change_nothing built start (history_of built start earlier) frame.endpoint why).same.trees) (trees_sound below built start earlier s h)
-trees_sound below built start journal s (lawful.sent earlier frame h is at admits) =
-    subst (All IsSound) (sym (sendings_wait_last built start (history_of built start earlier) (sent_behind earlier frame.endpoint (message frame.bytes frame.handles) None)).same.trees) (trees_sound below built start earlier s h)
-trees_sound below built start journal s (lawful.closed earlier frame h is at admits) =
-    subst (All IsSound) (sym (sendings_wait_last built start (history_of built start earlier) (sent_behind earlier frame.endpoint hang_up None)).same.trees) (trees_sound below built start earlier s h)
-trees_sound below built start journal s (lawful.served earlier entry h is) =
-    onward_sound built start (serves entry ∷ earlier) entry.place (outcome_of built start (history_of built start earlier) entry).forward
-    (served_sound below built start earlier entry s h is (trees_sound below built start earlier s h))
+trees_sound below start journal s lawful.begun = s.trees
+trees_sound below start journal s (lawful.refused earlier frame why h is admits) =
+    subst (All IsSound) (sym (refusals_change_nothing start (history_of start earlier) frame.endpoint why).same.trees) (trees_sound below start earlier s h)
+trees_sound below start journal s (lawful.sent earlier frame h is at admits) =
+    subst (All IsSound) (sym (sendings_wait_last start (history_of start earlier) (sent_behind earlier frame.endpoint (message frame.bytes frame.handles) None)).same.trees) (trees_sound below start earlier s h)
+trees_sound below start journal s (lawful.closed earlier frame h is at admits) =
+    subst (All IsSound) (sym (sendings_wait_last start (history_of start earlier) (sent_behind earlier frame.endpoint hang_up None)).same.trees) (trees_sound below start earlier s h)
+trees_sound below start journal s (lawful.served earlier entry h is) =
+    onward_sound start (serves entry ∷ earlier) entry.place (outcome_of start (history_of start earlier) entry).forward
+    (served_sound below start earlier entry s h is (trees_sound below start earlier s h))

@@ -13,7 +13,6 @@ use Rattle.endpoint_link.specs.Admission.{LookUps}
 use Rattle.endpoint_link.specs.Numbering.{among}
 use Rattle.node_graph.specs.Tree.{Tree, bare_tree}
 use Rattle.conn_rules.specs.Births.{Position}
-use Rattle.conn_rules.specs.Built.{Built}
 use Rattle.vfs_journal.specs.Deaths.{others}
 use Rattle.vfs_journal.specs.Entries.{Sent, sends, serves, refuses, handles_of, endpoints_in, is_hang_up}
 use Rattle.vfs_journal.specs.History.{Event, History, sent_by, all_sent, was_served, is_dead, births, living, waits, waiting, travelling, trees_of, tree_at, position_of, watches_node}
@@ -45,11 +44,11 @@ all_given-more event past = filter_map-more (λ e. e.outcome.token) event past
 pub trees_stay : (trees : List Tree) (server : ℕ) → set trees server (tree_at trees server) ≡ trees
 trees_stay trees server = set-get_or trees server bare_tree
 
-refusal_keeps : (built : Built) (start : Start) (past : History) (endpoint : ℕ) (why : Refusal) → HasSameEndpoints start (behind built start (refuses endpoint why) past) past
+refusal_keeps : (start : Start) (past : History) (endpoint : ℕ) (why : Refusal) → HasSameEndpoints start (behind start (refuses endpoint why) past) past
 unfolding event_of
-refusal_keeps built start past endpoint why =
-    let now = behind built start (refuses endpoint why) past in
-    let same_births : births start now ≡ births start past = births-more start (event_of built start past (refuses endpoint why)) past ∙ append-nil (births start past) in
+refusal_keeps start past endpoint why =
+    let now = behind start (refuses endpoint why) past in
+    let same_births : births start now ≡ births start past = births-more start (event_of start past (refuses endpoint why)) past ∙ append-nil (births start past) in
     let same_living : living start now ≡ living start past = ap (filter (λ bound. not (is_dead past bound.endpoint))) same_births in
     record {
       dead = λ e. refl;
@@ -58,14 +57,14 @@ refusal_keeps built start past endpoint why =
       bound = λ e. ap (find (λ bound. bound.endpoint == e)) same_living;
       positions = λ e. refl;
       trees = trees_stay (trees_of start past) 0;
-      tokens = all_given-more (event_of built start past (refuses endpoint why)) past ∙ append-nil (all_given past);
+      tokens = all_given-more (event_of start past (refuses endpoint why)) past ∙ append-nil (all_given past);
     }
 
-pub sending_keeps : (built : Built) (start : Start) (past : History) (sent : Sent) → HasSameEndpoints start (behind built start (sends sent) past) past
+pub sending_keeps : (start : Start) (past : History) (sent : Sent) → HasSameEndpoints start (behind start (sends sent) past) past
 unfolding event_of
-sending_keeps built start past sent =
-    let now = behind built start (sends sent) past in
-    let same_births : births start now ≡ births start past = births-more start (event_of built start past (sends sent)) past ∙ append-nil (births start past) in
+sending_keeps start past sent =
+    let now = behind start (sends sent) past in
+    let same_births : births start now ≡ births start past = births-more start (event_of start past (sends sent)) past ∙ append-nil (births start past) in
     let same_living : living start now ≡ living start past = ap (filter (λ bound. not (is_dead past bound.endpoint))) same_births in
     record {
       dead = λ e. refl;
@@ -74,26 +73,26 @@ sending_keeps built start past sent =
       bound = λ e. ap (find (λ bound. bound.endpoint == e)) same_living;
       positions = λ e. refl;
       trees = trees_stay (trees_of start past) 0;
-      tokens = all_given-more (event_of built start past (sends sent)) past ∙ append-nil (all_given past);
+      tokens = all_given-more (event_of start past (sends sent)) past ∙ append-nil (all_given past);
     }
 
-refusal_sends : (built : Built) (start : Start) (past : History) (endpoint : ℕ) (why : Refusal) → all_sent (behind built start (refuses endpoint why) past) ≡ all_sent past
+refusal_sends : (start : Start) (past : History) (endpoint : ℕ) (why : Refusal) → all_sent (behind start (refuses endpoint why) past) ≡ all_sent past
 unfolding event_of
-refusal_sends built start past endpoint why = all_sent-more (event_of built start past (refuses endpoint why)) past ∙ append-nil (all_sent past)
+refusal_sends start past endpoint why = all_sent-more (event_of start past (refuses endpoint why)) past ∙ append-nil (all_sent past)
 
-sending_sends : (built : Built) (start : Start) (past : History) (sent : Sent) → all_sent (behind built start (sends sent) past) ≡ all_sent past ++ sent ∷ []
+sending_sends : (start : Start) (past : History) (sent : Sent) → all_sent (behind start (sends sent) past) ≡ all_sent past ++ sent ∷ []
 unfolding event_of
-sending_sends built start past sent = all_sent-more (event_of built start past (sends sent)) past
+sending_sends start past sent = all_sent-more (event_of start past (sends sent)) past
 
-serving_sends : (built : Built) (start : Start) (past : History) (sent : Sent) → all_sent (behind built start (serves sent) past) ≡ all_sent past
+serving_sends : (start : Start) (past : History) (sent : Sent) → all_sent (behind start (serves sent) past) ≡ all_sent past
 unfolding event_of
-serving_sends built start past sent = all_sent-more (event_of built start past (serves sent)) past ∙ append-nil (all_sent past)
+serving_sends start past sent = all_sent-more (event_of start past (serves sent)) past ∙ append-nil (all_sent past)
 
 -- ---- a refusal
 
-refusal_waits : (built : Built) (start : Start) (past : History) (endpoint : ℕ) (why : Refusal) → waiting (behind built start (refuses endpoint why) past) ≡ waiting past
+refusal_waits : (start : Start) (past : History) (endpoint : ℕ) (why : Refusal) → waiting (behind start (refuses endpoint why) past) ≡ waiting past
 unfolding event_of
-refusal_waits built start past endpoint why = ap (filter (waits past)) (refusal_sends built start past endpoint why)
+refusal_waits start past endpoint why = ap (filter (waits past)) (refusal_sends start past endpoint why)
 
 -- what admission looks up, from its parts
 abbrev looked_by : Start → (ℕ → Bool) → List Bound → List Sent → List Sent → List Given → LookUps
@@ -115,13 +114,13 @@ looked_same start dead l m s t w x g h p q r u =
     ap (λ a. looked_by start dead a s w g) p ∙ ap (λ a. looked_by start dead m a w g) q ∙ ap (λ a. looked_by start dead m t a g) r
     ∙ ap (λ a. looked_by start dead m t x a) u
 
-refusal_looks : (built : Built) (start : Start) (past : History) (endpoint : ℕ) (why : Refusal) → look_ups start (behind built start (refuses endpoint why) past) ≡ look_ups start past
+refusal_looks : (start : Start) (past : History) (endpoint : ℕ) (why : Refusal) → look_ups start (behind start (refuses endpoint why) past) ≡ look_ups start past
 unfolding event_of
-refusal_looks built start past endpoint why =
-    let now = behind built start (refuses endpoint why) past in
-    let kept = refusal_keeps built start past endpoint why in
+refusal_looks start past endpoint why =
+    let now = behind start (refuses endpoint why) past in
+    let kept = refusal_keeps start past endpoint why in
     looked_same start (is_dead past) (living start now) (living start past) (all_sent now) (all_sent past) (waiting now) (waiting past) (all_given now) (all_given past)
-    kept.alive (refusal_sends built start past endpoint why) (refusal_waits built start past endpoint why) kept.tokens
+    kept.alive (refusal_sends start past endpoint why) (refusal_waits start past endpoint why) kept.tokens
 
 -- what a serving sees, from its parts
 abbrev seen_by : Bound → Position → Tree → List Bound → List Sent → List Sent → List Given → Moment
@@ -151,39 +150,39 @@ seen_same bound position a b l m s t w x g h o p q r u =
     ∙ ap (λ c. seen_by bound position b m t c g) r
     ∙ ap (λ c. seen_by bound position b m t x c) u
 
-refusal_shows : (built : Built) (start : Start) (past : History) (endpoint : ℕ) (why : Refusal) (bound : Bound) → moment_of start (behind built start (refuses endpoint why) past) bound ≡ moment_of start past bound
+refusal_shows : (start : Start) (past : History) (endpoint : ℕ) (why : Refusal) (bound : Bound) → moment_of start (behind start (refuses endpoint why) past) bound ≡ moment_of start past bound
 unfolding event_of
-refusal_shows built start past endpoint why bound =
-    let now = behind built start (refuses endpoint why) past in
-    let kept = refusal_keeps built start past endpoint why in
+refusal_shows start past endpoint why bound =
+    let now = behind start (refuses endpoint why) past in
+    let kept = refusal_keeps start past endpoint why in
     seen_same bound (position_of past bound.endpoint) (tree_at (trees_of start now) bound.server) (tree_at (trees_of start past) bound.server)
     (living start now) (living start past) (all_sent now) (all_sent past) (waiting now) (waiting past) (all_given now) (all_given past)
-    (ap (λ trees. tree_at trees bound.server) kept.trees) kept.alive (refusal_sends built start past endpoint why) (refusal_waits built start past endpoint why) kept.tokens
+    (ap (λ trees. tree_at trees bound.server) kept.trees) kept.alive (refusal_sends start past endpoint why) (refusal_waits start past endpoint why) kept.tokens
 
-pub refusals_change_nothing : (built : Built) (start : Start) (past : History) (endpoint : ℕ) (why : Refusal) → IsUnchanged start (behind built start (refuses endpoint why) past) past
+pub refusals_change_nothing : (start : Start) (past : History) (endpoint : ℕ) (why : Refusal) → IsUnchanged start (behind start (refuses endpoint why) past) past
 unfolding event_of
-refusals_change_nothing built start past endpoint why = record {
-  same = refusal_keeps built start past endpoint why;
-  sent = refusal_sends built start past endpoint why;
+refusals_change_nothing start past endpoint why = record {
+  same = refusal_keeps start past endpoint why;
+  sent = refusal_sends start past endpoint why;
   served = λ sent. refl;
-  queue = refusal_waits built start past endpoint why;
-  looked_up = refusal_looks built start past endpoint why;
-  seen = refusal_shows built start past endpoint why;
+  queue = refusal_waits start past endpoint why;
+  looked_up = refusal_looks start past endpoint why;
+  seen = refusal_shows start past endpoint why;
 }
 
 -- ---- a sending
 
-sending_waits : (built : Built) (start : Start) (past : History) (sent : Sent) → waiting (behind built start (sends sent) past) ≡ waiting past ++ (if waits past sent then sent ∷ [] else [])
+sending_waits : (start : Start) (past : History) (sent : Sent) → waiting (behind start (sends sent) past) ≡ waiting past ++ (if waits past sent then sent ∷ [] else [])
 unfolding event_of
-sending_waits built start past sent = ap (filter (waits past)) (sending_sends built start past sent) ∙ filter-append (waits past) (all_sent past) (sent ∷ [])
+sending_waits start past sent = ap (filter (waits past)) (sending_sends start past sent) ∙ filter-append (waits past) (all_sent past) (sent ∷ [])
 
 carried_by_one : (sent : Sent) (b : Bool) → flat_map endpoints_in (if b then sent ∷ [] else []) ≡ (if b then endpoints_in sent else [])
 carried_by_one sent true = append-nil (endpoints_in sent)
 carried_by_one sent false = refl
 
-sending_travels : (built : Built) (start : Start) (past : History) (sent : Sent) → travelling (behind built start (sends sent) past) ≡ travelling past ++ (if waits past sent then endpoints_in sent else [])
-sending_travels built start past sent =
-    ap (flat_map endpoints_in) (sending_waits built start past sent)
+sending_travels : (start : Start) (past : History) (sent : Sent) → travelling (behind start (sends sent) past) ≡ travelling past ++ (if waits past sent then endpoints_in sent else [])
+sending_travels start past sent =
+    ap (flat_map endpoints_in) (sending_waits start past sent)
     ∙ flat_map-append endpoints_in (waiting past) (if waits past sent then sent ∷ [] else [])
     ∙ ap (λ ends. travelling past ++ ends) (carried_by_one sent (waits past sent))
 
@@ -194,18 +193,18 @@ or-false false = refl
 any_more : {X : Type 0} (p : X → Bool) (xs ys : List X) (x : X) → ys ≡ xs ++ x ∷ [] → list_any p ys ≡ (list_any p xs || p x)
 any_more p xs ys x e = ap (list_any p) e ∙ list_any-append p xs (x ∷ []) ∙ ap (λ b. list_any p xs || b) (or-false (p x))
 
-pub sendings_wait_last : (built : Built) (start : Start) (past : History) (sent : Sent) → IsSent start sent (behind built start (sends sent) past) past
+pub sendings_wait_last : (start : Start) (past : History) (sent : Sent) → IsSent start sent (behind start (sends sent) past) past
 unfolding event_of
-sendings_wait_last built start past sent =
-    let now = behind built start (sends sent) past in
+sendings_wait_last start past sent =
+    let now = behind start (sends sent) past in
     record {
-      same = sending_keeps built start past sent;
-      sent_last = sending_sends built start past sent;
+      same = sending_keeps start past sent;
+      sent_last = sending_sends start past sent;
       served = λ other. refl;
-      queue = sending_waits built start past sent;
-      travels = sending_travels built start past sent;
-      carried = λ number. any_more (λ one. among number (handles_of one.sending)) (all_sent past) (all_sent now) sent (sending_sends built start past sent);
-      closed = λ endpoint. any_more (λ one. is_hang_up one.sending && (one.endpoint == endpoint)) (all_sent past) (all_sent now) sent (sending_sends built start past sent);
+      queue = sending_waits start past sent;
+      travels = sending_travels start past sent;
+      carried = λ number. any_more (λ one. among number (handles_of one.sending)) (all_sent past) (all_sent now) sent (sending_sends start past sent);
+      closed = λ endpoint. any_more (λ one. is_hang_up one.sending && (one.endpoint == endpoint)) (all_sent past) (all_sent now) sent (sending_sends start past sent);
     }
 
 -- ---- a serving
@@ -227,12 +226,12 @@ but_left true false = refl
 but_left false true = refl
 but_left false false = refl
 
-serving_waits : (built : Built) (start : Start) (past : History) (sent : Sent) →
-    waiting (behind built start (serves sent) past) ≡ filter (λ other. not (among other.endpoint (event_of built start past (serves sent)).deaths)) (others past sent)
+serving_waits : (start : Start) (past : History) (sent : Sent) →
+    waiting (behind start (serves sent) past) ≡ filter (λ other. not (among other.endpoint (event_of start past (serves sent)).deaths)) (others past sent)
 unfolding event_of
-serving_waits built start past sent =
-    let event = event_of built start past (serves sent) in
-    ap (filter (waits (event ∷ past))) (serving_sends built start past sent)
+serving_waits start past sent =
+    let event = event_of start past (serves sent) in
+    ap (filter (waits (event ∷ past))) (serving_sends start past sent)
     ∙ filter_agree (waits (event ∷ past)) (λ other. waits past other && (not (other.place == sent.place) && not (among other.endpoint event.deaths)))
     (λ other. left_by (sent.place == other.place) (was_served past other) (among other.endpoint event.deaths) (is_dead past other.endpoint)
     ∙ ap (λ b. waits past other && (not b && not (among other.endpoint event.deaths))) (eqb_sym sent.place other.place))
@@ -240,9 +239,9 @@ serving_waits built start past sent =
     ∙ sym (filter-filter (λ other. not (other.place == sent.place) && not (among other.endpoint event.deaths)) (waits past) (all_sent past))
     ∙ sym (filter-filter (λ other. not (among other.endpoint event.deaths)) (λ other. not (other.place == sent.place)) (waiting past))
 
-serving_lives : (built : Built) (start : Start) (past : History) (sent : Sent) (event : Event) → event ≡ event_of built start past (serves sent) →
+serving_lives : (start : Start) (past : History) (sent : Sent) (event : Event) → event ≡ event_of start past (serves sent) →
     living start (event ∷ past) ≡ but_for event.deaths (living start past) ++ newly_living (event ∷ past) event.outcome.bound
-serving_lives built start past sent event e =
+serving_lives start past sent event e =
     let alive : Bound → Bool = λ bound. not (is_dead (event ∷ past) bound.endpoint) in
     ap (filter alive) (births-more start event past)
     ∙ filter-append alive (births start past) (option_to_list event.outcome.bound)
@@ -251,20 +250,20 @@ serving_lives built start past sent event e =
     (λ bound. but_left (among bound.endpoint event.deaths) (is_dead past bound.endpoint)) (births start past)
     ∙ sym (filter-filter (λ bound. not (among bound.endpoint event.deaths)) (λ bound. not (is_dead past bound.endpoint)) (births start past)))
 
-pub servings_take_effect : (built : Built) (start : Start) (past : History) (sent : Sent) → IsServed start sent (event_of built start past (serves sent)) (behind built start (serves sent) past) past
+pub servings_take_effect : (start : Start) (past : History) (sent : Sent) → IsServed start sent (event_of start past (serves sent)) (behind start (serves sent) past) past
 unfolding event_of
-servings_take_effect built start past sent =
-    let event = event_of built start past (serves sent) in
+servings_take_effect start past sent =
+    let event = event_of start past (serves sent) in
     record {
-      sent_same = serving_sends built start past sent;
+      sent_same = serving_sends start past sent;
       served = λ other. refl;
       dead = λ endpoint. refl;
-      queue = serving_waits built start past sent;
+      queue = serving_waits start past sent;
       born = births-more start event past;
-      alive = serving_lives built start past sent event refl;
+      alive = serving_lives start past sent event refl;
       positions = λ endpoint. refl;
       trees = refl;
       tokens = all_given-more event past;
-      carried = λ number. ap (list_any (λ one. among number (handles_of one.sending))) (serving_sends built start past sent);
-      closed = λ endpoint. ap (list_any (λ one. is_hang_up one.sending && (one.endpoint == endpoint))) (serving_sends built start past sent);
+      carried = λ number. ap (list_any (λ one. among number (handles_of one.sending))) (serving_sends start past sent);
+      closed = λ endpoint. ap (list_any (λ one. is_hang_up one.sending && (one.endpoint == endpoint))) (serving_sends start past sent);
     }

@@ -10,7 +10,6 @@ use Rattle.endpoint_link.specs.Admission.{may_travel}
 use Rattle.endpoint_link.specs.declared.kinds.FrameKind.TheVariants as kind
 use Rattle.endpoint_link.specs.Numbering.{among}
 use Rattle.fidl_names.specs.HandleNumber.{is_client}
-use Rattle.conn_rules.specs.Built.{Built}
 use Rattle.vfs_journal.specs.Entries.{Sent, Journal, message, hang_up, handles_of, serves}
 use Rattle.vfs_journal.specs.History.{History, all_sent, is_used, was_carried}
 use Rattle.vfs_journal.specs.Lawful.{Lawful, begun, refused, sent, closed, served}
@@ -136,51 +135,51 @@ held_by start history n high may = by_side (or_cases (is_client n && not (is_use
   by_side (inr h) = let parts = and_parts (was_given history n) (not (was_carried history n)) h in record { was = parts.0; uncarried = not-true (was_carried history n) parts.1 }
 
 -- behind a serving, and what goes on behind it
-served_given : Below → (built : Built) (start : Start) (earlier : Journal) (entry : Sent) → IsStart start → Lawful built start earlier → head start (history_of built start earlier) entry.endpoint ≡ Some entry → AreGiven (history_of built start earlier) →
-    AreGiven (history_of built start (serves entry ∷ earlier))
+served_given : Below → (start : Start) (earlier : Journal) (entry : Sent) → IsStart start → Lawful start earlier → head start (history_of start earlier) entry.endpoint ≡ Some entry → AreGiven (history_of start earlier) →
+    AreGiven (history_of start (serves entry ∷ earlier))
 unfolding history_of event_of
-served_given below built start earlier entry s h is given =
-    let past = history_of built start earlier in
-    let mid = behind built start (serves entry) past in
-    let now = servings_take_effect built start past entry in
-    let serving' = is_serving below built start earlier entry s (stepped built start earlier h) (lawful_kept below built start s earlier h).sound is in
+served_given below start earlier entry s h is given =
+    let past = history_of start earlier in
+    let mid = behind start (serves entry) past in
+    let now = servings_take_effect start past entry in
+    let serving' = is_serving below start earlier entry s (stepped start earlier h) (lawful_kept below start s earlier h).sound is in
     of_lists mid
-    (same_lists (all_given past ++ option_to_list (outcome_of built start past entry).token) (all_given mid) (all_sent past) (all_sent mid) now.tokens now.sent_same
-    (more_given (all_given past) (all_sent past) (outcome_of built start past entry).token (λ new e. next_is_length past new.token (serving'.parts.token_next new e)) (lists_of past given)))
+    (same_lists (all_given past ++ option_to_list (outcome_of start past entry).token) (all_given mid) (all_sent past) (all_sent mid) now.tokens now.sent_same
+    (more_given (all_given past) (all_sent past) (outcome_of start past entry).token (λ new e. next_is_length past new.token (serving'.parts.token_next new e)) (lists_of past given)))
 
-onward_given : Below → (built : Built) (start : Start) (earlier : Journal) (entry : Sent) → IsStart start → Lawful built start earlier → head start (history_of built start earlier) entry.endpoint ≡ Some entry → AreGiven (history_of built start (serves entry ∷ earlier)) →
-    (o : Option Forwarded) → (outcome_of built start (history_of built start earlier) entry).forward ≡ o → AreGiven (history_of built start (with_forward entry.place (serves entry ∷ earlier) o))
+onward_given : Below → (start : Start) (earlier : Journal) (entry : Sent) → IsStart start → Lawful start earlier → head start (history_of start earlier) entry.endpoint ≡ Some entry → AreGiven (history_of start (serves entry ∷ earlier)) →
+    (o : Option Forwarded) → (outcome_of start (history_of start earlier) entry).forward ≡ o → AreGiven (history_of start (with_forward entry.place (serves entry ∷ earlier) o))
 unfolding history_of
-onward_given below built start earlier entry s h is given None e = given
-onward_given below built start earlier entry s h is given (Some f) e =
-    let mid = history_of built start (serves entry ∷ earlier) in
+onward_given below start earlier entry s h is given None e = given
+onward_given below start earlier entry s h is given (Some f) e =
+    let mid = history_of start (serves entry ∷ earlier) in
     let new = sent_behind (serves entry ∷ earlier) f.endpoint (message f.bytes (f.object ∷ [])) (Some entry.place) in
-    let now = sendings_wait_last built start mid new in
-    let serving' = is_serving below built start earlier entry s (stepped built start earlier h) (lawful_kept below built start s earlier h).sound is in
+    let now = sendings_wait_last start mid new in
+    let serving' = is_serving below start earlier entry s (stepped start earlier h) (lawful_kept below start s earlier h).sound is in
     let low = client_low f.object (carried_is entry f.object (serving'.answered.goes_on f e).0).0 in
     of_lists _ (same_lists (all_given mid) _ (all_sent mid ++ new ∷ []) _ now.same.tokens now.sent_last
     (more_sent (all_given mid) (all_sent mid) new (λ n high c. absurd (let at = one_handle n f.object c in omega (arith, low, high, at))) (lists_of mid given)))
 
-pub lawful_given : Below → (built : Built) (start : Start) → IsStart start → (journal : Journal) → Lawful built start journal → AreGiven (history_of built start journal)
+pub lawful_given : Below → (start : Start) → IsStart start → (journal : Journal) → Lawful start journal → AreGiven (history_of start journal)
 unfolding history_of
-lawful_given below built start s journal begun = begun_given
-lawful_given below built start s journal (refused earlier frame why h is admits) =
-    let past = history_of built start earlier in
-    let now = refusals_change_nothing built start past frame.endpoint why in
-    of_lists _ (same_lists (all_given past) _ (all_sent past) _ now.same.tokens now.sent (lists_of past (lawful_given below built start s earlier h)))
-lawful_given below built start s journal (sent earlier frame h is at admits) =
-    let past = history_of built start earlier in
+lawful_given below start s journal begun = begun_given
+lawful_given below start s journal (refused earlier frame why h is admits) =
+    let past = history_of start earlier in
+    let now = refusals_change_nothing start past frame.endpoint why in
+    of_lists _ (same_lists (all_given past) _ (all_sent past) _ now.same.tokens now.sent (lists_of past (lawful_given below start s earlier h)))
+lawful_given below start s journal (sent earlier frame h is at admits) =
+    let past = history_of start earlier in
     let new = sent_behind earlier frame.endpoint (message frame.bytes frame.handles) None in
-    let now = sendings_wait_last built start past new in
+    let now = sendings_wait_last start past new in
     let admitted = message_admitted start past frame.endpoint frame.handles (refusal_of (look_ups start past) frame kind.Message at admits) in
     of_lists _ (same_lists (all_given past) _ (all_sent past ++ new ∷ []) _ now.same.tokens now.sent_last
-    (more_sent (all_given past) (all_sent past) new (λ n high c. held_by start past n high (admitted.travel n c)) (lists_of past (lawful_given below built start s earlier h))))
-lawful_given below built start s journal (closed earlier frame h is at admits) =
-    let past = history_of built start earlier in
+    (more_sent (all_given past) (all_sent past) new (λ n high c. held_by start past n high (admitted.travel n c)) (lists_of past (lawful_given below start s earlier h))))
+lawful_given below start s journal (closed earlier frame h is at admits) =
+    let past = history_of start earlier in
     let new = sent_behind earlier frame.endpoint hang_up None in
-    let now = sendings_wait_last built start past new in
+    let now = sendings_wait_last start past new in
     of_lists _ (same_lists (all_given past) _ (all_sent past ++ new ∷ []) _ now.same.tokens now.sent_last
-    (more_sent (all_given past) (all_sent past) new (λ n high c. absurd (true≢false (sym c))) (lists_of past (lawful_given below built start s earlier h))))
-lawful_given below built start s journal (served earlier entry h is) =
-    onward_given below built start earlier entry s h is (served_given below built start earlier entry s h is (lawful_given below built start s earlier h))
-    (outcome_of built start (history_of built start earlier) entry).forward refl
+    (more_sent (all_given past) (all_sent past) new (λ n high c. absurd (true≢false (sym c))) (lists_of past (lawful_given below start s earlier h))))
+lawful_given below start s journal (served earlier entry h is) =
+    onward_given below start earlier entry s h is (served_given below start earlier entry s h is (lawful_given below start s earlier h))
+    (outcome_of start (history_of start earlier) entry).forward refl

@@ -3,7 +3,6 @@ use Rattle.std.proofs.Common.{◌≡◌, ℕ, ◌<◌, ◌==◌, ◌⊎◌, true
 use Rattle.std.proofs.lemmas.Bool.{eqb-true}
 use Rattle.fidl_names.specs.HandleNumber.{is_client}
 use Rattle.endpoint_link.specs.Numbering.{among}
-use Rattle.conn_rules.specs.Built.{Built}
 use Rattle.vfs_journal.specs.Deaths.{deaths_of}
 use Rattle.vfs_journal.specs.Entries.{Sent, Journal, endpoints_in}
 use Rattle.vfs_journal.specs.History.{History, all_sent, living, is_used}
@@ -32,17 +31,17 @@ reached_by : {A : Type 0} (n : ℕ) → A ⊎ nothing_left n → A
 reached_by n (inl h) = h
 reached_by n (inr left) = absurd left
 
-pub in_transit : Below → (built : Built) (start : Start) (journal : Journal) → IsStart start → Lawful built start journal → AreInTransit start (history_of built start journal)
-in_transit below built start journal s h =
-    let history = history_of built start journal in
-    let kept = lawful_kept below built start s journal h in
-    let is = is_view built start journal (stepped built start journal h) in
+pub in_transit : Below → (start : Start) (journal : Journal) → IsStart start → Lawful start journal → AreInTransit start (history_of start journal)
+in_transit below start journal s h =
+    let history = history_of start journal in
+    let kept = lawful_kept below start s journal h in
+    let is = is_view start journal (stepped start journal h) in
     record {
       once = λ one other n c d. kept.transit.once one other n c.0 d.0 c.1 d.1;
       unbound = λ one n c. kept.transit.unbound one n c.0 c.1;
       alive = λ one n c. kept.transit.alive one n c.0 c.1;
       reached = λ one p. reached_by one.endpoint (kept.transit.reached one p);
-      apart = travelling_apart built start journal h is kept.transit;
+      apart = travelling_apart start journal h is kept.transit;
       before = λ one other c q. before_by start history one other s kept.sound (is.waits one c.0) (is.waits other q) c.1 one.origin refl (kept.sound.right one (is.waits one c.0)).by_origin;
     }
 
@@ -58,27 +57,27 @@ bound_by : (start : Start) (history : History) (n : ℕ) (b : Bound) → b.endpo
 bound_by start history n b e (inl h) = inl (subst (Contains (mount_ends start)) e (end_among b start.mounts h))
 bound_by start history n b e (inr h) = inr (ap is_client (sym e) ∙ h.0, ap (is_used start history) (sym e) ∙ h.1)
 
-pub are_known : Below → (built : Built) (start : Start) (journal : Journal) → IsStart start → Lawful built start journal → AreKnown start (history_of built start journal)
-are_known below built start journal s h =
-    let history = history_of built start journal in
-    let kept = lawful_kept below built start s journal h in
-    let is = is_view built start journal (stepped built start journal h) in
+pub are_known : Below → (start : Start) (journal : Journal) → IsStart start → Lawful start journal → AreKnown start (history_of start journal)
+are_known below start journal s h =
+    let history = history_of start journal in
+    let kept = lawful_kept below start s journal h in
+    let is = is_view start journal (stepped start journal h) in
     record {
       dead = λ n d. kept.sound.dead n d;
       bound = λ n yes.
           let b = some_found (λ bound. bound.endpoint == n) (living start history) yes in
           bound_by start history n b.0 (eqb-true b.0.endpoint n b.3) (kept.sound.born b.0 (is.living_born b.0 b.2).0);
       ends = λ n c. end_lives start (view start history) n s kept.sound is (mounts_born start history) c;
-      apart = births_apart below built start s s.apart journal h;
+      apart = births_apart below start s s.apart journal h;
       tokens = λ given c. kept.sound.tokens given c;
     }
 
-pub deaths_reach_all : Below → (built : Built) (start : Start) (journal : Journal) (sent : Sent) → IsStart start → Lawful built start journal → head start (history_of built start journal) sent.endpoint ≡ Some sent →
-    DieTogether (history_of built start journal) sent (deaths_of (history_of built start journal) sent (outcome_of built start (history_of built start journal) sent))
-deaths_reach_all below built start journal sent s h first =
-    let history = history_of built start journal in
-    let steps = stepped built start journal h in
-    let kept = lawful_kept below built start s journal h in
-    let is = is_view built start journal steps in
-    let answered = (is_serving below built start journal sent s steps kept.sound first).answered in
-    λ other n p dead c. deaths_closed start (view start history) sent (outcome_of built start history sent) s kept.sound is answered other p dead n c
+pub deaths_reach_all : Below → (start : Start) (journal : Journal) (sent : Sent) → IsStart start → Lawful start journal → head start (history_of start journal) sent.endpoint ≡ Some sent →
+    DieTogether (history_of start journal) sent (deaths_of (history_of start journal) sent (outcome_of start (history_of start journal) sent))
+deaths_reach_all below start journal sent s h first =
+    let history = history_of start journal in
+    let steps = stepped start journal h in
+    let kept = lawful_kept below start s journal h in
+    let is = is_view start journal steps in
+    let answered = (is_serving below start journal sent s steps kept.sound first).answered in
+    λ other n p dead c. deaths_closed start (view start history) sent (outcome_of start history sent) s kept.sound is answered other p dead n c

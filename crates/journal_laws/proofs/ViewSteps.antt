@@ -8,7 +8,6 @@ use Rattle.std.proofs.lemmas.List.Elements.{filter-append, filter_agree}
 use Rattle.endpoint_link.specs.declared.kinds.Refusal.{Refusal}
 use Rattle.endpoint_link.specs.Numbering.{among}
 use Rattle.conn_rules.specs.Births.{Position, fresh}
-use Rattle.conn_rules.specs.Built.{Built}
 use Rattle.vfs_journal.specs.Entries.{Sent, sends, serves, refuses, handles_of}
 use Rattle.vfs_journal.specs.History.{History, living, position_of, waiting, was_carried, trees_of, changed, is_dead, binds_endpoint}
 use Rattle.journal_laws.specs.Laws.{but_for, newly_living}
@@ -28,17 +27,17 @@ one_more x xs = omega arith
 
 -- ---- a refusal
 
-pub refused_viewed : (built : Built) (start : Start) (past : History) (endpoint : ℕ) (why : Refusal) →
-    view_of built start (behind built start (refuses endpoint why) past) ≡ refusing_in (view_of built start past)
+pub refused_viewed : (start : Start) (past : History) (endpoint : ℕ) (why : Refusal) →
+    view_of start (behind start (refuses endpoint why) past) ≡ refusing_in (view_of start past)
 unfolding event_of
-refused_viewed built start past endpoint why =
-    let h = refusals_change_nothing built start past endpoint why in
+refused_viewed start past endpoint why =
+    let h = refusals_change_nothing start past endpoint why in
     let alive = h.same.alive in
     let queue = h.queue in
     let trees = h.same.trees in
     let given = h.same.tokens in
     let sent = h.sent in
-    let more = one_more (event_of built start past (refuses endpoint why)) past in
+    let more = one_more (event_of start past (refuses endpoint why)) past in
     λ i. record {
       living = map (with_position past) (alive i);
       waiting = queue i;
@@ -46,7 +45,6 @@ refused_viewed built start past endpoint why =
       given = given i;
       held = filter (λ one. not (list_any (λ other. among one.token (handles_of other.sending)) (sent i))) (given i);
       places = more i;
-      built = built;
     }
 
 -- ---- a sending
@@ -55,25 +53,25 @@ not_or : (a b : Bool) → not (a || b) ≡ (not a && not b)
 not_or true b = refl
 not_or false b = refl
 
-still_held : (built : Built) (start : Start) (past : History) (sent : Sent) (given : List Given) →
-    filter (λ one. not (was_carried (behind built start (sends sent) past) one.token)) given
+still_held : (start : Start) (past : History) (sent : Sent) (given : List Given) →
+    filter (λ one. not (was_carried (behind start (sends sent) past) one.token)) given
     ≡ filter (λ one. not (among one.token (handles_of sent.sending))) (filter (λ one. not (was_carried past one.token)) given)
-still_held built start past sent given =
-    filter_agree (λ one. not (was_carried (behind built start (sends sent) past) one.token)) (λ one. not (was_carried past one.token) && not (among one.token (handles_of sent.sending)))
-    (λ one. ap not ((sendings_wait_last built start past sent).carried one.token) ∙ not_or (was_carried past one.token) (among one.token (handles_of sent.sending))) given
+still_held start past sent given =
+    filter_agree (λ one. not (was_carried (behind start (sends sent) past) one.token)) (λ one. not (was_carried past one.token) && not (among one.token (handles_of sent.sending)))
+    (λ one. ap not ((sendings_wait_last start past sent).carried one.token) ∙ not_or (was_carried past one.token) (among one.token (handles_of sent.sending))) given
     ∙ sym (filter-filter (λ one. not (among one.token (handles_of sent.sending))) (λ one. not (was_carried past one.token)) given)
 
-pub sent_viewed : (built : Built) (start : Start) (past : History) (sent : Sent) → waiting (behind built start (sends sent) past) ≡ waiting past ++ sent ∷ [] →
-    view_of built start (behind built start (sends sent) past) ≡ sending_in (view_of built start past) sent
+pub sent_viewed : (start : Start) (past : History) (sent : Sent) → waiting (behind start (sends sent) past) ≡ waiting past ++ sent ∷ [] →
+    view_of start (behind start (sends sent) past) ≡ sending_in (view_of start past) sent
 unfolding event_of
-sent_viewed built start past sent queue =
-    let now = behind built start (sends sent) past in
-    let h = sendings_wait_last built start past sent in
+sent_viewed start past sent queue =
+    let now = behind start (sends sent) past in
+    let h = sendings_wait_last start past sent in
     let alive = h.same.alive in
     let trees = h.same.trees in
     let given = h.same.tokens in
-    let held = ap (filter (λ (one : Given). not (was_carried now one.token))) h.same.tokens ∙ still_held built start past sent (all_given past) in
-    let more = one_more (event_of built start past (sends sent)) past in
+    let held = ap (filter (λ (one : Given). not (was_carried now one.token))) h.same.tokens ∙ still_held start past sent (all_given past) in
+    let more = one_more (event_of start past (sends sent)) past in
     λ i. record {
       living = map (with_position past) (alive i);
       waiting = queue i;
@@ -81,7 +79,6 @@ sent_viewed built start past sent queue =
       given = given i;
       held = held i;
       places = more i;
-      built = built;
     }
 
 -- ---- a serving
@@ -121,27 +118,27 @@ position_by : (b : Bound) (k : ℕ) (at was : Position) (binds serves' : Bool) �
 position_by b k at was true serves' e same = absurd (cc)
 position_by b k at was false serves' e same = ap (λ (t : Bool). let pair : Bound × Position = (b, if t then at else was) in pair) same ∙ moved_by (b.endpoint == k) b at was
 
-lived_on : (built : Built) (start : Start) (past : History) (sent : Sent) → BringsNew start past (outcome_of built start past sent) → (b : Bound) → Contains (living start past) b →
-    with_position (behind built start (serves sent) past) b ≡ moved sent.endpoint (outcome_of built start past sent).position (with_position past b)
+lived_on : (start : Start) (past : History) (sent : Sent) → BringsNew start past (outcome_of start past sent) → (b : Bound) → Contains (living start past) b →
+    with_position (behind start (serves sent) past) b ≡ moved sent.endpoint (outcome_of start past sent).position (with_position past b)
 unfolding event_of
-lived_on built start past sent new b lives =
-    let o = outcome_of built start past sent in
-    position_by b sent.endpoint o.position (position_of past b.endpoint) (binds_endpoint b.endpoint (event_of built start past (serves sent))) (sent.endpoint == b.endpoint)
+lived_on start past sent new b lives =
+    let o = outcome_of start past sent in
+    position_by b sent.endpoint o.position (position_of past b.endpoint) (binds_endpoint b.endpoint (event_of start past (serves sent))) (sent.endpoint == b.endpoint)
     (binds_none o.bound b.endpoint (λ x e. new.unbound x e b lives))
     (eqb_sym sent.endpoint b.endpoint)
 
-still_lives : (built : Built) (start : Start) (past : History) (sent : Sent) → BringsNew start past (outcome_of built start past sent) →
-    let now = behind built start (serves sent) past in
-    let event = event_of built start past (serves sent) in
+still_lives : (start : Start) (past : History) (sent : Sent) → BringsNew start past (outcome_of start past sent) →
+    let now = behind start (serves sent) past in
+    let event = event_of start past (serves sent) in
     map (with_position now) (but_for event.deaths (living start past))
     ≡ filter (λ pair. not (among pair.0.endpoint event.deaths)) (map (moved sent.endpoint event.outcome.position) (map (with_position past) (living start past)))
 unfolding event_of
-still_lives built start past sent new =
-    let now = behind built start (serves sent) past in
-    let event = event_of built start past (serves sent) in
+still_lives start past sent new =
+    let now = behind start (serves sent) past in
+    let event = event_of start past (serves sent) in
     map_filter (with_position now) (λ bound. not (among bound.endpoint event.deaths)) (λ pair. not (among pair.0.endpoint event.deaths)) (living start past) (λ b. refl)
     ∙ ap (filter (λ (pair : Bound × Position). not (among pair.0.endpoint event.deaths)))
-    (map_members (with_position now) (moved sent.endpoint event.outcome.position) (with_position past) (living start past) (λ b p. lived_on built start past sent new b p))
+    (map_members (with_position now) (moved sent.endpoint event.outcome.position) (with_position past) (living start past) (λ b p. lived_on start past sent new b p))
 
 -- what is bound begins at its beginning
 new_by : (now : History) (deaths : List ℕ) (dead : ℕ → Bool) (o : Option Bound) → ((new : Bound) → o ≡ Some new → (dead new.endpoint ≡ among new.endpoint deaths) × (position_of now new.endpoint ≡ fresh)) →
@@ -170,15 +167,15 @@ or_false : (a b : Bool) → b ≡ false → (a || b) ≡ a
 or_false true b e = refl
 or_false false b e = e
 
-new_lives : (built : Built) (start : Start) (past : History) (sent : Sent) → BringsNew start past (outcome_of built start past sent) →
-    let now = behind built start (serves sent) past in
-    let event = event_of built start past (serves sent) in
+new_lives : (start : Start) (past : History) (sent : Sent) → BringsNew start past (outcome_of start past sent) →
+    let now = behind start (serves sent) past in
+    let event = event_of start past (serves sent) in
     map (with_position now) (newly_living now event.outcome.bound)
     ≡ filter (λ pair. not (among pair.0.endpoint event.deaths)) (map (λ (bound : Bound). (bound, fresh)) (option_to_list event.outcome.bound))
 unfolding event_of
-new_lives built start past sent new =
-    let now = behind built start (serves sent) past in
-    let event = event_of built start past (serves sent) in
+new_lives start past sent new =
+    let now = behind start (serves sent) past in
+    let event = event_of start past (serves sent) in
     new_by now event.deaths (is_dead now) event.outcome.bound
     (λ x e. (
       or_false (among x.endpoint event.deaths) (is_dead past x.endpoint) (new.alive x e),
@@ -195,18 +192,18 @@ given_held carried given o is =
       by_token None h = refl
       by_token (Some one) h = ap (λ (b : Bool). cond (not b) (one ∷ []) []) (h one refl)
 
-pub served_viewed : (built : Built) (start : Start) (past : History) (sent : Sent) → BringsNew start past (outcome_of built start past sent) →
-    view_of built start (behind built start (serves sent) past) ≡ serving_in (view_of built start past) sent (event_of built start past (serves sent))
+pub served_viewed : (start : Start) (past : History) (sent : Sent) → BringsNew start past (outcome_of start past sent) →
+    view_of start (behind start (serves sent) past) ≡ serving_in (view_of start past) sent (event_of start past (serves sent))
 unfolding event_of
-served_viewed built start past sent new =
-    let now = behind built start (serves sent) past in
-    let event = event_of built start past (serves sent) in
-    let h = servings_take_effect built start past sent in
+served_viewed start past sent new =
+    let now = behind start (serves sent) past in
+    let event = event_of start past (serves sent) in
+    let h = servings_take_effect start past sent in
     let lives =
     ap (map (with_position now)) h.alive
     ∙ map-append (with_position now) (but_for event.deaths (living start past)) (newly_living now event.outcome.bound)
-    ∙ ap (λ (pairs : List (Bound × Position)). pairs ++ map (with_position now) (newly_living now event.outcome.bound)) (still_lives built start past sent new)
-    ∙ ap (λ (pairs : List (Bound × Position)). filter (λ pair. not (among pair.0.endpoint event.deaths)) (map (moved sent.endpoint event.outcome.position) (map (with_position past) (living start past))) ++ pairs) (new_lives built start past sent new)
+    ∙ ap (λ (pairs : List (Bound × Position)). pairs ++ map (with_position now) (newly_living now event.outcome.bound)) (still_lives start past sent new)
+    ∙ ap (λ (pairs : List (Bound × Position)). filter (λ pair. not (among pair.0.endpoint event.deaths)) (map (moved sent.endpoint event.outcome.position) (map (with_position past) (living start past))) ++ pairs) (new_lives start past sent new)
     ∙ sym (filter-append (λ (pair : Bound × Position). not (among pair.0.endpoint event.deaths)) (map (moved sent.endpoint event.outcome.position) (map (with_position past) (living start past))) (map (λ (bound : Bound). (bound, fresh)) (option_to_list event.outcome.bound))) in
     let queue = h.queue in
     let given = h.tokens in
@@ -222,11 +219,10 @@ served_viewed built start past sent new =
       given = given i;
       held = held i;
       places = more i;
-      built = built;
     }
 
 -- and so by the view alone
-pub served_in_view : (built : Built) (start : Start) (past : History) (sent : Sent) → BringsNew start past (outcome_of built start past sent) →
-    view_of built start (behind built start (serves sent) past) ≡ serving_in (view_of built start past) sent (event_in (view_of built start past) sent)
-served_in_view built start past sent new =
-    served_viewed built start past sent new ∙ ap (serving_in (view_of built start past) sent) (event_is built start past sent)
+pub served_in_view : (start : Start) (past : History) (sent : Sent) → BringsNew start past (outcome_of start past sent) →
+    view_of start (behind start (serves sent) past) ≡ serving_in (view_of start past) sent (event_in (view_of start past) sent)
+served_in_view start past sent new =
+    served_viewed start past sent new ∙ ap (serving_in (view_of start past) sent) (event_is start past sent)

@@ -10,7 +10,6 @@ use Rattle.node_graph.specs.declared.nodes.NodeKind.{NodeKind}
 use Rattle.node_graph.specs.declared.nodes.NodeKind.TheVariants.{Directory, File, Service, Mount}
 use Rattle.node_graph.specs.Tree.{Tree, NodeRow, Change, make, add, cut, move, fill, stay, after, filled, bare_tree, row_of}
 use Rattle.tree_file.specs.Numbering.{end_of_mount}
-use Rattle.conn_rules.specs.Built.{Built}
 use Rattle.conn_rules.specs.Nodes.{kind_here}
 use Rattle.vfs_journal.specs.Deaths.{others}
 use Rattle.vfs_journal.specs.Entries.{Sent, Journal, sends, serves, refuses}
@@ -34,23 +33,23 @@ alive_of : (b : Bool) → not b ≡ true → b ≡ false
 alive_of true h = sym h
 alive_of false h = refl
 
-pub is_view : (built : Built) (start : Start) (journal : Journal) → Stepped built start journal → IsView (view start (history_of built start journal))
-is_view built start journal h =
-    let history = history_of built start journal in
+pub is_view : (start : Start) (journal : Journal) → Stepped start journal → IsView (view start (history_of start journal))
+is_view start journal h =
+    let history = history_of start journal in
     record {
       waits = λ one p. waits_of_sent history one p;
-      rises = waiting_rises built start journal h;
+      rises = waiting_rises start journal h;
       living_born = λ b p. let at = kept_of (λ bound. not (is_dead history bound.endpoint)) (births start history) b p in (at.0, alive_of (is_dead history b.endpoint) at.1);
       born_living = λ b p e. kept (λ bound. not (is_dead history bound.endpoint)) (births start history) b p (ap not e);
     }
 
 -- ---- a refusal
 
-pub refused_view : (built : Built) (start : Start) (past : History) (endpoint : ℕ) (why : Refusal) → view start past ≡ view start (behind built start (refuses endpoint why) past)
+pub refused_view : (start : Start) (past : History) (endpoint : ℕ) (why : Refusal) → view start past ≡ view start (behind start (refuses endpoint why) past)
 unfolding event_of
-refused_view built start past endpoint why =
-    let now = behind built start (refuses endpoint why) past in
-    let h = refusals_change_nothing built start past endpoint why in
+refused_view start past endpoint why =
+    let now = behind start (refuses endpoint why) past in
+    let h = refusals_change_nothing start past endpoint why in
     let step : List Sent → List Sent → List Bound → List Bound → List Given → List Tree → View =
     λ s w l b g t. record { sent = s; waiting = w; living = l; births = b; given = g; trees = t; dead = is_dead past } in
     ap (λ s. step s (waiting past) (living start past) (births start past) (all_given past) (trees_of start past)) (sym h.sent)
@@ -62,12 +61,12 @@ refused_view built start past endpoint why =
 
 -- ---- a sending
 
-pub sent_view : (built : Built) (start : Start) (past : History) (new : Sent) → Adds (view start past) new (view start (behind built start (sends new) past))
-sent_view built start past new =
-    let h = sendings_wait_last built start past new in
+pub sent_view : (start : Start) (past : History) (new : Sent) → Adds (view start past) new (view start (behind start (sends new) past))
+sent_view start past new =
+    let h = sendings_wait_last start past new in
     record {
       sent = h.sent_last;
-      waited = λ one p. waited_or_sent built start past new one p;
+      waited = λ one p. waited_or_sent start past new one p;
       still = λ one p. subst (λ ones. Contains ones one) (sym h.queue) (Contains-append_left (waiting past) (if waits past new then new ∷ [] else []) one p);
       living = h.same.alive;
       births = h.same.born;
@@ -77,25 +76,25 @@ sent_view built start past new =
     }
 
 -- it waits, where it wasn't served and its endpoint isn't dead
-pub new_waits : (built : Built) (start : Start) (past : History) (new : Sent) → was_served past new ≡ false → is_dead past new.endpoint ≡ false → Contains (waiting (behind built start (sends new) past)) new
-new_waits built start past new unserved alive =
+pub new_waits : (start : Start) (past : History) (new : Sent) → was_served past new ≡ false → is_dead past new.endpoint ≡ false → Contains (waiting (behind start (sends new) past)) new
+new_waits start past new unserved alive =
     let it_waits : waits past new ≡ true = ap (λ (b : Bool). not b && not (is_dead past new.endpoint)) unserved ∙ ap not alive in
-    subst (λ ones. Contains ones new) (sym (sendings_wait_last built start past new).queue)
+    subst (λ ones. Contains ones new) (sym (sendings_wait_last start past new).queue)
     (Contains-append_right (waiting past) (if waits past new then new ∷ [] else []) new
     (subst (λ (b : Bool). Contains (if b then new ∷ [] else []) new) (sym it_waits) (contains_here new [])))
 
 -- nothing was served that is sent at the next place
-pub fresh_unserved : (built : Built) (start : Start) (journal : Journal) (one : Sent) → Stepped built start journal → length journal ≤ one.place → was_served (history_of built start journal) one ≡ false
+pub fresh_unserved : (start : Start) (journal : Journal) (one : Sent) → Stepped start journal → length journal ≤ one.place → was_served (history_of start journal) one ≡ false
 unfolding history_of event_of
-fresh_unserved built start journal one none h = refl
-fresh_unserved built start journal one (refusing earlier endpoint why s) h = fresh_unserved built start earlier one s (omega arith)
-fresh_unserved built start journal one (sending earlier new s at) h = fresh_unserved built start earlier one s (omega arith)
-fresh_unserved built start journal one (serving earlier new s is) h =
-    let first = head_is start (history_of built start earlier) new is in
+fresh_unserved start journal one none h = refl
+fresh_unserved start journal one (refusing earlier endpoint why s) h = fresh_unserved start earlier one s (omega arith)
+fresh_unserved start journal one (sending earlier new s at) h = fresh_unserved start earlier one s (omega arith)
+fresh_unserved start journal one (serving earlier new s is) h =
+    let first = head_is start (history_of start earlier) new is in
     let below : new.place < length earlier =
-    All-contains (λ (sent : Sent). sent.place < length earlier) (all_sent (history_of built start earlier)) new (in_order built start earlier s).below (waits_of_sent (history_of built start earlier) new first.waits) in
-    or_from (new.place == one.place) (was_served (history_of built start earlier) one) (ne_eqb new.place one.place (λ e. omega arith))
-    (fresh_unserved built start earlier one s (omega arith))
+    All-contains (λ (sent : Sent). sent.place < length earlier) (all_sent (history_of start earlier)) new (in_order start earlier s).below (waits_of_sent (history_of start earlier) new first.waits) in
+    or_from (new.place == one.place) (was_served (history_of start earlier) one) (ne_eqb new.place one.place (λ e. omega arith))
+    (fresh_unserved start earlier one s (omega arith))
 
 -- ---- mounts of trees
 
@@ -179,17 +178,17 @@ lived_by start past now deaths o b e h = by_side (Contains-append_cases (but_for
   by_side (inl h) = inl (kept_of (λ bound. not (among bound.endpoint deaths)) (living start past) b h).0
   by_side (inr h) = inr (given_one o b (kept_of (λ bound. not (is_dead now bound.endpoint)) (option_to_list o) b h).0)
 
-pub served_view : (built : Built) (start : Start) (past : History) (k : Sent) → KeepsMounts (outcome_of built start past k).change →
-    Serves start (view start past) k (outcome_of built start past k) (view start (behind built start (serves k) past))
+pub served_view : (start : Start) (past : History) (k : Sent) → KeepsMounts (outcome_of start past k).change →
+    Serves start (view start past) k (outcome_of start past k) (view start (behind start (serves k) past))
 unfolding event_of
-served_view built start past k keeps =
-    let o = outcome_of built start past k in
-    let now = behind built start (serves k) past in
+served_view start past k keeps =
+    let o = outcome_of start past k in
+    let now = behind start (serves k) past in
     let deaths = dying (waiting past) k o in
-    let h = servings_take_effect built start past k in
+    let h = servings_take_effect start past k in
     record {
       sent = h.sent_same;
-      waited = λ one p. waited built start past k one p;
+      waited = λ one p. waited start past k one p;
       still = λ one p apart alive.
           subst (λ ones. Contains ones one) (sym h.queue)
           (kept (λ other. not (among other.endpoint deaths)) (others past k) one (is_other (waiting past) k one p apart) (ap not alive));

@@ -14,7 +14,6 @@ use Rattle.endpoint_link.specs.declared.kinds.Refusal.{Refusal}
 use Rattle.endpoint_link.specs.declared.kinds.Refusal.TheVariants as refusal
 use Rattle.endpoint_link.specs.Frames.{Frame}
 use Rattle.endpoint_link.specs.Numbering.{among}
-use Rattle.conn_rules.specs.Built.{Built}
 use Rattle.vfs_journal.specs.Deaths.{others}
 use Rattle.vfs_journal.specs.Entries.{Sent, Journal, message, hang_up, sends, serves}
 use Rattle.vfs_journal.specs.Fit.{IsFit}
@@ -110,50 +109,50 @@ at_most_one : {X : Type 0} (b : Bool) (x : X) → length (if b then x ∷ [] els
 at_most_one true x = omega arith
 at_most_one false x = omega arith
 
-sent_longer : (built : Built) (start : Start) (past : History) (one : Sent) → length (waiting (behind built start (sends one) past)) ≤ length (waiting past) + 1
-sent_longer built start past one =
-    let queue = ap length (sendings_wait_last built start past one).queue in
+sent_longer : (start : Start) (past : History) (one : Sent) → length (waiting (behind start (sends one) past)) ≤ length (waiting past) + 1
+sent_longer start past one =
+    let queue = ap length (sendings_wait_last start past one).queue in
     let more = length-append (waiting past) (if waits past one then one ∷ [] else []) in
     let few = at_most_one (waits past one) one in
     omega (arith, queue, more, few)
 
 -- behind a serving one less waits
-served_shorter : (built : Built) (start : Start) (journal : Journal) (one : Sent) → Lawful built start journal → head start (history_of built start journal) one.endpoint ≡ Some one →
-    length (waiting (behind built start (serves one) (history_of built start journal))) + 1 ≤ length (waiting (history_of built start journal))
-served_shorter built start journal one h first =
-    let past = history_of built start journal in
-    let event = event_of built start past (serves one) in
-    let queue = ap length (servings_take_effect built start past one).queue in
+served_shorter : (start : Start) (journal : Journal) (one : Sent) → Lawful start journal → head start (history_of start journal) one.endpoint ≡ Some one →
+    length (waiting (behind start (serves one) (history_of start journal))) + 1 ≤ length (waiting (history_of start journal))
+served_shorter start journal one h first =
+    let past = history_of start journal in
+    let event = event_of start past (serves one) in
+    let queue = ap length (servings_take_effect start past one).queue in
     let few = length-filter (λ (other : Sent). not (among other.endpoint event.deaths)) (others past one) in
     let most = count_by-le-length (λ (other : Sent). not (among other.endpoint event.deaths)) (others past one) in
-    let there = (is_first (view_behind built start journal) one (sym (head_is_in built start past one.endpoint) ∙ first)).waits in
-    let less = one_less one (waiting past) (waiting_rises built start journal (stepped built start journal h)) there in
+    let there = (is_first (view_behind start journal) one (sym (head_is_in start past one.endpoint) ∙ first)).waits in
+    let less = one_less one (waiting past) (waiting_rises start journal (stepped start journal h)) there in
     omega (arith, queue, few, most, less)
 
-onward_few : (built : Built) (start : Start) (journal : Journal) (origin : ℕ) (o : Option Forwarded) → length (waiting (history_of built start (with_forward origin journal o))) ≤ length (waiting (history_of built start journal)) + 1
+onward_few : (start : Start) (journal : Journal) (origin : ℕ) (o : Option Forwarded) → length (waiting (history_of start (with_forward origin journal o))) ≤ length (waiting (history_of start journal)) + 1
 unfolding history_of
-onward_few built start journal origin None = omega arith
-onward_few built start journal origin (Some f) = sent_longer built start (history_of built start journal) (sent_behind journal f.endpoint (message f.bytes (f.object ∷ [])) (Some origin))
+onward_few start journal origin None = omega arith
+onward_few start journal origin (Some f) = sent_longer start (history_of start journal) (sent_behind journal f.endpoint (message f.bytes (f.object ∷ [])) (Some origin))
 
-pub lawful_wait : (built : Built) (start : Start) (journal : Journal) → Lawful built start journal → length (waiting (history_of built start journal)) ≤ limit.MAX_WAITING
+pub lawful_wait : (start : Start) (journal : Journal) → Lawful start journal → length (waiting (history_of start journal)) ≤ limit.MAX_WAITING
 unfolding history_of
-lawful_wait built start journal lawful.begun = omega arith
-lawful_wait built start journal (lawful.refused earlier frame why h is admits) =
-    let rest = lawful_wait built start earlier h in
-    let same = ap length (refusals_change_nothing built start (history_of built start earlier) frame.endpoint why).queue in
+lawful_wait start journal lawful.begun = omega arith
+lawful_wait start journal (lawful.refused earlier frame why h is admits) =
+    let rest = lawful_wait start earlier h in
+    let same = ap length (refusals_change_nothing start (history_of start earlier) frame.endpoint why).queue in
     omega (arith, rest, same)
-lawful_wait built start journal (lawful.sent earlier frame h is at admits) =
-    let longer = sent_longer built start (history_of built start earlier) (sent_behind earlier frame.endpoint (message frame.bytes frame.handles) None) in
-    let past = history_of built start earlier in
+lawful_wait start journal (lawful.sent earlier frame h is at admits) =
+    let longer = sent_longer start (history_of start earlier) (sent_behind earlier frame.endpoint (message frame.bytes frame.handles) None) in
+    let past = history_of start earlier in
     let room = room_left start past (message_room (look_ups start past) frame.endpoint frame.handles (by_kind start past frame kind.Message at admits)) in
     omega (arith, longer, room)
-lawful_wait built start journal (lawful.closed earlier frame h is at admits) =
-    let longer = sent_longer built start (history_of built start earlier) (sent_behind earlier frame.endpoint hang_up None) in
-    let past = history_of built start earlier in
+lawful_wait start journal (lawful.closed earlier frame h is at admits) =
+    let longer = sent_longer start (history_of start earlier) (sent_behind earlier frame.endpoint hang_up None) in
+    let past = history_of start earlier in
     let room = room_left start past (close_room (look_ups start past) frame.endpoint frame.handles (by_kind start past frame kind.Close at admits)) in
     omega (arith, longer, room)
-lawful_wait built start journal (lawful.served earlier entry h is) =
-    let rest = lawful_wait built start earlier h in
-    let less = served_shorter built start earlier entry h is in
-    let more = onward_few built start (serves entry ∷ earlier) entry.place (outcome_of built start (history_of built start earlier) entry).forward in
+lawful_wait start journal (lawful.served earlier entry h is) =
+    let rest = lawful_wait start earlier h in
+    let less = served_shorter start earlier entry h is in
+    let more = onward_few start (serves entry ∷ earlier) entry.place (outcome_of start (history_of start earlier) entry).forward in
     omega (arith, rest, less, more)

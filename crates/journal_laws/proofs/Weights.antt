@@ -10,7 +10,6 @@ use Rattle.io_messages.specs.Asked as asks
 use Rattle.io_messages.specs.declared.protocols.Protocol.{Protocol}
 use Rattle.node_graph.specs.Tree.{Tree}
 use Rattle.path_walk.specs.Paths.{text_of, names_of}
-use Rattle.conn_rules.specs.Built.{Built}
 use Rattle.vfs_journal.specs.Deaths.{others}
 use Rattle.vfs_journal.specs.Entries.{Sent, Sending, Journal, message, hang_up, sends, serves}
 use Rattle.vfs_journal.specs.History.{History, waiting, waits}
@@ -83,10 +82,10 @@ others_weigh past k h =
     let own = member_weighs (filter (λ other. other.place == k.place) (waiting past)) k (kept (λ other. other.place == k.place) (waiting past) k h (eq-eqb k.place k.place refl)) in
     omega arith
 
-served_weighs : (built : Built) (start : Start) (past : History) (k : Sent) → Contains (waiting past) k → weight (behind built start (serves k) past) + weight_of k.sending ≤ weight past
-served_weighs built start past k h =
-    let queue = ap (sum_by heavy) (servings_take_effect built start past k).queue in
-    let left = filter_weighs (λ other. not (among other.endpoint (event_of built start past (serves k)).deaths)) (others past k) in
+served_weighs : (start : Start) (past : History) (k : Sent) → Contains (waiting past) k → weight (behind start (serves k) past) + weight_of k.sending ≤ weight past
+served_weighs start past k h =
+    let queue = ap (sum_by heavy) (servings_take_effect start past k).queue in
+    let left = filter_weighs (λ other. not (among other.endpoint (event_of start past (serves k)).deaths)) (others past k) in
     let rest = others_weigh past k h in
     omega arith
 
@@ -94,9 +93,9 @@ one_weighs : (new : Sent) (b : Bool) → sum_by heavy (if b then new ∷ [] else
 one_weighs new true = omega arith
 one_weighs new false = omega arith
 
-sent_weighs : (built : Built) (start : Start) (past : History) (new : Sent) → weight (behind built start (sends new) past) ≤ weight past + weight_of new.sending
-sent_weighs built start past new =
-    let queue = ap (sum_by heavy) (sendings_wait_last built start past new).queue in
+sent_weighs : (start : Start) (past : History) (new : Sent) → weight (behind start (sends new) past) ≤ weight past + weight_of new.sending
+sent_weighs start past new =
+    let queue = ap (sum_by heavy) (sendings_wait_last start past new).queue in
     let both = sum_by-append heavy (waiting past) (if waits past new then new ∷ [] else []) in
     let one = one_weighs new (waits past new) in
     omega arith
@@ -113,13 +112,13 @@ open_weighs below k tree p f on =
     ap weight_of on.sent
     ∙ ap weight_of_read (opens_directory below.spelled below.reads below.apart p on.bytes on.handles on.txid on.path on.word on.given f.object on.read)
 
-forward_weighs : Below → (built : Built) (start : Start) (journal : Journal) (k : Sent) (f : Forwarded) → IsStart start → Stepped built start journal → IsKept built start journal → head start (history_of built start journal) k.endpoint ≡ Some k →
-    (outcome_of built start (history_of built start journal) k).forward ≡ Some f → weight_of (message f.bytes (f.object ∷ [])) < weight_of k.sending
-forward_weighs below built start journal k f s steps past h e =
-    let history = history_of built start journal in
-    let serving' = is_serving below built start journal k s steps past.sound h in
+forward_weighs : Below → (start : Start) (journal : Journal) (k : Sent) (f : Forwarded) → IsStart start → Stepped start journal → IsKept start journal → head start (history_of start journal) k.endpoint ≡ Some k →
+    (outcome_of start (history_of start journal) k).forward ≡ Some f → weight_of (message f.bytes (f.object ∷ [])) < weight_of k.sending
+forward_weighs below start journal k f s steps past h e =
+    let history = history_of start journal in
+    let serving' = is_serving below start journal k s steps past.sound h in
     let on = serving'.parts.goes_on f e in
-    let right = goes_right below built start history k f s past.sound (is_view built start journal steps) serving' e in
+    let right = goes_right below start history k f s past.sound (is_view start journal steps) serving' e in
     let low = client_low f.object (carried_is k f.object (serving'.answered.goes_on f e).0).0 in
     let new = onward_weighs below on.flags on.rest f.object f.bytes right (omega arith) on.bytes_are in
     let old = open_weighs below k _ _ f on in
@@ -127,22 +126,22 @@ forward_weighs below built start journal k f s steps past h e =
     let some = on.onward.walked.some in
     omega arith
 
-weighs_by : Below → (built : Built) (start : Start) (journal : Journal) (k : Sent) → IsStart start → Stepped built start journal → IsKept built start journal → head start (history_of built start journal) k.endpoint ≡ Some k →
-    (o : Option Forwarded) → (outcome_of built start (history_of built start journal) k).forward ≡ o → weight (history_of built start (with_forward k.place (serves k ∷ journal) o)) < weight (history_of built start journal)
+weighs_by : Below → (start : Start) (journal : Journal) (k : Sent) → IsStart start → Stepped start journal → IsKept start journal → head start (history_of start journal) k.endpoint ≡ Some k →
+    (o : Option Forwarded) → (outcome_of start (history_of start journal) k).forward ≡ o → weight (history_of start (with_forward k.place (serves k ∷ journal) o)) < weight (history_of start journal)
 unfolding history_of
-weighs_by below built start journal k s steps past h None e =
-    let history = history_of built start journal in
-    let less = served_weighs built start history k (is_serving below built start journal k s steps past.sound h).answered.waits in
+weighs_by below start journal k s steps past h None e =
+    let history = history_of start journal in
+    let less = served_weighs start history k (is_serving below start journal k s steps past.sound h).answered.waits in
     let some = weighs k.sending in
     omega arith
-weighs_by below built start journal k s steps past h (Some f) e =
-    let history = history_of built start journal in
-    let mid = behind built start (serves k) history in
-    let less = served_weighs built start history k (is_serving below built start journal k s steps past.sound h).answered.waits in
-    let more = sent_weighs built start mid (sent_behind (serves k ∷ journal) f.endpoint (message f.bytes (f.object ∷ [])) (Some k.place)) in
-    let smaller = forward_weighs below built start journal k f s steps past h e in
+weighs_by below start journal k s steps past h (Some f) e =
+    let history = history_of start journal in
+    let mid = behind start (serves k) history in
+    let less = served_weighs start history k (is_serving below start journal k s steps past.sound h).answered.waits in
+    let more = sent_weighs start mid (sent_behind (serves k ∷ journal) f.endpoint (message f.bytes (f.object ∷ [])) (Some k.place)) in
+    let smaller = forward_weighs below start journal k f s steps past h e in
     omega arith
 
-pub serving_weighs : Below → (built : Built) (start : Start) (journal : Journal) (k : Sent) → IsStart start → Stepped built start journal → IsKept built start journal → head start (history_of built start journal) k.endpoint ≡ Some k →
-    weight (history_of built start (after_serving built start journal k)) < weight (history_of built start journal)
-serving_weighs below built start journal k s steps past h = weighs_by below built start journal k s steps past h (outcome_of built start (history_of built start journal) k).forward refl
+pub serving_weighs : Below → (start : Start) (journal : Journal) (k : Sent) → IsStart start → Stepped start journal → IsKept start journal → head start (history_of start journal) k.endpoint ≡ Some k →
+    weight (history_of start (after_serving start journal k)) < weight (history_of start journal)
+serving_weighs below start journal k s steps past h = weighs_by below start journal k s steps past h (outcome_of start (history_of start journal) k).forward refl

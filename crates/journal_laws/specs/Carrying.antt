@@ -1,6 +1,5 @@
 -- What a serving binds.
 use Rattle.std.specs.Prelude.{◌≡◌, Some}
-use Rattle.conn_rules.specs.Built.{Built}
 use Rattle.vfs_journal.specs.Entries.{Journal, Sent}
 use Rattle.vfs_journal.specs.Lawful.{Lawful}
 use Rattle.vfs_journal.specs.Past.{history_of}
@@ -12,5 +11,5 @@ use Rattle.vfs_journal.specs.Starts.{Bound, Start}
 -- what a serving binds is an endpoint that the served entry carries
 abbrev pub ServingsBindWhatTheyCarry : Type 0
 ServingsBindWhatTheyCarry =
-    (built : Built) (start : Start) (journal : Journal) (sent : Sent) (bound : Bound) → IsStart start → Lawful built start journal → head start (history_of built start journal) sent.endpoint ≡ Some sent →
-    (outcome_of built start (history_of built start journal) sent).bound ≡ Some bound → Carries (history_of built start journal) sent bound.endpoint
+    (start : Start) (journal : Journal) (sent : Sent) (bound : Bound) → IsStart start → Lawful start journal → head start (history_of start journal) sent.endpoint ≡ Some sent →
+    (outcome_of start (history_of start journal) sent).bound ≡ Some bound → Carries (history_of start journal) sent bound.endpoint

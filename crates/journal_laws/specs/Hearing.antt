@@ -17,10 +17,10 @@ sent_in view endpoint sending = record { place = view.places; endpoint = endpoin
 
 -- behind a frame that is refused, and behind a message and a hang-up that are admitted
 pub record Hears (view : View) (reached : IsReached view) (frame : Frame) : Type 0 where
-  pub refused : (why : Refusal) → admission (look_ups reached.start (history_of reached.built reached.start reached.journal)) frame ≡ Some why → IsReached (refusing_in view)
-  pub sent : frame.kind ≡ kind.Message → admission (look_ups reached.start (history_of reached.built reached.start reached.journal)) frame ≡ None →
+  pub refused : (why : Refusal) → admission (look_ups reached.start (history_of reached.start reached.journal)) frame ≡ Some why → IsReached (refusing_in view)
+  pub sent : frame.kind ≡ kind.Message → admission (look_ups reached.start (history_of reached.start reached.journal)) frame ≡ None →
       IsReached (sending_in view (sent_in view frame.endpoint (message frame.bytes frame.handles)))
-  pub closed : frame.kind ≡ kind.Close → admission (look_ups reached.start (history_of reached.built reached.start reached.journal)) frame ≡ None →
+  pub closed : frame.kind ≡ kind.Close → admission (look_ups reached.start (history_of reached.start reached.journal)) frame ≡ None →
       IsReached (sending_in view (sent_in view frame.endpoint hang_up))
 
 abbrev pub ReachedViewsHear : Type 0

@@ -12,7 +12,6 @@ use Rattle.endpoint_link.specs.Admission.{admission, Admits, look_ups as known_l
 use Rattle.endpoint_link.specs.Frames.{Frame}
 use Rattle.endpoint_link.specs.Numbering.{among}
 use Rattle.endpoint_link.specs.Standings.{Known, Starts, holds, is_live, next_token_of, standing_of as known_standing, ended as ended_in, given, gone}
-use Rattle.conn_rules.specs.Built.{Built}
 use Rattle.vfs_journal.specs.Deaths.{deaths_of}
 use Rattle.vfs_journal.specs.Entries.{Sent, Journal, message, hang_up, sends, refuses, tokens_in}
 use Rattle.vfs_journal.specs.Fit.{IsFit}
@@ -84,8 +83,8 @@ known_served known deaths spent token waiting =
 -- whoever knows the past admits what looking back admits
 abbrev pub KnowersAdmit : Type 0
 KnowersAdmit =
-    (built : Built) (start : Start) (journal : Journal) (known : Known) (frame : Frame) → IsStart start → Lawful built start journal → Knows start (history_of built start journal) known →
-    admission (known_look_ups known) frame ≡ admission (look_ups start (history_of built start journal)) frame
+    (start : Start) (journal : Journal) (known : Known) (frame : Frame) → IsStart start → Lawful start journal → Knows start (history_of start journal) known →
+    admission (known_look_ups known) frame ≡ admission (look_ups start (history_of start journal)) frame
 
 -- what is known at the start is what looking back says of no past
 abbrev pub StartsAreKnown : Type 0
@@ -99,43 +98,43 @@ StartsOfFilesAreNumbered = (lists : Lists) → AllPairs (λ client other. client
 -- behind a refusal the same is known
 abbrev pub RefusalsAreKnown : Type 0
 RefusalsAreKnown =
-    (built : Built) (start : Start) (journal : Journal) (endpoint : ℕ) (why : Refusal) (known : Known) →
-    Knows start (history_of built start journal) known → Knows start (history_of built start (refuses endpoint why ∷ journal)) known
+    (start : Start) (journal : Journal) (endpoint : ℕ) (why : Refusal) (known : Known) →
+    Knows start (history_of start journal) known → Knows start (history_of start (refuses endpoint why ∷ journal)) known
 
 -- behind an admitted message the admission leaves what is known then
 abbrev pub MessagesAreKnown : Type 0
 MessagesAreKnown =
-    (built : Built) (start : Start) (journal : Journal) (frame : Frame) (known new : Known) → IsStart start → Lawful built start journal → frame.kind ≡ kind.Message →
-    admission (look_ups start (history_of built start journal)) frame ≡ None → Knows start (history_of built start journal) known → Admits known frame new →
-    Knows start (history_of built start (sends (sent_behind journal frame.endpoint (message frame.bytes frame.handles) None) ∷ journal)) new
+    (start : Start) (journal : Journal) (frame : Frame) (known new : Known) → IsStart start → Lawful start journal → frame.kind ≡ kind.Message →
+    admission (look_ups start (history_of start journal)) frame ≡ None → Knows start (history_of start journal) known → Admits known frame new →
+    Knows start (history_of start (sends (sent_behind journal frame.endpoint (message frame.bytes frame.handles) None) ∷ journal)) new
 
 -- and so behind an admitted hang-up
 abbrev pub HangUpsAreKnown : Type 0
 HangUpsAreKnown =
-    (built : Built) (start : Start) (journal : Journal) (frame : Frame) (known new : Known) → IsStart start → Lawful built start journal → frame.kind ≡ kind.Close →
-    admission (look_ups start (history_of built start journal)) frame ≡ None → Knows start (history_of built start journal) known → Admits known frame new →
-    Knows start (history_of built start (sends (sent_behind journal frame.endpoint hang_up None) ∷ journal)) new
+    (start : Start) (journal : Journal) (frame : Frame) (known new : Known) → IsStart start → Lawful start journal → frame.kind ≡ kind.Close →
+    admission (look_ups start (history_of start journal)) frame ≡ None → Knows start (history_of start journal) known → Admits known frame new →
+    Knows start (history_of start (sends (sent_behind journal frame.endpoint hang_up None) ∷ journal)) new
 
 -- the endpoints that die of a serving
-abbrev pub deaths_at : Built → Start → Journal → Sent → List ℕ
-deaths_at built start journal sent =
-    deaths_of (history_of built start journal) sent (outcome_of built start (history_of built start journal) sent)
+abbrev pub deaths_at : Start → Journal → Sent → List ℕ
+deaths_at start journal sent =
+    deaths_of (history_of start journal) sent (outcome_of start (history_of start journal) sent)
 
 -- a serving ends its deaths, each once
 abbrev pub ServingsEndTheirDeaths : Type 0
 ServingsEndTheirDeaths =
-    (built : Built) (start : Start) (journal : Journal) (sent : Sent) → IsStart start → IsNumbered start → Lawful built start journal → head start (history_of built start journal) sent.endpoint ≡ Some sent →
-    AreDeaths start (history_of built start journal) (history_of built start (after_serving built start journal sent)) (deaths_at built start journal sent)
+    (start : Start) (journal : Journal) (sent : Sent) → IsStart start → IsNumbered start → Lawful start journal → head start (history_of start journal) sent.endpoint ≡ Some sent →
+    AreDeaths start (history_of start journal) (history_of start (after_serving start journal sent)) (deaths_at start journal sent)
 
 -- behind a serving its deaths, each once in any order, the tokens that are gone, so too, the one that is given, and the count of what waits
 -- make what is known
 abbrev pub ServingsKeepWhatIsKnown : Type 0
 ServingsKeepWhatIsKnown =
-    (built : Built) (start : Start) (journal : Journal) (sent : Sent) (known : Known) (deaths spent : List ℕ) → IsStart start → Lawful built start journal →
-    head start (history_of built start journal) sent.endpoint ≡ Some sent → Knows start (history_of built start journal) known →
-    let view = view_behind built start journal in
+    (start : Start) (journal : Journal) (sent : Sent) (known : Known) (deaths spent : List ℕ) → IsStart start → Lawful start journal →
+    head start (history_of start journal) sent.endpoint ≡ Some sent → Knows start (history_of start journal) known →
+    let view = view_behind start journal in
     IsListOf (deaths_in view sent) deaths → IsListOf (spent_in view sent) spent →
-    Knows start (history_of built start (after_serving built start journal sent))
+    Knows start (history_of start (after_serving start journal sent))
     (known_served known deaths spent (outcome_in view sent).token (length (then_in view sent).waiting))
 
 -- what was served waits no more, nor what was dropped, and what goes on waits
@@ -147,10 +146,10 @@ ServingsCountWhatWaits =
 -- each token that is gone behind a serving is known to be out, and not held
 abbrev pub SpentTokensAreOut : Type 0
 SpentTokensAreOut =
-    (built : Built) (start : Start) (journal : Journal) (sent : Sent) (known : Known) (token : ℕ) → IsStart start → Lawful built start journal →
-    head start (history_of built start journal) sent.endpoint ≡ Some sent → Knows start (history_of built start journal) known →
-    among token (spent_in (view_behind built start journal) sent) ≡ true → finite.get known.tokens token ≡ Some false
+    (start : Start) (journal : Journal) (sent : Sent) (known : Known) (token : ℕ) → IsStart start → Lawful start journal →
+    head start (history_of start journal) sent.endpoint ≡ Some sent → Knows start (history_of start journal) known →
+    among token (spent_in (view_behind start journal) sent) ≡ true → finite.get known.tokens token ≡ Some false
 
 -- no more entries wait than may
 abbrev pub FewWait : Type 0
-FewWait = (built : Built) (start : Start) (journal : Journal) → Lawful built start journal → length (waiting (history_of built start journal)) ≤ limit.MAX_WAITING
+FewWait = (start : Start) (journal : Journal) → Lawful start journal → length (waiting (history_of start journal)) ≤ limit.MAX_WAITING

@@ -3,7 +3,6 @@ use Rattle.std.specs.Prelude.{◌≡◌, ◌≢◌, ◌<◌, All, AllPairs, Cont
 use Rattle.endpoint_link.specs.declared.kinds.Refusal.{Refusal}
 use Rattle.endpoint_link.specs.Numbering.{among}
 use Rattle.conn_rules.specs.Births.{fresh}
-use Rattle.conn_rules.specs.Built.{Built}
 use Rattle.vfs_journal.specs.Deaths.{others}
 use Rattle.vfs_journal.specs.Entries.{Sent, Sending, Journal, sends, serves, refuses, handles_of, endpoints_in, is_hang_up}
 use Rattle.vfs_journal.specs.History.{Event, History, served_by, all_sent, was_served, is_dead, births, living, bound_at, hung_up, waits, waiting, travelling, was_carried, binds_endpoint, position_of, trees_of, changed}
@@ -72,17 +71,17 @@ pub record IsServed (start : Start) (sent : Sent) (event : Event) (now past : Hi
 -- behind a refusal all is as it was
 abbrev pub RefusalsChangeNothing : Type 0
 RefusalsChangeNothing =
-    (built : Built) (start : Start) (past : History) (endpoint : ℕ) (why : Refusal) → IsUnchanged start (behind built start (refuses endpoint why) past) past
+    (start : Start) (past : History) (endpoint : ℕ) (why : Refusal) → IsUnchanged start (behind start (refuses endpoint why) past) past
 
 -- behind a sending it alone is new
 abbrev pub SendingsWaitLast : Type 0
 SendingsWaitLast =
-    (built : Built) (start : Start) (past : History) (sent : Sent) → IsSent start sent (behind built start (sends sent) past) past
+    (start : Start) (past : History) (sent : Sent) → IsSent start sent (behind start (sends sent) past) past
 
 -- behind a serving its outcome and its deaths are all that is new
 abbrev pub ServingsTakeEffect : Type 0
 ServingsTakeEffect =
-    (built : Built) (start : Start) (past : History) (sent : Sent) → IsServed start sent (event_of built start past (serves sent)) (behind built start (serves sent) past) past
+    (start : Start) (past : History) (sent : Sent) → IsServed start sent (event_of start past (serves sent)) (behind start (serves sent) past) past
 
 -- ---- lawful journals
 
@@ -109,13 +108,13 @@ pub record AreServedOnce (journal : Journal) (history : History) : Type 0 where
   pub in_order : AllPairs (λ served earlier. served.endpoint ≡ earlier.endpoint → earlier.place < served.place) (servings journal)
 
 abbrev pub PlacesRise : Type 0
-PlacesRise = (built : Built) (start : Start) (journal : Journal) → Lawful built start journal → AreInOrder journal (history_of built start journal)
+PlacesRise = (start : Start) (journal : Journal) → Lawful start journal → AreInOrder journal (history_of start journal)
 
 abbrev pub ServedOnce : Type 0
-ServedOnce = (built : Built) (start : Start) (journal : Journal) → Lawful built start journal → AreServedOnce journal (history_of built start journal)
+ServedOnce = (start : Start) (journal : Journal) → Lawful start journal → AreServedOnce journal (history_of start journal)
 
 -- what is sent at the next place waits behind all others, where its endpoint isn't dead
 abbrev pub WhatIsSentWaits : Type 0
 WhatIsSentWaits =
-    (built : Built) (start : Start) (journal : Journal) (endpoint : ℕ) (sending : Sending) (origin : Option ℕ) → Lawful built start journal → is_dead (history_of built start journal) endpoint ≡ false →
-    waiting (history_of built start (sends (sent_behind journal endpoint sending origin) ∷ journal)) ≡ waiting (history_of built start journal) ++ sent_behind journal endpoint sending origin ∷ []
+    (start : Start) (journal : Journal) (endpoint : ℕ) (sending : Sending) (origin : Option ℕ) → Lawful start journal → is_dead (history_of start journal) endpoint ≡ false →
+    waiting (history_of start (sends (sent_behind journal endpoint sending origin) ∷ journal)) ≡ waiting (history_of start journal) ++ sent_behind journal endpoint sending origin ∷ []

@@ -1,7 +1,6 @@
 -- How many connections a server has.
 use Rattle.std.specs.Prelude.{◌≤◌, ℕ}
 use Rattle.fidl_names.specs.declared.limits.TheConstants as limit
-use Rattle.conn_rules.specs.Built.{Built}
 use Rattle.vfs_journal.specs.Entries.{Journal}
 use Rattle.vfs_journal.specs.History.{connections_at}
 use Rattle.vfs_journal.specs.Lawful.{Lawful}
@@ -13,5 +12,5 @@ use Rattle.journal_laws.specs.Soundness.{HasRoom}
 -- aren't either
 abbrev pub ConnectionsAreFew : Type 0
 ConnectionsAreFew =
-    (built : Built) (start : Start) (journal : Journal) (server : ℕ) → HasRoom start → Lawful built start journal →
-    connections_at start (history_of built start journal) server ≤ limit.MAX_CONNECTIONS
+    (start : Start) (journal : Journal) (server : ℕ) → HasRoom start → Lawful start journal →
+    connections_at start (history_of start journal) server ≤ limit.MAX_CONNECTIONS

@@ -14,7 +14,6 @@ use Rattle.endpoint_link.specs.declared.kinds.Side.TheVariants.{ToServers}
 use Rattle.endpoint_link.specs.Frames.{Frame, IsFrame}
 use Rattle.fidl_names.specs.HandleNumber.{is_client}
 use Rattle.endpoint_link.specs.Numbering.{among}
-use Rattle.conn_rules.specs.Built.{Built}
 use Rattle.vfs_journal.specs.Deaths.{deaths_of, others}
 use Rattle.vfs_journal.specs.Entries.{Sent, Journal, message, serves, endpoints_in}
 use Rattle.vfs_journal.specs.History.{History, births, all_sent, was_served, waiting, travelling, tree_at, is_bound, is_dead, is_used}
@@ -114,22 +113,22 @@ DieTogether history sent deaths =
 -- ---- laws
 
 abbrev pub EndpointsAreInTransit : Type 0
-EndpointsAreInTransit = (built : Built) (start : Start) (journal : Journal) → IsStart start → Lawful built start journal → AreInTransit start (history_of built start journal)
+EndpointsAreInTransit = (start : Start) (journal : Journal) → IsStart start → Lawful start journal → AreInTransit start (history_of start journal)
 
 abbrev pub EndpointsAreKnown : Type 0
-EndpointsAreKnown = (built : Built) (start : Start) (journal : Journal) → IsStart start → Lawful built start journal → AreKnown start (history_of built start journal)
+EndpointsAreKnown = (start : Start) (journal : Journal) → IsStart start → Lawful start journal → AreKnown start (history_of start journal)
 
 -- the one pass over what waits reaches each endpoint that dies
 abbrev pub DeathsReachAll : Type 0
 DeathsReachAll =
-    (built : Built) (start : Start) (journal : Journal) (sent : Sent) → IsStart start → Lawful built start journal → head start (history_of built start journal) sent.endpoint ≡ Some sent →
-    DieTogether (history_of built start journal) sent (deaths_of (history_of built start journal) sent (outcome_of built start (history_of built start journal) sent))
+    (start : Start) (journal : Journal) (sent : Sent) → IsStart start → Lawful start journal → head start (history_of start journal) sent.endpoint ≡ Some sent →
+    DieTogether (history_of start journal) sent (deaths_of (history_of start journal) sent (outcome_of start (history_of start journal) sent))
 
 -- each serving lowers the sum of the weights of what waits
 abbrev pub ServingsLowerTheWeight : Type 0
 ServingsLowerTheWeight =
-    (built : Built) (start : Start) (journal : Journal) (sent : Sent) → IsStart start → Lawful built start journal → head start (history_of built start journal) sent.endpoint ≡ Some sent →
-    weight (history_of built start (after_serving built start journal sent)) < weight (history_of built start journal)
+    (start : Start) (journal : Journal) (sent : Sent) → IsStart start → Lawful start journal → head start (history_of start journal) sent.endpoint ≡ Some sent →
+    weight (history_of start (after_serving start journal sent)) < weight (history_of start journal)
 
 -- nothing waits: whatever was sent was served, or its endpoint is dead
 pub record IsDrained (history : History) : Type 0 where
@@ -139,18 +138,18 @@ pub record IsDrained (history : History) : Type 0 where
 -- a drain leaves nothing that waits
 abbrev pub DrainsServeAll : Type 0
 DrainsServeAll =
-    (built : Built) (start : Start) (journal : Journal) → IsStart start → Lawful built start journal →
-    Lawful built start (drained built start journal) × IsDrained (history_of built start (drained built start journal))
+    (start : Start) (journal : Journal) → IsStart start → Lawful start journal →
+    Lawful start (drained start journal) × IsDrained (history_of start (drained start journal))
 
 -- the journal that frames make is lawful, in either mode
 abbrev pub SessionsAreLawful : Type 0
 SessionsAreLawful =
-    (built : Built) (start : Start) (by : Mode) (frames : List Frame) → All (IsFrame ToServers) frames → Lawful built start (session built start by frames) × Lawful built start (ended built start by frames)
+    (start : Start) (by : Mode) (frames : List Frame) → All (IsFrame ToServers) frames → Lawful start (session start by frames) × Lawful start (ended start by frames)
 
 -- and after the last drain nothing waits
 abbrev pub SessionsServeAll : Type 0
 SessionsServeAll =
-    (built : Built) (start : Start) (by : Mode) (frames : List Frame) → IsStart start → All (IsFrame ToServers) frames → IsDrained (history_of built start (ended built start by frames))
+    (start : Start) (by : Mode) (frames : List Frame) → IsStart start → All (IsFrame ToServers) frames → IsDrained (history_of start (ended start by frames))
 
 -- the start of each accepted tree
 abbrev pub StartsAreSound : Type 0
@@ -159,8 +158,8 @@ StartsAreSound = (lists : Lists) → AreAccepted lists → IsStart (start_of lis
 -- what goes on behind a mount waits behind all others
 abbrev pub WhatGoesOnWaits : Type 0
 WhatGoesOnWaits =
-    (built : Built) (start : Start) (journal : Journal) (sent : Sent) (forward : Forwarded) → IsStart start → Lawful built start journal → head start (history_of built start journal) sent.endpoint ≡ Some sent →
-    (outcome_of built start (history_of built start journal) sent).forward ≡ Some forward →
-    waiting (history_of built start (after_serving built start journal sent))
-    ≡ waiting (history_of built start (serves sent ∷ journal))
+    (start : Start) (journal : Journal) (sent : Sent) (forward : Forwarded) → IsStart start → Lawful start journal → head start (history_of start journal) sent.endpoint ≡ Some sent →
+    (outcome_of start (history_of start journal) sent).forward ≡ Some forward →
+    waiting (history_of start (after_serving start journal sent))
+    ≡ waiting (history_of start (serves sent ∷ journal))
     ++ sent_behind (serves sent ∷ journal) forward.endpoint (message forward.bytes (forward.object ∷ [])) (Some sent.place) ∷ []

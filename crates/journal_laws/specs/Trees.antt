@@ -6,7 +6,6 @@ use Rattle.io_messages.specs.declared.protocols.Protocol.TheVariants as protocol
 use Rattle.node_graph.specs.declared.nodes.NodeKind.{NodeKind}
 use Rattle.node_graph.specs.declared.nodes.NodeKind.TheVariants.{Directory}
 use Rattle.node_graph.specs.Tree.{IsSound, Tree, kind_of}
-use Rattle.conn_rules.specs.Built.{Built}
 use Rattle.conn_rules.specs.Nodes.{is_directory, is_file, is_service}
 use Rattle.vfs_journal.specs.Entries.{Journal}
 use Rattle.vfs_journal.specs.History.{History, living, tree_at, trees_of}
@@ -45,14 +44,14 @@ pub record StandOnTrees (start : Start) (history : History) : Type 0 where
   pub tokens : All (NamesDirectory (trees_of start history)) (all_given history)
 
 abbrev pub WhoLivesStandsOnTrees : Type 0
-WhoLivesStandsOnTrees = (built : Built) (start : Start) (journal : Journal) → IsStart start → Lawful built start journal → StandOnTrees start (history_of built start journal)
+WhoLivesStandsOnTrees = (start : Start) (journal : Journal) → IsStart start → Lawful start journal → StandOnTrees start (history_of start journal)
 
 -- whatever is served leaves all trees sound
 abbrev pub TreesStaySound : Type 0
-TreesStaySound = (built : Built) (start : Start) (journal : Journal) → IsStart start → Lawful built start journal → All IsSound (trees_of start (history_of built start journal))
+TreesStaySound = (start : Start) (journal : Journal) → IsStart start → Lawful start journal → All IsSound (trees_of start (history_of start journal))
 
 -- each entry makes one node at most, so that no tree has more of them than a start's and one for each place of the journal
 abbrev pub TreesGrowSlowly : Type 0
 TreesGrowSlowly =
-    (built : Built) (start : Start) (journal : Journal) (server : ℕ) → IsStart start →
-    length (tree_at (trees_of start (history_of built start journal)) server).nodes ≤ 1 + limit.MAX_NAMES + length journal
+    (start : Start) (journal : Journal) (server : ℕ) → IsStart start →
+    length (tree_at (trees_of start (history_of start journal)) server).nodes ≤ 1 + limit.MAX_NAMES + length journal

@@ -5,7 +5,6 @@ use Rattle.endpoint_link.specs.Admission.{admission}
 use Rattle.endpoint_link.specs.declared.kinds.FrameKind.TheVariants as kind
 use Rattle.endpoint_link.specs.declared.kinds.Refusal.{Refusal}
 use Rattle.endpoint_link.specs.Frames.{Frame, spellings}
-use Rattle.conn_rules.specs.Built.{Built}
 use Rattle.vfs_journal.specs.Deaths.{deaths_of}
 use Rattle.vfs_journal.specs.Entries.{Journal, Sent, message, hang_up, sends, serves, refuses}
 use Rattle.vfs_journal.specs.History.{History, bound_at, living, trees_of}
@@ -21,82 +20,81 @@ use Rattle.vfs_journal.specs.Fit.{IsFit}
 use Rattle.journal_laws.specs.Soundness.{IsStart}
 
 -- the view behind a journal
-abbrev pub view_behind : Built → Start → Journal → View
-view_behind built start journal = view_of built start (history_of built start journal)
+abbrev pub view_behind : Start → Journal → View
+view_behind start journal = view_of start (history_of start journal)
 
 -- ---- any history
 
 -- what is served next, of an endpoint, of a server and anywhere, what it answers, who dies of it and what is written for it
-pub record IsInView (built : Built) (start : Start) (history : History) : Type 0 where
-  pub bound : (endpoint : ℕ) → bound_at start history endpoint ≡ option_map (λ pair. pair.0) (at_in (view_of built start history) endpoint)
-  pub lives : living start history ≡ bounds_in (view_of built start history)
-  pub held : (token : ℕ) → is_held history token ≡ is_held_in (view_of built start history) token
-  pub token : next_token history ≡ next_token_in (view_of built start history)
-  pub next : next start history ≡ next_in (view_of built start history)
-  pub head : (endpoint : ℕ) → head start history endpoint ≡ head_in (view_of built start history) endpoint
-  pub oldest : (server : ℕ) → oldest start history server ≡ oldest_in (view_of built start history) server
-  pub outcome : (sent : Sent) → outcome_of built start history sent ≡ outcome_in (view_of built start history) sent
-  pub deaths : (sent : Sent) → deaths_of history sent (outcome_of built start history sent) ≡ deaths_in (view_of built start history) sent
-  pub frames : (sent : Sent) → frames_of_serving (trees_of start history) (living start history) (event_of built start history (serves sent)) ≡ frames_in (view_of built start history) sent
+pub record IsInView (start : Start) (history : History) : Type 0 where
+  pub bound : (endpoint : ℕ) → bound_at start history endpoint ≡ option_map (λ pair. pair.0) (at_in (view_of start history) endpoint)
+  pub lives : living start history ≡ bounds_in (view_of start history)
+  pub held : (token : ℕ) → is_held history token ≡ is_held_in (view_of start history) token
+  pub token : next_token history ≡ next_token_in (view_of start history)
+  pub next : next start history ≡ next_in (view_of start history)
+  pub head : (endpoint : ℕ) → head start history endpoint ≡ head_in (view_of start history) endpoint
+  pub oldest : (server : ℕ) → oldest start history server ≡ oldest_in (view_of start history) server
+  pub outcome : (sent : Sent) → outcome_of start history sent ≡ outcome_in (view_of start history) sent
+  pub deaths : (sent : Sent) → deaths_of history sent (outcome_of start history sent) ≡ deaths_in (view_of start history) sent
+  pub frames : (sent : Sent) → frames_of_serving (trees_of start history) (living start history) (event_of start history (serves sent)) ≡ frames_in (view_of start history) sent
 
 abbrev pub ServingsAreInView : Type 0
-ServingsAreInView = (built : Built) (start : Start) (history : History) → IsInView built start history
+ServingsAreInView = (start : Start) (history : History) → IsInView start history
 
 -- behind a refused frame
 abbrev pub RefusalsAreViewed : Type 0
 RefusalsAreViewed =
-    (built : Built) (start : Start) (past : History) (endpoint : ℕ) (why : Refusal) →
-    view_of built start (behind built start (refuses endpoint why) past) ≡ refusing_in (view_of built start past)
+    (start : Start) (past : History) (endpoint : ℕ) (why : Refusal) →
+    view_of start (behind start (refuses endpoint why) past) ≡ refusing_in (view_of start past)
 
 -- a serving writes its frames behind all that was written
 abbrev pub ServingsWriteTheirFrames : Type 0
 ServingsWriteTheirFrames =
-    (built : Built) (start : Start) (journal : Journal) (sent : Sent) →
-    output_of built start (after_serving built start journal sent) ≡ output_of built start journal ++ spellings (frames_in (view_behind built start journal) sent)
+    (start : Start) (journal : Journal) (sent : Sent) →
+    output_of start (after_serving start journal sent) ≡ output_of start journal ++ spellings (frames_in (view_behind start journal) sent)
 
 -- ---- lawful journals
 
 -- behind an admitted message or hang-up
 abbrev pub SendingsAreViewed : Type 0
 SendingsAreViewed =
-    (built : Built) (start : Start) (journal : Journal) (frame : Frame) → Lawful built start journal →
-    admission (look_ups start (history_of built start journal)) frame ≡ None →
+    (start : Start) (journal : Journal) (frame : Frame) → Lawful start journal →
+    admission (look_ups start (history_of start journal)) frame ≡ None →
     (frame.kind ≡ kind.Message →
     let sent = sent_behind journal frame.endpoint (message frame.bytes frame.handles) None in
-    view_behind built start (sends sent ∷ journal) ≡ sending_in (view_behind built start journal) sent)
+    view_behind start (sends sent ∷ journal) ≡ sending_in (view_behind start journal) sent)
     × (frame.kind ≡ kind.Close →
     let sent = sent_behind journal frame.endpoint hang_up None in
-    view_behind built start (sends sent ∷ journal) ≡ sending_in (view_behind built start journal) sent)
+    view_behind start (sends sent ∷ journal) ≡ sending_in (view_behind start journal) sent)
 
 -- behind the serving of the first entry of a bound endpoint
 abbrev pub ServingsAreViewed : Type 0
 ServingsAreViewed =
-    (built : Built) (start : Start) (journal : Journal) (sent : Sent) → IsStart start → Lawful built start journal →
-    head start (history_of built start journal) sent.endpoint ≡ Some sent →
-    view_behind built start (after_serving built start journal sent) ≡ then_in (view_behind built start journal) sent
+    (start : Start) (journal : Journal) (sent : Sent) → IsStart start → Lawful start journal →
+    head start (history_of start journal) sent.endpoint ≡ Some sent →
+    view_behind start (after_serving start journal sent) ≡ then_in (view_behind start journal) sent
 
 -- and behind the servings of a Turn, a Pick and a drain
-pub record AreViewed (built : Built) (start : Start) (journal : Journal) : Type 0 where
-  pub turn : (server times : ℕ) → view_behind built start (turned built start server times journal) ≡ turned_in (view_behind built start journal) server times
-  pub pick : (endpoint : ℕ) → view_behind built start (picked built start endpoint journal) ≡ picked_in (view_behind built start journal) endpoint
-  pub drain : view_behind built start (drained built start journal) ≡ drained_in (view_behind built start journal)
+pub record AreViewed (start : Start) (journal : Journal) : Type 0 where
+  pub turn : (server times : ℕ) → view_behind start (turned start server times journal) ≡ turned_in (view_behind start journal) server times
+  pub pick : (endpoint : ℕ) → view_behind start (picked start endpoint journal) ≡ picked_in (view_behind start journal) endpoint
+  pub drain : view_behind start (drained start journal) ≡ drained_in (view_behind start journal)
 
 abbrev pub TurnsAreViewed : Type 0
-TurnsAreViewed = (built : Built) (start : Start) (journal : Journal) → IsStart start → Lawful built start journal → AreViewed built start journal
+TurnsAreViewed = (start : Start) (journal : Journal) → IsStart start → Lawful start journal → AreViewed start journal
 
 -- ---- what holds of each view
 
 abbrev pub ViewsAreFit : Type 0
-ViewsAreFit = (built : Built) (start : Start) (journal : Journal) → IsStart start → Lawful built start journal → IsFit (view_behind built start journal)
+ViewsAreFit = (start : Start) (journal : Journal) → IsStart start → Lawful start journal → IsFit (view_behind start journal)
 
 -- a view is that of some lawful journal
 pub record IsReached (view : View) : Type 0 where
-  pub built : Built
   pub start : Start
   pub journal : Journal
   pub sound : IsStart start
-  pub lawful : Lawful built start journal
-  pub seen : view_behind built start journal ≡ view
+  pub lawful : Lawful start journal
+  pub seen : view_behind start journal ≡ view
 
 -- such a view is fit, and so is each that a serving leads to
 abbrev pub ReachedViewsGoOn : Type 0

@@ -11,13 +11,12 @@ use Rattle.conn_rules.specs.declared.births.Room.{Room}
 use Rattle.conn_rules.specs.Acts.{act_of}
 use Rattle.conn_rules.specs.Answers.{only, replies}
 use Rattle.conn_rules.specs.Births.{Connection}
-use Rattle.conn_rules.specs.Built.{today}
 use Rattle.conn_rules.specs.Contexts.{context_of}
 use Rattle.conn_rules.proofs.Taking.{taken_act}
 
 -- with the right to connect a text is answered by itself
 pub echo_act : (connection : Connection) (room : Room) (tree : Tree) (directory : ℕ → Option ℕ) (value : List ℕ) →
     connection.birth.protocol ≡ protocol.Echo → IsTrue (is_within (single op.Connect) connection.birth.rights) →
-    act_of (context_of today connection room tree directory) (asks.echo_string value) ≡ only connection.position (replies (payload method.EchoString value))
+    act_of (context_of connection room tree directory) (asks.echo_string value) ≡ only connection.position (replies (payload method.EchoString value))
 echo_act connection room tree directory value echo connects =
-    taken_act (context_of today connection room tree directory) (asks.echo_string value) (rw echo (rw connects refl))
+    taken_act (context_of connection room tree directory) (asks.echo_string value) (rw echo (rw connects refl))

@@ -15,7 +15,6 @@ ghost use Rattle.node_graph.specs.Tree.{Tree};
 ghost use Rattle.conn_rules.specs.declared.births.Room.{Room};
 ghost use Rattle.conn_rules.specs.Acts.{act_of};
 ghost use Rattle.conn_rules.specs.Births.{Connection};
-ghost use Rattle.conn_rules.specs.Built.{today};
 ghost use Rattle.conn_rules.specs.Contexts.{context_of};
 ghost use Rattle.conn_rules.specs.Served.{HasNothing, IsAnswered};
 ghost use Rattle.node_conn.specs.Texts.{text_of};
@@ -36,7 +35,7 @@ pub fn echo(ordinals: &Ordinals, txid: u32, request: Request<'_>, out: &mut Out)
     requires fits { PayloadFits (payload Method.EchoString (text_of (asked request))) }
     ensures serves { (connection : Connection) (graph : Kept) (room : Room) (tree : Tree) (directory : ℕ → Option ℕ) →
         connection.birth.protocol ≡ Protocol.Echo → IsTrue (is_within (single op.Connect) connection.birth.rights) → result ≢ Served.NoMemory →
-        IsAnswered (act_of (context_of today connection room tree directory) (asked request.entry)) txid result out.new connection graph }
+        IsAnswered (act_of (context_of connection room tree directory) (asked request.entry)) txid result out.new connection graph }
     ensures memory { result ≢ Served.NoMemory }
 {
     match request {

@@ -9,7 +9,6 @@ ghost use Rattle.node_graph.specs.Graph.{StandsFor};
 ghost use Rattle.node_graph.specs.Tree.{Tree};
 ghost use Rattle.conn_rules.specs.Acts.{act_of};
 ghost use Rattle.conn_rules.specs.Births.{fresh};
-ghost use Rattle.conn_rules.specs.Built.{today};
 ghost use Rattle.conn_rules.specs.Contexts.{context_of};
 ghost use Rattle.conn_rules.specs.Served.{HasNothing, IsServed, KeepsHolds};
 ghost use Rattle.conn_rules.specs.Shared.{CanBeBound};
@@ -72,7 +71,7 @@ impl NodeConn {
         requires txid { has_txid (is_one_way (method_of (asked request))) txid ≡ true }
         requires empty { HasNothing out.old }
         ensures serves { (tree : Tree) (directory : ℕ → Option ℕ) → StandsFor graph.old tree → result ≢ Served.NoMemory →
-            IsServed (act_of (context_of today self.old room tree directory) (asked request.entry)) txid result out.new self.new graph.old graph.new }
+            IsServed (act_of (context_of self.old room tree directory) (asked request.entry)) txid result out.new self.new graph.old graph.new }
         ensures holds { KeepsHolds self.old self.new graph.old graph.new }
         ensures memory { result ≢ Served.NoMemory }
     {

@@ -30,7 +30,6 @@ use Rattle.io_messages.specs.declared.requests.RequestFault.{RequestFault}
 use Rattle.io_messages.specs.declared.requests.RequestFault.TheVariants.{Malformed, UnknownStrict, UnknownOneWay, UnknownTwoWay}
 use Rattle.node_graph.specs.Tree.{Tree}
 use Rattle.conn_rules.specs.Answers.{Answer, replies, closes, binds, watches, forwards, refuses, ends, hangs_up, silent}
-use Rattle.conn_rules.specs.Built.{Built}
 use Rattle.conn_rules.specs.declared.births.Room.{Room}
 use Rattle.vfs_journal.specs.Entries.{Sending, message, hang_up}
 use Rattle.vfs_journal.specs.History.{is_watcher}
@@ -293,22 +292,22 @@ way_framed asker answer false is id short = two_way_framed asker answer is short
 
 -- ---- what sendings are answered
 
-fault_framed : (built : Built) (moment : Moment) (id : ℕ) (fault : RequestFault) → IsShort id → HasId id (Err fault) →
+fault_framed : (moment : Moment) (id : ℕ) (fault : RequestFault) → IsShort id → HasId id (Err fault) →
     AreFramed moment.bound.endpoint id (frames_of (asker_of moment.bound (fault_txid fault) 0) (fault_answer fault))
-fault_framed built moment id (Malformed fault) short has = ended moment.bound.endpoint id status.InvalidArgs
-fault_framed built moment id UnknownStrict short has = ended moment.bound.endpoint id status.NotSupported
-fault_framed built moment id UnknownOneWay short has = unasked moment.bound.endpoint id [] has (λ e. refl)
-fault_framed built moment id (UnknownTwoWay txid ordinal) short has =
+fault_framed moment id (Malformed fault) short has = ended moment.bound.endpoint id status.InvalidArgs
+fault_framed moment id UnknownStrict short has = ended moment.bound.endpoint id status.NotSupported
+fault_framed moment id UnknownOneWay short has = unasked moment.bound.endpoint id [] has (λ e. refl)
+fault_framed moment id (UnknownTwoWay txid ordinal) short has =
     subst (λ (n : ℕ). AreFramed moment.bound.endpoint n (frames_of (asker_of moment.bound txid 0) (replies (unknown ordinal)))) has.0
     (replied (asker_of moment.bound txid 0) (unknown ordinal) (subst IsShort (sym has.0) short) (ap (λ (n : ℕ). n == 0) has.0 ∙ has.1))
 
-read_framed : (built : Built) (moment : Moment) (id : ℕ) (read : Read) → IsShort id → HasId id read → AreFramed moment.bound.endpoint id (outcome_of_read built moment read).frames
-read_framed built moment id (Err fault) short has = fault_framed built moment id fault short has
-read_framed built moment id (Ok found) short has =
+read_framed : (moment : Moment) (id : ℕ) (read : Read) → IsShort id → HasId id read → AreFramed moment.bound.endpoint id (outcome_of_read moment read).frames
+read_framed moment id (Err fault) short has = fault_framed moment id fault short has
+read_framed moment id (Ok found) short has =
     let asker = asker_of moment.bound found.0 (object_of found.1) in
-    let answer = (request_act built moment found.1).answer in
+    let answer = (request_act moment found.1).answer in
     subst (λ (n : ℕ). AreFramed moment.bound.endpoint n (frames_of asker answer)) has.0
-    (way_framed asker answer (is_one_way (method_of found.1)) (in_way moment.room moment.tree found.1 answer (act_answers (context_at built moment) found.1).0)
+    (way_framed asker answer (is_one_way (method_of found.1)) (in_way moment.room moment.tree found.1 answer (act_answers (context_at moment) found.1).0)
     (ap (has_txid (is_one_way (method_of found.1))) has.0 ∙ has.1) (subst IsShort (sym has.0) short))
 
 -- a watcher's endpoint answers nothing, and each other one what is asked
@@ -316,23 +315,23 @@ pub record IsFramed (p : Protocol) (own : ℕ) (sending : Sending) (frames : Lis
   pub watcher : is_watcher p ≡ true → frames ≡ []
   pub framed : is_watcher p ≡ false → AreFramed own (txid_of sending) frames
 
-other_framed : (built : Built) (moment : Moment) (p : Protocol) (bytes handles : List ℕ) → is_watcher p ≡ false → IsShort (txid_in bytes) →
-    IsFramed p moment.bound.endpoint (message bytes handles) (outcome_of_read built moment (read_by p bytes handles)).frames
-other_framed built moment p bytes handles other short = record {
+other_framed : (moment : Moment) (p : Protocol) (bytes handles : List ℕ) → is_watcher p ≡ false → IsShort (txid_in bytes) →
+    IsFramed p moment.bound.endpoint (message bytes handles) (outcome_of_read moment (read_by p bytes handles)).frames
+other_framed moment p bytes handles other short = record {
   watcher = λ w. absurd (cc);
-  framed = λ n. read_framed built moment (txid_in bytes) (read_by p bytes handles) short (read_has p bytes (map handle_with handles));
+  framed = λ n. read_framed moment (txid_in bytes) (read_by p bytes handles) short (read_has p bytes (map handle_with handles));
 }
 
-message_framed : (built : Built) (moment : Moment) (p : Protocol) (bytes handles : List ℕ) → IsShort (txid_in bytes) →
-    IsFramed p moment.bound.endpoint (message bytes handles) (outcome_of_message built moment p bytes handles).frames
-message_framed built moment protocol.Directory bytes handles short = other_framed built moment protocol.Directory bytes handles refl short
-message_framed built moment protocol.File bytes handles short = other_framed built moment protocol.File bytes handles refl short
-message_framed built moment protocol.Node bytes handles short = other_framed built moment protocol.Node bytes handles refl short
-message_framed built moment protocol.Echo bytes handles short = other_framed built moment protocol.Echo bytes handles refl short
-message_framed built moment protocol.Watcher bytes handles short = record { watcher = λ w. refl; framed = λ n. absurd (cc) }
+message_framed : (moment : Moment) (p : Protocol) (bytes handles : List ℕ) → IsShort (txid_in bytes) →
+    IsFramed p moment.bound.endpoint (message bytes handles) (outcome_of_message moment p bytes handles).frames
+message_framed moment protocol.Directory bytes handles short = other_framed moment protocol.Directory bytes handles refl short
+message_framed moment protocol.File bytes handles short = other_framed moment protocol.File bytes handles refl short
+message_framed moment protocol.Node bytes handles short = other_framed moment protocol.Node bytes handles refl short
+message_framed moment protocol.Echo bytes handles short = other_framed moment protocol.Echo bytes handles refl short
+message_framed moment protocol.Watcher bytes handles short = record { watcher = λ w. refl; framed = λ n. absurd (cc) }
 
-pub sending_framed : (built : Built) (moment : Moment) (sending : Sending) → IsShort (txid_of sending) →
-    IsFramed moment.bound.birth.protocol moment.bound.endpoint sending (outcome_of_sending built moment sending).frames
+pub sending_framed : (moment : Moment) (sending : Sending) → IsShort (txid_of sending) →
+    IsFramed moment.bound.birth.protocol moment.bound.endpoint sending (outcome_of_sending moment sending).frames
 unfolding outcome_of_sending
-sending_framed built moment (message bytes handles) short = message_framed built moment moment.bound.birth.protocol bytes handles short
-sending_framed built moment hang_up short = record { watcher = λ w. refl; framed = λ n. unasked moment.bound.endpoint 0 [] refl (λ e. refl) }
+sending_framed moment (message bytes handles) short = message_framed moment moment.bound.birth.protocol bytes handles short
+sending_framed moment hang_up short = record { watcher = λ w. refl; framed = λ n. unasked moment.bound.endpoint 0 [] refl (λ e. refl) }

@@ -4,7 +4,6 @@ use Rattle.std.proofs.lemmas.Bool.{eqb-true, not-true}
 use Rattle.std.proofs.lemmas.List.{append-nil}
 use Rattle.std.proofs.lemmas.List.Kept.{AllPairs-filter}
 use Rattle.std.proofs.lemmas.List.Elements.{All-weaker, filter-append, filter_agree}
-use Rattle.conn_rules.specs.Built.{Built}
 use Rattle.vfs_journal.specs.Entries.{Journal, Sent, sends, serves, refuses}
 use Rattle.vfs_journal.specs.History.{Event, History, all_sent, births, bound_at, is_bound, is_dead, living, served_by, waiting, waits, was_served}
 use Rattle.vfs_journal.specs.Past.{behind, event_of, history_of}
@@ -16,7 +15,7 @@ use Rattle.journal_laws.proofs.Places.{IsHead, head_is, in_order, waits_of_sent}
 use Rattle.journal_laws.proofs.Views.{fresh_unserved}
 use Rattle.journal_laws.proofs.Steps.{refusals_change_nothing, sendings_wait_last, servings_take_effect}
 use Rattle.reply_laws.proofs.Grown.{Grown, none, refusing, sending, serving, stepped}
-use Rattle.reply_laws.proofs.Kept.{all_kept, all_of, found_first}
+use Rattle.journal_laws.proofs.Filters.{all_kept, all_of, found_first}
 use Rattle.reply_laws.specs.Pipelined.{is_on, sent_on, served_on, unserved_on}
 
 abbrev Before : Sent → Sent → Type 0
@@ -84,11 +83,11 @@ abbrev elsewhere : Sent → Sent → Bool
 elsewhere new one = not (new.place == one.place)
 
 -- what isn't served behind a serving wasn't before, and is another one
-left_unserved : (built : Built) (start : Start) (past : History) (new : Sent) (endpoint : ℕ) →
-    unserved_on (behind built start (serves new) past) endpoint ≡ filter (elsewhere new) (unserved_on past endpoint)
-left_unserved built start past new endpoint =
-    let now = behind built start (serves new) past in
-    let effect = servings_take_effect built start past new in
+left_unserved : (start : Start) (past : History) (new : Sent) (endpoint : ℕ) →
+    unserved_on (behind start (serves new) past) endpoint ≡ filter (elsewhere new) (unserved_on past endpoint)
+left_unserved start past new endpoint =
+    let now = behind start (serves new) past in
+    let effect = servings_take_effect start past new in
     ap (λ ones. filter (not_served now) (filter (is_on endpoint) ones)) effect.sent_same
     ∙ filter_agree (not_served now) (λ one. not_served past one && elsewhere new one)
     (λ one. ap not (effect.served one) ∙ not_or (new.place == one.place) (was_served past one)) (sent_on past endpoint)
@@ -143,44 +142,44 @@ unserved_kept past new endpoint is true = ap (λ (b : Bool). cond (not b) (new �
 unserved_kept past new endpoint is false = refl
 
 -- what is sent next wasn't served
-pub new_unserved : (built : Built) (start : Start) (earlier : Journal) (new : Sent) → Grown built start earlier → new.place ≡ length earlier → was_served (history_of built start earlier) new ≡ false
-new_unserved built start earlier new h at = fresh_unserved built start earlier new (stepped built start earlier h) (omega (arith, at))
+pub new_unserved : (start : Start) (earlier : Journal) (new : Sent) → Grown start earlier → new.place ≡ length earlier → was_served (history_of start earlier) new ≡ false
+new_unserved start earlier new h at = fresh_unserved start earlier new (stepped start earlier h) (omega (arith, at))
 
-pub front : (built : Built) (start : Start) (journal : Journal) (endpoint : ℕ) → Grown built start journal → HasFront (history_of built start journal) endpoint
+pub front : (start : Start) (journal : Journal) (endpoint : ℕ) → Grown start journal → HasFront (history_of start journal) endpoint
 unfolding history_of event_of
-front built start journal endpoint none = refl
-front built start journal endpoint (refusing earlier at why h) =
-    let past = history_of built start earlier in
-    let now = behind built start (refuses at why) past in
-    let kept = refusals_change_nothing built start past at why in
-    let served = served_more (event_of built start past (refuses at why)) past endpoint ∙ append-nil (served_on past endpoint) in
+front start journal endpoint none = refl
+front start journal endpoint (refusing earlier at why h) =
+    let past = history_of start earlier in
+    let now = behind start (refuses at why) past in
+    let kept = refusals_change_nothing start past at why in
+    let served = served_more (event_of start past (refuses at why)) past endpoint ∙ append-nil (served_on past endpoint) in
     let unserved : unserved_on now endpoint ≡ unserved_on past endpoint =
     filter_agree (not_served now) (not_served past) (λ one. ap not (kept.served one)) (sent_on now endpoint)
     ∙ ap (λ ones. filter (not_served past) (filter (is_on endpoint) ones)) kept.sent in
-    ap (filter (is_on endpoint)) kept.sent ∙ front built start earlier endpoint h ∙ sym (ap (λ ones. ones ++ unserved_on now endpoint) served ∙ ap (λ ones. served_on past endpoint ++ ones) unserved)
-front built start journal endpoint (sending earlier new h at short) =
-    let past = history_of built start earlier in
-    let now = behind built start (sends new) past in
-    let more = sendings_wait_last built start past new in
+    ap (filter (is_on endpoint)) kept.sent ∙ front start earlier endpoint h ∙ sym (ap (λ ones. ones ++ unserved_on now endpoint) served ∙ ap (λ ones. served_on past endpoint ++ ones) unserved)
+front start journal endpoint (sending earlier new h at short) =
+    let past = history_of start earlier in
+    let now = behind start (sends new) past in
+    let more = sendings_wait_last start past new in
     let last = cond (is_on endpoint new) (new ∷ []) [] in
-    let served = served_more (event_of built start past (sends new)) past endpoint ∙ append-nil (served_on past endpoint) in
+    let served = served_more (event_of start past (sends new)) past endpoint ∙ append-nil (served_on past endpoint) in
     let sent : sent_on now endpoint ≡ sent_on past endpoint ++ last = ap (filter (is_on endpoint)) more.sent_last ∙ filter-append (is_on endpoint) (all_sent past) (new ∷ []) in
     let unserved : unserved_on now endpoint ≡ unserved_on past endpoint ++ last =
     filter_agree (not_served now) (not_served past) (λ one. ap not (more.served one)) (sent_on now endpoint)
     ∙ ap (filter (not_served past)) sent
     ∙ filter-append (not_served past) (sent_on past endpoint) last
-    ∙ ap (λ ones. unserved_on past endpoint ++ ones) (unserved_kept past new endpoint (new_unserved built start earlier new h at) (is_on endpoint new)) in
-    sent ∙ ap (λ ones. ones ++ last) (front built start earlier endpoint h) ∙ append_assoc (served_on past endpoint) (unserved_on past endpoint) last
+    ∙ ap (λ ones. unserved_on past endpoint ++ ones) (unserved_kept past new endpoint (new_unserved start earlier new h at) (is_on endpoint new)) in
+    sent ∙ ap (λ ones. ones ++ last) (front start earlier endpoint h) ∙ append_assoc (served_on past endpoint) (unserved_on past endpoint) last
     ∙ sym (ap (λ ones. ones ++ unserved_on now endpoint) served ∙ ap (λ ones. served_on past endpoint ++ ones) unserved)
-front built start journal endpoint (serving earlier new h is) =
-    let past = history_of built start earlier in
-    let now = behind built start (serves new) past in
+front start journal endpoint (serving earlier new h is) =
+    let past = history_of start earlier in
+    let now = behind start (serves new) past in
     let first = cond (is_on endpoint new) (new ∷ []) [] in
-    let served = served_more (event_of built start past (serves new)) past endpoint in
-    let places = in_order built start earlier (stepped built start earlier h) in
+    let served = served_more (event_of start past (serves new)) past endpoint in
+    let places = in_order start earlier (stepped start earlier h) in
     let unserved = served_first start past new endpoint places.rise (head_is start past new is) (is_on endpoint new) refl in
-    ap (filter (is_on endpoint)) (servings_take_effect built start past new).sent_same
-    ∙ front built start earlier endpoint h
+    ap (filter (is_on endpoint)) (servings_take_effect start past new).sent_same
+    ∙ front start earlier endpoint h
     ∙ ap (λ ones. served_on past endpoint ++ ones) (sym unserved)
     ∙ sym (append_assoc (served_on past endpoint) first (filter (elsewhere new) (unserved_on past endpoint)))
-    ∙ sym (ap (λ ones. ones ++ unserved_on now endpoint) served ∙ ap (λ ones. (served_on past endpoint ++ first) ++ ones) (left_unserved built start past new endpoint))
+    ∙ sym (ap (λ ones. ones ++ unserved_on now endpoint) served ∙ ap (λ ones. (served_on past endpoint ++ first) ++ ones) (left_unserved start past new endpoint))

@@ -6,7 +6,6 @@ use Rattle.byteorder.specs.Numbers.{little_from-lt}
 use Rattle.fidl_names.specs.Numbers.{AreBytes, number_at}
 use Rattle.endpoint_link.specs.declared.kinds.Refusal.{Refusal}
 use Rattle.conn_rules.specs.Answers.{Act, Answer, replies, closes, binds, watches, forwards, refuses, ends, hangs_up, only, silent}
-use Rattle.conn_rules.specs.Built.{Built}
 use Rattle.fidl_wire.specs.Names.{method_ordinal}
 use Rattle.fidl_names.specs.declared.methods.Method.TheVariants as method
 use Rattle.io_messages.specs.Asked as asks
@@ -30,29 +29,29 @@ use Rattle.reply_laws.specs.Pipelined.{txid_in, txid_of}
 
 -- ---- outcomes are those of acts
 
-read_holds : (P : Outcome → Type 0) → ((asker : Asker) (act : Act) → P (outcome_with asker act)) → (built : Built) (moment : Moment) (read : Read) → P (outcome_of_read built moment read)
-read_holds P each built moment (Ok found) = each (asker_of moment.bound found.0 (object_of found.1)) (request_act built moment found.1)
-read_holds P each built moment (Err fault) = each (asker_of moment.bound (fault_txid fault) 0) (only moment.position (fault_answer fault))
+read_holds : (P : Outcome → Type 0) → ((asker : Asker) (act : Act) → P (outcome_with asker act)) → (moment : Moment) (read : Read) → P (outcome_of_read moment read)
+read_holds P each moment (Ok found) = each (asker_of moment.bound found.0 (object_of found.1)) (request_act moment found.1)
+read_holds P each moment (Err fault) = each (asker_of moment.bound (fault_txid fault) 0) (only moment.position (fault_answer fault))
 
-message_holds : (P : Outcome → Type 0) → ((asker : Asker) (act : Act) → P (outcome_with asker act)) → (built : Built) (moment : Moment) (p : Protocol) (bytes handles : List ℕ) → P (outcome_of_message built moment p bytes handles)
-message_holds P each built moment protocol.Directory bytes handles = read_holds P each built moment (read_by protocol.Directory bytes handles)
-message_holds P each built moment protocol.File bytes handles = read_holds P each built moment (read_by protocol.File bytes handles)
-message_holds P each built moment protocol.Node bytes handles = read_holds P each built moment (read_by protocol.Node bytes handles)
-message_holds P each built moment protocol.Echo bytes handles = read_holds P each built moment (read_by protocol.Echo bytes handles)
-message_holds P each built moment protocol.Watcher bytes handles = each (asker_of moment.bound 0 0) (only moment.position silent)
+message_holds : (P : Outcome → Type 0) → ((asker : Asker) (act : Act) → P (outcome_with asker act)) → (moment : Moment) (p : Protocol) (bytes handles : List ℕ) → P (outcome_of_message moment p bytes handles)
+message_holds P each moment protocol.Directory bytes handles = read_holds P each moment (read_by protocol.Directory bytes handles)
+message_holds P each moment protocol.File bytes handles = read_holds P each moment (read_by protocol.File bytes handles)
+message_holds P each moment protocol.Node bytes handles = read_holds P each moment (read_by protocol.Node bytes handles)
+message_holds P each moment protocol.Echo bytes handles = read_holds P each moment (read_by protocol.Echo bytes handles)
+message_holds P each moment protocol.Watcher bytes handles = each (asker_of moment.bound 0 0) (only moment.position silent)
 
-sending_holds : (P : Outcome → Type 0) → ((asker : Asker) (act : Act) → P (outcome_with asker act)) → (built : Built) (moment : Moment) (sending : Sending) → P (outcome_of_sending built moment sending)
+sending_holds : (P : Outcome → Type 0) → ((asker : Asker) (act : Act) → P (outcome_with asker act)) → (moment : Moment) (sending : Sending) → P (outcome_of_sending moment sending)
 unfolding outcome_of_sending
-sending_holds P each built moment (message bytes handles) = message_holds P each built moment moment.bound.birth.protocol bytes handles
-sending_holds P each built moment hang_up = each (asker_of moment.bound 0 0) (only moment.position hangs_up)
+sending_holds P each moment (message bytes handles) = message_holds P each moment moment.bound.birth.protocol bytes handles
+sending_holds P each moment hang_up = each (asker_of moment.bound 0 0) (only moment.position hangs_up)
 
 -- what holds of each act's outcome, and of that which serves nothing, holds of each
 pub outcome_holds : (P : Outcome → Type 0) → ((asker : Asker) (act : Act) → P (outcome_with asker act)) → P no_outcome →
-    (built : Built) (start : Start) (past : History) (one : Sent) → P (outcome_of built start past one)
-outcome_holds P each none built start past one = by_bound (bound_at start past one.endpoint) where
-  by_bound : (o : Option Bound) → P (outcome_at built start past one o)
+    (start : Start) (past : History) (one : Sent) → P (outcome_of start past one)
+outcome_holds P each none start past one = by_bound (bound_at start past one.endpoint) where
+  by_bound : (o : Option Bound) → P (outcome_at start past one o)
   by_bound None = none
-  by_bound (Some bound) = sending_holds P each built (moment_of start past bound) one.sending
+  by_bound (Some bound) = sending_holds P each (moment_of start past bound) one.sending
 
 -- ---- what goes on has no transaction id
 
@@ -76,8 +75,8 @@ answer_goes_on asker (ends status) f e = absurd (cc)
 answer_goes_on asker hangs_up f e = absurd (cc)
 answer_goes_on asker silent f e = absurd (cc)
 
-goes_on_short : (built : Built) (start : Start) (past : History) (one : Sent) → GoesOnShort (outcome_of built start past one)
-goes_on_short built start past one = outcome_holds GoesOnShort (λ asker act. answer_goes_on asker act.answer) (λ f e. absurd (cc)) built start past one
+goes_on_short : (start : Start) (past : History) (one : Sent) → GoesOnShort (outcome_of start past one)
+goes_on_short start past one = outcome_holds GoesOnShort (λ asker act. answer_goes_on asker act.answer) (λ f e. absurd (cc)) start past one
 
 -- what is admitted has bytes, so that its id has 32 bits
 byte_below : (bytes : List ℕ) → AreBytes bytes → (k : ℕ) → slice_index bytes k < 256
@@ -92,38 +91,38 @@ short_id bytes h = little_from-lt 0 4 bytes (byte_below bytes h)
 -- ---- entry by entry
 
 -- each entry is a refusal, a sending at the next place whose transaction id has 32 bits, or the serving of a head
-pub data Grown (built : Built) (start : Start) : Journal → Type 0 where
-  none : Grown built start []
-  refusing : (earlier : Journal) (endpoint : ℕ) (why : Refusal) → Grown built start earlier → Grown built start (refuses endpoint why ∷ earlier)
-  sending : (earlier : Journal) (one : Sent) → Grown built start earlier → one.place ≡ length earlier → IsShort (txid_of one.sending) → Grown built start (sends one ∷ earlier)
-  serving : (earlier : Journal) (one : Sent) → Grown built start earlier → head start (history_of built start earlier) one.endpoint ≡ Some one → Grown built start (serves one ∷ earlier)
+pub data Grown (start : Start) : Journal → Type 0 where
+  none : Grown start []
+  refusing : (earlier : Journal) (endpoint : ℕ) (why : Refusal) → Grown start earlier → Grown start (refuses endpoint why ∷ earlier)
+  sending : (earlier : Journal) (one : Sent) → Grown start earlier → one.place ≡ length earlier → IsShort (txid_of one.sending) → Grown start (sends one ∷ earlier)
+  serving : (earlier : Journal) (one : Sent) → Grown start earlier → head start (history_of start earlier) one.endpoint ≡ Some one → Grown start (serves one ∷ earlier)
 
-grown_on : (built : Built) (start : Start) (journal : Journal) (origin : ℕ) (forward : Option Forwarded) → ((f : Forwarded) → forward ≡ Some f → IsShort (txid_in f.bytes)) →
-    Grown built start journal → Grown built start (with_forward origin journal forward)
-grown_on built start journal origin None short h = h
-grown_on built start journal origin (Some forward) short h = sending journal _ h refl (short forward refl)
+grown_on : (start : Start) (journal : Journal) (origin : ℕ) (forward : Option Forwarded) → ((f : Forwarded) → forward ≡ Some f → IsShort (txid_in f.bytes)) →
+    Grown start journal → Grown start (with_forward origin journal forward)
+grown_on start journal origin None short h = h
+grown_on start journal origin (Some forward) short h = sending journal _ h refl (short forward refl)
 
-pub grown : (built : Built) (start : Start) (journal : Journal) → Lawful built start journal → Grown built start journal
-grown built start journal begun = none
-grown built start journal (refused earlier frame why h is admits) = refusing earlier frame.endpoint why (grown built start earlier h)
-grown built start journal (sent earlier frame h is kind admits) = sending earlier _ (grown built start earlier h) refl (short_id frame.bytes is.bytes)
-grown built start journal (closed earlier frame h is kind admits) = sending earlier _ (grown built start earlier h) refl (lit< tt)
-grown built start journal (served earlier entry h is) =
-    grown_on built start (serves entry ∷ earlier) entry.place (outcome_of built start (history_of built start earlier) entry).forward (goes_on_short built start (history_of built start earlier) entry)
-    (serving earlier entry (grown built start earlier h) is)
+pub grown : (start : Start) (journal : Journal) → Lawful start journal → Grown start journal
+grown start journal begun = none
+grown start journal (refused earlier frame why h is admits) = refusing earlier frame.endpoint why (grown start earlier h)
+grown start journal (sent earlier frame h is kind admits) = sending earlier _ (grown start earlier h) refl (short_id frame.bytes is.bytes)
+grown start journal (closed earlier frame h is kind admits) = sending earlier _ (grown start earlier h) refl (lit< tt)
+grown start journal (served earlier entry h is) =
+    grown_on start (serves entry ∷ earlier) entry.place (outcome_of start (history_of start earlier) entry).forward (goes_on_short start (history_of start earlier) entry)
+    (serving earlier entry (grown start earlier h) is)
 
 -- so are the entries before any
-before : (built : Built) (start : Start) (entry : Entry) (earlier : Journal) → Grown built start (entry ∷ earlier) → Grown built start earlier
-before built start entry earlier (refusing _ endpoint why h) = h
-before built start entry earlier (sending _ one h at short) = h
-before built start entry earlier (serving _ one h is) = h
+before : (start : Start) (entry : Entry) (earlier : Journal) → Grown start (entry ∷ earlier) → Grown start earlier
+before start entry earlier (refusing _ endpoint why h) = h
+before start entry earlier (sending _ one h at short) = h
+before start entry earlier (serving _ one h is) = h
 
-pub earlier_grown : (built : Built) (start : Start) (newer journal : Journal) → Grown built start (newer ++ journal) → Grown built start journal
-earlier_grown built start [] journal h = h
-earlier_grown built start (entry ∷ newer) journal h = earlier_grown built start newer journal (before built start entry (newer ++ journal) h)
+pub earlier_grown : (start : Start) (newer journal : Journal) → Grown start (newer ++ journal) → Grown start journal
+earlier_grown start [] journal h = h
+earlier_grown start (entry ∷ newer) journal h = earlier_grown start newer journal (before start entry (newer ++ journal) h)
 
-pub stepped : (built : Built) (start : Start) (journal : Journal) → Grown built start journal → Stepped built start journal
-stepped built start journal none = steps.none
-stepped built start journal (refusing earlier endpoint why h) = steps.refusing earlier endpoint why (stepped built start earlier h)
-stepped built start journal (sending earlier one h at short) = steps.sending earlier one (stepped built start earlier h) at
-stepped built start journal (serving earlier one h is) = steps.serving earlier one (stepped built start earlier h) is
+pub stepped : (start : Start) (journal : Journal) → Grown start journal → Stepped start journal
+stepped start journal none = steps.none
+stepped start journal (refusing earlier endpoint why h) = steps.refusing earlier endpoint why (stepped start earlier h)
+stepped start journal (sending earlier one h at short) = steps.sending earlier one (stepped start earlier h) at
+stepped start journal (serving earlier one h is) = steps.serving earlier one (stepped start earlier h) is

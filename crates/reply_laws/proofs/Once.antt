@@ -6,7 +6,6 @@ use Rattle.std.proofs.lemmas.List.Kept.{AllPairs-cons}
 use Rattle.endpoint_link.specs.Frames.{Frame}
 use Rattle.endpoint_link.specs.Numbering.{among}
 use Rattle.fidl_names.specs.declared.statuses.Status.{Status}
-use Rattle.conn_rules.specs.Built.{Built}
 use Rattle.vfs_journal.specs.Entries.{Journal, Sent, sends, serves, refuses}
 use Rattle.vfs_journal.specs.History.{Event, History, births, is_dead, is_watcher, served_by, serves_on}
 use Rattle.vfs_journal.specs.Outcomes.{ending}
@@ -19,7 +18,7 @@ use Rattle.journal_laws.proofs.Steps.{births-more}
 use Rattle.reply_laws.proofs.Framed.{AreFramed}
 use Rattle.reply_laws.proofs.Front.{bound_lives}
 use Rattle.reply_laws.proofs.Grown.{Grown, none, refusing, sending, serving}
-use Rattle.reply_laws.proofs.Kept.{all_of}
+use Rattle.journal_laws.proofs.Filters.{all_of}
 use Rattle.reply_laws.proofs.Served.{IsServedOn, answer_before, answer_now, new_elsewhere, served_cases, served_on_bound}
 use Rattle.reply_laws.specs.Laws.{IsAnswered}
 use Rattle.reply_laws.specs.Pipelined.{EndsByEpitaph, HasOneReply, answer_to, is_reply_on, served_on, txid_in, txid_of}
@@ -35,33 +34,33 @@ unset true e = absurd (cc)
 unset false e = refl
 
 -- what is served now is answered by its outcome
-now_answered : (built : Built) (start : Start) (past : History) (new : Sent) → IsServedOn built start past new → IsAnswered start (behind built start (serves new) past) new
-now_answered built start past new h =
-    let now = behind built start (serves new) past in
-    let frames = (outcome_of built start past new).frames in
-    let answer = answer_now built start past new in
+now_answered : (start : Start) (past : History) (new : Sent) → IsServedOn start past new → IsAnswered start (behind start (serves new) past) new
+now_answered start past new h =
+    let now = behind start (serves new) past in
+    let frames = (outcome_of start past new).frames in
+    let answer = answer_now start past new in
     record {
       bound = h.bound;
-      born = subst (λ bounds. Contains bounds h.bound) (sym (births-more start (event_of built start past (serves new)) past))
-          (Contains-append_left (births start past) (option_to_list (event_of built start past (serves new)).outcome.bound) h.bound h.born);
+      born = subst (λ bounds. Contains bounds h.bound) (sym (births-more start (event_of start past (serves new)) past))
+          (Contains-append_left (births start past) (option_to_list (event_of start past (serves new)).outcome.bound) h.bound h.born);
       on = h.on;
       watcher = λ is. answer ∙ h.framed.watcher is;
       one_way = λ is. ap (filter (is_reply_on new.endpoint)) answer ∙ none_by (is_watcher h.bound.birth.protocol) refl (swapped (txid_of new.sending == 0) is);
       two_way = λ other is. by_answer ((own other).two_way (unset (txid_of new.sending == 0) is));
     }
   where
-    own : is_watcher h.bound.birth.protocol ≡ false → AreFramed new.endpoint (txid_of new.sending) (outcome_of built start past new).frames
-    own other = subst (λ (n : ℕ). AreFramed n (txid_of new.sending) (outcome_of built start past new).frames) h.on (h.framed.framed other)
+    own : is_watcher h.bound.birth.protocol ≡ false → AreFramed new.endpoint (txid_of new.sending) (outcome_of start past new).frames
+    own other = subst (λ (n : ℕ). AreFramed n (txid_of new.sending) (outcome_of start past new).frames) h.on (h.framed.framed other)
 
-    none_by : (b : Bool) → is_watcher h.bound.birth.protocol ≡ b → (txid_of new.sending == 0) ≡ true → filter (is_reply_on new.endpoint) (outcome_of built start past new).frames ≡ []
+    none_by : (b : Bool) → is_watcher h.bound.birth.protocol ≡ b → (txid_of new.sending == 0) ≡ true → filter (is_reply_on new.endpoint) (outcome_of start past new).frames ≡ []
     none_by true is z = ap (filter (is_reply_on new.endpoint)) (h.framed.watcher is)
     none_by false is z = (own is).one_way z
 
-    by_answer : ((status : Status) × ((outcome_of built start past new).frames ≡ ending new.endpoint status))
-        ⊎ ((reply : Frame) × (filter (is_reply_on new.endpoint) (outcome_of built start past new).frames ≡ reply ∷ []) × (txid_in reply.bytes ≡ txid_of new.sending)) →
-        EndsByEpitaph (behind built start (serves new) past) new ⊎ HasOneReply (behind built start (serves new) past) new
-    by_answer (inl ended) = inl (ended.0, answer_now built start past new ∙ ended.1)
-    by_answer (inr replied) = inr (replied.0, ap (filter (is_reply_on new.endpoint)) (answer_now built start past new) ∙ replied.1, replied.2)
+    by_answer : ((status : Status) × ((outcome_of start past new).frames ≡ ending new.endpoint status))
+        ⊎ ((reply : Frame) × (filter (is_reply_on new.endpoint) (outcome_of start past new).frames ≡ reply ∷ []) × (txid_in reply.bytes ≡ txid_of new.sending)) →
+        EndsByEpitaph (behind start (serves new) past) new ⊎ HasOneReply (behind start (serves new) past) new
+    by_answer (inl ended) = inl (ended.0, answer_now start past new ∙ ended.1)
+    by_answer (inr replied) = inr (replied.0, ap (filter (is_reply_on new.endpoint)) (answer_now start past new) ∙ replied.1, replied.2)
 
 -- what was answered before is so behind an event that leaves its answer
 still_answered : (start : Start) (event : Event) (past : History) (one : Sent) → answer_to (event ∷ past) one ≡ answer_to past one → IsAnswered start past one → IsAnswered start (event ∷ past) one
@@ -84,29 +83,29 @@ served_earlier event past endpoint one idle h = by_side (served_cases event past
   by_side (inl there) = there
   by_side (inr e) = absurd (cc)
 
-served_side : (built : Built) (start : Start) (past : History) (new one : Sent) → (Contains (served_on past one.endpoint) one → IsAnswered start (behind built start (serves new) past) one) →
-    IsAnswered start (behind built start (serves new) past) new → Contains (served_on past one.endpoint) one ⊎ (Some new ≡ Some one) → IsAnswered start (behind built start (serves new) past) one
-served_side built start past new one before now (inl there) = before there
-served_side built start past new one before now (inr e) = subst (λ (s : Sent). IsAnswered start (behind built start (serves new) past) s) (cc) now
+served_side : (start : Start) (past : History) (new one : Sent) → (Contains (served_on past one.endpoint) one → IsAnswered start (behind start (serves new) past) one) →
+    IsAnswered start (behind start (serves new) past) new → Contains (served_on past one.endpoint) one ⊎ (Some new ≡ Some one) → IsAnswered start (behind start (serves new) past) one
+served_side start past new one before now (inl there) = before there
+served_side start past new one before now (inr e) = subst (λ (s : Sent). IsAnswered start (behind start (serves new) past) s) (cc) now
 
-pub answered : (built : Built) (start : Start) (journal : Journal) (one : Sent) → Grown built start journal → Contains (served_on (history_of built start journal) one.endpoint) one → IsAnswered start (history_of built start journal) one
+pub answered : (start : Start) (journal : Journal) (one : Sent) → Grown start journal → Contains (served_on (history_of start journal) one.endpoint) one → IsAnswered start (history_of start journal) one
 unfolding history_of event_of
-answered built start journal one none there = absurd (contains_none one there)
-answered built start journal one (refusing earlier at why grown) there =
-    let past = history_of built start earlier in
-    let event = event_of built start past (refuses at why) in
-    still_answered start event past one refl (answered built start earlier one grown (served_earlier event past one.endpoint one refl there))
-answered built start journal one (sending earlier new grown at short) there =
-    let past = history_of built start earlier in
-    let event = event_of built start past (sends new) in
-    still_answered start event past one refl (answered built start earlier one grown (served_earlier event past one.endpoint one refl there))
-answered built start journal one (serving earlier new grown is) there =
-    let past = history_of built start earlier in
-    let event = event_of built start past (serves new) in
+answered start journal one none there = absurd (contains_none one there)
+answered start journal one (refusing earlier at why grown) there =
+    let past = history_of start earlier in
+    let event = event_of start past (refuses at why) in
+    still_answered start event past one refl (answered start earlier one grown (served_earlier event past one.endpoint one refl there))
+answered start journal one (sending earlier new grown at short) there =
+    let past = history_of start earlier in
+    let event = event_of start past (sends new) in
+    still_answered start event past one refl (answered start earlier one grown (served_earlier event past one.endpoint one refl there))
+answered start journal one (serving earlier new grown is) there =
+    let past = history_of start earlier in
+    let event = event_of start past (serves new) in
     let not_yet = waits_unserved past new (head_is start past new is).waits in
-    served_side built start past new one
-    (λ before. still_answered start event past one (answer_before built start past new one (new_elsewhere past new one one.endpoint before not_yet)) (answered built start earlier one grown before))
-    (now_answered built start past new (served_on_bound built start earlier new grown is))
+    served_side start past new one
+    (λ before. still_answered start event past one (answer_before start past new one (new_elsewhere past new one one.endpoint before not_yet)) (answered start earlier one grown before))
+    (now_answered start past new (served_on_bound start earlier new grown is))
     (served_cases event past one.endpoint one there)
 
 -- ---- the last serving
@@ -132,19 +131,19 @@ serving_behind past endpoint later new same lives true is =
     let wrong : true ≡ false = sym dies ∙ died past endpoint event alive there in
     absurd (cc))
 
-pub last_served : (built : Built) (start : Start) (journal : Journal) (endpoint : ℕ) → Grown built start journal → AllPairs (EndsBefore endpoint) (history_of built start journal)
+pub last_served : (start : Start) (journal : Journal) (endpoint : ℕ) → Grown start journal → AllPairs (EndsBefore endpoint) (history_of start journal)
 unfolding history_of event_of
-last_served built start journal endpoint none = λ i j d l m. absurd (omega arith)
-last_served built start journal endpoint (refusing earlier at why grown) =
-    let past = history_of built start earlier in
-    let event = event_of built start past (refuses at why) in
-    AllPairs-cons (EndsBefore endpoint) event past (idle_behind past endpoint event refl) (last_served built start earlier endpoint grown)
-last_served built start journal endpoint (sending earlier new grown at short) =
-    let past = history_of built start earlier in
-    let event = event_of built start past (sends new) in
-    AllPairs-cons (EndsBefore endpoint) event past (idle_behind past endpoint event refl) (last_served built start earlier endpoint grown)
-last_served built start journal endpoint (serving earlier new grown is) =
-    let past = history_of built start earlier in
-    let event = event_of built start past (serves new) in
+last_served start journal endpoint none = λ i j d l m. absurd (omega arith)
+last_served start journal endpoint (refusing earlier at why grown) =
+    let past = history_of start earlier in
+    let event = event_of start past (refuses at why) in
+    AllPairs-cons (EndsBefore endpoint) event past (idle_behind past endpoint event refl) (last_served start earlier endpoint grown)
+last_served start journal endpoint (sending earlier new grown at short) =
+    let past = history_of start earlier in
+    let event = event_of start past (sends new) in
+    AllPairs-cons (EndsBefore endpoint) event past (idle_behind past endpoint event refl) (last_served start earlier endpoint grown)
+last_served start journal endpoint (serving earlier new grown is) =
+    let past = history_of start earlier in
+    let event = event_of start past (serves new) in
     let alive = bound_lives start past new.endpoint (head_is start past new is).bound in
-    AllPairs-cons (EndsBefore endpoint) event past (serving_behind past endpoint event new refl alive (new.endpoint == endpoint) refl) (last_served built start earlier endpoint grown)
+    AllPairs-cons (EndsBefore endpoint) event past (serving_behind past endpoint event new refl alive (new.endpoint == endpoint) refl) (last_served start earlier endpoint grown)

@@ -4,7 +4,6 @@ use Rattle.std.specs.List.{list_any}
 use Rattle.std.specs.Option.{option_map_or}
 use Rattle.std.proofs.lemmas.Bool.{eqb-true}
 use Rattle.std.proofs.lemmas.List.Elements.{All-contains, All-nil, All-push, Contains-append_cases}
-use Rattle.conn_rules.specs.Built.{Built}
 use Rattle.vfs_journal.specs.Entries.{Journal, Sent, serves}
 use Rattle.vfs_journal.specs.History.{Event, History, all_sent, births, bound_at, is_dead, living, served_by, serves_place, was_served}
 use Rattle.vfs_journal.specs.Past.{behind, event_of, history_of}
@@ -24,45 +23,45 @@ use Rattle.reply_laws.specs.Pipelined.{answer_to, is_on, served_on, serving_of, 
 abbrev HasShort : Sent → Type 0
 HasShort one = IsShort (txid_of one.sending)
 
-pub shorts : (built : Built) (start : Start) (journal : Journal) → Grown built start journal → All HasShort (all_sent (history_of built start journal))
+pub shorts : (start : Start) (journal : Journal) → Grown start journal → All HasShort (all_sent (history_of start journal))
 unfolding history_of
-shorts built start journal none = All-nil HasShort
-shorts built start journal (refusing earlier endpoint why h) =
-    subst (All HasShort) (sym (refusals_change_nothing built start (history_of built start earlier) endpoint why).sent) (shorts built start earlier h)
-shorts built start journal (sending earlier one h at short) =
-    subst (All HasShort) (sym (sendings_wait_last built start (history_of built start earlier) one).sent_last)
-    (All-push HasShort (all_sent (history_of built start earlier)) one (shorts built start earlier h) short)
-shorts built start journal (serving earlier one h is) =
-    subst (All HasShort) (sym (servings_take_effect built start (history_of built start earlier) one).sent_same) (shorts built start earlier h)
+shorts start journal none = All-nil HasShort
+shorts start journal (refusing earlier endpoint why h) =
+    subst (All HasShort) (sym (refusals_change_nothing start (history_of start earlier) endpoint why).sent) (shorts start earlier h)
+shorts start journal (sending earlier one h at short) =
+    subst (All HasShort) (sym (sendings_wait_last start (history_of start earlier) one).sent_last)
+    (All-push HasShort (all_sent (history_of start earlier)) one (shorts start earlier h) short)
+shorts start journal (serving earlier one h is) =
+    subst (All HasShort) (sym (servings_take_effect start (history_of start earlier) one).sent_same) (shorts start earlier h)
 
 -- ---- how a head is served
 
 -- the endpoint that it is served on was born, and the frames of its answer are what this endpoint answers
-pub record IsServedOn (built : Built) (start : Start) (past : History) (new : Sent) : Type 0 where
+pub record IsServedOn (start : Start) (past : History) (new : Sent) : Type 0 where
   pub bound : Bound
   pub born : Contains (births start past) bound
   pub on : bound.endpoint ≡ new.endpoint
-  pub framed : IsFramed bound.birth.protocol bound.endpoint new.sending (outcome_of built start past new).frames
+  pub framed : IsFramed bound.birth.protocol bound.endpoint new.sending (outcome_of start past new).frames
 
-served_by_bound : (built : Built) (start : Start) (past : History) (new : Sent) → IsShort (txid_of new.sending) → (o : Option Bound) → bound_at start past new.endpoint ≡ o → is_some o ≡ true → IsServedOn built start past new
-served_by_bound built start past new short None is some = absurd (cc)
-served_by_bound built start past new short (Some bound) is some =
+served_by_bound : (start : Start) (past : History) (new : Sent) → IsShort (txid_of new.sending) → (o : Option Bound) → bound_at start past new.endpoint ≡ o → is_some o ≡ true → IsServedOn start past new
+served_by_bound start past new short None is some = absurd (cc)
+served_by_bound start past new short (Some bound) is some =
     let here = found (λ (b : Bound). b.endpoint == new.endpoint) (living start past) bound is in
     record {
       bound = bound;
       born = (kept_of (λ (b : Bound). not (is_dead past b.endpoint)) (births start past) bound here.0).0;
       on = eqb-true bound.endpoint new.endpoint here.1;
-      framed = subst (λ (o : Option Bound). IsFramed bound.birth.protocol bound.endpoint new.sending (outcome_at built start past new o).frames) (sym is)
-          (sending_framed built (moment_of start past bound) new.sending short);
+      framed = subst (λ (o : Option Bound). IsFramed bound.birth.protocol bound.endpoint new.sending (outcome_at start past new o).frames) (sym is)
+          (sending_framed (moment_of start past bound) new.sending short);
     }
 
-pub served_on_bound : (built : Built) (start : Start) (earlier : Journal) (new : Sent) → Grown built start earlier → head start (history_of built start earlier) new.endpoint ≡ Some new →
-    IsServedOn built start (history_of built start earlier) new
-served_on_bound built start earlier new h is =
-    let past = history_of built start earlier in
+pub served_on_bound : (start : Start) (earlier : Journal) (new : Sent) → Grown start earlier → head start (history_of start earlier) new.endpoint ≡ Some new →
+    IsServedOn start (history_of start earlier) new
+served_on_bound start earlier new h is =
+    let past = history_of start earlier in
     let first = head_is start past new is in
-    let short = All-contains HasShort (all_sent past) new (shorts built start earlier h) (waits_of_sent past new first.waits) in
-    served_by_bound built start past new short (bound_at start past new.endpoint) refl first.bound
+    let short = All-contains HasShort (all_sent past) new (shorts start earlier h) (waits_of_sent past new first.waits) in
+    served_by_bound start past new short (bound_at start past new.endpoint) refl first.bound
 
 -- ---- what was served, looking back
 
@@ -108,12 +107,12 @@ new_elsewhere past new one endpoint there not_yet = by_test (new.place == one.pl
 -- ---- answers behind one more serving
 
 -- what was served is answered as before, and what is served now by this outcome
-pub answer_before : (built : Built) (start : Start) (past : History) (new one : Sent) → (new.place == one.place) ≡ false → answer_to (behind built start (serves new) past) one ≡ answer_to past one
+pub answer_before : (start : Start) (past : History) (new one : Sent) → (new.place == one.place) ≡ false → answer_to (behind start (serves new) past) one ≡ answer_to past one
 unfolding event_of
-answer_before built start past new one other =
-    ap (λ (b : Bool). option_map_or (λ (event : Event). event.outcome.frames) (cond b (Some (event_of built start past (serves new))) (serving_of past one)) []) other
+answer_before start past new one other =
+    ap (λ (b : Bool). option_map_or (λ (event : Event). event.outcome.frames) (cond b (Some (event_of start past (serves new))) (serving_of past one)) []) other
 
-pub answer_now : (built : Built) (start : Start) (past : History) (new : Sent) → answer_to (behind built start (serves new) past) new ≡ (outcome_of built start past new).frames
+pub answer_now : (start : Start) (past : History) (new : Sent) → answer_to (behind start (serves new) past) new ≡ (outcome_of start past new).frames
 unfolding event_of
-answer_now built start past new =
-    ap (λ (b : Bool). option_map_or (λ (event : Event). event.outcome.frames) (cond b (Some (event_of built start past (serves new))) (serving_of past new)) []) (eq-eqb new.place new.place refl)
+answer_now start past new =
+    ap (λ (b : Bool). option_map_or (λ (event : Event). event.outcome.frames) (cond b (Some (event_of start past (serves new))) (serving_of past new)) []) (eq-eqb new.place new.place refl)

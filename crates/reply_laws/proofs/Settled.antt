@@ -5,7 +5,6 @@ use Rattle.std.specs.Option.{option_map_or}
 use Rattle.std.proofs.lemmas.Bool.{eqb-true, or_parts}
 use Rattle.std.proofs.lemmas.List.{append-nil}
 use Rattle.fidl_names.specs.HandleNumber.{handle_with}
-use Rattle.conn_rules.specs.Built.{Built}
 use Rattle.io_messages.specs.Asked.{method_of}
 use Rattle.io_messages.specs.Shapes.{is_one_way}
 use Rattle.vfs_journal.specs.Entries.{Journal, Sent}
@@ -18,24 +17,24 @@ use Rattle.journal_laws.specs.Soundness.{DrainsServeAll, IsDrained}
 use Rattle.reply_laws.proofs.Forms.{HasId, read_has}
 use Rattle.reply_laws.proofs.Front.{front, not_served}
 use Rattle.reply_laws.proofs.Grown.{Grown, earlier_grown, grown}
-use Rattle.reply_laws.proofs.Kept.{all_of, none_kept}
+use Rattle.journal_laws.proofs.Filters.{all_of, none_kept}
 use Rattle.reply_laws.proofs.Once.{answered, last_served}
 use Rattle.reply_laws.proofs.Ordered.{ordered}
 use Rattle.reply_laws.specs.Laws.{ArePipelined, DrainsSettleAll, IsSettled, RepliesAreInOrder, RequestsAskByTheirIds, ServedIsAnswered}
 use Rattle.reply_laws.specs.Pipelined.{answer_to, is_on, sent_on, served_on, txid_in}
 
-pipelined : (built : Built) (start : Start) (journal : Journal) (endpoint : ℕ) → Grown built start journal → ArePipelined start (history_of built start journal) endpoint
-pipelined built start journal endpoint h = record {
-  front = front built start journal endpoint h;
-  last = last_served built start journal endpoint h;
-  replies = ordered built start journal endpoint h;
+pipelined : (start : Start) (journal : Journal) (endpoint : ℕ) → Grown start journal → ArePipelined start (history_of start journal) endpoint
+pipelined start journal endpoint h = record {
+  front = front start journal endpoint h;
+  last = last_served start journal endpoint h;
+  replies = ordered start journal endpoint h;
 }
 
 pub replies_are_in_order : RepliesAreInOrder
-replies_are_in_order built start newer journal endpoint h = pipelined built start journal endpoint (earlier_grown built start newer journal (grown built start (newer ++ journal) h))
+replies_are_in_order start newer journal endpoint h = pipelined start journal endpoint (earlier_grown start newer journal (grown start (newer ++ journal) h))
 
 pub served_is_answered : ServedIsAnswered
-served_is_answered built start newer journal sent h there = answered built start journal sent (earlier_grown built start newer journal (grown built start (newer ++ journal) h)) there
+served_is_answered start newer journal sent h there = answered start journal sent (earlier_grown start newer journal (grown start (newer ++ journal) h)) there
 
 -- ---- requests
 
@@ -78,10 +77,10 @@ dead_by : (history : History) (endpoint : ℕ) (one : Sent) → (is_on endpoint 
 dead_by history endpoint one on unserved (inl served) = let wrong : true ≡ false = sym served ∙ unserved in absurd (cc)
 dead_by history endpoint one on unserved (inr dead) = ap (is_dead history) (sym (eqb-true one.endpoint endpoint on)) ∙ dead
 
-settled : (built : Built) (start : Start) (journal : Journal) (endpoint : ℕ) → Grown built start journal → IsDrained (history_of built start journal) → IsSettled start (history_of built start journal) endpoint
-settled built start journal endpoint h drained =
-    let history = history_of built start journal in
-    let order = pipelined built start journal endpoint h in
+settled : (start : Start) (journal : Journal) (endpoint : ℕ) → Grown start journal → IsDrained (history_of start journal) → IsSettled start (history_of start journal) endpoint
+settled start journal endpoint h drained =
+    let history = history_of start journal in
+    let order = pipelined start journal endpoint h in
     record {
       pipelined = order;
       lives = λ alive.
@@ -96,6 +95,6 @@ settled built start journal endpoint h drained =
     }
 
 pub drains_settle_all : DrainsServeAll → DrainsSettleAll
-drains_settle_all serve_all built start journal endpoint is h =
-    let behind = serve_all built start journal is h in
-    settled built start (drained built start journal) endpoint (grown built start (drained built start journal) behind.0) behind.1
+drains_settle_all serve_all start journal endpoint is h =
+    let behind = serve_all start journal is h in
+    settled start (drained start journal) endpoint (grown start (drained start journal) behind.0) behind.1

@@ -1,5 +1,5 @@
 -- Which replies are written for one event: those of its answer.
-use Rattle.std.proofs.Common.{◌≡◌, ℕ, ◌==◌, ◌&&◌, ◌⊎◌, ◌∙◌, Bool, true, false, not, cond, List, [], ◌∷◌, ◌++◌, filter, map, option_to_list, Option, Some, None, Contains, refl, sym, ap, subst, inl, inr}
+use Rattle.std.proofs.Common.{◌≡◌, ℕ, ◌==◌, ◌&&◌, ◌⊎◌, ◌∙◌, Bool, true, false, not, List, [], ◌∷◌, ◌++◌, filter, map, option_to_list, Option, Some, None, Contains, refl, sym, ap, subst, inl, inr}
 use Rattle.std.specs.List.{list_any}
 use Rattle.std.specs.Option.{option_map_or}
 use Rattle.std.proofs.lemmas.Bool.{and_parts}
@@ -7,11 +7,10 @@ use Rattle.std.proofs.lemmas.List.{append-nil}
 use Rattle.std.proofs.lemmas.List.Elements.{All-map, Contains-append_left, Contains-append_right, filter-append}
 use Rattle.endpoint_link.specs.Frames.{Frame}
 use Rattle.endpoint_link.specs.Numbering.{among}
-use Rattle.node_graph.specs.Tree.{Tree}
+use Rattle.node_graph.specs.Tree.{Tree, names_in}
 use Rattle.path_walk.specs.Names.{dot}
 use Rattle.conn_rules.specs.Answers.{Act, Answer, Happening, replies, closes, binds, watches, forwards, refuses, ends, hangs_up, silent}
 use Rattle.conn_rules.specs.Answers as news
-use Rattle.conn_rules.specs.Built.{Built}
 use Rattle.vfs_journal.specs.Entries.{Sent, serves}
 use Rattle.vfs_journal.specs.History.{Event, History, births, is_dead, is_watcher, living, tree_at, trees_of, watches_node}
 use Rattle.vfs_journal.specs.Outcomes.{Asker, Outcome, bound_of, close_frame, watcher_birth}
@@ -19,12 +18,15 @@ use Rattle.vfs_journal.specs.Output.{close_frames, frames_of_serving, rising}
 use Rattle.vfs_journal.specs.Past.{event_of}
 use Rattle.vfs_journal.specs.Serving.{outcome_of}
 use Rattle.vfs_journal.specs.Starts.{Bound, Start}
-use Rattle.vfs_journal.specs.Watching.{added, asks_for, deleted, event_bytes, existing, first_frames, first_messages, idle, removed, snapshot, told_by, told_frames, told_of, watch_frame}
-use Rattle.journal_laws.proofs.Members.{contains_here, kept_of, none_passes}
+use Rattle.vfs_journal.specs.Watching.{first_frames, first_messages, told_by, told_frames, told_of, watcher_of}
+use Rattle.watch_events.specs.Events.{event_bytes}
+use Rattle.watch_events.specs.Messages.{Watcher, added, asks_for, deleted, removed, watch_frame}
+use Rattle.watch_events.specs.Messages as messages
+use Rattle.journal_laws.proofs.Members.{contains_here, kept_of, mapped_member, none_passes}
 use Rattle.journal_laws.proofs.Steps.{births-more}
 use Rattle.reply_laws.proofs.Framed.{other_reply}
 use Rattle.reply_laws.proofs.Grown.{outcome_holds}
-use Rattle.reply_laws.proofs.Kept.{all_of, none_in_front, none_joined, none_kept, none_mapped}
+use Rattle.journal_laws.proofs.Filters.{all_of, none_in_front, none_joined, none_kept, none_mapped}
 use Rattle.reply_laws.specs.Pipelined.{is_reply_on, was_watcher}
 
 -- ---- whom watchers' messages go to
@@ -72,15 +74,12 @@ answer_unmasked asker (ends status) bound e = absurd (cc)
 answer_unmasked asker hangs_up bound e = absurd (cc)
 answer_unmasked asker silent bound e = absurd (cc)
 
-binds_unmasked : (built : Built) (start : Start) (past : History) (new : Sent) → BindsUnmasked (outcome_of built start past new)
-binds_unmasked built start past new = outcome_holds BindsUnmasked (λ asker act. answer_unmasked asker act.answer) (λ bound e. absurd (cc)) built start past new
+binds_unmasked : (start : Start) (past : History) (new : Sent) → BindsUnmasked (outcome_of start past new)
+binds_unmasked start past new = outcome_holds BindsUnmasked (λ asker act. answer_unmasked asker act.answer) (λ bound e. absurd (cc)) start past new
 
 first_none : (endpoint : ℕ) (tree : Tree) (bound : Bound) → IsUnmasked bound → IsElsewhere endpoint bound → filter (is_reply_on endpoint) (first_frames tree bound) ≡ []
 first_none endpoint tree bound (inl unmasked) other =
-    ap (λ (mask : ℕ).
-    filter (is_reply_on endpoint)
-    (map (watch_frame bound.endpoint)
-    (cond (asks_for mask existing) (snapshot tree bound.birth.node) [] ++ cond (asks_for mask idle) (event_bytes idle [] ∷ []) []))) unmasked
+    ap (λ (mask : ℕ). filter (is_reply_on endpoint) (messages.first_frames bound.endpoint mask (names_in tree.edges bound.birth.node))) unmasked
 first_none endpoint tree bound (inr is) other =
     none_mapped (is_reply_on endpoint) (watch_frame bound.endpoint) (first_messages tree bound) (λ bytes. other_reply endpoint bound.endpoint [] bytes (other is))
 
@@ -97,15 +96,17 @@ watches_so server node bound h = (and_parts (is_watcher bound.birth.protocol) ((
 told_of_none : (endpoint : ℕ) (lives : List Bound) (server directory event : ℕ) (name : List ℕ) → ((bound : Bound) → Contains lives bound → IsElsewhere endpoint bound) →
     filter (is_reply_on endpoint) (told_of lives server directory event name) ≡ []
 told_of_none endpoint lives server directory event name other =
-    let watchers = filter (watches_node server directory) lives in
-    let asking = filter (λ (bound : Bound). asks_for bound.mask event) watchers in
-    let frame : Bound → Frame = λ bound. watch_frame bound.endpoint (event_bytes event name) in
+    let watching = filter (watches_node server directory) lives in
+    let asking = filter (λ (watcher : Watcher). asks_for watcher.mask event) (map watcher_of watching) in
+    let frame : Watcher → Frame = λ watcher. watch_frame watcher.endpoint (event_bytes event name) in
     none_kept (is_reply_on endpoint) (map frame asking)
     (All-map (λ f. is_reply_on endpoint f ≡ false) frame asking
-    (all_of (λ bound. is_reply_on endpoint (frame bound) ≡ false) asking
-    (λ bound there.
-    let watcher = kept_of (watches_node server directory) lives bound (kept_of (λ (b : Bound). asks_for b.mask event) watchers bound there).0 in
-    other_reply endpoint bound.endpoint [] (event_bytes event name) (other bound watcher.0 (watches_so server directory bound watcher.1)))))
+    (all_of (λ watcher. is_reply_on endpoint (frame watcher) ≡ false) asking
+    (λ watcher there.
+    let from = mapped_member watcher_of watcher watching (kept_of (λ (w : Watcher). asks_for w.mask event) (map watcher_of watching) watcher there).0 in
+    let bound = kept_of (watches_node server directory) lives from.0 from.1 in
+    let elsewhere = other from.0 bound.0 (watches_so server directory from.0 bound.1) in
+    other_reply endpoint watcher.endpoint [] (event_bytes event name) (subst (λ (n : ℕ). (n == endpoint) ≡ false) (ap (λ (w : Watcher). w.endpoint) from.2) elsewhere))))
 
 told_none : (endpoint : ℕ) (lives : List Bound) (server : ℕ) → ((bound : Bound) → Contains lives bound → IsElsewhere endpoint bound) → (happening : Happening) →
     filter (is_reply_on endpoint) (told_by lives server happening) ≡ []
@@ -116,12 +117,12 @@ told_none endpoint lives server other (news.deleted directory) = told_of_none en
 -- ---- the whole
 
 -- of the frames for a serving the replies on an endpoint that is no watcher's are those of its answer
-pub serving_replies : (built : Built) (start : Start) (past : History) (new : Sent) (endpoint : ℕ) → was_watcher start (event_of built start past (serves new) ∷ past) endpoint ≡ false →
-    filter (is_reply_on endpoint) (frames_of_serving (trees_of start past) (living start past) (event_of built start past (serves new)))
-    ≡ filter (is_reply_on endpoint) (outcome_of built start past new).frames
+pub serving_replies : (start : Start) (past : History) (new : Sent) (endpoint : ℕ) → was_watcher start (event_of start past (serves new) ∷ past) endpoint ≡ false →
+    filter (is_reply_on endpoint) (frames_of_serving (trees_of start past) (living start past) (event_of start past (serves new)))
+    ≡ filter (is_reply_on endpoint) (outcome_of start past new).frames
 unfolding event_of
-serving_replies built start past new endpoint none =
-    let event = event_of built start past (serves new) in
+serving_replies start past new endpoint none =
+    let event = event_of start past (serves new) in
     let answer = event.outcome.frames in
     let first = option_map_or (λ bound. first_frames (tree_at (trees_of start past) bound.server) bound) event.outcome.bound [] in
     let told = told_frames (living start past) event.outcome.server event.outcome.told in
@@ -138,30 +139,30 @@ serving_replies built start past new endpoint none =
     ∙ append-nil (filter p answer)
   where
     now : History
-    now = event_of built start past (serves new) ∷ past
+    now = event_of start past (serves new) ∷ past
 
-    born : (bound : Bound) → Contains (births start past ++ option_to_list (outcome_of built start past new).bound) bound → IsElsewhere endpoint bound
+    born : (bound : Bound) → Contains (births start past ++ option_to_list (outcome_of start past new).bound) bound → IsElsewhere endpoint bound
     born bound there =
-        born_elsewhere start now endpoint bound none (subst (λ bounds. Contains bounds bound) (sym (births-more start (event_of built start past (serves new)) past)) there)
+        born_elsewhere start now endpoint bound none (subst (λ bounds. Contains bounds bound) (sym (births-more start (event_of start past (serves new)) past)) there)
 
-    no_close : filter (is_reply_on endpoint) (close_frames (event_of built start past (serves new))) ≡ []
+    no_close : filter (is_reply_on endpoint) (close_frames (event_of start past (serves new))) ≡ []
     no_close =
-        let event = event_of built start past (serves new) in
+        let event = event_of start past (serves new) in
         none_mapped (is_reply_on endpoint) close_frame (rising (filter (λ (n : ℕ). not (among n event.outcome.ends)) event.deaths)) (λ n. refl)
 
-    no_told : filter (is_reply_on endpoint) (told_frames (living start past) (outcome_of built start past new).server (outcome_of built start past new).told) ≡ []
+    no_told : filter (is_reply_on endpoint) (told_frames (living start past) (outcome_of start past new).server (outcome_of start past new).told) ≡ []
     no_told =
-        none_joined (is_reply_on endpoint) (told_by (living start past) (outcome_of built start past new).server) (outcome_of built start past new).told
-        (told_none endpoint (living start past) (outcome_of built start past new).server
+        none_joined (is_reply_on endpoint) (told_by (living start past) (outcome_of start past new).server) (outcome_of start past new).told
+        (told_none endpoint (living start past) (outcome_of start past new).server
         (λ bound there.
         born bound
-        (Contains-append_left (births start past) (option_to_list (outcome_of built start past new).bound) bound
+        (Contains-append_left (births start past) (option_to_list (outcome_of start past new).bound) bound
         (kept_of (λ (b : Bound). not (is_dead past b.endpoint)) (births start past) bound there).0)))
 
-    no_first : filter (is_reply_on endpoint) (option_map_or (λ bound. first_frames (tree_at (trees_of start past) bound.server) bound) (outcome_of built start past new).bound []) ≡ []
+    no_first : filter (is_reply_on endpoint) (option_map_or (λ bound. first_frames (tree_at (trees_of start past) bound.server) bound) (outcome_of start past new).bound []) ≡ []
     no_first =
-        firsts_none endpoint (trees_of start past) (outcome_of built start past new).bound (binds_unmasked built start past new)
+        firsts_none endpoint (trees_of start past) (outcome_of start past new).bound (binds_unmasked start past new)
         (λ bound e.
         born bound
-        (Contains-append_right (births start past) (option_to_list (outcome_of built start past new).bound) bound
+        (Contains-append_right (births start past) (option_to_list (outcome_of start past new).bound) bound
         (subst (λ (o : Option Bound). Contains (option_to_list o) bound) (sym e) (contains_here bound []))))

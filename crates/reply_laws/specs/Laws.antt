@@ -1,7 +1,6 @@
 -- Pipelining: a client may send on, and has its replies in the order in which it sent.
 use Rattle.std.specs.Prelude.{◌≡◌, ◌⊎◌, ℕ, true, false, not, AllPairs, Contains, List, [], ◌++◌, flat_map, Ok}
 use Rattle.endpoint_link.specs.Numbering.{among}
-use Rattle.conn_rules.specs.Built.{Built}
 use Rattle.io_messages.specs.Asked.{Asked, method_of}
 use Rattle.io_messages.specs.declared.protocols.Protocol.{Protocol}
 use Rattle.io_messages.specs.Shapes.{is_one_way}
@@ -27,7 +26,7 @@ pub record ArePipelined (start : Start) (history : History) (endpoint : ℕ) : T
 -- so it is behind each entry of a lawful journal
 abbrev pub RepliesAreInOrder : Type 0
 RepliesAreInOrder =
-    (built : Built) (start : Start) (newer journal : Journal) (endpoint : ℕ) → Lawful built start (newer ++ journal) → ArePipelined start (history_of built start journal) endpoint
+    (start : Start) (newer journal : Journal) (endpoint : ℕ) → Lawful start (newer ++ journal) → ArePipelined start (history_of start journal) endpoint
 
 -- ---- once
 
@@ -43,8 +42,8 @@ pub record IsAnswered (start : Start) (history : History) (sent : Sent) : Type 0
 
 abbrev pub ServedIsAnswered : Type 0
 ServedIsAnswered =
-    (built : Built) (start : Start) (newer journal : Journal) (sent : Sent) → Lawful built start (newer ++ journal) →
-    Contains (served_on (history_of built start journal) sent.endpoint) sent → IsAnswered start (history_of built start journal) sent
+    (start : Start) (newer journal : Journal) (sent : Sent) → Lawful start (newer ++ journal) →
+    Contains (served_on (history_of start journal) sent.endpoint) sent → IsAnswered start (history_of start journal) sent
 
 -- a message that is read as a request has its transaction id, and asks for a reply where its method has one
 abbrev pub RequestsAskByTheirIds : Type 0
@@ -62,4 +61,4 @@ pub record IsSettled (start : Start) (history : History) (endpoint : ℕ) : Type
 
 abbrev pub DrainsSettleAll : Type 0
 DrainsSettleAll =
-    (built : Built) (start : Start) (journal : Journal) (endpoint : ℕ) → IsStart start → Lawful built start journal → IsSettled start (history_of built start (drained built start journal)) endpoint
+    (start : Start) (journal : Journal) (endpoint : ℕ) → IsStart start → Lawful start journal → IsSettled start (history_of start (drained start journal)) endpoint

@@ -20,21 +20,20 @@ use Rattle.journal_laws.proofs.Acts.{unless_holds}
 
 -- ---- the right of a method
 
-second_passes : (a : Option Status) (x : Bool) (s : Status) (rest : List (Option Status)) → first_of (a ∷ cause_if x s ∷ rest) ≡ None → x ≡ false
-second_passes (Some f) x s rest e = absurd (cc)
-second_passes None true s rest e = absurd (cc)
-second_passes None false s rest e = refl
+second_passes : (a : Option Status) (x : Bool) (s : Status) → first_of (a ∷ cause_if x s ∷ []) ≡ None → x ≡ false
+second_passes (Some f) x s e = absurd (cc)
+second_passes None true s e = absurd (cc)
+second_passes None false s e = refl
 
 pub has_right : (b : Bool) → not b ≡ false → b ≡ true
 has_right true e = refl
 has_right false e = absurd (cc)
 
 -- a method that isn't refused has the right that it needs
-pub right_there : (context : Context) (request : Asked) (operation : Operation) → needed_by (method_of request) ≡ Some (single operation) → first_of (method_refusals context.built context.birth (method_of request)) ≡ None → is_within (single operation) context.birth.rights ≡ true
+pub right_there : (context : Context) (request : Asked) (operation : Operation) → needed_by (method_of request) ≡ Some (single operation) → first_of (method_refusals context.birth (method_of request)) ≡ None → is_within (single operation) context.birth.rights ≡ true
 right_there context request operation needs e =
     let lacks' : lacks_right context.birth (method_of request) ≡ not (is_within (single operation) context.birth.rights) = ap (λ (o : Option OperationSet). option_map_or (lacks context.birth.rights) o false) needs in
-    let passes = second_passes (cause_if (is_beyond context.birth.protocol (method_of request)) status.BadHandle) (lacks_right context.birth (method_of request)) status.BadHandle
-    (cause_if (not (context.built.methods (method_of request))) status.NotSupported ∷ []) e in
+    let passes = second_passes (cause_if (is_beyond context.birth.protocol (method_of request)) status.BadHandle) (lacks_right context.birth (method_of request)) status.BadHandle e in
     has_right (is_within (single operation) context.birth.rights) (sym lacks' ∙ passes)
 
 -- what changes a tree, or has this
@@ -44,7 +43,7 @@ StaysOr A act = (act.change ≡ stay) ⊎ A
 pub stays_or_right : (context : Context) (request : Asked) (operation : Operation) → needed_by (method_of request) ≡ Some (single operation) → ((act_of context request).change ≡ stay) ⊎ (is_within (single operation) context.birth.rights ≡ true)
 unfolding act_of
 stays_or_right context request operation needs =
-    unless_holds (StaysOr (is_within (single operation) context.birth.rights ≡ true)) (first_of (method_refusals context.built context.birth (method_of request))) context.position (method_of request) (row_act context request)
+    unless_holds (StaysOr (is_within (single operation) context.birth.rights ≡ true)) (first_of (method_refusals context.birth (method_of request))) context.position (method_of request) (row_act context request)
     (λ s. inl refl) (λ e. inr (right_there context request operation needs e))
 
 -- ---- the directory of a token
@@ -59,7 +58,7 @@ link_target context src dst token (Some target) is = inr (target, is)
 pub link_has_target : (context : Context) (src dst : List ℕ) (token : ℕ) → ((act_of context (asks.link src token dst)).change ≡ stay) ⊎ ((target : ℕ) × (context.directory token ≡ Some target))
 unfolding act_of
 link_has_target context src dst token =
-    unless_holds (HasTarget context token) (first_of (method_refusals context.built context.birth (method_of (asks.link src token dst)))) context.position (method_of (asks.link src token dst)) (link_act context src token dst)
+    unless_holds (HasTarget context token) (first_of (method_refusals context.birth (method_of (asks.link src token dst)))) context.position (method_of (asks.link src token dst)) (link_act context src token dst)
     (λ s. inl refl)
     (λ e. unless_holds (HasTarget context token) (two_names_refusal src dst (context.directory token)) context.position method.Link (link_into context src dst (context.directory token))
     (λ s. inl refl) (λ f. link_target context src dst token (context.directory token) refl))
@@ -71,7 +70,7 @@ rename_target context src dst token (Some target) is = inr (target, is)
 pub rename_has_target : (context : Context) (src dst : List ℕ) (token : ℕ) → ((act_of context (asks.rename src token dst)).change ≡ stay) ⊎ ((target : ℕ) × (context.directory token ≡ Some target))
 unfolding act_of
 rename_has_target context src dst token =
-    unless_holds (HasTarget context token) (first_of (method_refusals context.built context.birth (method_of (asks.rename src token dst)))) context.position (method_of (asks.rename src token dst)) (rename_act context src token dst)
+    unless_holds (HasTarget context token) (first_of (method_refusals context.birth (method_of (asks.rename src token dst)))) context.position (method_of (asks.rename src token dst)) (rename_act context src token dst)
     (λ s. inl refl)
     (λ e. unless_holds (HasTarget context token) (two_names_refusal src dst (context.directory token)) context.position method.Rename (rename_into context src dst (context.directory token))
     (λ s. inl refl) (λ f. rename_target context src dst token (context.directory token) refl))

@@ -3,7 +3,6 @@ use Rattle.std.proofs.Common.{◌≡◌, ℕ, List, ◌++◌, Option, Some, None
 use Rattle.io_messages.specs.Asked.{Asked}
 use Rattle.io_messages.specs.Asked as asks
 use Rattle.io_rights.specs.Operations.{OperationSet}
-use Rattle.conn_rules.specs.Built.{Built}
 use Rattle.dir_conn.specs.Laws.{masks_of}
 use Rattle.vfs_journal.specs.Entries.{Sent, Sending, message}
 use Rattle.vfs_journal.specs.Outcomes.{Forwarded, Outcome}
@@ -28,28 +27,28 @@ pub record IsOpen (request : Option Asked) : Type 0 where
 pub asked_is : (moment : Moment) (sending : Sending) (bytes handles : List ℕ) (txid : ℕ) (request : Asked) → sending ≡ message bytes handles → read_by moment.bound.birth.protocol bytes handles ≡ Ok (txid, request) → asked_by moment sending ≡ Some request
 asked_is moment sending bytes handles txid request is read = ap (asked_by moment) is ∙ ap request_in read
 
-binds_by : (built : Built) (moment : Moment) (sending : Sending) (outcome : Outcome) (new : Bound) → Heard built moment sending outcome → outcome.bound ≡ Some new → (request : Asked) × (asked_by moment sending ≡ Some request)
-binds_by built moment sending outcome new (unheard nothing none given change) e = absurd (let wrong : None ≡ Some new = sym nothing ∙ e in cc)
-binds_by built moment sending outcome new (heard bytes handles txid request is read whole) e = (request, asked_is moment sending bytes handles txid request is read)
+binds_by : (moment : Moment) (sending : Sending) (outcome : Outcome) (new : Bound) → Heard moment sending outcome → outcome.bound ≡ Some new → (request : Asked) × (asked_by moment sending ≡ Some request)
+binds_by moment sending outcome new (unheard nothing none given change) e = absurd (let wrong : None ≡ Some new = sym nothing ∙ e in cc)
+binds_by moment sending outcome new (heard bytes handles txid request is read whole) e = (request, asked_is moment sending bytes handles txid request is read)
 
 -- what binds is a request
-pub binds_asked : (built : Built) (moment : Moment) (sending : Sending) (new : Bound) → (outcome_of_sending built moment sending).bound ≡ Some new → (request : Asked) × (asked_by moment sending ≡ Some request)
-binds_asked built moment sending new e = binds_by built moment sending (outcome_of_sending built moment sending) new (sending_heard built moment sending) e
+pub binds_asked : (moment : Moment) (sending : Sending) (new : Bound) → (outcome_of_sending moment sending).bound ≡ Some new → (request : Asked) × (asked_by moment sending ≡ Some request)
+binds_asked moment sending new e = binds_by moment sending (outcome_of_sending moment sending) new (sending_heard moment sending) e
 
-open_by : (built : Built) (moment : Moment) (request : Asked) (forward : Forwarded) → SendsOn (asker_of moment.bound 0 0) (request_act built moment request).answer forward → IsOpen (Some request)
-open_by built moment (asks.open_path path word attributes object) forward on = record { path = path; word = word; attributes = attributes; object = object; is = refl }
-open_by built moment request forward on = absurd (subst (IsAnswer moment.room moment.tree request) on.is (act_answers (context_at built moment) request).0)
+open_by : (moment : Moment) (request : Asked) (forward : Forwarded) → SendsOn (asker_of moment.bound 0 0) (request_act moment request).answer forward → IsOpen (Some request)
+open_by moment (asks.open_path path word attributes object) forward on = record { path = path; word = word; attributes = attributes; object = object; is = refl }
+open_by moment request forward on = absurd (subst (IsAnswer moment.room moment.tree request) on.is (act_answers (context_at moment) request).0)
 
-forwards_by : (built : Built) (moment : Moment) (sending : Sending) (outcome : Outcome) (forward : Forwarded) → Heard built moment sending outcome → outcome.forward ≡ Some forward → IsOpen (asked_by moment sending)
-forwards_by built moment sending outcome forward (unheard none nothing given change) e = absurd (let wrong : None ≡ Some forward = sym nothing ∙ e in cc)
-forwards_by built moment sending outcome forward (heard bytes handles txid request is read whole) e =
-    let on = sends_on (asker_of moment.bound txid (object_of request)) (request_act built moment request).answer forward (sym (ap (λ (o : Outcome). o.forward) whole) ∙ e) in
+forwards_by : (moment : Moment) (sending : Sending) (outcome : Outcome) (forward : Forwarded) → Heard moment sending outcome → outcome.forward ≡ Some forward → IsOpen (asked_by moment sending)
+forwards_by moment sending outcome forward (unheard none nothing given change) e = absurd (let wrong : None ≡ Some forward = sym nothing ∙ e in cc)
+forwards_by moment sending outcome forward (heard bytes handles txid request is read whole) e =
+    let on = sends_on (asker_of moment.bound txid (object_of request)) (request_act moment request).answer forward (sym (ap (λ (o : Outcome). o.forward) whole) ∙ e) in
     subst IsOpen (sym (asked_is moment sending bytes handles txid request is read))
-    (open_by built moment request forward (record { mount = on.mount; flags = on.flags; rest = on.rest; is = on.is; bytes = on.bytes }))
+    (open_by moment request forward (record { mount = on.mount; flags = on.flags; rest = on.rest; is = on.is; bytes = on.bytes }))
 
 -- what goes on is an Open
-pub forwards_asked : (built : Built) (moment : Moment) (sending : Sending) (forward : Forwarded) → (outcome_of_sending built moment sending).forward ≡ Some forward → IsOpen (asked_by moment sending)
-forwards_asked built moment sending forward e = forwards_by built moment sending (outcome_of_sending built moment sending) forward (sending_heard built moment sending) e
+pub forwards_asked : (moment : Moment) (sending : Sending) (forward : Forwarded) → (outcome_of_sending moment sending).forward ≡ Some forward → IsOpen (asked_by moment sending)
+forwards_asked moment sending forward e = forwards_by moment sending (outcome_of_sending moment sending) forward (sending_heard moment sending) e
 
 -- ---- beginnings
 

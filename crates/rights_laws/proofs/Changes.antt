@@ -5,7 +5,6 @@ use Rattle.io_messages.specs.Asked.{Asked}
 use Rattle.io_messages.specs.Asked as asks
 use Rattle.node_graph.specs.Tree.{stay}
 use Rattle.conn_rules.specs.Acts.{act_of}
-use Rattle.conn_rules.specs.Built.{Built}
 use Rattle.dir_conn.specs.Laws.{OpensOnlyNarrow}
 use Rattle.vfs_journal.specs.Entries.{Entry, Sent, Journal, message, serves}
 use Rattle.vfs_journal.specs.History.{History, births, bound_at, is_dead, living}
@@ -33,21 +32,21 @@ use Rattle.rights_laws.proofs.TokensGiven.{AreGiven, are_given, target_given}
 
 -- ---- one serving
 
-module _ (below : Below) (built : Built) (start : Start) (past : History) (k : Sent) (bound : Bound) (at : bound_at start past k.endpoint ≡ Some bound) (within : AreWithinEach bound.birth.rights (lineage_of start past k.endpoint)) (trailed : AreTrailed (lines_of start past) k)
+module _ (below : Below) (start : Start) (past : History) (k : Sent) (bound : Bound) (at : bound_at start past k.endpoint ≡ Some bound) (within : AreWithinEach bound.birth.rights (lineage_of start past k.endpoint)) (trailed : AreTrailed (lines_of start past) k)
     (tokens : (token target : ℕ) → (moment_of start past bound).directory token ≡ Some target → IsGivenWith start past token) where
-  over_in : (bytes handles : List ℕ) (txid : ℕ) (request : Asked) → k.sending ≡ message bytes handles → read_by bound.birth.protocol bytes handles ≡ Ok (txid, request) → OverIn built start past (moment_of start past bound) k within request
+  over_in : (bytes handles : List ℕ) (txid : ℕ) (request : Asked) → k.sending ≡ message bytes handles → read_by bound.birth.protocol bytes handles ≡ Ok (txid, request) → OverIn start past (moment_of start past bound) k within request
   over_in bytes handles txid (asks.open_path path word attributes object) is read = λ origin from.
       (trailed origin bytes handles txid path word attributes object from is (opens_directory below.spelled below.reads below.apart bound.birth.protocol bytes handles txid path word attributes object read)).asked
   over_in bytes handles txid request is read = tt
 
-  allowed_by : (outcome : Outcome) → Heard built (moment_of start past bound) k.sending outcome → outcome.change ≢ stay → IsAllowed start past k outcome.change
+  allowed_by : (outcome : Outcome) → Heard (moment_of start past bound) k.sending outcome → outcome.change ≢ stay → IsAllowed start past k outcome.change
   allowed_by outcome (unheard binds' onward given change) changes = absurd (changes change)
   allowed_by outcome (heard bytes handles txid request is read whole) changes =
-      by_case (request_allowed built start past (moment_of start past bound) k within request (over_in bytes handles txid request is read) tokens) where
-        same : outcome.change ≡ (act_of (context_at built (moment_of start past bound)) request).change
+      by_case (request_allowed start past (moment_of start past bound) k within request (over_in bytes handles txid request is read) tokens) where
+        same : outcome.change ≡ (act_of (context_at (moment_of start past bound)) request).change
         same = ap (λ (o : Outcome). o.change) whole
 
-        by_case : ((act_of (context_at built (moment_of start past bound)) request).change ≡ stay) ⊎ HasAuthority start past k (moment_of start past bound) request (act_of (context_at built (moment_of start past bound)) request).change → IsAllowed start past k outcome.change
+        by_case : ((act_of (context_at (moment_of start past bound)) request).change ≡ stay) ⊎ HasAuthority start past k (moment_of start past bound) request (act_of (context_at (moment_of start past bound)) request).change → IsAllowed start past k outcome.change
         by_case (inl stays) = absurd (changes (same ∙ stays))
         by_case (inr allowed) = record {
           bound = bound;
@@ -57,42 +56,42 @@ module _ (below : Below) (built : Built) (start : Start) (past : History) (k : S
           authority = subst (HasAuthority start past k (moment_of start past bound) request) (sym same) allowed;
         }
 
-  serving_allowed : (outcome_of_sending built (moment_of start past bound) k.sending).change ≢ stay → IsAllowed start past k (outcome_of_sending built (moment_of start past bound) k.sending).change
-  serving_allowed changes = allowed_by (outcome_of_sending built (moment_of start past bound) k.sending) (sending_heard built (moment_of start past bound) k.sending) changes
+  serving_allowed : (outcome_of_sending (moment_of start past bound) k.sending).change ≢ stay → IsAllowed start past k (outcome_of_sending (moment_of start past bound) k.sending).change
+  serving_allowed changes = allowed_by (outcome_of_sending (moment_of start past bound) k.sending) (sending_heard (moment_of start past bound) k.sending) changes
 
-pub head_allowed : Below → (built : Built) (start : Start) (past : History) (k : Sent) → head start past k.endpoint ≡ Some k → Holds start past → AreGiven start past → (outcome_of built start past k).change ≢ stay → IsAllowed start past k (outcome_of built start past k).change
-head_allowed below built start past k first holds given changes =
+pub head_allowed : Below → (start : Start) (past : History) (k : Sent) → head start past k.endpoint ≡ Some k → Holds start past → AreGiven start past → (outcome_of start past k).change ≢ stay → IsAllowed start past k (outcome_of start past k).change
+head_allowed below start past k first holds given changes =
     let is = head_is start past k first in
     let b = some_found (λ bound. bound.endpoint == k.endpoint) (living start past) is.bound in
     let born = (kept_of (λ bound. not (is_dead past bound.endpoint)) (births start past) b.0 b.2).0 in
-    let whole : outcome_of built start past k ≡ outcome_of_sending built (moment_of start past b.0) k.sending = ap (outcome_at built start past k) b.1 in
+    let whole : outcome_of start past k ≡ outcome_of_sending (moment_of start past b.0) k.sending = ap (outcome_at start past k) b.1 in
     let within = subst (λ (n : ℕ). AreWithinEach b.0.birth.rights (lineage_of start past n)) (eqb-true b.0.endpoint k.endpoint b.3) (holds.rights b.0 born) in
     subst (λ (o : Outcome). IsAllowed start past k o.change) (sym whole)
-    (serving_allowed below built start past k b.0 b.1 within (holds.trails k (waits_of_sent past k is.waits))
+    (serving_allowed below start past k b.0 b.1 within (holds.trails k (waits_of_sent past k is.waits))
     (λ token target e. target_given start past b.0.server token target holds given e)
     (λ e. changes (ap (λ (o : Outcome). o.change) whole ∙ e)))
 
 -- ---- servings of a session
 
-stepped_tail : (built : Built) (start : Start) (entry : Entry) (rest : Journal) → Stepped built start (entry ∷ rest) → Stepped built start rest
-stepped_tail built start entry rest (refusing earlier endpoint why h) = h
-stepped_tail built start entry rest (sending earlier one h at) = h
-stepped_tail built start entry rest (serving earlier one h first) = h
+stepped_tail : (start : Start) (entry : Entry) (rest : Journal) → Stepped start (entry ∷ rest) → Stepped start rest
+stepped_tail start entry rest (refusing earlier endpoint why h) = h
+stepped_tail start entry rest (sending earlier one h at) = h
+stepped_tail start entry rest (serving earlier one h first) = h
 
-stepped_before : (built : Built) (start : Start) (later past : Journal) → Stepped built start (later ++ past) → Stepped built start past
-stepped_before built start [] past h = h
-stepped_before built start (entry ∷ later) past h = stepped_before built start later past (stepped_tail built start entry (later ++ past) h)
+stepped_before : (start : Start) (later past : Journal) → Stepped start (later ++ past) → Stepped start past
+stepped_before start [] past h = h
+stepped_before start (entry ∷ later) past h = stepped_before start later past (stepped_tail start entry (later ++ past) h)
 
 -- what is served was the head of its endpoint
-served_head : (built : Built) (start : Start) (past : Journal) (k : Sent) → Stepped built start (serves k ∷ past) → Stepped built start past × (head start (history_of built start past) k.endpoint ≡ Some k)
-served_head built start past k (serving earlier one h first) = (h, first)
+served_head : (start : Start) (past : Journal) (k : Sent) → Stepped start (serves k ∷ past) → Stepped start past × (head start (history_of start past) k.endpoint ≡ Some k)
+served_head start past k (serving earlier one h first) = (h, first)
 
 joined : (later past : Journal) (entry : Entry) → (later ++ entry ∷ []) ++ past ≡ later ++ entry ∷ past
 joined [] past entry = refl
 joined (one ∷ later) past entry = ap (λ (rest : Journal). one ∷ rest) (joined later past entry)
 
 pub changes_allowed : Below → OpensOnlyNarrow → ChangesAreAllowed
-changes_allowed below narrow built start later past k s h =
-    let first = served_head built start past k (stepped_before built start later (serves k ∷ past) (stepped built start (later ++ serves k ∷ past) h)) in
-    let holds = time_holds below narrow built start s past (time_of built start (later ++ serves k ∷ past) h (later ++ serves k ∷ []) past (joined later past (serves k))) in
-    head_allowed below built start (history_of built start past) k first.1 holds (are_given built start past first.0)
+changes_allowed below narrow start later past k s h =
+    let first = served_head start past k (stepped_before start later (serves k ∷ past) (stepped start (later ++ serves k ∷ past) h)) in
+    let holds = time_holds below narrow start s past (time_of start (later ++ serves k ∷ past) h (later ++ serves k ∷ []) past (joined later past (serves k))) in
+    head_allowed below start (history_of start past) k first.1 holds (are_given start past first.0)

@@ -10,7 +10,6 @@ use Rattle.tree_file.specs.Numbering.{end_of_mount}
 use Rattle.remote_forward.specs.Onward.{onward_bytes}
 use Rattle.conn_rules.specs.Answers.{Answer, replies, closes, binds, watches, forwards, refuses, ends, hangs_up, silent}
 use Rattle.conn_rules.specs.Births.{Birth}
-use Rattle.conn_rules.specs.Built.{Built}
 use Rattle.vfs_journal.specs.Entries.{Sending, message, hang_up}
 use Rattle.vfs_journal.specs.Outcomes.{Asker, Forwarded, Outcome, bound_of, forward_of, outcome_with}
 use Rattle.vfs_journal.specs.Serving.{Moment, Read, asker_of, object_of, outcome_of_message, outcome_of_read, outcome_of_sending, read_by, request_act}
@@ -19,29 +18,29 @@ use Rattle.vfs_journal.specs.Starts.{Bound}
 -- ---- requests
 
 -- nothing is bound, goes on, is given or changes, or a request was read, and its row says what
-pub data Heard (built : Built) (moment : Moment) (sending : Sending) (outcome : Outcome) : Type 0 where
-  unheard : outcome.bound ≡ None → outcome.forward ≡ None → outcome.token ≡ None → outcome.change ≡ stay → Heard built moment sending outcome
+pub data Heard (moment : Moment) (sending : Sending) (outcome : Outcome) : Type 0 where
+  unheard : outcome.bound ≡ None → outcome.forward ≡ None → outcome.token ≡ None → outcome.change ≡ stay → Heard moment sending outcome
   heard : (bytes handles : List ℕ) (txid : ℕ) (request : Asked) → sending ≡ message bytes handles → read_by moment.bound.birth.protocol bytes handles ≡ Ok (txid, request) →
-      outcome ≡ outcome_with (asker_of moment.bound txid (object_of request)) (request_act built moment request) → Heard built moment sending outcome
+      outcome ≡ outcome_with (asker_of moment.bound txid (object_of request)) (request_act moment request) → Heard moment sending outcome
 
-read_heard : (built : Built) (moment : Moment) (bytes handles : List ℕ) (r : Read) → read_by moment.bound.birth.protocol bytes handles ≡ r → Heard built moment (message bytes handles) (outcome_of_read built moment r)
-read_heard built moment bytes handles (Ok (txid, request)) read = heard bytes handles txid request refl read refl
-read_heard built moment bytes handles (Err (Malformed fault)) read = unheard refl refl refl refl
-read_heard built moment bytes handles (Err UnknownStrict) read = unheard refl refl refl refl
-read_heard built moment bytes handles (Err UnknownOneWay) read = unheard refl refl refl refl
-read_heard built moment bytes handles (Err (UnknownTwoWay txid ordinal)) read = unheard refl refl refl refl
+read_heard : (moment : Moment) (bytes handles : List ℕ) (r : Read) → read_by moment.bound.birth.protocol bytes handles ≡ r → Heard moment (message bytes handles) (outcome_of_read moment r)
+read_heard moment bytes handles (Ok (txid, request)) read = heard bytes handles txid request refl read refl
+read_heard moment bytes handles (Err (Malformed fault)) read = unheard refl refl refl refl
+read_heard moment bytes handles (Err UnknownStrict) read = unheard refl refl refl refl
+read_heard moment bytes handles (Err UnknownOneWay) read = unheard refl refl refl refl
+read_heard moment bytes handles (Err (UnknownTwoWay txid ordinal)) read = unheard refl refl refl refl
 
-message_heard : (built : Built) (moment : Moment) (bytes handles : List ℕ) (p : Protocol) → moment.bound.birth.protocol ≡ p → Heard built moment (message bytes handles) (outcome_of_message built moment p bytes handles)
-message_heard built moment bytes handles protocol.Watcher is = unheard refl refl refl refl
-message_heard built moment bytes handles protocol.Directory is = read_heard built moment bytes handles (read_by protocol.Directory bytes handles) (ap (λ (p : Protocol). read_by p bytes handles) is)
-message_heard built moment bytes handles protocol.File is = read_heard built moment bytes handles (read_by protocol.File bytes handles) (ap (λ (p : Protocol). read_by p bytes handles) is)
-message_heard built moment bytes handles protocol.Node is = read_heard built moment bytes handles (read_by protocol.Node bytes handles) (ap (λ (p : Protocol). read_by p bytes handles) is)
-message_heard built moment bytes handles protocol.Echo is = read_heard built moment bytes handles (read_by protocol.Echo bytes handles) (ap (λ (p : Protocol). read_by p bytes handles) is)
+message_heard : (moment : Moment) (bytes handles : List ℕ) (p : Protocol) → moment.bound.birth.protocol ≡ p → Heard moment (message bytes handles) (outcome_of_message moment p bytes handles)
+message_heard moment bytes handles protocol.Watcher is = unheard refl refl refl refl
+message_heard moment bytes handles protocol.Directory is = read_heard moment bytes handles (read_by protocol.Directory bytes handles) (ap (λ (p : Protocol). read_by p bytes handles) is)
+message_heard moment bytes handles protocol.File is = read_heard moment bytes handles (read_by protocol.File bytes handles) (ap (λ (p : Protocol). read_by p bytes handles) is)
+message_heard moment bytes handles protocol.Node is = read_heard moment bytes handles (read_by protocol.Node bytes handles) (ap (λ (p : Protocol). read_by p bytes handles) is)
+message_heard moment bytes handles protocol.Echo is = read_heard moment bytes handles (read_by protocol.Echo bytes handles) (ap (λ (p : Protocol). read_by p bytes handles) is)
 
-pub sending_heard : (built : Built) (moment : Moment) (sending : Sending) → Heard built moment sending (outcome_of_sending built moment sending)
+pub sending_heard : (moment : Moment) (sending : Sending) → Heard moment sending (outcome_of_sending moment sending)
 unfolding outcome_of_sending
-sending_heard built moment (message bytes handles) = message_heard built moment bytes handles moment.bound.birth.protocol refl
-sending_heard built moment hang_up = unheard refl refl refl refl
+sending_heard moment (message bytes handles) = message_heard moment bytes handles moment.bound.birth.protocol refl
+sending_heard moment hang_up = unheard refl refl refl refl
 
 -- ---- answers
 

@@ -8,7 +8,6 @@ use Rattle.std.proofs.lemmas.List.Elements.{All-nil, All-cons, Contains-append_c
 use Rattle.endpoint_link.specs.declared.kinds.Refusal.{Refusal}
 use Rattle.io_rights.specs.Operations.{is_within}
 use Rattle.io_flags.proofs.GrantLemmas.{within_self}
-use Rattle.conn_rules.specs.Built.{Built}
 use Rattle.vfs_journal.specs.Entries.{Sent, sends, refuses}
 use Rattle.vfs_journal.specs.History.{History, all_sent, births, serves_place}
 use Rattle.vfs_journal.specs.Past.{behind, event_of}
@@ -70,10 +69,10 @@ begins start s = record {
 
 -- ---- a refusal
 
-pub refused_holds : (built : Built) (start : Start) (past : History) (endpoint : ℕ) (why : Refusal) → Holds start past → Holds start (behind built start (refuses endpoint why) past)
+pub refused_holds : (start : Start) (past : History) (endpoint : ℕ) (why : Refusal) → Holds start past → Holds start (behind start (refuses endpoint why) past)
 unfolding event_of lines_of
-refused_holds built start past endpoint why h =
-    let same = refusals_change_nothing built start past endpoint why in
+refused_holds start past endpoint why h =
+    let same = refusals_change_nothing start past endpoint why in
     record {
       rights = λ bound there. h.rights bound (subst (λ (bounds : List Bound). Contains bounds bound) same.same.born there);
       begun = λ bound there client. h.begun bound (subst (λ (bounds : List Bound). Contains bounds bound) same.same.born there) client;
@@ -100,10 +99,10 @@ pub record IsNew (start : Start) (past : History) (new : Sent) : Type 0 where
   pub trail : AreTrailed (lines_of start past) new
   pub begun : (origin : ℕ) → new.origin ≡ Some origin → BeginsAt start ((lines_of start past).onward origin)
 
-pub sent_holds : (built : Built) (start : Start) (past : History) (new : Sent) → IsNew start past new → Holds start past → Holds start (behind built start (sends new) past)
+pub sent_holds : (start : Start) (past : History) (new : Sent) → IsNew start past new → Holds start past → Holds start (behind start (sends new) past)
 unfolding event_of lines_of
-sent_holds built start past new is h =
-    let step = sendings_wait_last built start past new in
+sent_holds start past new is h =
+    let step = sendings_wait_last start past new in
     record {
       rights = λ bound there. h.rights bound (subst (λ (bounds : List Bound). Contains bounds bound) step.same.born there);
       begun = λ bound there client. h.begun bound (subst (λ (bounds : List Bound). Contains bounds bound) step.same.born there) client;

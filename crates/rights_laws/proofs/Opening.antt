@@ -26,7 +26,6 @@ use Rattle.path_walk.specs.Paths.{names_of}
 use Rattle.conn_rules.specs.Acts.{act_of, method_refusals, row_act}
 use Rattle.conn_rules.specs.Answers.{Act}
 use Rattle.conn_rules.specs.Births.{Birth}
-use Rattle.conn_rules.specs.Built.{Built}
 use Rattle.conn_rules.specs.Contexts.{Context}
 use Rattle.conn_rules.specs.FileRows.{reading_refusal, is_too_much, is_no_position, seek_sum}
 use Rattle.conn_rules.specs.NameRows.{watch_refusals}
@@ -109,11 +108,11 @@ Stays act = act.change ≡ stay
 stays : (context : Context) (request : Asked) → Stays (row_act context request) → (act_of context request).change ≡ stay
 unfolding act_of
 stays context request row =
-    unless_holds Stays (first_of (method_refusals context.built context.birth (method_of request))) context.position (method_of request) (row_act context request) (λ s. refl) (λ e. row)
+    unless_holds Stays (first_of (method_refusals context.birth (method_of request))) context.position (method_of request) (row_act context request) (λ s. refl) (λ e. row)
 
 -- ---- a serving's request
 
-module _ (built : Built) (start : Start) (past : History) (moment : Moment) (sent : Sent) (within : AreWithinEach moment.bound.birth.rights (lineage_of start past sent.endpoint)) where
+module _ (start : Start) (past : History) (moment : Moment) (sent : Sent) (within : AreWithinEach moment.bound.birth.rights (lineage_of start past sent.endpoint)) where
   trail_has : (word : ℕ) (o : Operation) → ((origin : ℕ) → sent.origin ≡ Some origin → All (HasAllAsked word) ((lines_of start past).onward origin)) → is_within (single o) (asked_rights word) ≡ true → is_within (asked_rights word) moment.bound.birth.rights ≡ true →
       EachHas o (trail_in (lines_of start past) sent)
   trail_has word o over some all' =
@@ -142,7 +141,7 @@ module _ (built : Built) (start : Start) (past : History) (moment : Moment) (sen
         (trail_has word op.WriteBytes over (within_trans (single op.WriteBytes) (explicit_rights word) (asked_rights word) named (named_in_asked word)) (asked_passes moment.bound.birth word path e))
         (subst (λ (w : Walk). EachHas op.WriteBytes (masks_along w)) (sym is) (masks_have (single op.WriteBytes) (explicit_rights word) masks named (wanted_at (arrives node masks) is))))
 
-    walk_allowed : first_of (entry_refusals moment.bound.birth word path) ≡ None → (w : Walk) → walk moment.tree word (names_of path) moment.bound.birth.node ≡ w → Allowed (by_walk (context_at built moment) word w)
+    walk_allowed : first_of (entry_refusals moment.bound.birth word path) ≡ None → (w : Walk) → walk moment.tree word (names_of path) moment.bound.birth.node ≡ w → Allowed (by_walk (context_at moment) word w)
     walk_allowed e (arrives node masks) is =
         unless_holds Allowed (first_of (arrival_refusals moment.room word (kind_here moment.tree node))) moment.position method.OpenPath (arrival moment.position word (limit_of moment.bound.birth.rights masks) node (kind_here moment.tree node)) (λ s. inl refl)
         (λ f. truncates node masks is e (has_flag word flag.FileTruncate) refl)
@@ -157,12 +156,12 @@ module _ (built : Built) (start : Start) (past : History) (moment : Moment) (sen
     walk_allowed e (crosses mount rest masks) is = inl refl
     walk_allowed e (stops status) is = inl refl
 
-    open_allowed : Allowed (act_of (context_at built moment) (asks.open_path path word attributes object))
+    open_allowed : Allowed (act_of (context_at moment) (asks.open_path path word attributes object))
     unfolding act_of
     open_allowed =
-        unless_holds Allowed (first_of (method_refusals built moment.bound.birth (method_of (asks.open_path path word attributes object)))) moment.position (method_of (asks.open_path path word attributes object)) (open_act (context_at built moment) path word) (λ s. inl refl)
+        unless_holds Allowed (first_of (method_refusals moment.bound.birth (method_of (asks.open_path path word attributes object)))) moment.position (method_of (asks.open_path path word attributes object)) (open_act (context_at moment) path word) (λ s. inl refl)
         (λ e.
-        unless_holds Allowed (first_of (entry_refusals moment.bound.birth word path)) moment.position method.OpenPath (by_walk (context_at built moment) word (walk moment.tree word (names_of path) moment.bound.birth.node)) (λ s. inl refl)
+        unless_holds Allowed (first_of (entry_refusals moment.bound.birth word path)) moment.position method.OpenPath (by_walk (context_at moment) word (walk moment.tree word (names_of path) moment.bound.birth.node)) (λ s. inl refl)
         (λ f. walk_allowed f (walk moment.tree word (names_of path) moment.bound.birth.node) refl))
 
   -- ---- all requests
@@ -184,34 +183,34 @@ module _ (built : Built) (start : Start) (past : History) (moment : Moment) (sen
   OverIn _ = Unit {0}
 
   pub request_allowed : (request : Asked) → OverIn request → ((token target : ℕ) → moment.directory token ≡ Some target → IsGivenWith start past token) →
-      ((act_of (context_at built moment) request).change ≡ stay) ⊎ HasAuthority start past sent moment request (act_of (context_at built moment) request).change
+      ((act_of (context_at moment) request).change ≡ stay) ⊎ HasAuthority start past sent moment request (act_of (context_at moment) request).change
   request_allowed (asks.open_path path word attributes object) over tokens = open_allowed path word attributes object over
-  request_allowed (asks.write bytes) over tokens = by_right op.WriteBytes (stays_or_right (context_at built moment) (asks.write bytes) op.WriteBytes refl) (λ h. h)
-  request_allowed (asks.write_at bytes offset) over tokens = by_right op.WriteBytes (stays_or_right (context_at built moment) (asks.write_at bytes offset) op.WriteBytes refl) (λ h. h)
-  request_allowed (asks.resize size) over tokens = by_right op.WriteBytes (stays_or_right (context_at built moment) (asks.resize size) op.WriteBytes refl) (λ h. h)
-  request_allowed (asks.unlink name flags) over tokens = by_right op.ModifyDirectory (stays_or_right (context_at built moment) (asks.unlink name flags) op.ModifyDirectory refl) (λ h. h)
+  request_allowed (asks.write bytes) over tokens = by_right op.WriteBytes (stays_or_right (context_at moment) (asks.write bytes) op.WriteBytes refl) (λ h. h)
+  request_allowed (asks.write_at bytes offset) over tokens = by_right op.WriteBytes (stays_or_right (context_at moment) (asks.write_at bytes offset) op.WriteBytes refl) (λ h. h)
+  request_allowed (asks.resize size) over tokens = by_right op.WriteBytes (stays_or_right (context_at moment) (asks.resize size) op.WriteBytes refl) (λ h. h)
+  request_allowed (asks.unlink name flags) over tokens = by_right op.ModifyDirectory (stays_or_right (context_at moment) (asks.unlink name flags) op.ModifyDirectory refl) (λ h. h)
   request_allowed (asks.link src token dst) over tokens =
-      by_both (stays_or_right (context_at built moment) (asks.link src token dst) op.ModifyDirectory refl) (link_has_target (context_at built moment) src dst token)
+      by_both (stays_or_right (context_at moment) (asks.link src token dst) op.ModifyDirectory refl) (link_has_target (context_at moment) src dst token)
       (λ h t. (own_has op.ModifyDirectory h, tokens token t.0 t.1))
   request_allowed (asks.rename src token dst) over tokens =
-      by_both (stays_or_right (context_at built moment) (asks.rename src token dst) op.ModifyDirectory refl) (rename_has_target (context_at built moment) src dst token)
+      by_both (stays_or_right (context_at moment) (asks.rename src token dst) op.ModifyDirectory refl) (rename_has_target (context_at moment) src dst token)
       (λ h t. (own_has op.ModifyDirectory h, tokens token t.0 t.1))
   request_allowed (asks.clone endpoint) over tokens =
-      inl (stays (context_at built moment) (asks.clone endpoint) (unless_holds Stays (first_of (cause_if (is_full moment.room) status.NoResources ∷ [])) moment.position method.Clone _ (λ s. refl) (λ e. refl)))
-  request_allowed asks.close over tokens = inl (stays (context_at built moment) asks.close refl)
-  request_allowed asks.query over tokens = inl (stays (context_at built moment) asks.query refl)
-  request_allowed (asks.get_attributes bits) over tokens = inl (stays (context_at built moment) (asks.get_attributes bits) refl)
-  request_allowed asks.sync over tokens = inl (stays (context_at built moment) asks.sync refl)
+      inl (stays (context_at moment) (asks.clone endpoint) (unless_holds Stays (first_of (cause_if (is_full moment.room) status.NoResources ∷ [])) moment.position method.Clone _ (λ s. refl) (λ e. refl)))
+  request_allowed asks.close over tokens = inl (stays (context_at moment) asks.close refl)
+  request_allowed asks.query over tokens = inl (stays (context_at moment) asks.query refl)
+  request_allowed (asks.get_attributes bits) over tokens = inl (stays (context_at moment) (asks.get_attributes bits) refl)
+  request_allowed asks.sync over tokens = inl (stays (context_at moment) asks.sync refl)
   request_allowed (asks.read_dirents most) over tokens =
-      inl (stays (context_at built moment) (asks.read_dirents most)
+      inl (stays (context_at moment) (asks.read_dirents most)
       (unless_holds Stays (first_of (cause_if (is_too_much most) status.InvalidArgs ∷ cause_if (fits_none (listing moment.tree moment.bound.birth.node moment.position.place) most) status.BufferTooSmall ∷ [])) moment.position method.ReadDirents _ (λ s. refl) (λ e. refl)))
-  request_allowed asks.rewind over tokens = inl (stays (context_at built moment) asks.rewind refl)
-  request_allowed asks.get_token over tokens = inl (stays (context_at built moment) asks.get_token refl)
+  request_allowed asks.rewind over tokens = inl (stays (context_at moment) asks.rewind refl)
+  request_allowed asks.get_token over tokens = inl (stays (context_at moment) asks.get_token refl)
   request_allowed (asks.watch mask options watcher) over tokens =
-      inl (stays (context_at built moment) (asks.watch mask options watcher) (unless_holds Stays (first_of (watch_refusals moment.room mask options)) moment.position method.Watch _ (λ s. refl) (λ e. refl)))
-  request_allowed (asks.read count) over tokens = inl (stays (context_at built moment) (asks.read count) (unless_holds Stays (reading_refusal count) moment.position method.Read _ (λ s. refl) (λ e. refl)))
-  request_allowed (asks.read_at count offset) over tokens = inl (stays (context_at built moment) (asks.read_at count offset) (unless_holds Stays (reading_refusal count) moment.position method.ReadAt _ (λ s. refl) (λ e. refl)))
+      inl (stays (context_at moment) (asks.watch mask options watcher) (unless_holds Stays (first_of (watch_refusals moment.room mask options)) moment.position method.Watch _ (λ s. refl) (λ e. refl)))
+  request_allowed (asks.read count) over tokens = inl (stays (context_at moment) (asks.read count) (unless_holds Stays (reading_refusal count) moment.position method.Read _ (λ s. refl) (λ e. refl)))
+  request_allowed (asks.read_at count offset) over tokens = inl (stays (context_at moment) (asks.read_at count offset) (unless_holds Stays (reading_refusal count) moment.position method.ReadAt _ (λ s. refl) (λ e. refl)))
   request_allowed (asks.seek origin offset) over tokens =
-      inl (stays (context_at built moment) (asks.seek origin offset)
-      (unless_holds Stays (first_of (cause_if (nat_lt 2 origin) status.InvalidArgs ∷ cause_if (is_no_position (seek_sum (context_at built moment) origin offset)) status.OutOfRange ∷ [])) moment.position method.Seek _ (λ s. refl) (λ e. refl)))
-  request_allowed (asks.echo_string value) over tokens = inl (stays (context_at built moment) (asks.echo_string value) refl)
+      inl (stays (context_at moment) (asks.seek origin offset)
+      (unless_holds Stays (first_of (cause_if (nat_lt 2 origin) status.InvalidArgs ∷ cause_if (is_no_position (seek_sum (context_at moment) origin offset)) status.OutOfRange ∷ [])) moment.position method.Seek _ (λ s. refl) (λ e. refl)))
+  request_allowed (asks.echo_string value) over tokens = inl (stays (context_at moment) (asks.echo_string value) refl)

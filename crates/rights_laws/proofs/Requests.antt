@@ -19,7 +19,6 @@ use Rattle.tree_file.specs.Sound.{HasOneEdge}
 use Rattle.conn_rules.specs.Acts.{act_of, method_refusals}
 use Rattle.conn_rules.specs.Answers.{Act, Answer, only, binds, forwards}
 use Rattle.conn_rules.specs.Births.{Birth}
-use Rattle.conn_rules.specs.Built.{Built}
 use Rattle.conn_rules.specs.Contexts.{Context}
 use Rattle.conn_rules.specs.Nodes.{edge_at}
 use Rattle.conn_rules.specs.Opens.{is_full, open_act}
@@ -43,13 +42,13 @@ use Rattle.rights_laws.proofs.Sets.{granted_within, has_onward, limit_has_onward
 open_row : (context : Context) (path : List ℕ) (word : ℕ) (attributes : Option ℕ) (object : ℕ) (birth : Birth) (announced : Bool) → (act_of context (asks.open_path path word attributes object)).answer ≡ binds birth announced → (open_act context path word).answer ≡ binds birth announced
 unfolding act_of
 open_row context path word attributes object birth announced =
-    unless_holds (λ act. act.answer ≡ binds birth announced → (open_act context path word).answer ≡ binds birth announced) (first_of (method_refusals context.built context.birth (method_of (asks.open_path path word attributes object)))) context.position (method_of (asks.open_path path word attributes object)) (open_act context path word)
+    unless_holds (λ act. act.answer ≡ binds birth announced → (open_act context path word).answer ≡ binds birth announced) (first_of (method_refusals context.birth (method_of (asks.open_path path word attributes object)))) context.position (method_of (asks.open_path path word attributes object)) (open_act context path word)
     (λ s e. absurd (cc)) (λ passes e. e)
 
 pub open_row_on : (context : Context) (path : List ℕ) (word : ℕ) (attributes : Option ℕ) (object mount flags : ℕ) (rest : List (List ℕ)) → (act_of context (asks.open_path path word attributes object)).answer ≡ forwards mount flags rest → (open_act context path word).answer ≡ forwards mount flags rest
 unfolding act_of
 open_row_on context path word attributes object mount flags rest =
-    unless_holds (λ act. act.answer ≡ forwards mount flags rest → (open_act context path word).answer ≡ forwards mount flags rest) (first_of (method_refusals context.built context.birth (method_of (asks.open_path path word attributes object)))) context.position (method_of (asks.open_path path word attributes object)) (open_act context path word)
+    unless_holds (λ act. act.answer ≡ forwards mount flags rest → (open_act context path word).answer ≡ forwards mount flags rest) (first_of (method_refusals context.birth (method_of (asks.open_path path word attributes object)))) context.position (method_of (asks.open_path path word attributes object)) (open_act context path word)
     (λ s e. absurd (cc)) (λ passes e. e)
 
 rights_of : OperationSet → Answer → OperationSet
@@ -60,7 +59,7 @@ rights_of other _ = other
 clone_row : (context : Context) (endpoint : ℕ) (birth : Birth) (announced : Bool) → (act_of context (asks.clone endpoint)).answer ≡ binds birth announced → birth.rights ≡ context.birth.rights
 unfolding act_of rights_of
 clone_row context endpoint birth announced =
-    unless_holds Clones (first_of (method_refusals context.built context.birth (method_of (asks.clone endpoint)))) context.position (method_of (asks.clone endpoint)) _ (λ s e. absurd (cc))
+    unless_holds Clones (first_of (method_refusals context.birth (method_of (asks.clone endpoint)))) context.position (method_of (asks.clone endpoint)) _ (λ s e. absurd (cc))
     (λ passes.
     unless_holds Clones (first_of (cause_if (is_full context.room) status.NoResources ∷ [])) context.position (method_of (asks.clone endpoint)) (only context.position (binds context.birth false)) (λ s e. absurd (cc))
     (λ room e. sym (ap (rights_of birth.rights) e))) where
@@ -86,21 +85,21 @@ along some (crosses mount rest masks) h = h
 along some (stops status) h = h
 
 -- a serving's moment, the lines of its past, and that the connection's rights lie within its lineage
-module _ (narrow : OpensOnlyNarrow) (built : Built) (moment : Moment) (lines : Lines) (sent : Sent) (within : AreWithinEach moment.bound.birth.rights (lines.lineage sent.endpoint)) where
+module _ (narrow : OpensOnlyNarrow) (moment : Moment) (lines : Lines) (sent : Sent) (within : AreWithinEach moment.bound.birth.rights (lines.lineage sent.endpoint)) where
   abbrev context : Context
-  context = context_at built moment
+  context = context_at moment
 
   -- what a word can get lies within the trail of what came over a mount
   abbrev IsAsked : ℕ → Type 0
   IsAsked word = (origin : ℕ) → sent.origin ≡ Some origin → All (HasAllAsked word) (lines.onward origin)
 
   open_within : (path : List ℕ) (word : ℕ) (attributes : Option ℕ) (object : ℕ) (birth : Birth) (announced : Bool) → IsAsked word →
-      (act_of (context_at built moment) (asks.open_path path word attributes object)).answer ≡ binds birth announced →
+      (act_of (context_at moment) (asks.open_path path word attributes object)).answer ≡ binds birth announced →
       AreWithinEach birth.rights (trail_in lines sent ++ masks_along (walk_at moment path word))
   open_within path word attributes object birth announced asked e =
-      let row = open_row (context_at built moment) path word attributes object birth announced e in
-      let narrowed = narrow (context_at built moment) path word birth announced row in
-      let got = open_grants (context_at built moment) path word birth announced row in
+      let row = open_row (context_at moment) path word attributes object birth announced e in
+      let narrowed = narrow (context_at moment) path word birth announced row in
+      let got = open_grants (context_at moment) path word birth announced row in
       All-append (λ member. IsTrue (is_within birth.rights member)) (trail_in lines sent) (masks_along (walk_at moment path word))
       (trail_each (λ member. IsTrue (is_within birth.rights member)) lines word sent.endpoint moment.bound.birth.rights sent.origin within asked
       (λ member own. within_trans birth.rights moment.bound.birth.rights member narrowed.0 own)
@@ -111,16 +110,16 @@ module _ (narrow : OpensOnlyNarrow) (built : Built) (moment : Moment) (lines : L
   IsAskedIn (asks.open_path path word attributes object) = (origin : ℕ) → sent.origin ≡ Some origin → All (HasAllAsked word) (lines.onward origin)
   IsAskedIn _ = Unit {0}
 
-  pub request_within : (request : Asked) (birth : Birth) (announced : Bool) → IsAskedIn request → (act_of (context_at built moment) request).answer ≡ binds birth announced → AreWithinEach birth.rights (lineage_given lines sent moment request)
+  pub request_within : (request : Asked) (birth : Birth) (announced : Bool) → IsAskedIn request → (act_of (context_at moment) request).answer ≡ binds birth announced → AreWithinEach birth.rights (lineage_given lines sent moment request)
   request_within (asks.clone endpoint) birth announced asked e =
-      subst (λ (some : OperationSet). AreWithinEach some (lines.lineage sent.endpoint)) (sym (clone_row (context_at built moment) endpoint birth announced e)) within
+      subst (λ (some : OperationSet). AreWithinEach some (lines.lineage sent.endpoint)) (sym (clone_row (context_at moment) endpoint birth announced e)) within
   request_within (asks.open_path path word attributes object) birth announced asked e = open_within path word attributes object birth announced asked e
   request_within request birth announced asked e =
-      absurd (subst (IsAnswer moment.room moment.tree request) e (act_answers (context_at built moment) request).0)
+      absurd (subst (IsAnswer moment.room moment.tree request) e (act_answers (context_at moment) request).0)
 
   -- ---- what goes on
 
-  pub crossed_within : (start : Start) (path : List ℕ) (word mount flags : ℕ) (rest : List (List ℕ)) → IsAsked word → Crosses (context_at built moment) path word mount flags rest →
+  pub crossed_within : (start : Start) (path : List ℕ) (word mount flags : ℕ) (rest : List (List ℕ)) → IsAsked word → Crosses (context_at moment) path word mount flags rest →
       ((masks : List OperationSet) → Passes moment.tree word mount masks → (end : Bound) → slice_get start.mounts mount ≡ Some end → Contains masks end.birth.rights) →
       All (HasAllAsked flags) (trail_in lines sent ++ masks_of (walk_at moment path word) ++ end_rights start (walk_at moment path word))
   crossed_within start path word mount flags rest asked crossed mounted =

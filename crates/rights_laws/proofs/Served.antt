@@ -13,7 +13,6 @@ use Rattle.io_messages.specs.declared.protocols.Protocol.TheVariants as protocol
 use Rattle.io_rights.specs.Operations.{OperationSet}
 use Rattle.path_walk.specs.Paths.{text_of}
 use Rattle.remote_forward.specs.Onward.{onward_bytes}
-use Rattle.conn_rules.specs.Built.{Built}
 use Rattle.dir_conn.specs.Laws.{OpensOnlyNarrow}
 use Rattle.vfs_journal.specs.Entries.{Sent, Sending, Journal, message, hang_up, serves}
 use Rattle.vfs_journal.specs.History.{all_sent, births, bound_at, is_dead, living, serves_place, trees_of, was_served}
@@ -68,108 +67,108 @@ same_word : {t u : ℕ} {p q : List ℕ} {v w : ℕ} {g h : Option ℕ} {m n : �
 unfolding word_of
 same_word e = ap word_of e
 
-module _ (below : Below) (narrow : OpensOnlyNarrow) (built : Built) (start : Start) (journal : Journal) (k : Sent) (s : IsStart start) (lawful' : Lawful built start journal) (first : head start (history_of built start journal) k.endpoint ≡ Some k) (holds : Holds start (history_of built start journal)) where
-  waits : Contains (all_sent (history_of built start journal)) k × (was_served (history_of built start journal) k ≡ false)
+module _ (below : Below) (narrow : OpensOnlyNarrow) (start : Start) (journal : Journal) (k : Sent) (s : IsStart start) (lawful' : Lawful start journal) (first : head start (history_of start journal) k.endpoint ≡ Some k) (holds : Holds start (history_of start journal)) where
+  waits : Contains (all_sent (history_of start journal)) k × (was_served (history_of start journal) k ≡ false)
   waits =
-      let is = head_is start (history_of built start journal) k first in
-      (waits_of_sent (history_of built start journal) k is.waits, waits_unserved (history_of built start journal) k is.waits)
+      let is = head_is start (history_of start journal) k first in
+      (waits_of_sent (history_of start journal) k is.waits, waits_unserved (history_of start journal) k is.waits)
 
   -- ---- the connection that serves it
 
   record IsBoundTo (b : Bound) : Type 0 where
-    born : Contains (births start (history_of built start journal)) b
+    born : Contains (births start (history_of start journal)) b
     on : b.endpoint ≡ k.endpoint
-    at : bound_at start (history_of built start journal) k.endpoint ≡ Some b
-    within : AreWithinEach b.birth.rights ((lines_of start (history_of built start journal)).lineage k.endpoint)
+    at : bound_at start (history_of start journal) k.endpoint ≡ Some b
+    within : AreWithinEach b.birth.rights ((lines_of start (history_of start journal)).lineage k.endpoint)
 
   bound_to : (b : Bound) × IsBoundTo b
   bound_to =
-      let is = head_is start (history_of built start journal) k first in
-      let b = some_found (λ bound. bound.endpoint == k.endpoint) (living start (history_of built start journal)) is.bound in
-      let born = (kept_of (λ bound. not (is_dead (history_of built start journal) bound.endpoint)) (births start (history_of built start journal)) b.0 b.2).0 in (
+      let is = head_is start (history_of start journal) k first in
+      let b = some_found (λ bound. bound.endpoint == k.endpoint) (living start (history_of start journal)) is.bound in
+      let born = (kept_of (λ bound. not (is_dead (history_of start journal) bound.endpoint)) (births start (history_of start journal)) b.0 b.2).0 in (
         b.0,
         record {
           born = born;
           on = eqb-true b.0.endpoint k.endpoint b.3;
           at = b.1;
-          within = subst (λ (n : ℕ). AreWithinEach b.0.birth.rights (lineage_of start (history_of built start journal) n)) (eqb-true b.0.endpoint k.endpoint b.3) (holds.rights b.0 born);
+          within = subst (λ (n : ℕ). AreWithinEach b.0.birth.rights (lineage_of start (history_of start journal) n)) (eqb-true b.0.endpoint k.endpoint b.3) (holds.rights b.0 born);
         },
       )
 
-  whole : (b : Bound) → IsBoundTo b → outcome_of built start (history_of built start journal) k ≡ outcome_of_sending built (moment_of start (history_of built start journal) b) k.sending
-  whole b is = ap (outcome_at built start (history_of built start journal) k) is.at
+  whole : (b : Bound) → IsBoundTo b → outcome_of start (history_of start journal) k ≡ outcome_of_sending (moment_of start (history_of start journal) b) k.sending
+  whole b is = ap (outcome_at start (history_of start journal) k) is.at
 
   seen : (b : Bound) → IsBoundTo b → (given : Moment → Asked → List OperationSet) →
-      at_serving given start (history_of built start journal) k ≡ found (given (moment_of start (history_of built start journal) b)) (asked_by (moment_of start (history_of built start journal) b) k.sending)
+      at_serving given start (history_of start journal) k ≡ found (given (moment_of start (history_of start journal) b)) (asked_by (moment_of start (history_of start journal) b) k.sending)
   seen b is given =
       ap
       (λ (o : Option Bound).
-      option_map_or (λ bound. option_map_or (given (moment_of start (history_of built start journal) bound)) (asked_by (moment_of start (history_of built start journal) bound) k.sending) []) o [])
+      option_map_or (λ bound. option_map_or (given (moment_of start (history_of start journal) bound)) (asked_by (moment_of start (history_of start journal) bound) k.sending) []) o [])
       is.at
 
   -- ---- what is bound
 
   -- it was never born
-  new_born : (x : Bound) → (outcome_of built start (history_of built start journal) k).bound ≡ Some x → (b : Bound) → Contains (births start (history_of built start journal)) b → b.endpoint ≢ x.endpoint
+  new_born : (x : Bound) → (outcome_of start (history_of start journal) k).bound ≡ Some x → (b : Bound) → Contains (births start (history_of start journal)) b → b.endpoint ≢ x.endpoint
   new_born x e b there same =
-      let transit = in_transit below built start journal s lawful' in
-      let carried = bind_what_they_carry below built start journal k x s lawful' first e in
-      let alive : is_dead (history_of built start journal) b.endpoint ≡ false = ap (is_dead (history_of built start journal)) same ∙ transit.alive k x.endpoint carried in
-      let lives = kept (λ bound. not (is_dead (history_of built start journal) bound.endpoint)) (births start (history_of built start journal)) b there (ap not alive) in
-      true≢false (sym (is_found (λ bound. bound.endpoint == x.endpoint) (living start (history_of built start journal)) b lives (eq-eqb b.endpoint x.endpoint same)) ∙ transit.unbound k x.endpoint carried)
+      let transit = in_transit below start journal s lawful' in
+      let carried = bind_what_they_carry below start journal k x s lawful' first e in
+      let alive : is_dead (history_of start journal) b.endpoint ≡ false = ap (is_dead (history_of start journal)) same ∙ transit.alive k x.endpoint carried in
+      let lives = kept (λ bound. not (is_dead (history_of start journal) bound.endpoint)) (births start (history_of start journal)) b there (ap not alive) in
+      true≢false (sym (is_found (λ bound. bound.endpoint == x.endpoint) (living start (history_of start journal)) b lives (eq-eqb b.endpoint x.endpoint same)) ∙ transit.unbound k x.endpoint carried)
 
-  old_line : (bound : Bound) → Contains (births start (history_of built start journal)) bound → (o : Option Bound) → (outcome_of built start (history_of built start journal) k).bound ≡ o → option_map_or (λ b. b.endpoint == bound.endpoint) o false ≡ false
+  old_line : (bound : Bound) → Contains (births start (history_of start journal)) bound → (o : Option Bound) → (outcome_of start (history_of start journal) k).bound ≡ o → option_map_or (λ b. b.endpoint == bound.endpoint) o false ≡ false
   old_line bound there None e = refl
   old_line bound there (Some x) e = false_from_ne_true (x.endpoint == bound.endpoint) (λ same. new_born x e bound there (sym (eqb-true x.endpoint bound.endpoint same)))
 
   -- what holds of the lineage of a birth holds of it still
-  old_then : (P : List OperationSet → Type 0) (bound : Bound) → Contains (births start (history_of built start journal)) bound → P (lineage_of start (history_of built start journal) bound.endpoint) → P (lineage_of start (behind built start (serves k) (history_of built start journal)) bound.endpoint)
+  old_then : (P : List OperationSet → Type 0) (bound : Bound) → Contains (births start (history_of start journal)) bound → P (lineage_of start (history_of start journal) bound.endpoint) → P (lineage_of start (behind start (serves k) (history_of start journal)) bound.endpoint)
   unfolding event_of lines_of
   old_then P bound there h =
-      subst (λ (b : Bool). P (if b then at_serving (lineage_given (lines_of start (history_of built start journal)) k) start (history_of built start journal) k else lineage_of start (history_of built start journal) bound.endpoint))
+      subst (λ (b : Bool). P (if b then at_serving (lineage_given (lines_of start (history_of start journal)) k) start (history_of start journal) k else lineage_of start (history_of start journal) bound.endpoint))
       (sym (old_line bound there _ refl)) h
 
   -- what holds of the lineage that is given holds of what is bound
-  new_then : (P : List OperationSet → Type 0) (x : Bound) → (outcome_of built start (history_of built start journal) k).bound ≡ Some x → (b : Bound) → IsBoundTo b →
-      P (found (lineage_given (lines_of start (history_of built start journal)) k (moment_of start (history_of built start journal) b)) (asked_by (moment_of start (history_of built start journal) b) k.sending)) →
-      P (lineage_of start (behind built start (serves k) (history_of built start journal)) x.endpoint)
+  new_then : (P : List OperationSet → Type 0) (x : Bound) → (outcome_of start (history_of start journal) k).bound ≡ Some x → (b : Bound) → IsBoundTo b →
+      P (found (lineage_given (lines_of start (history_of start journal)) k (moment_of start (history_of start journal) b)) (asked_by (moment_of start (history_of start journal) b) k.sending)) →
+      P (lineage_of start (behind start (serves k) (history_of start journal)) x.endpoint)
   unfolding event_of lines_of
   new_then P x e b to h =
-      let lines = lines_of start (history_of built start journal) in
-      let binds : option_map_or (λ bound. bound.endpoint == x.endpoint) (outcome_of built start (history_of built start journal) k).bound false ≡ true =
+      let lines = lines_of start (history_of start journal) in
+      let binds : option_map_or (λ bound. bound.endpoint == x.endpoint) (outcome_of start (history_of start journal) k).bound false ≡ true =
       ap (λ (o : Option Bound). option_map_or (λ bound. bound.endpoint == x.endpoint) o false) e ∙ eq-eqb x.endpoint x.endpoint refl in
-      subst (λ (t : Bool). P (if t then at_serving (lineage_given lines k) start (history_of built start journal) k else lineage_of start (history_of built start journal) x.endpoint))
+      subst (λ (t : Bool). P (if t then at_serving (lineage_given lines k) start (history_of start journal) k else lineage_of start (history_of start journal) x.endpoint))
       (sym binds) (subst P (sym (seen b to (lineage_given lines k))) h)
 
-  new_within : (x : Bound) → (outcome_of built start (history_of built start journal) k).bound ≡ Some x → AreWithinEach x.birth.rights (lineage_of start (behind built start (serves k) (history_of built start journal)) x.endpoint)
+  new_within : (x : Bound) → (outcome_of start (history_of start journal) k).bound ≡ Some x → AreWithinEach x.birth.rights (lineage_of start (behind start (serves k) (history_of start journal)) x.endpoint)
   new_within x e =
       let to = bound_to in
       let b = to.0 in
       new_then (AreWithinEach x.birth.rights) x e b to.1
-      (bound_within below narrow built (moment_of start (history_of built start journal) b) (lines_of start (history_of built start journal)) k to.1.within (holds.trails k waits.0) x
+      (bound_within below narrow (moment_of start (history_of start journal) b) (lines_of start (history_of start journal)) k to.1.within (holds.trails k waits.0) x
       (sym (ap (λ (o : Outcome). o.bound) (whole b to.1)) ∙ e))
 
   -- ---- where it begins
 
-  own_by : (b : Bound) → IsBoundTo b → (o : Option ℕ) → ByOrigin start (all_sent (history_of built start journal)) k o → o ≡ None → BeginsAt start (lineage_of start (history_of built start journal) k.endpoint)
+  own_by : (b : Bound) → IsBoundTo b → (o : Option ℕ) → ByOrigin start (all_sent (history_of start journal)) k o → o ≡ None → BeginsAt start (lineage_of start (history_of start journal) k.endpoint)
   own_by b to None origin e =
-      subst (λ (n : ℕ). BeginsAt start (lineage_of start (history_of built start journal) n)) to.on (holds.begun b to.born (ap is_client to.on ∙ origin.client))
+      subst (λ (n : ℕ). BeginsAt start (lineage_of start (history_of start journal) n)) to.on (holds.begun b to.born (ap is_client to.on ∙ origin.client))
   own_by b to (Some place) origin e = absurd (cc)
 
-  own_begun : (b : Bound) → IsBoundTo b → k.origin ≡ None → BeginsAt start (lineage_of start (history_of built start journal) k.endpoint)
-  own_begun b to e = own_by b to k.origin ((lawful_kept below built start s journal lawful').sound.right k waits.0).by_origin e
+  own_begun : (b : Bound) → IsBoundTo b → k.origin ≡ None → BeginsAt start (lineage_of start (history_of start journal) k.endpoint)
+  own_begun b to e = own_by b to k.origin ((lawful_kept below start s journal lawful').sound.right k waits.0).by_origin e
 
-  over_begun : (origin : ℕ) → k.origin ≡ Some origin → BeginsAt start ((lines_of start (history_of built start journal)).onward origin)
+  over_begun : (origin : ℕ) → k.origin ≡ Some origin → BeginsAt start ((lines_of start (history_of start journal)).onward origin)
   over_begun origin e = holds.trails_begun k origin waits.0 e
 
   -- the connection that serves what came over a mount is a directory
   on_mount : (b : Bound) → IsBoundTo b → IsForwarded start k → b.birth.protocol ≡ protocol.Directory
-  on_mount b to f = by_birth ((lawful_kept below built start s journal lawful').sound.born b to.born) where
-    by_birth : Contains start.mounts b ⊎ IsKnown start (all_sent (history_of built start journal)) b.endpoint → b.birth.protocol ≡ protocol.Directory
+  on_mount b to f = by_birth ((lawful_kept below start s journal lawful').sound.born b to.born) where
+    by_birth : Contains start.mounts b ⊎ IsKnown start (all_sent (history_of start journal)) b.endpoint → b.birth.protocol ≡ protocol.Directory
     by_birth (inl there) = (All-contains (IsOnDirectory start.trees) (start.firsts ++ start.mounts) b s.placed (Contains-append_right start.firsts start.mounts b there)).protocol
     by_birth (inr known) = absurd (true≢false (sym known.0 ∙ ap is_client to.on ∙ end_apart start k.endpoint s f.end))
 
-  open_by : (b : Bound) → IsBoundTo b → (o : Option ℕ) → ByOrigin start (all_sent (history_of built start journal)) k o → (origin : ℕ) → o ≡ Some origin → IsOpen (asked_by (moment_of start (history_of built start journal) b) k.sending)
+  open_by : (b : Bound) → IsBoundTo b → (o : Option ℕ) → ByOrigin start (all_sent (history_of start journal)) k o → (origin : ℕ) → o ≡ Some origin → IsOpen (asked_by (moment_of start (history_of start journal) b) k.sending)
   open_by b to None from origin e = absurd (cc)
   open_by b to (Some place) f origin e =
       let reads = onward_reads below f.flags f.rest f.object f.path f.small (let low = client_low f.object f.client in omega arith) in
@@ -179,70 +178,70 @@ module _ (below : Below) (narrow : OpensOnlyNarrow) (built : Built) (start : Sta
         word = f.flags;
         attributes = None;
         object = f.object;
-        is = ap (asked_by (moment_of start (history_of built start journal) b)) f.sent ∙ ap request_in (directory ∙ reads);
+        is = ap (asked_by (moment_of start (history_of start journal) b)) f.sent ∙ ap request_in (directory ∙ reads);
       }
 
-  opens : (b : Bound) → IsBoundTo b → (origin : ℕ) → k.origin ≡ Some origin → IsOpen (asked_by (moment_of start (history_of built start journal) b) k.sending)
-  opens b to origin e = open_by b to k.origin ((lawful_kept below built start s journal lawful').sound.right k waits.0).by_origin origin e
+  opens : (b : Bound) → IsBoundTo b → (origin : ℕ) → k.origin ≡ Some origin → IsOpen (asked_by (moment_of start (history_of start journal) b) k.sending)
+  opens b to origin e = open_by b to k.origin ((lawful_kept below start s journal lawful').sound.right k waits.0).by_origin origin e
 
-  new_begun : (x : Bound) → (outcome_of built start (history_of built start journal) k).bound ≡ Some x → BeginsAt start (lineage_of start (behind built start (serves k) (history_of built start journal)) x.endpoint)
+  new_begun : (x : Bound) → (outcome_of start (history_of start journal) k).bound ≡ Some x → BeginsAt start (lineage_of start (behind start (serves k) (history_of start journal)) x.endpoint)
   new_begun x e =
       let to = bound_to in
       let b = to.0 in
-      let moment = moment_of start (history_of built start journal) b in
-      let request = binds_asked built moment k.sending x (sym (ap (λ (o : Outcome). o.bound) (whole b to.1)) ∙ e) in
+      let moment = moment_of start (history_of start journal) b in
+      let request = binds_asked moment k.sending x (sym (ap (λ (o : Outcome). o.bound) (whole b to.1)) ∙ e) in
       new_then (BeginsAt start) x e b to.1
-      (lineage_given_begins start moment (lines_of start (history_of built start journal)) k (own_begun b to.1) over_begun request.0 request.1 (opens b to.1))
+      (lineage_given_begins start moment (lines_of start (history_of start journal)) k (own_begun b to.1) over_begun request.0 request.1 (opens b to.1))
 
   -- ---- what went on before
 
-  other_place : (origin : ℕ) → list_any (serves_place origin) (history_of built start journal) ≡ true → (k.place == origin) ≡ false
+  other_place : (origin : ℕ) → list_any (serves_place origin) (history_of start journal) ≡ true → (k.place == origin) ≡ false
   other_place origin served =
       false_from_ne_true (k.place == origin)
-      (λ same. true≢false (sym (ap (λ (n : ℕ). list_any (serves_place n) (history_of built start journal)) (eqb-true k.place origin same) ∙ served) ∙ waits.1))
+      (λ same. true≢false (sym (ap (λ (n : ℕ). list_any (serves_place n) (history_of start journal)) (eqb-true k.place origin same) ∙ served) ∙ waits.1))
 
-  still_trailed : (sent : Sent) → Contains (all_sent (history_of built start journal)) sent → AreTrailed (lines_of start (behind built start (serves k) (history_of built start journal))) sent
+  still_trailed : (sent : Sent) → Contains (all_sent (history_of start journal)) sent → AreTrailed (lines_of start (behind start (serves k) (history_of start journal))) sent
   unfolding event_of lines_of
   still_trailed sent there origin bytes handles txid path word attributes object from sending read =
       let h = holds.trails sent there origin bytes handles txid path word attributes object from sending read in
-      let lines = lines_of start (history_of built start journal) in
+      let lines = lines_of start (history_of start journal) in
       record {
         small = h.small;
-        asked = subst (λ (t : Bool). All (HasAllAsked word) (if t then at_serving (trail_given start lines k) start (history_of built start journal) k else lines.onward origin))
+        asked = subst (λ (t : Bool). All (HasAllAsked word) (if t then at_serving (trail_given start lines k) start (history_of start journal) k else lines.onward origin))
             (sym (other_place origin (holds.origins sent origin there from))) h.asked;
       }
 
-  still_begun : (sent : Sent) (origin : ℕ) → Contains (all_sent (history_of built start journal)) sent → sent.origin ≡ Some origin → BeginsAt start ((lines_of start (behind built start (serves k) (history_of built start journal))).onward origin)
+  still_begun : (sent : Sent) (origin : ℕ) → Contains (all_sent (history_of start journal)) sent → sent.origin ≡ Some origin → BeginsAt start ((lines_of start (behind start (serves k) (history_of start journal))).onward origin)
   unfolding event_of lines_of
   still_begun sent origin there from =
-      let lines = lines_of start (history_of built start journal) in
-      subst (λ (t : Bool). BeginsAt start (if t then at_serving (trail_given start lines k) start (history_of built start journal) k else lines.onward origin))
+      let lines = lines_of start (history_of start journal) in
+      subst (λ (t : Bool). BeginsAt start (if t then at_serving (trail_given start lines k) start (history_of start journal) k else lines.onward origin))
       (sym (other_place origin (holds.origins sent origin there from))) (holds.trails_begun sent origin there from)
 
-  pub served_holds : Holds start (behind built start (serves k) (history_of built start journal))
+  pub served_holds : Holds start (behind start (serves k) (history_of start journal))
   unfolding event_of
   served_holds =
-      let effect = servings_take_effect built start (history_of built start journal) k in
+      let effect = servings_take_effect start (history_of start journal) k in
       record {
-        rights = λ bound there. rights_by bound (Contains-append_cases (births start (history_of built start journal)) (option_to_list (outcome_of built start (history_of built start journal) k).bound) bound (subst (λ (bounds : List Bound). Contains bounds bound) effect.born there));
-        begun = λ bound there client. begun_by bound client (Contains-append_cases (births start (history_of built start journal)) (option_to_list (outcome_of built start (history_of built start journal) k).bound) bound (subst (λ (bounds : List Bound). Contains bounds bound) effect.born there));
+        rights = λ bound there. rights_by bound (Contains-append_cases (births start (history_of start journal)) (option_to_list (outcome_of start (history_of start journal) k).bound) bound (subst (λ (bounds : List Bound). Contains bounds bound) effect.born there));
+        begun = λ bound there client. begun_by bound client (Contains-append_cases (births start (history_of start journal)) (option_to_list (outcome_of start (history_of start journal) k).bound) bound (subst (λ (bounds : List Bound). Contains bounds bound) effect.born there));
         trails_begun = λ sent origin there e. still_begun sent origin (subst (λ (ones : List Sent). Contains ones sent) effect.sent_same there) e;
         origins = λ sent origin there e. or_right (k.place == origin) _ (holds.origins sent origin (subst (λ (ones : List Sent). Contains ones sent) effect.sent_same there) e);
         trails = λ sent there. still_trailed sent (subst (λ (ones : List Sent). Contains ones sent) effect.sent_same there);
       } where
-        rights_by : (bound : Bound) → Contains (births start (history_of built start journal)) bound ⊎ Contains (option_to_list (outcome_of built start (history_of built start journal) k).bound) bound →
-            AreWithinEach bound.birth.rights (lineage_of start (behind built start (serves k) (history_of built start journal)) bound.endpoint)
+        rights_by : (bound : Bound) → Contains (births start (history_of start journal)) bound ⊎ Contains (option_to_list (outcome_of start (history_of start journal) k).bound) bound →
+            AreWithinEach bound.birth.rights (lineage_of start (behind start (serves k) (history_of start journal)) bound.endpoint)
         rights_by bound (inl there) = old_then (AreWithinEach bound.birth.rights) bound there (holds.rights bound there)
-        rights_by bound (inr there) = new_within bound (the_one (outcome_of built start (history_of built start journal) k).bound bound there)
+        rights_by bound (inr there) = new_within bound (the_one (outcome_of start (history_of start journal) k).bound bound there)
 
-        begun_by : (bound : Bound) → is_client bound.endpoint ≡ true → Contains (births start (history_of built start journal)) bound ⊎ Contains (option_to_list (outcome_of built start (history_of built start journal) k).bound) bound →
-            BeginsAt start (lineage_of start (behind built start (serves k) (history_of built start journal)) bound.endpoint)
+        begun_by : (bound : Bound) → is_client bound.endpoint ≡ true → Contains (births start (history_of start journal)) bound ⊎ Contains (option_to_list (outcome_of start (history_of start journal) k).bound) bound →
+            BeginsAt start (lineage_of start (behind start (serves k) (history_of start journal)) bound.endpoint)
         begun_by bound client (inl there) = old_then (BeginsAt start) bound there (holds.begun bound there client)
-        begun_by bound client (inr there) = new_begun bound (the_one (outcome_of built start (history_of built start journal) k).bound bound there)
+        begun_by bound client (inr there) = new_begun bound (the_one (outcome_of start (history_of start journal) k).bound bound there)
 
   -- ---- what goes on
 
-  small_by : (b : Bound) (o : Option ℕ) → k.origin ≡ o → ByOrigin start (all_sent (history_of built start journal)) k o → (bytes handles : List ℕ) (txid : ℕ) (path : List ℕ) (word : ℕ) (attributes : Option ℕ) (object : ℕ) → k.sending ≡ message bytes handles →
+  small_by : (b : Bound) (o : Option ℕ) → k.origin ≡ o → ByOrigin start (all_sent (history_of start journal)) k o → (bytes handles : List ℕ) (txid : ℕ) (path : List ℕ) (word : ℕ) (attributes : Option ℕ) (object : ℕ) → k.sending ≡ message bytes handles →
       read_by b.birth.protocol bytes handles ≡ Ok (txid, asks.open_path path word attributes object) → word < 256 ^ 8
   small_by b None e origin bytes handles txid path word attributes object sending read =
       flags_small below b.birth.protocol bytes handles txid path word attributes object read (subst (λ (x : Sending). AreBytes (bytes_in x)) sending origin.bytes)
@@ -250,39 +249,39 @@ module _ (below : Below) (narrow : OpensOnlyNarrow) (built : Built) (start : Sta
       (holds.trails k waits.0 place bytes handles txid path word attributes object e sending
       (opens_directory below.spelled below.reads below.apart b.birth.protocol bytes handles txid path word attributes object read)).small
 
-  object_low : (f : Forwarded) → (outcome_of built start (history_of built start journal) k).forward ≡ Some f → f.object < 0x80000000
+  object_low : (f : Forwarded) → (outcome_of start (history_of start journal) k).forward ≡ Some f → f.object < 0x80000000
   object_low f e =
-      let sound = (lawful_kept below built start s journal lawful').sound in
-      let serving' = is_serving below built start journal k s (stepped built start journal lawful') sound first in
+      let sound = (lawful_kept below start s journal lawful').sound in
+      let serving' = is_serving below start journal k s (stepped start journal lawful') sound first in
       let low = client_low f.object (carried_is k f.object (serving'.answered.goes_on f e).0).0 in
       omega arith
 
-  pub forward_new : (f : Forwarded) → (outcome_of built start (history_of built start journal) k).forward ≡ Some f →
-      IsNew start (behind built start (serves k) (history_of built start journal)) (sent_behind (serves k ∷ journal) f.endpoint (message f.bytes (f.object ∷ [])) (Some k.place))
+  pub forward_new : (f : Forwarded) → (outcome_of start (history_of start journal) k).forward ≡ Some f →
+      IsNew start (behind start (serves k) (history_of start journal)) (sent_behind (serves k ∷ journal) f.endpoint (message f.bytes (f.object ∷ [])) (Some k.place))
   unfolding event_of lines_of
   forward_new f e =
       let to = bound_to in
       let b = to.0 in
-      let lines = lines_of start (history_of built start journal) in
-      let right = (lawful_kept below built start s journal lawful').sound.right k waits.0 in
-      let on = onward_within below narrow built (moment_of start (history_of built start journal) b) lines k to.1.within (holds.trails k waits.0) start f (small_by b k.origin refl right.by_origin)
-      (λ word mount masks passes end there. end_is_passed start (trees_of start (history_of built start journal)) b.server word mount masks (stand_on_trees below built start journal s lawful').mounts passes end there)
+      let lines = lines_of start (history_of start journal) in
+      let right = (lawful_kept below start s journal lawful').sound.right k waits.0 in
+      let on = onward_within below narrow (moment_of start (history_of start journal) b) lines k to.1.within (holds.trails k waits.0) start f (small_by b k.origin refl right.by_origin)
+      (λ word mount masks passes end there. end_is_passed start (trees_of start (history_of start journal)) b.server word mount masks (stand_on_trees below start journal s lawful').mounts passes end there)
       (sym (ap (λ (o : Outcome). o.forward) (whole b to.1)) ∙ e) in
       record {
         begun = λ origin from.
-            subst (λ (t : Bool). BeginsAt start (if t then at_serving (trail_given start lines k) start (history_of built start journal) k else lines.onward origin))
+            subst (λ (t : Bool). BeginsAt start (if t then at_serving (trail_given start lines k) start (history_of start journal) k else lines.onward origin))
             (sym (eq-eqb k.place origin (same_place from))) (subst (BeginsAt start) (sym (seen b to.1 (trail_given start lines k)))
-            (trail_given_begins start (moment_of start (history_of built start journal) b) lines k (own_begun b to.1) over_begun
-            (forwards_asked built (moment_of start (history_of built start journal) b) k.sending f (sym (ap (λ (o : Outcome). o.forward) (whole b to.1)) ∙ e))));
+            (trail_given_begins start (moment_of start (history_of start journal) b) lines k (own_begun b to.1) over_begun
+            (forwards_asked (moment_of start (history_of start journal) b) k.sending f (sym (ap (λ (o : Outcome). o.forward) (whole b to.1)) ∙ e))));
         origin = λ origin from. or_left (k.place == origin) _ (eq-eqb k.place origin (same_place from));
         trail = λ origin bytes handles txid path word attributes object from sending read.
             let again = ap (λ bs. read_by protocol.Directory bs (f.object ∷ [])) on.bytes ∙ onward_reads below on.flags on.rest f.object on.path on.small (object_low f e) in
             let same : on.flags ≡ word = same_word (sym again ∙ same_read sending ∙ read) in
             let here : (k.place == origin) ≡ true = eq-eqb k.place origin (same_place from) in
-            subst (λ (w : ℕ). IsTrailed (lines_of start (behind built start (serves k) (history_of built start journal))) w origin) same
+            subst (λ (w : ℕ). IsTrailed (lines_of start (behind start (serves k) (history_of start journal))) w origin) same
             (record {
               small = on.small;
-              asked = subst (λ (t : Bool). All (HasAllAsked on.flags) (if t then at_serving (trail_given start lines k) start (history_of built start journal) k else lines.onward origin))
+              asked = subst (λ (t : Bool). All (HasAllAsked on.flags) (if t then at_serving (trail_given start lines k) start (history_of start journal) k else lines.onward origin))
                   (sym here) (subst (All (HasAllAsked on.flags)) (sym (seen b to.1 (trail_given start lines k))) on.asked);
             });
       } where

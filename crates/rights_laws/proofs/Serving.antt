@@ -8,7 +8,6 @@ use Rattle.io_messages.specs.declared.protocols.Protocol.TheVariants as protocol
 use Rattle.io_rights.specs.Operations.{OperationSet}
 use Rattle.path_walk.specs.Paths.{IsPath, names_of, text_of}
 use Rattle.remote_forward.specs.Onward.{onward_bytes}
-use Rattle.conn_rules.specs.Built.{Built}
 use Rattle.conn_rules.specs.Walks.{limit_of}
 use Rattle.dir_conn.specs.Laws.{OpensOnlyNarrow}
 use Rattle.vfs_journal.specs.Entries.{Sent, message}
@@ -42,7 +41,7 @@ AreTrailed lines sent =
 abbrev pub found : (Asked → List OperationSet) → Option Asked → List OperationSet
 found given request = option_map_or given request []
 
-module _ (below : Below) (narrow : OpensOnlyNarrow) (built : Built) (moment : Moment) (lines : Lines) (sent : Sent) (within : AreWithinEach moment.bound.birth.rights (lines.lineage sent.endpoint)) (trailed : AreTrailed lines sent) where
+module _ (below : Below) (narrow : OpensOnlyNarrow) (moment : Moment) (lines : Lines) (sent : Sent) (within : AreWithinEach moment.bound.birth.rights (lines.lineage sent.endpoint)) (trailed : AreTrailed lines sent) where
   -- the request that was read is the one that the lineage is found by
   asked_is : (bytes handles : List ℕ) (txid : ℕ) (request : Asked) → sent.sending ≡ message bytes handles → read_by moment.bound.birth.protocol bytes handles ≡ Ok (txid, request) → asked_by moment sent.sending ≡ Some request
   asked_is bytes handles txid request sending read = ap (asked_by moment) sending ∙ ap request_in read
@@ -56,26 +55,26 @@ module _ (below : Below) (narrow : OpensOnlyNarrow) (built : Built) (moment : Mo
   -- ---- what is bound
 
   connection_within : (bytes handles : List ℕ) (txid : ℕ) (request : Asked) (new : Bound) → sent.sending ≡ message bytes handles → read_by moment.bound.birth.protocol bytes handles ≡ Ok (txid, request) →
-      BindsAs (request_act built moment request).answer new → AreWithinEach new.birth.rights (lineage_given lines sent moment request)
+      BindsAs (request_act moment request).answer new → AreWithinEach new.birth.rights (lineage_given lines sent moment request)
   connection_within bytes handles txid request new sending read (watcher none') =
       subst (λ (some : OperationSet). AreWithinEach some (lineage_given lines sent moment request)) (sym none') (none_within_each (lineage_given lines sent moment request))
   connection_within bytes handles txid (asks.open_path path word attributes object) new sending read (connection birth announced answer is) =
       subst (λ (some : OperationSet). AreWithinEach some (lineage_given lines sent moment (asks.open_path path word attributes object))) (sym (ap (λ b. b.rights) is))
-      (request_within narrow built moment lines sent within (asks.open_path path word attributes object) birth announced (open_asked bytes handles txid path word attributes object sending read) answer)
+      (request_within narrow moment lines sent within (asks.open_path path word attributes object) birth announced (open_asked bytes handles txid path word attributes object sending read) answer)
   connection_within bytes handles txid request new sending read (connection birth announced answer is) =
       subst (λ (some : OperationSet). AreWithinEach some (lineage_given lines sent moment request)) (sym (ap (λ b. b.rights) is))
-      (request_within narrow built moment lines sent within request birth announced tt answer)
+      (request_within narrow moment lines sent within request birth announced tt answer)
 
-  bound_by : (new : Bound) → Heard built moment sent.sending (outcome_of_sending built moment sent.sending) → (outcome_of_sending built moment sent.sending).bound ≡ Some new →
+  bound_by : (new : Bound) → Heard moment sent.sending (outcome_of_sending moment sent.sending) → (outcome_of_sending moment sent.sending).bound ≡ Some new →
       AreWithinEach new.birth.rights (found (lineage_given lines sent moment) (asked_by moment sent.sending))
   bound_by new (unheard nothing none' given change) e = let wrong : None ≡ Some new = sym nothing ∙ e in absurd (cc)
   bound_by new (heard bytes handles txid request sending read is) e =
-      let binds' : bound_of (asker_of moment.bound txid (object_of request)) (request_act built moment request).answer ≡ Some new = sym (ap (λ (o : Outcome). o.bound) is) ∙ e in
+      let binds' : bound_of (asker_of moment.bound txid (object_of request)) (request_act moment request).answer ≡ Some new = sym (ap (λ (o : Outcome). o.bound) is) ∙ e in
       subst (λ (o : Option Asked). AreWithinEach new.birth.rights (found (lineage_given lines sent moment) o)) (sym (asked_is bytes handles txid request sending read))
-      (connection_within bytes handles txid request new sending read (binds_as (asker_of moment.bound txid (object_of request)) (request_act built moment request).answer new binds'))
+      (connection_within bytes handles txid request new sending read (binds_as (asker_of moment.bound txid (object_of request)) (request_act moment request).answer new binds'))
 
-  pub bound_within : (new : Bound) → (outcome_of_sending built moment sent.sending).bound ≡ Some new → AreWithinEach new.birth.rights (found (lineage_given lines sent moment) (asked_by moment sent.sending))
-  bound_within new e = bound_by new (sending_heard built moment sent.sending) e
+  pub bound_within : (new : Bound) → (outcome_of_sending moment sent.sending).bound ≡ Some new → AreWithinEach new.birth.rights (found (lineage_given lines sent moment) (asked_by moment sent.sending))
+  bound_within new e = bound_by new (sending_heard moment sent.sending) e
 
   -- ---- what goes on
 
@@ -94,9 +93,9 @@ module _ (below : Below) (narrow : OpensOnlyNarrow) (built : Built) (moment : Mo
 
   open_onward : (start : Start) (forward : Forwarded) (bytes handles : List ℕ) (txid : ℕ) (path : List ℕ) (word : ℕ) (attributes : Option ℕ) (object : ℕ) → sent.sending ≡ message bytes handles → read_by moment.bound.birth.protocol bytes handles ≡ Ok (txid, asks.open_path path word attributes object) → word < 256 ^ 8 →
       ((mount : ℕ) (masks : List OperationSet) → Passes moment.tree word mount masks → (end : Bound) → slice_get start.mounts mount ≡ Some end → Contains masks end.birth.rights) →
-      SendsOn (asker_of moment.bound txid object) (request_act built moment (asks.open_path path word attributes object)).answer forward → IsOnward start forward
+      SendsOn (asker_of moment.bound txid object) (request_act moment (asks.open_path path word attributes object)).answer forward → IsOnward start forward
   open_onward start forward bytes handles txid path word attributes object sending read small mounted on =
-      let crossed = open_crosses (context_at built moment) path word on.mount on.flags on.rest (open_row_on (context_at built moment) path word attributes object on.mount on.flags on.rest on.is) in
+      let crossed = open_crosses (context_at moment) path word on.mount on.flags on.rest (open_row_on (context_at moment) path word attributes object on.mount on.flags on.rest on.is) in
       let walked = crossing moment.tree word (names_of path) moment.bound.birth.node on.mount on.rest crossed.masks crossed.walked in
       record {
         flags = on.flags;
@@ -105,7 +104,7 @@ module _ (below : Below) (narrow : OpensOnlyNarrow) (built : Built) (moment : Mo
         path = path_onward path walked.front on.rest (below.sound path crossed.good) walked.split;
         small = subst (λ (n : ℕ). n < 256 ^ 8) (sym crossed.left) (onward_small word (limit_of moment.bound.birth.rights crossed.masks) small);
         asked = subst (λ (o : Option Asked). All (HasAllAsked on.flags) (found (trail_given start lines sent moment) o)) (sym (asked_is bytes handles txid (asks.open_path path word attributes object) sending read))
-            (crossed_within narrow built moment lines sent within start path word on.mount on.flags on.rest (open_asked bytes handles txid path word attributes object sending read) crossed (mounted on.mount));
+            (crossed_within narrow moment lines sent within start path word on.mount on.flags on.rest (open_asked bytes handles txid path word attributes object sending read) crossed (mounted on.mount));
       }
 
   abbrev AreSmall : Type 0
@@ -116,17 +115,17 @@ module _ (below : Below) (narrow : OpensOnlyNarrow) (built : Built) (moment : Mo
   AreMasked start = (word mount : ℕ) (masks : List OperationSet) → Passes moment.tree word mount masks → (end : Bound) → slice_get start.mounts mount ≡ Some end → Contains masks end.birth.rights
 
   request_onward : (start : Start) (forward : Forwarded) (bytes handles : List ℕ) (txid : ℕ) (request : Asked) → AreSmall → AreMasked start → sent.sending ≡ message bytes handles → read_by moment.bound.birth.protocol bytes handles ≡ Ok (txid, request) →
-      SendsOn (asker_of moment.bound txid (object_of request)) (request_act built moment request).answer forward → IsOnward start forward
+      SendsOn (asker_of moment.bound txid (object_of request)) (request_act moment request).answer forward → IsOnward start forward
   request_onward start forward bytes handles txid (asks.open_path path word attributes object) small masked sending read on =
       open_onward start forward bytes handles txid path word attributes object sending read (small bytes handles txid path word attributes object sending read) (masked word) on
   request_onward start forward bytes handles txid request small masked sending read on =
-      absurd (subst (IsAnswer moment.room moment.tree request) on.is (act_answers (context_at built moment) request).0)
+      absurd (subst (IsAnswer moment.room moment.tree request) on.is (act_answers (context_at moment) request).0)
 
-  onward_by : (start : Start) (forward : Forwarded) → AreSmall → AreMasked start → Heard built moment sent.sending (outcome_of_sending built moment sent.sending) → (outcome_of_sending built moment sent.sending).forward ≡ Some forward → IsOnward start forward
+  onward_by : (start : Start) (forward : Forwarded) → AreSmall → AreMasked start → Heard moment sent.sending (outcome_of_sending moment sent.sending) → (outcome_of_sending moment sent.sending).forward ≡ Some forward → IsOnward start forward
   onward_by start forward small masked (unheard none' nothing given change) e = let wrong : None ≡ Some forward = sym nothing ∙ e in absurd (cc)
   onward_by start forward small masked (heard bytes handles txid request sending read is) e =
-      let sends : forward_of (asker_of moment.bound txid (object_of request)) (request_act built moment request).answer ≡ Some forward = sym (ap (λ (o : Outcome). o.forward) is) ∙ e in
-      request_onward start forward bytes handles txid request small masked sending read (sends_on (asker_of moment.bound txid (object_of request)) (request_act built moment request).answer forward sends)
+      let sends : forward_of (asker_of moment.bound txid (object_of request)) (request_act moment request).answer ≡ Some forward = sym (ap (λ (o : Outcome). o.forward) is) ∙ e in
+      request_onward start forward bytes handles txid request small masked sending read (sends_on (asker_of moment.bound txid (object_of request)) (request_act moment request).answer forward sends)
 
-  pub onward_within : (start : Start) (forward : Forwarded) → AreSmall → AreMasked start → (outcome_of_sending built moment sent.sending).forward ≡ Some forward → IsOnward start forward
-  onward_within start forward small masked e = onward_by start forward small masked (sending_heard built moment sent.sending) e
+  pub onward_within : (start : Start) (forward : Forwarded) → AreSmall → AreMasked start → (outcome_of_sending moment sent.sending).forward ≡ Some forward → IsOnward start forward
+  onward_within start forward small masked e = onward_by start forward small masked (sending_heard moment sent.sending) e

@@ -13,7 +13,6 @@ use Rattle.io_rights.specs.Operations.{single, is_within}
 use Rattle.io_rights.proofs.OperationSets.{within_trans}
 use Rattle.conn_rules.specs.Acts.{act_of, method_refusals, row_act}
 use Rattle.conn_rules.specs.Answers.{Answer, replies, closes, binds, watches, forwards, refuses, ends, hangs_up, silent}
-use Rattle.conn_rules.specs.Built.{Built}
 use Rattle.conn_rules.specs.Contexts.{Context}
 use Rattle.vfs_journal.specs.Entries.{Sent, Sending, Journal, serves}
 use Rattle.vfs_journal.specs.History.{History, births, is_dead, living}
@@ -72,22 +71,22 @@ gives_token asker silent given e = absurd (cc)
 row_needs : (context : Context) (number : ℕ) → (act_of context asks.get_token).answer ≡ replies (answered.token number) → is_within (single op.ModifyDirectory) context.birth.rights ≡ true
 unfolding act_of
 row_needs context number =
-    unless_holds (λ act. act.answer ≡ replies (answered.token number) → is_within (single op.ModifyDirectory) context.birth.rights ≡ true) (first_of (method_refusals context.built context.birth (method_of asks.get_token))) context.position (method_of asks.get_token) (row_act context asks.get_token)
+    unless_holds (λ act. act.answer ≡ replies (answered.token number) → is_within (single op.ModifyDirectory) context.birth.rights ≡ true) (first_of (method_refusals context.birth (method_of asks.get_token))) context.position (method_of asks.get_token) (row_act context asks.get_token)
     (λ s e. absurd (cc)) (λ passes e. right_there context asks.get_token op.ModifyDirectory refl passes)
 
-token_needs : (built : Built) (moment : Moment) (request : Asked) (number : ℕ) → (request_act built moment request).answer ≡ replies (answered.token number) → is_within (single op.ModifyDirectory) moment.bound.birth.rights ≡ true
-token_needs built moment asks.get_token number e = row_needs (context_at built moment) number e
-token_needs built moment request number e = absurd (subst (IsAnswer moment.room moment.tree request) e (act_answers (context_at built moment) request).0)
+token_needs : (moment : Moment) (request : Asked) (number : ℕ) → (request_act moment request).answer ≡ replies (answered.token number) → is_within (single op.ModifyDirectory) moment.bound.birth.rights ≡ true
+token_needs moment asks.get_token number e = row_needs (context_at moment) number e
+token_needs moment request number e = absurd (subst (IsAnswer moment.room moment.tree request) e (act_answers (context_at moment) request).0)
 
 record IsAllowedToken (bound : Bound) (given : Given) : Type 0 where
   on : given.endpoint ≡ bound.endpoint
   has : is_within (single op.ModifyDirectory) bound.birth.rights ≡ true
 
-given_by : (built : Built) (moment : Moment) (sending' : Sending) (outcome : Outcome) (given : Given) → Heard built moment sending' outcome → outcome.token ≡ Some given → IsAllowedToken moment.bound given
-given_by built moment sending' outcome given (unheard binds' onward nothing change) e = absurd (let wrong : None ≡ Some given = sym nothing ∙ e in cc)
-given_by built moment sending' outcome given (heard bytes handles txid request is read whole) e =
-    let token = gives_token (asker_of moment.bound txid (object_of request)) (request_act built moment request).answer given (sym (ap (λ (o : Outcome). o.token) whole) ∙ e) in
-    record { on = token.on; has = token_needs built moment request token.number token.is }
+given_by : (moment : Moment) (sending' : Sending) (outcome : Outcome) (given : Given) → Heard moment sending' outcome → outcome.token ≡ Some given → IsAllowedToken moment.bound given
+given_by moment sending' outcome given (unheard binds' onward nothing change) e = absurd (let wrong : None ≡ Some given = sym nothing ∙ e in cc)
+given_by moment sending' outcome given (heard bytes handles txid request is read whole) e =
+    let token = gives_token (asker_of moment.bound txid (object_of request)) (request_act moment request).answer given (sym (ap (λ (o : Outcome). o.token) whole) ∙ e) in
+    record { on = token.on; has = token_needs moment request token.number token.is }
 
 -- ---- what was given
 
@@ -105,35 +104,35 @@ same_given_on start now past same h given there =
     let one = h given (subst (λ (tokens : List Given). Contains tokens given) same.tokens there) in
     record { bound = one.bound; born = subst (λ (bounds : List Bound). Contains bounds one.bound) (sym same.born) one.born; on = one.on; has = one.has }
 
-served_given : (built : Built) (start : Start) (past : History) (k : Sent) → head start past k.endpoint ≡ Some k → AreGiven start past → AreGiven start (behind built start (serves k) past)
+served_given : (start : Start) (past : History) (k : Sent) → head start past k.endpoint ≡ Some k → AreGiven start past → AreGiven start (behind start (serves k) past)
 unfolding event_of
-served_given built start past k first h given there =
-    let effect = servings_take_effect built start past k in
+served_given start past k first h given there =
+    let effect = servings_take_effect start past k in
     let b = some_found (λ bound. bound.endpoint == k.endpoint) (living start past) (head_is start past k first).bound in
     let born = (kept_of (λ bound. not (is_dead past bound.endpoint)) (births start past) b.0 b.2).0 in
-    let whole : outcome_of built start past k ≡ outcome_of_sending built (moment_of start past b.0) k.sending = ap (outcome_at built start past k) b.1 in
-    by_side b.0 born whole effect.born (Contains-append_cases (all_given past) (option_to_list (outcome_of built start past k).token) given (subst (λ (tokens : List Given). Contains tokens given) effect.tokens there)) where
-      still_born : (bound : Bound) → Contains (births start past) bound → births start (behind built start (serves k) past) ≡ births start past ++ option_to_list (outcome_of built start past k).bound → Contains (births start (behind built start (serves k) past)) bound
-      still_born bound born more = subst (λ (bounds : List Bound). Contains bounds bound) (sym more) (Contains-append_left (births start past) (option_to_list (outcome_of built start past k).bound) bound born)
+    let whole : outcome_of start past k ≡ outcome_of_sending (moment_of start past b.0) k.sending = ap (outcome_at start past k) b.1 in
+    by_side b.0 born whole effect.born (Contains-append_cases (all_given past) (option_to_list (outcome_of start past k).token) given (subst (λ (tokens : List Given). Contains tokens given) effect.tokens there)) where
+      still_born : (bound : Bound) → Contains (births start past) bound → births start (behind start (serves k) past) ≡ births start past ++ option_to_list (outcome_of start past k).bound → Contains (births start (behind start (serves k) past)) bound
+      still_born bound born more = subst (λ (bounds : List Bound). Contains bounds bound) (sym more) (Contains-append_left (births start past) (option_to_list (outcome_of start past k).bound) bound born)
 
-      by_side : (b : Bound) → Contains (births start past) b → outcome_of built start past k ≡ outcome_of_sending built (moment_of start past b) k.sending → births start (behind built start (serves k) past) ≡ births start past ++ option_to_list (outcome_of built start past k).bound →
-          Contains (all_given past) given ⊎ Contains (option_to_list (outcome_of built start past k).token) given → IsGivenOn start (behind built start (serves k) past) given
+      by_side : (b : Bound) → Contains (births start past) b → outcome_of start past k ≡ outcome_of_sending (moment_of start past b) k.sending → births start (behind start (serves k) past) ≡ births start past ++ option_to_list (outcome_of start past k).bound →
+          Contains (all_given past) given ⊎ Contains (option_to_list (outcome_of start past k).token) given → IsGivenOn start (behind start (serves k) past) given
       by_side b born whole more (inl old) =
           let one = h given old in
           record { bound = one.bound; born = still_born one.bound one.born more; on = one.on; has = one.has }
       by_side b born whole more (inr new) =
-          let token = given_by built (moment_of start past b) k.sending (outcome_of_sending built (moment_of start past b) k.sending) given (sending_heard built (moment_of start past b) k.sending)
-          (sym (ap (λ (o : Outcome). o.token) whole) ∙ the_one (outcome_of built start past k).token given new) in
+          let token = given_by (moment_of start past b) k.sending (outcome_of_sending (moment_of start past b) k.sending) given (sending_heard (moment_of start past b) k.sending)
+          (sym (ap (λ (o : Outcome). o.token) whole) ∙ the_one (outcome_of start past k).token given new) in
           record { bound = b; born = still_born b born more; on = token.on; has = token.has }
 
-pub are_given : (built : Built) (start : Start) (journal : Journal) → Stepped built start journal → AreGiven start (history_of built start journal)
+pub are_given : (start : Start) (journal : Journal) → Stepped start journal → AreGiven start (history_of start journal)
 unfolding history_of
-are_given built start journal none = λ given there. absurd (contains_none given there)
-are_given built start journal (refusing earlier endpoint why h) =
-    same_given_on start _ (history_of built start earlier) (refusals_change_nothing built start (history_of built start earlier) endpoint why).same (are_given built start earlier h)
-are_given built start journal (sending earlier one h at) =
-    same_given_on start _ (history_of built start earlier) (sendings_wait_last built start (history_of built start earlier) one).same (are_given built start earlier h)
-are_given built start journal (serving earlier one h first) = served_given built start (history_of built start earlier) one first (are_given built start earlier h)
+are_given start journal none = λ given there. absurd (contains_none given there)
+are_given start journal (refusing earlier endpoint why h) =
+    same_given_on start _ (history_of start earlier) (refusals_change_nothing start (history_of start earlier) endpoint why).same (are_given start earlier h)
+are_given start journal (sending earlier one h at) =
+    same_given_on start _ (history_of start earlier) (sendings_wait_last start (history_of start earlier) one).same (are_given start earlier h)
+are_given start journal (serving earlier one h first) = served_given start (history_of start earlier) one first (are_given start earlier h)
 
 -- ---- the directory of a token
 

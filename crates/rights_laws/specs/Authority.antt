@@ -6,7 +6,6 @@ use Rattle.io_rights.specs.declared.operations.Operation.{Operation}
 use Rattle.io_rights.specs.declared.operations.Operation.TheVariants as op
 use Rattle.io_rights.specs.Operations.{OperationSet, single}
 use Rattle.node_graph.specs.Tree.{Change, make, fill, stay}
-use Rattle.conn_rules.specs.Built.{Built}
 use Rattle.dir_conn.specs.Laws.{masks_of}
 use Rattle.vfs_journal.specs.Entries.{Journal, Sent, serves}
 use Rattle.vfs_journal.specs.History.{History, bound_at}
@@ -57,6 +56,6 @@ pub record IsAllowed (start : Start) (past : History) (sent : Sent) (change : Ch
 -- each serving of a session that changes a tree, whatever came later, is allowed
 abbrev pub ChangesAreAllowed : Type 0
 ChangesAreAllowed =
-    (built : Built) (start : Start) (later past : Journal) (sent : Sent) → IsStart start → Lawful built start (later ++ serves sent ∷ past) →
-    (outcome_of built start (history_of built start past) sent).change ≢ stay →
-    IsAllowed start (history_of built start past) sent (outcome_of built start (history_of built start past) sent).change
+    (start : Start) (later past : Journal) (sent : Sent) → IsStart start → Lawful start (later ++ serves sent ∷ past) →
+    (outcome_of start (history_of start past) sent).change ≢ stay →
+    IsAllowed start (history_of start past) sent (outcome_of start (history_of start past) sent).change

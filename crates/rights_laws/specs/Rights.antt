@@ -7,7 +7,6 @@ use Rattle.io_flags.specs.Words.{has}
 use Rattle.io_messages.specs.Asked as asks
 use Rattle.io_messages.specs.declared.protocols.Protocol.TheVariants as protocol
 use Rattle.io_rights.specs.Operations.{OperationSet, is_within}
-use Rattle.conn_rules.specs.Built.{Built}
 use Rattle.vfs_journal.specs.Entries.{Journal, Sent, message}
 use Rattle.vfs_journal.specs.History.{all_sent, births}
 use Rattle.vfs_journal.specs.Lawful.{Lawful}
@@ -38,21 +37,21 @@ pub record BeginsAt (start : Start) (members : List OperationSet) : Type 0 where
 -- lineage
 abbrev pub RightsStayWithinLineage : Type 0
 RightsStayWithinLineage =
-    (built : Built) (start : Start) (later past : Journal) (bound : Bound) → IsStart start → Lawful built start (later ++ past) →
-    Contains (births start (history_of built start past)) bound →
-    AreWithinEach bound.birth.rights (lineage_of start (history_of built start past) bound.endpoint)
+    (start : Start) (later past : Journal) (bound : Bound) → IsStart start → Lawful start (later ++ past) →
+    Contains (births start (history_of start past)) bound →
+    AreWithinEach bound.birth.rights (lineage_of start (history_of start past) bound.endpoint)
 
 -- the lineage of a client's endpoint begins at a first connection
 abbrev pub LineagesBeginAtFirsts : Type 0
 LineagesBeginAtFirsts =
-    (built : Built) (start : Start) (later past : Journal) (bound : Bound) → IsStart start → Lawful built start (later ++ past) →
-    Contains (births start (history_of built start past)) bound → is_client bound.endpoint ≡ true → BeginsAt start (lineage_of start (history_of built start past) bound.endpoint)
+    (start : Start) (later past : Journal) (bound : Bound) → IsStart start → Lawful start (later ++ past) →
+    Contains (births start (history_of start past)) bound → is_client bound.endpoint ≡ true → BeginsAt start (lineage_of start (history_of start past) bound.endpoint)
 
 -- and all that the flags of an Open can get which came over a mount lies within each member of its trail
 abbrev pub FlagsStayWithinTrail : Type 0
 FlagsStayWithinTrail =
-    (built : Built) (start : Start) (later past : Journal) (sent : Sent) (origin : ℕ) (bytes handles : List ℕ) (txid : ℕ) (path : List ℕ) (word : ℕ) (attributes : Option ℕ) (object : ℕ) →
-    IsStart start → Lawful built start (later ++ past) →
-    Contains (all_sent (history_of built start past)) sent → sent.origin ≡ Some origin → sent.sending ≡ message bytes handles →
+    (start : Start) (later past : Journal) (sent : Sent) (origin : ℕ) (bytes handles : List ℕ) (txid : ℕ) (path : List ℕ) (word : ℕ) (attributes : Option ℕ) (object : ℕ) →
+    IsStart start → Lawful start (later ++ past) →
+    Contains (all_sent (history_of start past)) sent → sent.origin ≡ Some origin → sent.sending ≡ message bytes handles →
     read_by protocol.Directory bytes handles ≡ Ok (txid, asks.open_path path word attributes object) →
-    All (HasAllAsked word) (trail_of start (history_of built start past) sent)
+    All (HasAllAsked word) (trail_of start (history_of start past) sent)

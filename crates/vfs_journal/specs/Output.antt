@@ -12,7 +12,6 @@ use Rattle.endpoint_link.specs.declared.kinds.Refusal.{Refusal}
 use Rattle.endpoint_link.specs.Refusals.{status_of}
 use Rattle.endpoint_link.specs.Numbering.{among}
 use Rattle.node_graph.specs.Tree.{Tree}
-use Rattle.conn_rules.specs.Built.{Built}
 use Rattle.vfs_journal.specs.Entries.{Entry, sends, serves, refuses, Journal}
 use Rattle.vfs_journal.specs.History.{Event, History, living, trees_of, tree_at}
 use Rattle.vfs_journal.specs.Outcomes.{close_frame}
@@ -55,5 +54,5 @@ frames_of start [] = []
 frames_of start (event ∷ past) = frames_of start past ++ frames_of_event start past event
 
 -- the bytes of a journal's output
-abbrev pub output_of : Built → Start → Journal → List ℕ
-output_of built start journal = spellings (frames_of start (history_of built start journal))
+abbrev pub output_of : Start → Journal → List ℕ
+output_of start journal = spellings (frames_of start (history_of start journal))

@@ -14,7 +14,6 @@ use Rattle.conn_rules.specs.declared.births.Room.{Room}
 use Rattle.conn_rules.specs.Acts.{act_of}
 use Rattle.conn_rules.specs.Answers.{Answer, replies, ends, hangs_up, silent, Act, only}
 use Rattle.conn_rules.specs.Births.{Position}
-use Rattle.conn_rules.specs.Built.{Built}
 use Rattle.conn_rules.specs.Contexts.{Context, context_with}
 use Rattle.fidl_names.specs.HandleNumber.{handle_with}
 use Rattle.vfs_journal.specs.Entries.{Sending, message, hang_up, Sent}
@@ -49,12 +48,12 @@ pub record Moment : Type 0 where
 -- ---- what one entry is answered
 
 -- what the rows see of it
-abbrev pub context_at : Built → Moment → Context
-context_at built moment = context_with built moment.bound.birth moment.position moment.room moment.tree moment.directory
+abbrev pub context_at : Moment → Context
+context_at moment = context_with moment.bound.birth moment.position moment.room moment.tree moment.directory
 
 -- a request, by the rows of its method
-abbrev pub request_act : Built → Moment → Asked → Act
-request_act built moment request = act_of (context_at built moment) request
+abbrev pub request_act : Moment → Asked → Act
+request_act moment request = act_of (context_at moment) request
 
 -- a message that is no request of the protocol: it is malformed, or its ordinal is unknown
 abbrev pub fault_answer : RequestFault → Answer
@@ -71,18 +70,18 @@ fault_txid _ = 0
 abbrev pub asker_of : Bound → ℕ → ℕ → Asker
 asker_of bound txid object = record { endpoint = bound.endpoint; server = bound.server; node = bound.birth.node; txid = txid; object = object }
 
-abbrev pub outcome_of_read : Built → Moment → Read → Outcome
-outcome_of_read built moment (Ok found) = outcome_with (asker_of moment.bound found.0 (object_of found.1)) (request_act built moment found.1)
-outcome_of_read built moment (Err fault) = outcome_with (asker_of moment.bound (fault_txid fault) 0) (only moment.position (fault_answer fault))
+abbrev pub outcome_of_read : Moment → Read → Outcome
+outcome_of_read moment (Ok found) = outcome_with (asker_of moment.bound found.0 (object_of found.1)) (request_act moment found.1)
+outcome_of_read moment (Err fault) = outcome_with (asker_of moment.bound (fault_txid fault) 0) (only moment.position (fault_answer fault))
 
 -- a watcher's protocol has no method, and what is sent to it is passed over
-abbrev pub outcome_of_message : Built → Moment → Protocol → List ℕ → List ℕ → Outcome
-outcome_of_message built moment protocol.Watcher bytes handles = outcome_with (asker_of moment.bound 0 0) (only moment.position silent)
-outcome_of_message built moment other bytes handles = outcome_of_read built moment (read_by other bytes handles)
+abbrev pub outcome_of_message : Moment → Protocol → List ℕ → List ℕ → Outcome
+outcome_of_message moment protocol.Watcher bytes handles = outcome_with (asker_of moment.bound 0 0) (only moment.position silent)
+outcome_of_message moment other bytes handles = outcome_of_read moment (read_by other bytes handles)
 
-unfoldable pub outcome_of_sending : Built → Moment → Sending → Outcome
-outcome_of_sending built moment (message bytes handles) = outcome_of_message built moment moment.bound.birth.protocol bytes handles
-outcome_of_sending built moment hang_up = outcome_with (asker_of moment.bound 0 0) (only moment.position hangs_up)
+unfoldable pub outcome_of_sending : Moment → Sending → Outcome
+outcome_of_sending moment (message bytes handles) = outcome_of_message moment moment.bound.birth.protocol bytes handles
+outcome_of_sending moment hang_up = outcome_with (asker_of moment.bound 0 0) (only moment.position hangs_up)
 
 -- ---- looking back
 
@@ -105,10 +104,10 @@ moment_of start history bound =
       directory = directory_of history bound.server;
     }
 
-abbrev pub outcome_at : Built → Start → History → Sent → Option Bound → Outcome
-outcome_at built start history sent None = no_outcome
-outcome_at built start history sent (Some bound) = outcome_of_sending built (moment_of start history bound) sent.sending
+abbrev pub outcome_at : Start → History → Sent → Option Bound → Outcome
+outcome_at start history sent None = no_outcome
+outcome_at start history sent (Some bound) = outcome_of_sending (moment_of start history bound) sent.sending
 
 -- what the serving of a waiting entry answers; its endpoint is bound
-abbrev pub outcome_of : Built → Start → History → Sent → Outcome
-outcome_of built start history sent = outcome_at built start history sent (bound_at start history sent.endpoint)
+abbrev pub outcome_of : Start → History → Sent → Outcome
+outcome_of start history sent = outcome_at start history sent (bound_at start history sent.endpoint)

@@ -13,7 +13,6 @@ use Rattle.io_messages.specs.Asked.{Asked}
 use Rattle.io_messages.specs.Asked as asks
 use Rattle.io_messages.specs.declared.protocols.Protocol.TheVariants as protocol
 use Rattle.path_walk.specs.Paths.{names_of}
-use Rattle.conn_rules.specs.Built.{Built}
 use Rattle.vfs_journal.specs.Entries.{Sending, message, hang_up, Sent, sends, serves, refuses, Journal}
 use Rattle.vfs_journal.specs.History.{History, bound_at, is_bound, waiting, standing_of, is_used, live_count}
 use Rattle.vfs_journal.specs.Outcomes.{Forwarded}
@@ -52,9 +51,9 @@ with_forward origin journal (Some forward) =
     sends (sent_behind journal forward.endpoint (message forward.bytes (forward.object ∷ [])) (Some origin)) ∷ journal
 
 -- the journal behind the serving of an entry
-abbrev pub after_serving : Built → Start → Journal → Sent → Journal
-after_serving built start journal sent =
-    with_forward sent.place (serves sent ∷ journal) (outcome_of built start (history_of built start journal) sent).forward
+abbrev pub after_serving : Start → Journal → Sent → Journal
+after_serving start journal sent =
+    with_forward sent.place (serves sent ∷ journal) (outcome_of start (history_of start journal) sent).forward
 
 -- one serving, and then on; nothing where nothing is chosen
 abbrev pub serving_one : (Journal → Journal) → (Sent → Journal) → Journal → Option Sent → Journal
@@ -62,18 +61,18 @@ serving_one on by journal None = journal
 serving_one on by journal (Some sent) = on (by sent)
 
 -- at most so many servings of what is chosen, until nothing is
-unfoldable pub serving : ℕ → Built → Start → (History → Option Sent) → Journal → Journal
-serving zero built start choice journal = journal
-serving (suc more) built start choice journal =
-    serving_one (serving more built start choice) (after_serving built start journal) journal (choice (history_of built start journal))
+unfoldable pub serving : ℕ → Start → (History → Option Sent) → Journal → Journal
+serving zero start choice journal = journal
+serving (suc more) start choice journal =
+    serving_one (serving more start choice) (after_serving start journal) journal (choice (history_of start journal))
 
 -- a server's oldest entries, at most so many
-abbrev pub turned : Built → Start → ℕ → ℕ → Journal → Journal
-turned built start server times journal = serving times built start (λ history. oldest start history server) journal
+abbrev pub turned : Start → ℕ → ℕ → Journal → Journal
+turned start server times journal = serving times start (λ history. oldest start history server) journal
 
 -- the first entry of an endpoint
-abbrev pub picked : Built → Start → ℕ → Journal → Journal
-picked built start endpoint journal = serving 1 built start (λ history. head start history endpoint) journal
+abbrev pub picked : Start → ℕ → Journal → Journal
+picked start endpoint journal = serving 1 start (λ history. head start history endpoint) journal
 
 -- an Open weighs one more than its path has names, and anything else one
 abbrev pub weight_of_read : Read → ℕ
@@ -88,8 +87,8 @@ abbrev pub weight : History → ℕ
 weight history = sum_by (λ sent. weight_of sent.sending) (waiting history)
 
 -- everything that can be served. Each serving lowers the weight, so that there are no more servings than that
-abbrev pub drained : Built → Start → Journal → Journal
-drained built start journal = serving (weight (history_of built start journal)) built start (next start) journal
+abbrev pub drained : Start → Journal → Journal
+drained start journal = serving (weight (history_of start journal)) start (next start) journal
 
 -- ---- frames
 
@@ -106,30 +105,30 @@ look_ups start history =
     }
 
 -- an admitted frame is sent, or performed
-abbrev pub admitted : Built → Start → Journal → FrameKind → Frame → Journal
-admitted built start journal kind.Message frame = sends (sent_behind journal frame.endpoint (message frame.bytes frame.handles) None) ∷ journal
-admitted built start journal kind.Close frame = sends (sent_behind journal frame.endpoint hang_up None) ∷ journal
-admitted built start journal kind.Turn frame = turned built start frame.endpoint (word_in frame.bytes) journal
-admitted built start journal kind.Pick frame = picked built start frame.endpoint journal
-admitted built start journal kind.Refused frame = journal
+abbrev pub admitted : Start → Journal → FrameKind → Frame → Journal
+admitted start journal kind.Message frame = sends (sent_behind journal frame.endpoint (message frame.bytes frame.handles) None) ∷ journal
+admitted start journal kind.Close frame = sends (sent_behind journal frame.endpoint hang_up None) ∷ journal
+admitted start journal kind.Turn frame = turned start frame.endpoint (word_in frame.bytes) journal
+admitted start journal kind.Pick frame = picked start frame.endpoint journal
+admitted start journal kind.Refused frame = journal
 
-abbrev pub by_refusal : Built → Start → Journal → Frame → Option Refusal → Journal
-by_refusal built start journal frame (Some why) = refuses frame.endpoint why ∷ journal
-by_refusal built start journal frame None = admitted built start journal frame.kind frame
+abbrev pub by_refusal : Start → Journal → Frame → Option Refusal → Journal
+by_refusal start journal frame (Some why) = refuses frame.endpoint why ∷ journal
+by_refusal start journal frame None = admitted start journal frame.kind frame
 
 -- the journal behind a frame
-abbrev pub arrives : Built → Start → Journal → Frame → Journal
-arrives built start journal frame =
-    by_refusal built start journal frame (admission (look_ups start (history_of built start journal)) frame)
+abbrev pub arrives : Start → Journal → Frame → Journal
+arrives start journal frame =
+    by_refusal start journal frame (admission (look_ups start (history_of start journal)) frame)
 
 -- in mode auto a drain follows each frame
-abbrev pub steps : Built → Start → Mode → Journal → Frame → Journal
-steps built start mode.Auto journal frame = drained built start (arrives built start journal frame)
-steps built start mode.Given journal frame = arrives built start journal frame
+abbrev pub steps : Start → Mode → Journal → Frame → Journal
+steps start mode.Auto journal frame = drained start (arrives start journal frame)
+steps start mode.Given journal frame = arrives start journal frame
 
 -- the journal of a session's frames, and that with the last drain
-abbrev pub session : Built → Start → Mode → List Frame → Journal
-session built start by frames = fold (steps built start by) [] frames
+abbrev pub session : Start → Mode → List Frame → Journal
+session start by frames = fold (steps start by) [] frames
 
-abbrev pub ended : Built → Start → Mode → List Frame → Journal
-ended built start by frames = drained built start (session built start by frames)
+abbrev pub ended : Start → Mode → List Frame → Journal
+ended start by frames = drained start (session start by frames)

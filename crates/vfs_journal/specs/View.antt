@@ -6,7 +6,6 @@ use Rattle.endpoint_link.specs.Frames.{Frame}
 use Rattle.endpoint_link.specs.Numbering.{among}
 use Rattle.node_graph.specs.Tree.{Tree}
 use Rattle.conn_rules.specs.Births.{Position, fresh}
-use Rattle.conn_rules.specs.Built.{Built}
 use Rattle.conn_rules.specs.declared.births.Room.{Room}
 use Rattle.vfs_journal.specs.Deaths.{first_deaths, spread}
 use Rattle.vfs_journal.specs.Entries.{Sent, message, serves, handles_of}
@@ -19,7 +18,7 @@ use Rattle.vfs_journal.specs.Starts.{Bound, Start}
 use Rattle.vfs_journal.specs.Tokens.{all_given, directory_among, token_behind}
 
 -- who lives, in order of birth, each with its position; what waits, in order of sending; the trees, by server; the tokens that were given,
--- in order of giving, and those of them that no message carried yet; the place that the next entry gets; and what is built
+-- in order of giving, and those of them that no message carried yet; and the place that the next entry gets
 pub record View : Type 0 where
   pub living : List (Bound × Position)
   pub waiting : List Sent
@@ -27,15 +26,14 @@ pub record View : Type 0 where
   pub given : List Given
   pub held : List Given
   pub places : ℕ
-  pub built : Built
 
 -- an endpoint that is bound, with its position
 abbrev pub with_position : History → Bound → Bound × Position
 with_position history bound = (bound, position_of history bound.endpoint)
 
 -- what looking back finds in a past
-abbrev pub view_of : Built → Start → History → View
-view_of built start history =
+abbrev pub view_of : Start → History → View
+view_of start history =
     record {
       living = map (with_position history) (living start history);
       waiting = waiting history;
@@ -43,7 +41,6 @@ view_of built start history =
       given = all_given history;
       held = filter (λ given. not (was_carried history given.token)) (all_given history);
       places = length history;
-      built = built;
     }
 
 -- ---- which entry is served
@@ -115,7 +112,7 @@ moment_in view pair =
 
 abbrev pub outcome_in : View → Sent → Outcome
 outcome_in view sent =
-    option_map_or (λ pair. outcome_of_sending view.built (moment_in view pair) sent.sending) (at_in view sent.endpoint) no_outcome
+    option_map_or (λ pair. outcome_of_sending (moment_in view pair) sent.sending) (at_in view sent.endpoint) no_outcome
 
 -- the other entries that wait
 abbrev pub others_in : View → Sent → List Sent
@@ -166,7 +163,6 @@ serving_in view sent event =
       given = view.given ++ option_to_list event.outcome.token;
       held = view.held ++ option_to_list event.outcome.token;
       places = view.places + 1;
-      built = view.built;
     }
 
 -- what goes on behind a mount is sent on the mount's end, at a place

@@ -5,7 +5,6 @@ use Rattle.io_messages.specs.Asked.{asked}
 use Rattle.node_graph.specs.Graph.{number_of}
 use Rattle.conn_rules.specs.Acts.{row_act}
 use Rattle.conn_rules.specs.Births.{born, connection_with}
-use Rattle.conn_rules.specs.Built.{today}
 use Rattle.conn_rules.specs.Contexts.{context_with}
 use Rattle.dir_conn.specs.Served.{standing_at}
 use Rattle.dir_conn.proofs.Opening.{kept}
@@ -76,13 +75,17 @@ pub returns-in-Unlink-clause-served : goal.returns-in-Unlink-clause-served
 returns-in-Unlink-clause-served c = λ tree directory stands named some.
     rw c.in-Unlink.is (c.unlink.ensures.served tree (standing_at c.args.place.now) c.args.room directory stands)
 
+pub returns-in-Watch-clause-served : goal.returns-in-Watch-clause-served
+returns-in-Watch-clause-served c = λ tree directory stands named some.
+    rw c.in-Watch.is (c.watch.ensures.served tree (standing_at c.args.place.now) directory c.args.graph.now)
+
 pub returns-in_default : goal.returns-in_default
 returns-in_default c =
     record {
       served = λ tree directory stands named some.
-          c.of_node.ensures.served (row_act (context_with today (born c.args.birth.now) (standing_at c.args.place.now) c.args.room tree directory) (asked c.args.request)) c.args.txid
+          c.of_node.ensures.served (row_act (context_with (born c.args.birth.now) (standing_at c.args.place.now) c.args.room tree directory) (asked c.args.request)) c.args.txid
           c.serve_node.new.out (connection_with c.args.birth.now (standing_at c.args.place.now)) c.args.graph.now
-          (c.serve_node.ensures.served today (standing_at c.args.place.now) tree directory stands);
+          (c.serve_node.ensures.served (standing_at c.args.place.now) tree directory stands);
       keeps = kept c.args.graph.now;
       memory = λ tree directory stands named wants. absurd (c.of_node.ensures.memory c.serve_node.ensures.memory wants);
       untouched = λ wants. absurd (c.of_node.ensures.memory c.serve_node.ensures.memory wants);

@@ -2,7 +2,6 @@
 use Rattle.std.proofs.Common.{[], ◌∷◌, ◌∙◌, Some, Err, ap, refl, sym}
 use Rattle.node_graph.specs.Graph.{number_of}
 use Rattle.conn_rules.specs.Births.{born, connection_with}
-use Rattle.conn_rules.specs.Built.{today}
 use Rattle.conn_rules.specs.Contexts.{context_with}
 use Rattle.conn_rules.specs.Answers.{added}
 use Rattle.node_graph.specs.Refusals.{link_refusal}
@@ -24,12 +23,12 @@ returns-in-Ok c =
     record {
       tried = λ room directory.
           done
-          (λ tree position. link_into (context_with today (born c.args.birth.now) position room tree directory) c.args.src.now c.args.dst.now (Some (number_of c.args.into)))
+          (λ tree position. link_into (context_with (born c.args.birth.now) position room tree directory) c.args.src.now c.args.dst.now (Some (number_of c.args.into)))
           c.args.birth.now c.args.txid (served.Reply c.new_name.result) c.reply.new.out c.args.graph.now c.link.new.self
           (λ tree position stands.
           let free =
           done_by c.link.result c.in-Ok.field-0 (link_refusal tree (name_in (number_of c.args.birth.now.node) c.args.src.now) (name_in (number_of c.args.into) c.args.dst.now)) c.in-Ok.is (c.link.ensures.answer tree stands) in
-          rw (link_done (context_with today (born c.args.birth.now) position room tree directory) c.args.src.now c.args.dst.now (number_of c.args.into) free)
+          rw (link_done (context_with (born c.args.birth.now) position room tree directory) c.args.src.now c.args.dst.now (number_of c.args.into) free)
           (record {
             answer = ((c.new_name.result, refl), (c.reply.ensures.served (connection_with c.args.birth.now position) c.args.graph.now).answer.1);
             told =
@@ -51,14 +50,14 @@ returns-in-Err c =
                 let known =
                 refused_by c.link.result c.in-Err.fault (link_refusal tree (name_in (number_of c.args.birth.now.node) c.args.src.now) (name_in (number_of c.args.into) c.args.dst.now)) c.in-Err.is (λ is. some (c.refused.ensures.wanting is))
                 (c.link.ensures.answer tree stands) in
-                rw (link_kept_out (context_with today (born c.args.birth.now) position room tree directory) c.args.src.now c.args.dst.now (number_of c.args.into) c.in-Err.fault known, c.in-Err.ensures.unchanged)
+                rw (link_kept_out (context_with (born c.args.birth.now) position room tree directory) c.args.src.now c.args.dst.now (number_of c.args.into) c.in-Err.fault known, c.in-Err.ensures.unchanged)
                 (c.refused.ensures.fails (connection_with c.args.birth.now position) c.args.graph.now some);
             keeps = record { holds = c.link.ensures.holds; names = c.link.ensures.names };
             memory = λ tree position stands wants.
                 let none =
                 wanting_by c.link.result (link_refusal tree (name_in (number_of c.args.birth.now.node) c.args.src.now) (name_in (number_of c.args.into) c.args.dst.now)) (c.in-Err.is ∙ ap (λ f. Err f) (c.refused.ensures.wants wants))
                 (link_never_wants tree (name_in (number_of c.args.birth.now.node) c.args.src.now) (name_in (number_of c.args.into) c.args.dst.now)) (c.link.ensures.answer tree stands) in
-                rw (link_done (context_with today (born c.args.birth.now) position room tree directory) c.args.src.now c.args.dst.now (number_of c.args.into) none)
+                rw (link_done (context_with (born c.args.birth.now) position room tree directory) c.args.src.now c.args.dst.now (number_of c.args.into) none)
                 (link_takes tree (name_in (number_of c.args.birth.now.node) c.args.src.now) (name_in (number_of c.args.into) c.args.dst.now) none);
             untouched = λ wants. c.in-Err.ensures.unchanged;
             empty = c.refused.ensures.empty;

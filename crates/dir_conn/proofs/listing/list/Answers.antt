@@ -8,7 +8,6 @@ use Rattle.dirents.specs.Listings.{listing}
 use Rattle.dirents.specs.Packing.{fitting_bytes}
 use Rattle.conn_rules.specs.Answers.{failure_of, only}
 use Rattle.conn_rules.specs.Births.{born, connection_with}
-use Rattle.conn_rules.specs.Built.{today}
 use Rattle.conn_rules.specs.Contexts.{context_with}
 use Rattle.dir_conn.specs.Served.{standing_at}
 use Rattle.dir_conn.proofs.ListingRows.{few, listing_of_none, listing_of_some, listing_of_too_much}
@@ -17,7 +16,7 @@ use Rattle.dir_conn.proofs.listing.list.Goals as goal
 pub returns-then-most-gt-MAX_CHUNK-clause-served : goal.returns-then-most-gt-MAX_CHUNK-clause-served
 returns-then-most-gt-MAX_CHUNK-clause-served c = λ tree room directory stands.
     let stays = connection_with c.args.birth.now (standing_at c.args.place.now) in
-    rw (listing_of_too_much (context_with today (born c.args.birth.now) (standing_at c.args.place.now) room tree directory) c.args.most c.if-most-gt-MAX_CHUNK.true)
+    rw (listing_of_too_much (context_with (born c.args.birth.now) (standing_at c.args.place.now) room tree directory) c.args.most c.if-most-gt-MAX_CHUNK.true)
     (c.of_node.ensures.served (only (standing_at c.args.place.now) (failure_of method.ReadDirents status.InvalidArgs)) c.args.txid c.fail.new.out stays
     c.args.graph.now (c.fail.ensures.served stays c.args.graph.now))
 
@@ -25,7 +24,7 @@ pub returns-then-is_stuck-clause-served : goal.returns-then-is_stuck-clause-serv
 returns-then-is_stuck-clause-served c = λ tree room directory stands.
     let stays = connection_with c.args.birth.now (standing_at c.args.place.now) in
     rw (
-    listing_of_none (context_with today (born c.args.birth.now) (standing_at c.args.place.now) room tree directory) c.args.most
+    listing_of_none (context_with (born c.args.birth.now) (standing_at c.args.place.now) room tree directory) c.args.most
     (few c.args.most c.if-most-gt-MAX_CHUNK.false)
     ((c.measure-found.ensures.tells tree stands).stuck ∙ sym c.is_stuck.ensures ∙ c.if-is_stuck.true)
     )
@@ -36,7 +35,7 @@ pub returns-clause-served : goal.returns-clause-served
 returns-clause-served c = λ tree room directory stands.
     let listed = fitting_bytes (listing tree (number_of c.args.birth.now.node) c.args.place.now) c.args.most in
     rw (
-    listing_of_some (context_with today (born c.args.birth.now) (standing_at c.args.place.now) room tree directory) c.args.most
+    listing_of_some (context_with (born c.args.birth.now) (standing_at c.args.place.now) room tree directory) c.args.most
     (few c.args.most c.if-most-gt-MAX_CHUNK.false)
     ((c.measure-found.ensures.tells tree stands).stuck ∙ sym c.is_stuck.ensures ∙ c.if-is_stuck.false)
     )

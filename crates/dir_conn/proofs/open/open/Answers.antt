@@ -1,7 +1,6 @@
 -- An Open without a refusal before the walk does what its walk does.
 use Rattle.node_graph.specs.Graph.{number_of}
 use Rattle.conn_rules.specs.Births.{born}
-use Rattle.conn_rules.specs.Built.{today}
 use Rattle.conn_rules.specs.Contexts.{context_with}
 use Rattle.conn_rules.specs.Opens.{open_act}
 use Rattle.conn_rules.specs.Walks.{walk}
@@ -15,7 +14,7 @@ returns-in-Ok c =
     record {
       opened = λ directory.
           opened_as
-          (λ tree position. open_act (context_with today (born c.args.birth.now) position c.args.room tree directory) c.args.text.now c.args.word)
+          (λ tree position. open_act (context_with (born c.args.birth.now) position c.args.room tree directory) c.args.text.now c.args.word)
           (λ tree position.
           act_at position c.args.room tree c.in-Ok.entered.flags
           (reach c.args.birth.now.rights (walk tree c.in-Ok.entered.flags c.in-Ok.entered.path (number_of c.args.birth.now.node))))

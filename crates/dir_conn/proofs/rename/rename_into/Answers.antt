@@ -3,7 +3,6 @@ use Rattle.std.proofs.Common.{◌∷◌, ◌∙◌, Some, Err, ap, refl, sym}
 use Rattle.std.specs.Prelude.{if◌then◌else◌}
 use Rattle.node_graph.specs.Graph.{number_of}
 use Rattle.conn_rules.specs.Births.{born, connection_with}
-use Rattle.conn_rules.specs.Built.{today}
 use Rattle.conn_rules.specs.Contexts.{context_with}
 use Rattle.conn_rules.specs.Answers.{added, gone, nothing_told, removed}
 use Rattle.node_graph.specs.Refusals.{rename_refusal}
@@ -25,12 +24,12 @@ returns-in-Ok c =
     record {
       tried = λ room directory.
           done
-          (λ tree position. rename_into (context_with today (born c.args.birth.now) position room tree directory) c.args.src.now c.args.dst.now (Some (number_of c.args.into)))
+          (λ tree position. rename_into (context_with (born c.args.birth.now) position room tree directory) c.args.src.now c.args.dst.now (Some (number_of c.args.into)))
           c.args.birth.now c.args.txid (served.Reply c.moved_name.result) c.reply.new.out c.args.graph.now c.rename.new.self
           (λ tree position stands.
           let free =
           done_by c.rename.result c.in-Ok.moved (rename_refusal tree (name_in (number_of c.args.birth.now.node) c.args.src.now) (name_in (number_of c.args.into) c.args.dst.now)) c.in-Ok.is (c.rename.ensures.answer tree stands) in
-          rw (rename_done (context_with today (born c.args.birth.now) position room tree directory) c.args.src.now c.args.dst.now (number_of c.args.into) free)
+          rw (rename_done (context_with (born c.args.birth.now) position room tree directory) c.args.src.now c.args.dst.now (number_of c.args.into) free)
           (record {
             answer = ((c.moved_name.result, refl), (c.reply.ensures.served (connection_with c.args.birth.now position) c.args.graph.now).answer.1);
             told =
@@ -56,14 +55,14 @@ returns-in-Err c =
                 let known =
                 refused_by c.rename.result c.in-Err.fault (rename_refusal tree (name_in (number_of c.args.birth.now.node) c.args.src.now) (name_in (number_of c.args.into) c.args.dst.now)) c.in-Err.is (λ is. some (c.refused.ensures.wanting is))
                 (c.rename.ensures.answer tree stands) in
-                rw (rename_kept_out (context_with today (born c.args.birth.now) position room tree directory) c.args.src.now c.args.dst.now (number_of c.args.into) c.in-Err.fault known, c.in-Err.ensures.unchanged)
+                rw (rename_kept_out (context_with (born c.args.birth.now) position room tree directory) c.args.src.now c.args.dst.now (number_of c.args.into) c.in-Err.fault known, c.in-Err.ensures.unchanged)
                 (c.refused.ensures.fails (connection_with c.args.birth.now position) c.args.graph.now some);
             keeps = record { holds = c.rename.ensures.holds; names = c.rename.ensures.names };
             memory = λ tree position stands wants.
                 let none =
                 wanting_by c.rename.result (rename_refusal tree (name_in (number_of c.args.birth.now.node) c.args.src.now) (name_in (number_of c.args.into) c.args.dst.now)) (c.in-Err.is ∙ ap (λ f. Err f) (c.refused.ensures.wants wants))
                 (rename_never_wants tree (name_in (number_of c.args.birth.now.node) c.args.src.now) (name_in (number_of c.args.into) c.args.dst.now)) (c.rename.ensures.answer tree stands) in
-                rw (rename_done (context_with today (born c.args.birth.now) position room tree directory) c.args.src.now c.args.dst.now (number_of c.args.into) none)
+                rw (rename_done (context_with (born c.args.birth.now) position room tree directory) c.args.src.now c.args.dst.now (number_of c.args.into) none)
                 (rename_takes (name_in (number_of c.args.birth.now.node) c.args.src.now) (name_in (number_of c.args.into) c.args.dst.now) (λ same. c.in-Err.ensures.same same (c.refused.ensures.wants wants)));
             untouched = λ wants. c.in-Err.ensures.unchanged;
             empty = c.refused.ensures.empty;

@@ -1,7 +1,6 @@
 use Rattle.std.proofs.Common.{◌≡◌, true, refl, subst}
 use Rattle.node_graph.specs.Graph.{Leads, bytes_at, number_of, resized}
 use Rattle.node_graph.specs.Tree.{fill}
-use Rattle.conn_rules.specs.Built.{today}
 use Rattle.conn_rules.specs.Contexts.{context_of}
 use Rattle.conn_rules.specs.Served.{takes_memory}
 use Rattle.file_conn.proofs.Rows.{bytes_of_row, resize_row}
@@ -13,19 +12,19 @@ fail-requires-clause-status c = c.in-Refused.ensures.comes.1
 
 pub returns-in-Done-clause-serves : goal.returns-in-Done-clause-serves
 returns-in-Done-clause-serves c room tree directory stands served =
-    rw (resize_row (context_of today c.args.self.now room tree directory) c.args.size _ (bytes_of_row c.args.graph.now tree _ stands c.requires.named))
+    rw (resize_row (context_of c.args.self.now room tree directory) c.args.size _ (bytes_of_row c.args.graph.now tree _ stands c.requires.named))
     (made_served _ _ _ _ _ _ _ _ _ _ c.args.graph.now c.resize.new.graph c.in-Done.ensures.comes.0 refl
     (subst (λ conn. Leads c.args.graph.now c.resize.new.graph (fill (number_of conn.birth.node) (resized (bytes_at c.args.graph.now (number_of conn.birth.node)) c.args.size))) c.self.view_is c.in-Done.ensures.comes.1)
     c.reply.ensures.served)
 
 pub returns-in-Refused-clause-serves : goal.returns-in-Refused-clause-serves
 returns-in-Refused-clause-serves c room tree directory stands served =
-    rw (resize_row (context_of today c.args.self.now room tree directory) c.args.size _ (bytes_of_row c.args.graph.now tree _ stands c.requires.named))
+    rw (resize_row (context_of c.args.self.now room tree directory) c.args.size _ (bytes_of_row c.args.graph.now tree _ stands c.requires.named))
     (refused_served _ c.in-Refused.status _ _ _ _ _ c.args.self.now _ _ c.in-Refused.ensures.comes.0 c.in-Refused.ensures.comes.2 c.fail.ensures.served)
 
 pub returns-in-NoMemory-clause-memory : goal.returns-in-NoMemory-clause-memory
 returns-in-NoMemory-clause-memory c room tree directory stands wants =
-    rw (resize_row (context_of today c.args.self.now room tree directory) c.args.size _ (bytes_of_row c.args.graph.now tree _ stands c.requires.named))
+    rw (resize_row (context_of c.args.self.now room tree directory) c.args.size _ (bytes_of_row c.args.graph.now tree _ stands c.requires.named))
     (wanting_takes _ _ _ _ c.in-NoMemory.ensures.comes.0
     (subst (λ conn. takes_memory (fill (number_of conn.birth.node) (resized (bytes_at c.args.graph.now (number_of conn.birth.node)) c.args.size)) ≡ true) c.self.view_is c.in-NoMemory.ensures.comes.1))
 

@@ -1,7 +1,6 @@
 -- The rows of a file's own methods look at no numbers in use.
 use Rattle.std.proofs.Common.{rules, subst, w64, SFits}
 use Rattle.std.proofs.lemmas.Int.{to_z-of_z}
-use Rattle.conn_rules.specs.Built.{today}
 use Rattle.conn_rules.specs.Contexts.{context_of}
 use Rattle.conn_rules.specs.FileRows.{seek_act}
 use Rattle.conn_rules.specs.Served.{IsAnswered}
@@ -29,7 +28,7 @@ pub returns-in-Seek-clause-serves : goal.returns-in-Seek-clause-serves
 returns-in-Seek-clause-serves c tree directory stands served =
     let fits : SFits w64 c.in-Seek.offset = search rules in
     rw c.in-Seek.is
-    (subst (λ offset. IsAnswered (seek_act (context_of today c.args.self.now c.args.room tree directory) c.in-Seek.origin offset) c.args.txid c.seek.result c.seek.new.out c.seek.new.self c.args.graph.now)
+    (subst (λ offset. IsAnswered (seek_act (context_of c.args.self.now c.args.room tree directory) c.in-Seek.origin offset) c.args.txid c.seek.result c.seek.new.out c.seek.new.self c.args.graph.now)
     (to_z-of_z w64 c.in-Seek.offset fits) (c.seek.ensures.serves c.args.room tree directory stands))
 
 pub returns-in-Resize-clause-serves : goal.returns-in-Resize-clause-serves

@@ -1,6 +1,5 @@
 use Rattle.std.proofs.Common.{◌≡◌, true, refl, subst}
 use Rattle.node_graph.specs.Graph.{Leads, bytes_at, number_of, write_change}
-use Rattle.conn_rules.specs.Built.{today}
 use Rattle.conn_rules.specs.Contexts.{context_of}
 use Rattle.conn_rules.specs.Served.{takes_memory}
 use Rattle.file_conn.proofs.Rows.{bytes_of_row, ends_within, write_row}
@@ -15,7 +14,7 @@ fail-requires-clause-status c = c.in-Refused.ensures.comes.1
 
 pub returns-in-Done-clause-serves : goal.returns-in-Done-clause-serves
 returns-in-Done-clause-serves c room tree directory stands served =
-    rw (write_row (context_of today c.args.self.now room tree directory) c.args.bytes.now _ c.write_start-start.result (bytes_of_row c.args.graph.now tree _ stands c.requires.named) c.write_start-start.ensures)
+    rw (write_row (context_of c.args.self.now room tree directory) c.args.bytes.now _ c.write_start-start.result (bytes_of_row c.args.graph.now tree _ stands c.requires.named) c.write_start-start.ensures)
     (made_served _ _ _ _ _ _ _ _ _ _ c.args.graph.now c.overwrite.new.graph c.in-Done.ensures.comes.0
     (behind_at c.self.inside.birth c.self.inside.position c.args.self.now _ _ _ c.self.view_is c.behind-self-inside.ensures.position)
     (subst (λ conn. Leads c.args.graph.now c.overwrite.new.graph (write_change (number_of conn.birth.node) (bytes_at c.args.graph.now (number_of conn.birth.node)) c.write_start-start.result c.args.bytes.now)) c.self.view_is c.in-Done.ensures.comes.1)
@@ -23,12 +22,12 @@ returns-in-Done-clause-serves c room tree directory stands served =
 
 pub returns-in-Refused-clause-serves : goal.returns-in-Refused-clause-serves
 returns-in-Refused-clause-serves c room tree directory stands served =
-    rw (write_row (context_of today c.args.self.now room tree directory) c.args.bytes.now _ c.write_start-start.result (bytes_of_row c.args.graph.now tree _ stands c.requires.named) c.write_start-start.ensures)
+    rw (write_row (context_of c.args.self.now room tree directory) c.args.bytes.now _ c.write_start-start.result (bytes_of_row c.args.graph.now tree _ stands c.requires.named) c.write_start-start.ensures)
     (refused_served _ c.in-Refused.status _ _ _ _ _ c.args.self.now _ _ c.in-Refused.ensures.comes.0 c.in-Refused.ensures.comes.2 c.fail.ensures.served)
 
 pub returns-in-NoMemory-clause-memory : goal.returns-in-NoMemory-clause-memory
 returns-in-NoMemory-clause-memory c room tree directory stands wants =
-    rw (write_row (context_of today c.args.self.now room tree directory) c.args.bytes.now _ c.write_start-start.result (bytes_of_row c.args.graph.now tree _ stands c.requires.named) c.write_start-start.ensures)
+    rw (write_row (context_of c.args.self.now room tree directory) c.args.bytes.now _ c.write_start-start.result (bytes_of_row c.args.graph.now tree _ stands c.requires.named) c.write_start-start.ensures)
     (wanting_takes _ _ _ _ c.in-NoMemory.ensures.comes.0
     (subst (λ conn. takes_memory (write_change (number_of conn.birth.node) (bytes_at c.args.graph.now (number_of conn.birth.node)) c.write_start-start.result c.args.bytes.now) ≡ true) c.self.view_is c.in-NoMemory.ensures.comes.1))
 

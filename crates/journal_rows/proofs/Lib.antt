@@ -1,4 +1,0 @@
-pub mod RowFrames
-pub mod RowServings
-pub mod RowSteps
-pub mod RowTrees
