@@ -1,0 +1,15 @@
+pub mod Written
+pub mod Sizes
+pub mod Replies
+pub mod Fields
+pub mod Texts
+pub mod Trees
+pub mod Watching
+pub mod Listings
+pub mod Acts
+pub mod Outcomes
+pub mod Sent
+pub mod Endpoints
+pub mod Output
+pub mod Begun
+pub mod Readings

@@ -1,0 +1,89 @@
+-- That frames which are written are read back.
+use Rattle.std.proofs.Common.{◌≡◌, ℕ, List, [], ◌∷◌, ◌++◌, All, AllPairs, sym, ap, subst, ◌∙◌, arith, append-nil, append_assoc, inl}
+use Rattle.std.proofs.lemmas.List.{append_cancel_left}
+use Rattle.std.proofs.lemmas.List.Kept.{AllPairs-cons}
+use Rattle.endpoint_link.specs.Frames.{Frame, Frames, IsFrame, spellings}
+use Rattle.endpoint_link.specs.declared.kinds.Side.TheVariants.{Any}
+use Rattle.endpoint_link.proofs.Runs.{spellings-append}
+use Rattle.endpoint_link.proofs.Streams.{frames_stay, not_both, one_list}
+use Rattle.vfs_journal.specs.Entries.{Journal}
+use Rattle.vfs_journal.specs.Output.{frames_of_event}
+use Rattle.vfs_journal.specs.Past.{event_of, history_of}
+use Rattle.vfs_journal.specs.Session.{ended, session}
+use Rattle.vfs_journal.specs.Starts.{Start, start_of}
+use Rattle.journal_laws.specs.Knowing.{IsNumbered}
+use Rattle.journal_laws.specs.Soundness.{IsStart, OtherEndpoint}
+use Rattle.journal_laws.proofs.Below.{Below}
+use Rattle.journal_laws.proofs.Draining.{sessions_are_lawful}
+use Rattle.journal_laws.proofs.Lists.{pairs-head, pairs-tail}
+use Rattle.journal_laws.proofs.Starting.{starts_are_sound}
+use Rattle.frame_laws.proofs.Fields.{All-left, All-right}
+use Rattle.frame_laws.proofs.Output.{frames_written}
+use Rattle.frame_laws.proofs.Begun.{starts_have_bytes}
+use Rattle.frame_laws.specs.Laws.{IsReadAs, OutputIsReadBack, PartsAreReadBack, SessionsAreReadBack, frames_behind}
+
+-- ---- frames one after another
+
+stream_of : (frames : List Frame) → All (IsFrame Any) frames → Frames Any (spellings frames) frames []
+stream_of frames each = record { split = sym (append-nil (spellings frames)); each = each; partial = inl (omega arith) }
+
+pub read_as : (frames : List Frame) → All (IsFrame Any) frames → IsReadAs (spellings frames) frames
+read_as frames each = record {
+  each = each;
+  reads = stream_of frames each;
+  once = λ others rest reads. one_list Any (spellings frames) others frames rest [] reads (stream_of frames each);
+  sound = λ at why bad. not_both Any (spellings frames) frames [] at why (stream_of frames each) bad;
+}
+
+-- ---- fronts of a journal
+
+-- newer entries write behind
+grown : (start : Start) (newer journal : Journal) → (more : List Frame) × (frames_behind start (newer ++ journal) ≡ frames_behind start journal ++ more)
+unfolding history_of
+grown start [] journal = ([], sym (append-nil (frames_behind start journal)))
+grown start (entry ∷ newer) journal =
+    let rest = grown start newer journal in
+    let past = history_of start (newer ++ journal) in
+    let new = frames_of_event start past (event_of start past entry) in
+    (rest.0 ++ new, ap (λ (frames : List Frame). frames ++ new) rest.1 ∙ append_assoc (frames_behind start journal) rest.0 new)
+
+pairs_left : {X : Type 0} (R : X → X → Type 0) (xs ys : List X) → AllPairs R (xs ++ ys) → AllPairs R xs
+pairs_left R [] ys h = λ i j d l m. absurd (omega arith)
+pairs_left R (x ∷ xs) ys h = AllPairs-cons R x xs (All-left (R x) xs ys (pairs-head R x (xs ++ ys) h)) (pairs_left R xs ys (pairs-tail R x (xs ++ ys) h))
+
+numbered_start : (start : Start) → IsStart start → IsNumbered start
+numbered_start start s = record { firsts = pairs_left OtherEndpoint start.firsts start.mounts s.apart; mounts = s.numbered }
+
+pub output_is_read_back : Below → OutputIsReadBack
+output_is_read_back below start newer journal s bytes h =
+    let more = grown start newer journal in
+    let all = frames_written below start s (numbered_start start s) bytes (newer ++ journal) h in
+    read_as (frames_behind start journal) (All-left (IsFrame Any) (frames_behind start journal) more.0 (subst (All (IsFrame Any)) more.1 all))
+
+-- ---- parts of an output
+
+part_read : (earlier later : List Frame) (part : List ℕ) → All (IsFrame Any) earlier → All (IsFrame Any) later → spellings later ≡ spellings earlier ++ part →
+    (more : List Frame) × (later ≡ earlier ++ more) × IsReadAs part more
+part_read earlier later part before after' e =
+    let on = frames_stay Any (spellings earlier) part earlier later [] [] (stream_of earlier before) (subst (λ (b : List ℕ). Frames Any b later []) e (stream_of later after')) in
+    let same : part ≡ spellings on.0 = append_cancel_left (spellings earlier) part (spellings on.0) (sym e ∙ ap spellings on.1 ∙ spellings-append earlier on.0) in
+    (on.0, on.1, subst (λ (b : List ℕ). IsReadAs b on.0) (sym same) (read_as on.0 (All-right (IsFrame Any) earlier on.0 (subst (All (IsFrame Any)) on.1 after'))))
+
+pub parts_are_read_back : Below → PartsAreReadBack
+parts_are_read_back below start earlier later part s bytes h g e =
+    let before = frames_written below start s (numbered_start start s) bytes earlier h in
+    let after' = frames_written below start s (numbered_start start s) bytes later g in
+    let read = part_read (frames_behind start earlier) (frames_behind start later) part before after' e in
+    record { more = read.0; grown = read.1; read = read.2 }
+
+-- ---- sessions over accepted trees
+
+pub sessions_are_read_back : Below → SessionsAreReadBack
+sessions_are_read_back below lists by frames accepted files each =
+    let start = start_of lists in
+    let sound = starts_are_sound lists accepted in
+    let bytes = starts_have_bytes lists accepted files in
+    let lawful' = sessions_are_lawful start by frames each in (
+      output_is_read_back below start [] (session start by frames) sound bytes lawful'.0,
+      output_is_read_back below start [] (ended start by frames) sound bytes lawful'.1,
+    )

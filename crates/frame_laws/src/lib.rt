@@ -1,0 +1,11 @@
+//! Laws of frames: whatever a session writes is frames, so that who reads its output has them again. The laws compute nothing: what they
+//! say is in their clauses.
+#![tactic(auto)]
+
+mod frames;
+mod starts;
+
+pub use frames::{
+    output_is_read_back, parts_are_read_back, sessions_are_read_back, starts_have_bytes,
+};
+pub use starts::files_are_bytes;

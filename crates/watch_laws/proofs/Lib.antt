@@ -1,0 +1,11 @@
+pub mod Names
+pub mod Acts
+pub mod Messages
+pub mod Times
+pub mod Told
+pub mod Serving
+pub mod Seen
+pub mod Named
+pub mod Spelled
+pub mod Knowing
+pub mod Starting
