@@ -1,6 +1,7 @@
 -- What is done with what a connection gives is what the outcome of its request says.
-use Rattle.std.proofs.Common.{◌≡◌, ◌≢◌, ◌∙◌, ℕ, ◌++◌, List, true, false, Option, Some, None, Result, Ok, Err, IfOk, refl, sym, ap, subst, rules}
+use Rattle.std.proofs.Common.{◌≡◌, ◌≢◌, ◌∙◌, ℕ, ◌++◌, List, true, false, All, Option, Some, None, Result, Ok, Err, IfOk, refl, sym, ap, subst, rules}
 use Rattle.std.specs.Option.{option_map_or}
+use Rattle.std.proofs.lemmas.List.Elements.{All-nil}
 use Rattle.fidl_wire.specs.Written.{Written}
 use Rattle.endpoint_link.specs.Frames.{Frame, spellings}
 use Rattle.io_messages.specs.Asked.{Asked, method_of}
@@ -15,15 +16,16 @@ use Rattle.node_graph.specs.Graph.{Kept, StandsFor, number_of}
 use Rattle.node_graph.specs.Tree.{Tree}
 use Rattle.conn_rules.specs.Acts.{act_of}
 use Rattle.conn_rules.specs.declared.births.Room.{Room}
-use Rattle.conn_rules.specs.Answers.{Act, Answer, replies, closes, binds, watches, forwards, refuses, ends, hangs_up, silent}
+use Rattle.conn_rules.specs.Answers.{Act, Answer, nothing_told, replies, closes, binds, watches, forwards, refuses, ends, hangs_up, silent}
 use Rattle.conn_rules.specs.Births.{Connection}
-use Rattle.conn_rules.specs.Built.{today}
 use Rattle.conn_rules.specs.Contexts.{context_of}
+use Rattle.conn_rules.specs.Served.{told_by}
 use Rattle.conn_rules.specs.Shared.{CanBeBound, is_spoken_at}
 use Rattle.vfs_journal.specs.Outcomes as outcomes
-use Rattle.vfs_journal.specs.Outcomes.{frames_of}
-use Rattle.vfs_journal.specs.Serving.{Moment, object_of, outcome_of_read}
+use Rattle.vfs_journal.specs.Outcomes.{Asker, frames_of}
+use Rattle.vfs_journal.specs.Serving.{Moment, fault_answer, fault_txid, object_of, outcome_of_read}
 use Rattle.vfs_server.specs.declared.asking.Asking.{Asking}
+use Rattle.vfs_server.specs.declared.done.Done.{Done}
 use Rattle.vfs_server.specs.declared.fate.Fate.{Fate}
 use Rattle.vfs_server.specs.declared.fate.Fate.TheVariants as fates
 use Rattle.vfs_server.specs.declared.given.Given.{Given}
@@ -31,11 +33,13 @@ use Rattle.vfs_server.specs.declared.given.Given.TheVariants as given
 use Rattle.vfs_server.specs.Effects.{Effects, effects_told, no_effects}
 use Rattle.vfs_server.specs.Kept.{HasTree, Tokens}
 use Rattle.vfs_server.specs.Servers.{bound_with}
-use Rattle.vfs_server.specs.Steps.{Acts, Answers, BindsNoWatcher, DoesFault, DoesGiven, IsAskedAt, IsGiven, IsOnDirectory, NamesAsThere, asker_with, effects_by, effects_given, frames_given, names_in, token_given}
+use Rattle.vfs_server.specs.Steps.{Acts, Answers, BindsConnection, CanTell, DoesFault, DoesGiven, IsAskedAt, IsGiven, IsOnDirectory, MayWatch, NamesAsThere, asker_with, effects_by, effects_given, frames_given, names_in, room_for, token_given, told_given}
+use Rattle.vfs_server.specs.Watched.{IsShort}
 use Rattle.vfs_server.proofs.Made.{named_kind}
 use Rattle.vfs_server.proofs.Carried.{looked_up}
 use Rattle.vfs_server.proofs.Handed.{token_is}
-use Rattle.vfs_server.proofs.Today.{CanAct, IsOfToday, bound_has_room, conn_today, onward_is_mounted, token_of_directory, watches_none}
+use Rattle.vfs_server.proofs.Acting.{CanAct, conn_acts}
+use Rattle.vfs_server.proofs.Allowed.{bound_has_room, onward_is_mounted, token_of_directory, watch_has_room}
 
 -- ---- answers
 
@@ -51,22 +55,22 @@ frames_are endpoint server node txid object (ends status) what out h = rw h.0 re
 frames_are endpoint server node txid object hangs_up what out h = absurd h
 frames_are endpoint server node txid object silent what out h = absurd h
 
--- the token that an answer gives is the one in its reply, and no watcher is bound
-effects_are : (endpoint server node txid object : ℕ) (p : Protocol) (room : Room) (tree : Tree) (answer : Answer) (what : Given) (out : Written) → IsGiven answer txid what out → IsOfToday p room tree answer →
+-- the token that an answer gives is the one in its reply
+effects_are : (endpoint server node txid object : ℕ) (answer : Answer) (what : Given) (out : Written) → IsGiven answer txid what out →
     effects_by (asker_with endpoint server node txid object) answer ≡ effects_given endpoint server node object what out.handles
-effects_are endpoint server node txid object p room tree (replies a) what out h can =
+effects_are endpoint server node txid object (replies a) what out h =
     ap (λ (given : Option outcomes.Given). record no_effects { token = given }) (token_is endpoint server node txid object a ∙ ap (token_given endpoint server node) (sym h.1.handles))
     ∙ ap (λ (one : Given). effects_given endpoint server node object one out.handles) (sym h.0.1)
-effects_are endpoint server node txid object p room tree closes what out h can = rw h.0 refl
-effects_are endpoint server node txid object p room tree (binds birth announced) what out h can = rw (h.0.1.1, ← h.0.2.same) refl
-effects_are endpoint server node txid object p room tree (watches mask) what out h can = absurd can
-effects_are endpoint server node txid object p room tree (forwards mount flags rest) what out h can = rw h.0 refl
-effects_are endpoint server node txid object p room tree (refuses status) what out h can = rw h.0 refl
-effects_are endpoint server node txid object p room tree (ends status) what out h can = rw h.0 refl
-effects_are endpoint server node txid object p room tree hangs_up what out h can = absurd h
-effects_are endpoint server node txid object p room tree silent what out h can = absurd h
+effects_are endpoint server node txid object closes what out h = rw h.0 refl
+effects_are endpoint server node txid object (binds birth announced) what out h = rw (h.0.1.1, ← h.0.2.same) refl
+effects_are endpoint server node txid object (watches mask) what out h = rw h.0 refl
+effects_are endpoint server node txid object (forwards mount flags rest) what out h = rw h.0 refl
+effects_are endpoint server node txid object (refuses status) what out h = rw h.0 refl
+effects_are endpoint server node txid object (ends status) what out h = rw h.0 refl
+effects_are endpoint server node txid object hangs_up what out h = absurd h
+effects_are endpoint server node txid object silent what out h = absurd h
 
--- ---- no watcher is bound
+-- ---- what is bound by a birth is a connection
 
 unspoken : (kind : Option NodeKind) → option_map_or (is_spoken_at protocol.Watcher) kind false ≡ true → ⊥
 unspoken None e = search rules
@@ -75,50 +79,66 @@ unspoken (Some kind) e = search rules
 pub no_watcher : (p : Protocol) (kind : Option NodeKind) → option_map_or (is_spoken_at p) kind false ≡ true → p ≢ protocol.Watcher
 no_watcher p kind spoken e = unspoken kind (rw e at spoken)
 
-module _ (graph : Kept) (connection : Connection) (can : CanBeBound graph connection.birth) (room : Room) (request : Asked) (known : has_method connection.birth.protocol (method_of request) ≡ true) (txid : ℕ) (what : Given) (out : Written) (new : Connection) (changed : Kept)
-    (tree : Tree) (directory : ℕ → Option ℕ) (stands : StandsFor graph tree) where
-  can_act : CanAct connection.birth.protocol room tree (act_of (context_of today connection room tree directory) request)
-  can_act = conn_today graph tree connection room directory request can known (sym (named_kind graph tree connection.birth.node stands can.named))
-
-  binds_none : Acts (act_of (context_of today connection room tree directory) request) txid what out new graph changed → BindsNoWatcher what
-  binds_none acts = by_given what refl where
-    by_given : (one : Given) → one ≡ what → BindsNoWatcher one
-    by_given (given.Reply changes) is = tt
-    by_given given.ReplyEnd is = tt
-    by_given (given.Bind birth changes) is = let bindable = acts.bound birth changes (sym is) in no_watcher birth.protocol _ bindable.spoken
-    by_given (given.WatchBy mask) is = watches_none connection.birth.protocol room tree _ txid what out mask acts.answer can_act.answer (sym is)
-    by_given (given.Forward mount flags rest) is = tt
-    by_given (given.Refused status) is = tt
-    by_given (given.End status) is = tt
-    by_given given.NoMemory is = tt
-
 -- where memory was wanting there is nothing to bind
-unless_wanting : (what : Given) → (what ≢ given.NoMemory → BindsNoWatcher what) → BindsNoWatcher what
+unless_wanting : (what : Given) → (what ≢ given.NoMemory → BindsConnection what) → BindsConnection what
 unless_wanting (given.Reply changes) h = tt
 unless_wanting given.ReplyEnd h = tt
 unless_wanting (given.Bind birth changes) h = h (λ e. search rules)
-unless_wanting (given.WatchBy mask) h = h (λ e. search rules)
+unless_wanting (given.WatchBy mask) h = tt
 unless_wanting (given.Forward mount flags rest) h = tt
 unless_wanting (given.Refused status) h = tt
 unless_wanting (given.End status) h = tt
 unless_wanting given.NoMemory h = tt
 
-pub binds_no_watcher : (graph : Kept) (tokens : Tokens) (connection : Connection) → CanBeBound graph connection.birth → HasTree graph → (room : Room) (request : Asked) →
-    has_method connection.birth.protocol (method_of request) ≡ true → (txid : ℕ) (what : Given) (out : Written) (new : Connection) (changed : Kept) →
-    ((tree : Tree) (directory : ℕ → Option ℕ) → StandsFor graph tree → NamesAsThere tokens directory request → what ≢ given.NoMemory →
-    Acts (act_of (context_of today connection room tree directory) request) txid what out new graph changed) →
-    BindsNoWatcher what
-binds_no_watcher graph tokens connection can there room request known txid what out new changed acts =
-    unless_wanting what
-    (λ some.
-    binds_none graph connection can room request known txid what out new changed there.0 (names_in tokens) there.1
-    (acts there.0 (names_in tokens) there.1 (looked_up tokens request) some))
+binds_by : (graph changed : Kept) (act : Act) (txid : ℕ) (what : Given) (out : Written) (new : Connection) → Acts act txid what out new graph changed → BindsConnection what
+binds_by graph changed act txid what out new acts = by_given what refl where
+  by_given : (one : Given) → one ≡ what → BindsConnection one
+  by_given (given.Reply changes) is = tt
+  by_given given.ReplyEnd is = tt
+  by_given (given.Bind birth changes) is = let bindable = acts.bound birth changes (sym is) in no_watcher birth.protocol _ bindable.spoken
+  by_given (given.WatchBy mask) is = tt
+  by_given (given.Forward mount flags rest) is = tt
+  by_given (given.Refused status) is = tt
+  by_given (given.End status) is = tt
+  by_given given.NoMemory is = tt
+
+-- ---- a request over whatever tree the graph stands for
+
+module _ (graph : Kept) (tokens : Tokens) (connection : Connection) (can : CanBeBound graph connection.birth) (there : HasTree graph) (room : Room) (request : Asked)
+    (known : has_method connection.birth.protocol (method_of request) ≡ true) (txid : ℕ) (what : Given) (out : Written) (new : Connection) (changed : Kept)
+    (acts : (tree : Tree) (directory : ℕ → Option ℕ) → StandsFor graph tree → NamesAsThere tokens directory request → what ≢ given.NoMemory →
+    Acts (act_of (context_of connection room tree directory) request) txid what out new graph changed) where
+  here : what ≢ given.NoMemory → Acts (act_of (context_of connection room there.0 (names_in tokens)) request) txid what out new graph changed
+  here some = acts there.0 (names_in tokens) there.1 (looked_up tokens request) some
+
+  pub binds_connection : BindsConnection what
+  binds_connection = unless_wanting what (λ some. binds_by graph changed _ txid what out new (here some))
+
+  can_here : CanAct connection.birth.protocol room there.0 (act_of (context_of connection room there.0 (names_in tokens)) request)
+  can_here = conn_acts graph there.0 connection room (names_in tokens) request can known (sym (named_kind graph there.0 connection.birth.node there.1 can.named))
+
+  -- watchers can be told of it
+  pub can_tell : new.birth ≡ connection.birth → (endpoint object : ℕ) (done : Done) (left : Written) (before after : List ℕ) →
+      told_by done.changes ≡ told_given what → DoesGiven endpoint object connection.birth.node what out done.fate left before after → CanTell done new before after
+  can_tell kept endpoint object done left before after told does =
+      let act = here does.some in
+      record {
+        front = (spellings (frames_given endpoint object what out), does.frames);
+        directory = λ from mask directory is.
+            let watch = does.watched from mask directory is in
+            let watched = watch_has_room connection.birth.protocol room there.0 _ _ txid what out mask act.answer can_here.answer watch.asked in
+            record {
+              node = ap (λ (birth : code.Birth). birth.node) kept ∙ watch.same;
+              protocol = ap (λ (birth : code.Birth). birth.protocol) kept ∙ watched.directory;
+            };
+        short = subst (All IsShort) (act.told ∙ sym told) can_here.told;
+      }
 
 -- ---- a moment by its parts
 
 abbrev sight : ℕ → Asking → Connection → Moment → Moment
 sight server asking connection moment =
-    record { bound = bound_with server asking.endpoint connection.birth; position = connection.position; room = asking.room; tree = moment.tree; directory = moment.directory }
+    record { bound = bound_with server asking.endpoint connection.birth; position = connection.position; room = room_for asking (number_of connection.birth.node); tree = moment.tree; directory = moment.directory }
 
 is_sight : (server : ℕ) (asking : Asking) (graph : Kept) (connection : Connection) (moment : Moment) → IsAskedAt server asking graph connection moment → sight server asking connection moment ≡ moment
 is_sight server asking graph connection moment asked = λ i. record {
@@ -133,58 +153,91 @@ is_sight server asking graph connection moment asked = λ i. record {
 
 module _ (server : ℕ) (asking : Asking) (graph changed : Kept) (connection : Connection) (can : CanBeBound graph connection.birth) (moment : Moment) (asks : IsAskedAt server asking graph connection moment)
     (txid : ℕ) (request : Asked) (known : has_method connection.birth.protocol (method_of request) ≡ true) (what : Given) (left : Written) (new : Connection) (kept : new.birth ≡ connection.birth)
-    (acts : Acts (act_of (context_of today connection asking.room moment.tree moment.directory) request) txid what left new graph changed)
-    (fate : Fate) (out : Written) (before after : List ℕ) (does : DoesGiven asking.endpoint (object_of request) connection.birth.node what left fate out before after) where
+    (acts : Acts (act_of (context_of connection (room_for asking (number_of connection.birth.node)) moment.tree moment.directory) request) txid what left new graph changed)
+    (done : Done) (told : told_by done.changes ≡ told_given what) (out : Written) (before after : List ℕ)
+    (does : DoesGiven asking.endpoint (object_of request) connection.birth.node what left done.fate out before after) where
+  abbrev room : Room
+  room = room_for asking (number_of connection.birth.node)
+
   abbrev act : Act
-  act = act_of (context_of today connection asking.room moment.tree moment.directory) request
+  act = act_of (context_of connection room moment.tree moment.directory) request
 
-  can_now : CanAct connection.birth.protocol asking.room moment.tree act
-  can_now = can_act graph connection can asking.room request known txid what left new changed moment.tree moment.directory asks.tree
+  can_now : CanAct connection.birth.protocol room moment.tree act
+  can_now = conn_acts graph moment.tree connection room moment.directory request can known (sym (named_kind graph moment.tree connection.birth.node asks.tree can.named))
 
-  effects : effects_by (asker_with asking.endpoint server (number_of connection.birth.node) txid (object_of request)) act.answer ≡ effects_told asking.endpoint server fate out
-  effects =
-      effects_are asking.endpoint server (number_of connection.birth.node) txid (object_of request) connection.birth.protocol asking.room moment.tree _ what left acts.answer can_now.answer
-      ∙ does.effects server
+  abbrev asker : Asker
+  asker = asker_with asking.endpoint server (number_of connection.birth.node) txid (object_of request)
+
+  effects : effects_by asker act.answer ≡ effects_told asking.endpoint server done.fate out
+  effects = effects_are asking.endpoint server (number_of connection.birth.node) txid (object_of request) act.answer what left acts.answer ∙ does.effects server
 
   -- a token is given on a directory's connection alone
-  on_directory : (token : ℕ) (directory : NodeRef) → fate ≡ fates.Gives token directory → IsOnDirectory directory new
+  on_directory : (token : ℕ) (directory : NodeRef) → done.fate ≡ fates.Gives token directory → IsOnDirectory directory new
   on_directory token directory is = record {
     node = ap (λ (birth : code.Birth). birth.node) kept ∙ does.given token directory is;
     protocol =
         ap (λ (birth : code.Birth). birth.protocol) kept
-        ∙ token_of_directory connection.birth.protocol asking.room moment.tree (asker_with asking.endpoint server (number_of connection.birth.node) txid (object_of request)) act.answer _ can_now.answer
+        ∙ token_of_directory connection.birth.protocol room moment.tree act.change asker act.answer _ can_now.answer
         (ap (λ (e : Effects). e.token) (effects ∙ ap (λ (one : Fate). effects_told asking.endpoint server one out) is));
   }
 
-  answered : Answers (sight server asking connection moment) (outcome_of_read today (sight server asking connection moment) (Ok (txid, request))) fate out new graph changed before after
+  -- and so a directory is watched
+  may_watch : (object mask : ℕ) (directory : NodeRef) → done.fate ≡ fates.Watches object directory mask → MayWatch room act.change directory new
+  may_watch object mask directory is =
+      let watch = does.watched object mask directory is in
+      let watched = watch_has_room connection.birth.protocol room moment.tree act.change act.answer txid what left mask acts.answer can_now.answer watch.asked in
+      record {
+        here = record {
+          node = ap (λ (birth : code.Birth). birth.node) kept ∙ watch.same;
+          protocol = ap (λ (birth : code.Birth). birth.protocol) kept ∙ watched.directory;
+        };
+        few = watched.few;
+        room = watched.room;
+        still = watched.still;
+      }
+
+  answered : Answers (sight server asking connection moment) (outcome_of_read (sight server asking connection moment) (Ok (txid, request))) done out new graph changed before after
   answered = record {
-    frames = does.frames ∙ ap (λ (frames : List Frame). before ++ spellings frames) (sym (frames_are asking.endpoint server (number_of connection.birth.node) txid (object_of request) _ what left acts.answer));
+    frames = does.frames ∙ ap (λ (frames : List Frame). before ++ spellings frames) (sym (frames_are asking.endpoint server (number_of connection.birth.node) txid (object_of request) act.answer what left acts.answer));
     effects = effects;
+    told = acts.told ∙ sym told;
     position = acts.position;
     change = acts.change;
     bound = λ object birth is. let binds = does.bound object birth is in acts.bound birth binds.0 binds.1;
-    room = λ object birth is. bound_has_room connection.birth.protocol asking.room moment.tree _ txid what left birth acts.answer can_now.answer (does.bound object birth is);
+    room = λ object birth is. bound_has_room connection.birth.protocol room moment.tree act.change act.answer txid what left birth acts.answer can_now.answer (does.bound object birth is);
+    watched = may_watch;
     given = on_directory;
-    mounted = λ mount object is. onward_is_mounted connection.birth.protocol asking.room moment.tree _ txid what left mount acts.answer can_now.answer (does.onward mount object is);
+    mounted = λ mount object is. onward_is_mounted connection.birth.protocol room moment.tree act.change act.answer txid what left mount acts.answer can_now.answer (does.onward mount object is);
   }
 
-  pub request_answers : Answers moment (outcome_of_read today moment (Ok (txid, request))) fate out new graph changed before after
-  request_answers = subst (λ m. Answers m (outcome_of_read today m (Ok (txid, request))) fate out new graph changed before after) (is_sight server asking graph connection moment asks) answered
+  pub request_answers : Answers moment (outcome_of_read moment (Ok (txid, request))) done out new graph changed before after
+  request_answers = subst (λ m. Answers m (outcome_of_read m (Ok (txid, request))) done out new graph changed before after) (is_sight server asking graph connection moment asks) answered
 
 -- and a message that is none
 module _ (server : ℕ) (asking : Asking) (graph : Kept) (connection : Connection) (moment : Moment) (asks : IsAskedAt server asking graph connection moment)
-    (fault : RequestFault) (fate : Fate) (out : Written) (before after : List ℕ) (does : DoesFault asking.endpoint fault fate out before after) where
-  pub fault_answers : Answers moment (outcome_of_read today moment (Err fault)) fate out connection graph graph before after
-  fault_answers = subst (λ m. Answers m (outcome_of_read today m (Err fault)) fate out connection graph graph before after) (is_sight server asking graph connection moment asks) (record {
+    (fault : RequestFault) (done : Done) (told : told_by done.changes ≡ nothing_told) (out : Written) (before after : List ℕ) (does : DoesFault asking.endpoint fault done.fate out before after) where
+  pub fault_answers : Answers moment (outcome_of_read moment (Err fault)) done out connection graph graph before after
+  fault_answers = subst (λ m. Answers m (outcome_of_read m (Err fault)) done out connection graph graph before after) (is_sight server asking graph connection moment asks) (record {
     frames = does.frames server (number_of connection.birth.node);
     effects = does.effects server (number_of connection.birth.node);
+    told = sym told;
     position = refl;
     change = λ tree stands. stands;
     bound = λ object birth is. absurd (does.bound object birth is);
     room = λ object birth is. absurd (does.bound object birth is);
+    watched = λ object mask directory is. absurd (does.watched object mask directory is);
     given = λ token directory is. absurd (does.given token directory is);
     mounted = λ mount object is. absurd (does.onward mount object is);
   })
+
+module _ (server : ℕ) (asking : Asking) (connection : Connection) (fault : RequestFault) (done : Done) (told : told_by done.changes ≡ nothing_told) (out : Written) (before after : List ℕ)
+    (does : DoesFault asking.endpoint fault done.fate out before after) where
+  pub fault_tells : CanTell done connection before after
+  fault_tells = record {
+    front = (spellings (frames_of (asker_with asking.endpoint server 0 (fault_txid fault) 0) (fault_answer fault)), does.frames server 0);
+    directory = λ object mask directory is. absurd (does.watched object mask directory is);
+    short = subst (All IsShort) (sym told) (All-nil IsShort);
+  }
 
 pub ok_map : {X E : Type 0} (P Q : X → Type 0) (r : Result X E) → ((x : X) → P x → Q x) → IfOk r P → IfOk r Q
 ok_map P Q (Ok x) f h = f x h

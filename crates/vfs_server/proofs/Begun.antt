@@ -8,7 +8,7 @@ use Rattle.std.specs.Option.{option_map, option_map_or, option_or}
 use Rattle.std.specs.Ordering.{nat_cmp}
 use Rattle.std.proofs.lemmas.Bool.{eqb-true, eq-eqb, eqb-false, ne_eqb}
 use Rattle.std.proofs.lemmas.List.{get_or-map}
-use Rattle.std.proofs.lemmas.List.Elements.{All-filter, All-weaker}
+use Rattle.std.proofs.lemmas.List.Elements.{All-filter, All-nil, All-weaker}
 use Rattle.std.proofs.lemmas.List.FromFn.{get_or-range_with_len, length-range_with_len}
 use Rattle.std.proofs.lemmas.List.Sums.{sum_by-append}
 use Rattle.io_messages.specs.declared.protocols.Protocol.TheVariants as protocol
@@ -24,12 +24,12 @@ use Rattle.tree_file.proofs.Found.{find_push}
 use Rattle.tree_file.proofs.Trees.{number_some, placed}
 use Rattle.conn_rules.specs.declared.births.Birth as code
 use Rattle.conn_rules.specs.Births.{Connection, Position, fresh}
-use Rattle.conn_rules.specs.Built.{Built}
 use Rattle.conn_rules.specs.Shared.{is_spoken_at}
 use Rattle.vfs_journal.specs.History.{is_watcher, living, tree_at}
 use Rattle.vfs_journal.specs.Starts.{Bound, end_of, first_of_client, start_of}
 use Rattle.vfs_journal.specs.View.{at_in, bounds_in, view_of, with_position}
-use Rattle.vfs_server.specs.Binding.{Binds, HasPlace}
+use Rattle.vfs_server.specs.declared.watching.Seat.{Seat}
+use Rattle.vfs_server.specs.Binding.{Binds, HasPlace, IsDirectory}
 use Rattle.vfs_server.specs.Growing.{HoldsJust, IsNextBound, Stands, begins_with, begun, bound_among, clients_among, path_cmp}
 use Rattle.vfs_server.specs.Holding.{HoldsAt, bound_to, if_at, living_at, named_by}
 use Rattle.vfs_server.specs.Kept.{HasTree, IsSound, Tokens}
@@ -44,16 +44,18 @@ use Rattle.vfs_server.proofs.Standing.{kept_by, leads_in, place_in}
 
 -- ---- none
 
-pub sound_none : (graph : Kept) → HasTree graph → ((number : ℕ) → holds_at graph number ≡ 0) → IsSound graph finite.empty finite.empty
+pub sound_none : (graph : Kept) → HasTree graph → ((number : ℕ) → holds_at graph number ≡ 0) → IsSound graph finite.empty [] finite.empty
 sound_none graph tree unheld = record {
   tree = tree;
   each = λ endpoint connection there. absurd (let wrong : None ≡ Some connection = sym (finite.get-empty nat_cmp endpoint) ∙ there in cc);
+  watched = All-nil (λ (entry : ℕ × Seat). IsDirectory graph entry.1.directory);
   named = λ token directory there. absurd (let wrong : None ≡ Some directory = sym (finite.get-empty nat_cmp token) ∙ there in cc);
   holds = λ number.
       let bare = unheld number in
       let connected = count_none (to_node number) in
       let named = count_none (at_node number) in
       omega (arith, bare, connected, named);
+  apart = λ endpoint some. refl;
   few = let none = finite.len-empty nat_cmp Connection in omega (arith, none);
   rare = let none = finite.len-empty nat_cmp NodeRef in omega (arith, none);
 }
@@ -114,7 +116,7 @@ module _ (lists : Lists) (index endpoint : ℕ) (path : Bor (List ℕ)) (rights 
           omega (arith, few, count);
     }
 
-    module _ (new : Server) (binds : Binds server endpoint birth new) where
+    module _ (new : Server) (binds : Binds server (bound_with server.index endpoint birth) new) where
       bound_is : bound_with server.index endpoint birth ≡ begun lists index endpoint path.now rights
       bound_is =
           ap (λ (n : ℕ). bound_with n endpoint birth) next.holds.at
@@ -174,7 +176,7 @@ module _ (lists : Lists) (index endpoint : ℕ) (path : Bor (List ℕ)) (rights 
       pub holds_one : HoldsJust lists index (bounds ++ begun lists index endpoint path.now rights ∷ []) new places
       holds_one = record {
         at = binds.index ∙ next.holds.at;
-        watchers = binds.watchers ∙ next.holds.watchers;
+        watchers = binds.watchers ∙ append-nil server.watchers ∙ next.holds.watchers;
         tokens = binds.tokens ∙ next.holds.tokens;
         bound = λ other.
             binds.bound other ∙ among_more other (other == endpoint) refl
@@ -259,17 +261,17 @@ found_at index endpoint (x ∷ xs) h = by_tests (x.endpoint == endpoint) refl (x
   by_tests false e true f rest = rw (f, e) rest
   by_tests false e false f rest = rw (f, e) rest
 
-module _ (lists : Lists) (accepted : AreAccepted lists) (index : ℕ) (within : index < length lists.servers) (built : Built) where
+module _ (lists : Lists) (accepted : AreAccepted lists) (index : ℕ) (within : index < length lists.servers) where
   lives : living (start_of lists) [] ≡ firsts_of lists ++ ends_of lists
   lives = all_pass (firsts_of lists ++ ends_of lists ++ []) ∙ append-nil (firsts_of lists ++ ends_of lists)
 
-  bounds_are : bounds_in (view_of built (start_of lists) []) ≡ firsts_of lists ++ ends_of lists
+  bounds_are : bounds_in (view_of (start_of lists) []) ≡ firsts_of lists ++ ends_of lists
   bounds_are = map_first (living (start_of lists) []) ∙ lives
 
-  living_are : living_at (view_of built (start_of lists) []) index ≡ begins_with lists index
+  living_are : living_at (view_of (start_of lists) []) index ≡ begins_with lists index
   living_are = ap (filter (λ (bound : Bound). bound.server == index)) bounds_are
 
-  at_is : (endpoint : ℕ) → at_in (view_of built (start_of lists) []) endpoint ≡ option_map (λ (bound : Bound). (bound, fresh)) (find (λ (bound : Bound). bound.endpoint == endpoint) (firsts_of lists ++ ends_of lists))
+  at_is : (endpoint : ℕ) → at_in (view_of (start_of lists) []) endpoint ≡ option_map (λ (bound : Bound). (bound, fresh)) (find (λ (bound : Bound). bound.endpoint == endpoint) (firsts_of lists ++ ends_of lists))
   at_is endpoint =
       find-map (with_position []) (λ (pair : Bound × Position). pair.0.endpoint == endpoint) (living (start_of lists) [])
       ∙ ap (λ (bounds : List Bound). option_map (with_position []) (find (λ (bound : Bound). bound.endpoint == endpoint) bounds)) lives
@@ -281,24 +283,24 @@ module _ (lists : Lists) (accepted : AreAccepted lists) (index : ℕ) (within : 
       get_or-map (tree_of lists) (range_with_len 0 (length lists.servers)) index 0 bare_tree (omega (arith, size, within))
       ∙ ap (tree_of lists) (get_or-range_with_len 0 (length lists.servers) index 0 within ∙ here)
 
-  pub holds_start : (server : Server) (places : BTreeMap (Bor (List ℕ)) NodeRef) → HoldsJust lists index (begins_with lists index) server places → HoldsAt (view_of built (start_of lists) []) server
+  pub holds_start : (server : Server) (places : BTreeMap (Bor (List ℕ)) NodeRef) → HoldsJust lists index (begins_with lists index) server places → HoldsAt (view_of (start_of lists) []) server
   holds_start server places just = record {
     bound = λ endpoint.
         just.bound endpoint ∙ found_at index endpoint (firsts_of lists ++ ends_of lists) (apart lists accepted)
-        ∙ ap (if_at index) (sym (at_is endpoint)) ∙ ap (λ (n : ℕ). if_at n (at_in (view_of built (start_of lists) []) endpoint)) (sym just.at);
-    count = just.count ∙ ap (λ (bounds : List Bound). length bounds) (sym living_are) ∙ ap (λ (n : ℕ). length (living_at (view_of built (start_of lists) []) n)) (sym just.at);
+        ∙ ap (if_at index) (sym (at_is endpoint)) ∙ ap (λ (n : ℕ). if_at n (at_in (view_of (start_of lists) []) endpoint)) (sym just.at);
+    count = just.count ∙ ap (λ (bounds : List Bound). length bounds) (sym living_are) ∙ ap (λ (n : ℕ). length (living_at (view_of (start_of lists) []) n)) (sym just.at);
     watchers =
         just.watchers
-        ∙ sym (ap (λ (n : ℕ). filter (λ (bound : Bound). is_watcher bound.birth.protocol) (living_at (view_of built (start_of lists) []) n)) just.at
+        ∙ sym (ap (λ (n : ℕ). filter (λ (bound : Bound). is_watcher bound.birth.protocol) (living_at (view_of (start_of lists) []) n)) just.at
         ∙ ap (filter (λ (bound : Bound). is_watcher bound.birth.protocol)) living_are
         ∙ none_chosen (λ (bound : Bound). is_watcher bound.birth.protocol) (begins_with lists index)
         (All-filter (λ (bound : Bound). bound.server == index) (λ (bound : Bound). is_watcher bound.birth.protocol ≡ false) (firsts_of lists ++ ends_of lists) (all_directories lists)));
     tokens = λ token. ap (λ (tokens : Tokens). option_map number_of (finite.get tokens token)) just.tokens ∙ ap (option_map number_of) (finite.get-empty nat_cmp token);
     tree = subst (StandsFor server.graph) (sym (ap (λ (n : ℕ). tree_at (start_of lists).trees n) just.at ∙ tree_is)) just.tree;
     holds = λ number.
-        let here : bound_to (view_of built (start_of lists) []) server.index number ≡ count_by (λ (bound : Bound). bound.birth.node == number) (begins_with lists index) =
-        ap (λ (n : ℕ). bound_to (view_of built (start_of lists) []) n number) just.at ∙ ap (count_by (λ (bound : Bound). bound.birth.node == number)) living_are in
-        let none : named_by (view_of built (start_of lists) []) server.index number ≡ 0 = refl in
+        let here : bound_to (view_of (start_of lists) []) server.index number ≡ count_by (λ (bound : Bound). bound.birth.node == number) (begins_with lists index) =
+        ap (λ (n : ℕ). bound_to (view_of (start_of lists) []) n number) just.at ∙ ap (count_by (λ (bound : Bound). bound.birth.node == number)) living_are in
+        let none : named_by (view_of (start_of lists) []) server.index number ≡ 0 = refl in
         let before = just.holds number in
         omega (arith, here, none, before);
   }

@@ -1,10 +1,12 @@
--- Holds that follow what is connected and what tokens name.
-use Rattle.std.proofs.Common.{◌≡◌, ℕ, ◌+◌, ◌-◌, ◌<◌, ◌≤◌, ◌==◌, Bool, true, false, Option, Some, None, refl, sym, ap, ◌∙◌, subst, arith}
-use Rattle.std.specs.Prelude.{if◌then◌else◌}
+-- Holds that follow what is connected, who watches and what tokens name.
+use Rattle.std.proofs.Common.{◌≡◌, ℕ, ◌+◌, ◌-◌, ◌<◌, ◌≤◌, ◌==◌, Bool, true, false, cond, List, [], ◌∷◌, ◌++◌, All, length, length-append, Option, Some, None, refl, sym, ap, ◌∙◌, subst, arith}
+use Rattle.std.specs.Prelude.{IsSome, if◌then◌else◌}
 use Rattle.std.specs.FinMap as finite
 use Rattle.std.specs.Option.{option_map_or}
 use Rattle.std.proofs.lemmas.Bool.{eqb-true, eq-eqb, eqb-false, ne_eqb}
 use Rattle.std.proofs.lemmas.Bool.Decides.{nat_tests}
+use Rattle.std.proofs.lemmas.List.Elements.{All-cons, All-head, All-nil, All-push, All-tail, All-weaker}
+use Rattle.std.proofs.lemmas.List.Sums.{count_by-le-length, sum_by-cons}
 use Rattle.fidl_names.specs.declared.limits.TheConstants as limit
 use Rattle.node_graph.specs.declared.nodes.NodeKind.{NodeKind}
 use Rattle.node_graph.specs.declared.nodes.NodeRef.{NodeRef}
@@ -14,8 +16,11 @@ use Rattle.conn_rules.specs.Births.{Connection}
 use Rattle.conn_rules.specs.Served.{KeepsHolds}
 use Rattle.conn_rules.specs.Shared.{CanBeBound, is_spoken_at}
 use Rattle.vfs_server.specs.Binding.{IsDirectory}
-use Rattle.vfs_server.specs.Kept.{Connections, HasTree, IsSound, Tokens, connected_to, naming}
-use Rattle.vfs_server.proofs.Maps.{standing, same, other, one_if, count_put, count_cut, count_again, counts_few, get_put, get_put_other, get_cut, get_cut_other, longer, shorter, as_long}
+use Rattle.vfs_server.specs.declared.watching.Seat.{Seat}
+use Rattle.vfs_server.specs.Kept.{Connections, HasTree, IsSound, Tokens, WatchDirectories, connected_to, naming, watched_by}
+use Rattle.vfs_server.specs.Watched.{Seats, is_at, seat_at, without}
+use Rattle.vfs_server.proofs.Maps.{standing, same, other, one_if, count_put, count_cut, count_again, counts_few}
+use Rattle.vfs_server.proofs.Seats.{all_less, at_more, count_less, count_more, length_less, other_less}
 
 abbrev pub to_node : ℕ → Connection → Bool
 to_node number connection = number_of connection.birth.node == number
@@ -61,6 +66,10 @@ held_less old new changed was now held before one number = held number ∙ by_nu
 
 -- ---- sound servers
 
+-- how often a node is held
+abbrev pub held_by : Connections → Seats → Tokens → ℕ → ℕ
+held_by connections seats tokens number = connected_to number connections + watched_by number seats + naming number tokens
+
 -- a connection's node is counted, and a token's directory
 connected_once : (connections : Connections) (endpoint : ℕ) (connection : Connection) → finite.get connections endpoint ≡ Some connection → 0 < connected_to (number_of connection.birth.node) connections
 connected_once connections endpoint connection there =
@@ -76,7 +85,32 @@ named_once tokens token directory there =
     let one : one_if (at_node number directory) ≡ 1 = ap one_if (eq-eqb number number refl) in
     omega (arith, cut, one)
 
-module _ (graph : Kept) (connections : Connections) (tokens : Tokens) (sound : IsSound graph connections tokens) where
+-- and each watcher's
+watched_once : (seats : Seats) → All (λ (entry : ℕ × Seat). 0 < watched_by (number_of entry.1.directory) seats) seats
+watched_once [] = All-nil (λ (entry : ℕ × Seat). 0 < watched_by (number_of entry.1.directory) [])
+watched_once (e ∷ es) =
+    All-cons (λ (entry : ℕ × Seat). 0 < watched_by (number_of entry.1.directory) (e ∷ es)) e es here
+    (All-weaker (λ (entry : ℕ × Seat). 0 < watched_by (number_of entry.1.directory) es) (λ (entry : ℕ × Seat). 0 < watched_by (number_of entry.1.directory) (e ∷ es)) behind es (watched_once es))
+  where
+    counted : (number : ℕ) → watched_by number (e ∷ es) ≡ one_if (is_at number e) + watched_by number es
+    counted number = sum_by-cons (λ (entry : ℕ × Seat). one_if (is_at number entry)) e es
+    here : 0 < watched_by (number_of e.1.directory) (e ∷ es)
+    here =
+        let more = counted (number_of e.1.directory) in
+        let one : one_if (is_at (number_of e.1.directory) e) ≡ 1 = ap one_if (eq-eqb (number_of e.1.directory) (number_of e.1.directory) refl) in
+        omega (arith, more, one)
+    behind : (entry : ℕ × Seat) → 0 < watched_by (number_of entry.1.directory) es → 0 < watched_by (number_of entry.1.directory) (e ∷ es)
+    behind entry some = let more = counted (number_of entry.1.directory) in omega (arith, more, some)
+
+-- what holds of all watchers holds of the one of an endpoint
+pub seat_of_all : (P : Seat → Type 0) (seats : Seats) (endpoint : ℕ) (seat : Seat) → seat_at seats endpoint ≡ Some seat → All (λ (entry : ℕ × Seat). P entry.1) seats → P seat
+seat_of_all P [] endpoint seat there all = absurd (cc)
+seat_of_all P (e ∷ es) endpoint seat there all = by_test (endpoint == e.0) there (λ at. seat_of_all P es endpoint seat at (All-tail (λ (entry : ℕ × Seat). P entry.1) e es all)) where
+  by_test : (b : Bool) → cond b (Some e.1) (seat_at es endpoint) ≡ Some seat → (seat_at es endpoint ≡ Some seat → P seat) → P seat
+  by_test true at rest = let same : e.1 ≡ seat = cc in subst P same (All-head (λ (entry : ℕ × Seat). P entry.1) e es all)
+  by_test false at rest = rest at
+
+module _ (graph : Kept) (connections : Connections) (seats : Seats) (tokens : Tokens) (sound : IsSound graph connections seats tokens) where
   -- a connection's node is held
   pub held_there : (endpoint : ℕ) (connection : Connection) → finite.get connections endpoint ≡ Some connection → 0 < holds_at graph (number_of connection.birth.node)
   held_there endpoint connection there =
@@ -84,22 +118,34 @@ module _ (graph : Kept) (connections : Connections) (tokens : Tokens) (sound : I
       let holds = sound.holds (number_of connection.birth.node) in
       omega (arith, one, holds)
 
-  -- and a token's directory
+  -- a watcher's directory
+  pub held_by_watcher : (endpoint : ℕ) (seat : Seat) → seat_at seats endpoint ≡ Some seat → 0 < holds_at graph (number_of seat.directory)
+  held_by_watcher endpoint seat there =
+      let one = seat_of_all (λ (s : Seat). 0 < watched_by (number_of s.directory) seats) seats endpoint seat there (watched_once seats) in
+      let holds = sound.holds (number_of seat.directory) in
+      omega (arith, one, holds)
+
+  -- and a token's
   pub held_by_token : (token : ℕ) (directory : NodeRef) → finite.get tokens token ≡ Some directory → 0 < holds_at graph (number_of directory)
   held_by_token token directory there =
       let one = named_once tokens token directory there in
       let holds = sound.holds (number_of directory) in
       omega (arith, one, holds)
 
-  -- a node has no more holds than a server has connections and tokens
+  -- a node has no more holds than a server has connections, watchers and tokens
   pub few_held : (number : ℕ) → holds_at graph number < 4294967295
   few_held number =
       let connected = counts_few (to_node number) connections in
+      let watched = count_by-le-length (is_at number) seats in
       let named = counts_few (at_node number) tokens in
       let holds = sound.holds number in
       let few = sound.few in
       let rare = sound.rare in
-      omega (arith, connected, named, holds, few, rare)
+      omega (arith, connected, watched, named, holds, few, rare)
+
+  -- a watcher's directory is one
+  pub watched_there : (endpoint : ℕ) (seat : Seat) → seat_at seats endpoint ≡ Some seat → IsDirectory graph seat.directory
+  watched_there endpoint seat there = seat_of_all (λ (s : Seat). IsDirectory graph s.directory) seats endpoint seat there sound.watched
 
 -- what is kept still can still be bound, and is a directory still
 pub still_bound : (old new : Kept) (birth : code.Birth) → KeepsNames old new → is_kept new (number_of birth.node) ≡ true → CanBeBound old birth → CanBeBound new birth
@@ -115,135 +161,46 @@ still_directory old new node keeps kept was =
 pub held_kept : (graph : Kept) (number : ℕ) → 0 < holds_at graph number → is_kept graph number ≡ true
 held_kept graph number some = grind (arith, nat_tests)
 
+both_hold : (P Q R : ℕ × Seat → Type 0) → ((entry : ℕ × Seat) → P entry → Q entry → R entry) → (es : Seats) → All P es → All Q es → All R es
+both_hold P Q R f [] p q = All-nil R
+both_hold P Q R f (e ∷ es) p q = All-cons R e es (f e (All-head P e es p) (All-head Q e es q)) (both_hold P Q R f es (All-tail P e es p) (All-tail Q e es q))
+
+-- what a server keeps, but for its graph
+pub record IsOf (graph : Kept) (connections : Connections) (seats : Seats) (tokens : Tokens) : Type 0 where
+  pub each : (endpoint : ℕ) (connection : Connection) → finite.get connections endpoint ≡ Some connection → CanBeBound graph connection.birth
+  pub watched : WatchDirectories graph seats
+  pub named : (token : ℕ) (directory : NodeRef) → finite.get tokens token ≡ Some directory → IsDirectory graph directory
+  pub apart : (endpoint : ℕ) → IsSome (finite.get connections endpoint) → seat_at seats endpoint ≡ None
+  pub few : finite.len connections + length seats ≤ limit.MAX_CONNECTIONS
+  pub rare : finite.len tokens ≤ limit.MAX_TOKENS
+
 -- where holds are counted, what could be bound can still be bound, and what was a directory is one
-pub sound_again : (old new : Kept) (connections : Connections) (tokens : Tokens) →
-    ((endpoint : ℕ) (connection : Connection) → finite.get connections endpoint ≡ Some connection → CanBeBound old connection.birth) →
-    ((token : ℕ) (directory : NodeRef) → finite.get tokens token ≡ Some directory → IsDirectory old directory) →
-    ((number : ℕ) → holds_at new number ≡ connected_to number connections + naming number tokens) → KeepsNames old new →
-    finite.len connections ≤ limit.MAX_CONNECTIONS → finite.len tokens ≤ limit.MAX_TOKENS → HasTree new → IsSound new connections tokens
-sound_again old new connections tokens could was counts keeps few rare tree = record {
+pub sound_again : (old new : Kept) (connections : Connections) (seats : Seats) (tokens : Tokens) → IsOf old connections seats tokens →
+    ((number : ℕ) → holds_at new number ≡ held_by connections seats tokens number) → KeepsNames old new → HasTree new → IsSound new connections seats tokens
+sound_again old new connections seats tokens was counts keeps tree = record {
   tree = tree;
   each = λ endpoint connection there.
       let number = number_of connection.birth.node in
       let one = connected_once connections endpoint connection there in
       let held = counts number in
       let some : 0 < holds_at new number = omega (arith, one, held) in
-      still_bound old new connection.birth keeps (held_kept new number some) (could endpoint connection there);
+      still_bound old new connection.birth keeps (held_kept new number some) (was.each endpoint connection there);
+  watched = both_hold (λ (entry : ℕ × Seat). 0 < watched_by (number_of entry.1.directory) seats) (λ (entry : ℕ × Seat). IsDirectory old entry.1.directory) (λ (entry : ℕ × Seat). IsDirectory new entry.1.directory) still seats (watched_once seats) was.watched;
   named = λ token directory there.
       let number = number_of directory in
       let one = named_once tokens token directory there in
       let held = counts number in
       let some : 0 < holds_at new number = omega (arith, one, held) in
-      still_directory old new directory keeps (held_kept new number some) (was token directory there);
+      still_directory old new directory keeps (held_kept new number some) (was.named token directory there);
   holds = counts;
-  few = few;
-  rare = rare;
+  apart = was.apart;
+  few = was.few;
+  rare = was.rare;
 }
-
--- ---- one connection more
-
-module _ (old new : Kept) (connections : Connections) (tokens : Tokens) (endpoint : ℕ) (connection : Connection) (sound : IsSound old connections tokens) (free : finite.get connections endpoint ≡ None)
-    (can : CanBeBound old connection.birth) (held : HoldsNow old new (number_of connection.birth.node) (holds_at old (number_of connection.birth.node) + 1)) (keeps : KeepsNames old new)
-    (few : finite.len connections < limit.MAX_CONNECTIONS) (tree : HasTree new) where
-  could : (other_one : ℕ) (found : Connection) → finite.get (finite.insert connections endpoint connection) other_one ≡ Some found → CanBeBound old found.birth
-  could other_one found there = elim (standing other_one endpoint) [
-    | same e b ↦
-        let is : Some connection ≡ Some found = sym (ap (finite.get (finite.insert connections endpoint connection)) e ∙ get_put connections endpoint connection) ∙ there in
-        let same_one : connection ≡ found = cc in
-        subst (λ (one : Connection). CanBeBound old one.birth) same_one can
-    | other e b ↦ sound.each other_one found (sym (get_put_other connections endpoint other_one connection e) ∙ there)
-  ]
-
-  pub sound_more : IsSound new (finite.insert connections endpoint connection) tokens
-  sound_more =
-      sound_again old new (finite.insert connections endpoint connection) tokens could sound.named
-      (held_more old new (number_of connection.birth.node) (λ number. connected_to number connections + naming number tokens)
-      (λ number. connected_to number (finite.insert connections endpoint connection) + naming number tokens) held sound.holds
-      (λ number. let more = count_put (to_node number) connections endpoint connection free in omega (arith, more)))
-      keeps (omega (arith, longer connections endpoint connection free, few)) sound.rare tree
-
--- ---- one connection less
-
-module _ (old new : Kept) (connections : Connections) (tokens : Tokens) (endpoint : ℕ) (connection : Connection) (sound : IsSound old connections tokens) (there : finite.get connections endpoint ≡ Some connection)
-    (held : HoldsNow old new (number_of connection.birth.node) (holds_at old (number_of connection.birth.node) - 1)) (keeps : KeepsNames old new) (tree : HasTree new) where
-  still_could : (other_one : ℕ) (found : Connection) → finite.get (finite.remove connections endpoint) other_one ≡ Some found → CanBeBound old found.birth
-  still_could other_one found at = elim (standing other_one endpoint) [
-    | same e b ↦
-        let wrong : None ≡ Some found = sym (ap (finite.get (finite.remove connections endpoint)) e ∙ get_cut connections endpoint) ∙ at in
-        absurd (cc)
-    | other e b ↦ sound.each other_one found (sym (get_cut_other connections endpoint other_one e) ∙ at)
-  ]
-
-  pub sound_less : IsSound new (finite.remove connections endpoint) tokens
-  sound_less =
-      let few = sound.few in
-      sound_again old new (finite.remove connections endpoint) tokens still_could sound.named
-      (held_less old new (number_of connection.birth.node) (λ number. connected_to number connections + naming number tokens)
-      (λ number. connected_to number (finite.remove connections endpoint) + naming number tokens) held sound.holds
-      (λ number. let less = count_cut (to_node number) connections endpoint connection there in omega (arith, less)))
-      keeps (omega (arith, shorter connections endpoint connection there, few)) sound.rare tree
-
--- ---- one served
-
-module _ (graph changed : Kept) (connections : Connections) (tokens : Tokens) (endpoint : ℕ) (connection served : Connection) (sound : IsSound graph connections tokens) (there : finite.get connections endpoint ≡ Some connection)
-    (keeps : KeepsHolds connection served graph changed) (tree : HasTree changed) where
-  as_before : (other_one : ℕ) (found : Connection) → finite.get (finite.insert connections endpoint served) other_one ≡ Some found → CanBeBound graph found.birth
-  as_before other_one found at = elim (standing other_one endpoint) [
-    | same e b ↦
-        let is : Some served ≡ Some found = sym (ap (finite.get (finite.insert connections endpoint served)) e ∙ get_put connections endpoint served) ∙ at in
-        let same_one : served ≡ found = cc in
-        subst (CanBeBound graph) (sym keeps.birth ∙ ap (λ (one : Connection). one.birth) same_one) (sound.each endpoint connection there)
-    | other e b ↦ sound.each other_one found (sym (get_put_other connections endpoint other_one served e) ∙ at)
-  ]
-
-  pub sound_served : IsSound changed (finite.insert connections endpoint served) tokens
-  sound_served =
-      let before = sound.few in
-      sound_again graph changed (finite.insert connections endpoint served) tokens as_before sound.named
-      (λ number.
-      keeps.holds number ∙ sound.holds number
-      ∙ ap (λ n. n + naming number tokens) (sym (count_again (to_node number) connections endpoint connection served there (ap (λ (birth : code.Birth). number_of birth.node == number) keeps.birth))))
-      keeps.names (omega (arith, as_long connections endpoint connection served there, before)) sound.rare tree
-
--- ---- one token more
-
-module _ (old new : Kept) (connections : Connections) (tokens : Tokens) (token : ℕ) (directory : NodeRef) (sound : IsSound old connections tokens) (free : finite.get tokens token ≡ None)
-    (is_one : IsDirectory old directory) (held : HoldsNow old new (number_of directory) (holds_at old (number_of directory) + 1)) (keeps : KeepsNames old new)
-    (room : finite.len tokens < limit.MAX_TOKENS) (tree : HasTree new) where
-  was_one : (other_one : ℕ) (found : NodeRef) → finite.get (finite.insert tokens token directory) other_one ≡ Some found → IsDirectory old found
-  was_one other_one found there = elim (standing other_one token) [
-    | same e b ↦
-        let is : Some directory ≡ Some found = sym (ap (finite.get (finite.insert tokens token directory)) e ∙ get_put tokens token directory) ∙ there in
-        let same_one : directory ≡ found = cc in
-        subst (IsDirectory old) same_one is_one
-    | other e b ↦ sound.named other_one found (sym (get_put_other tokens token other_one directory e) ∙ there)
-  ]
-
-  pub sound_given : IsSound new connections (finite.insert tokens token directory)
-  sound_given =
-      sound_again old new connections (finite.insert tokens token directory) sound.each was_one
-      (held_more old new (number_of directory) (λ number. connected_to number connections + naming number tokens)
-      (λ number. connected_to number connections + naming number (finite.insert tokens token directory)) held sound.holds
-      (λ number. let more = count_put (at_node number) tokens token directory free in omega (arith, more)))
-      keeps sound.few (omega (arith, longer tokens token directory free, room)) tree
-
--- ---- one token less
-
-module _ (old new : Kept) (connections : Connections) (tokens : Tokens) (token : ℕ) (directory : NodeRef) (sound : IsSound old connections tokens) (there : finite.get tokens token ≡ Some directory)
-    (held : HoldsNow old new (number_of directory) (holds_at old (number_of directory) - 1)) (keeps : KeepsNames old new) (tree : HasTree new) where
-  still_one : (other_one : ℕ) (found : NodeRef) → finite.get (finite.remove tokens token) other_one ≡ Some found → IsDirectory old found
-  still_one other_one found at = elim (standing other_one token) [
-    | same e b ↦
-        let wrong : None ≡ Some found = sym (ap (finite.get (finite.remove tokens token)) e ∙ get_cut tokens token) ∙ at in
-        absurd (cc)
-    | other e b ↦ sound.named other_one found (sym (get_cut_other tokens token other_one e) ∙ at)
-  ]
-
-  pub sound_forgotten : IsSound new connections (finite.remove tokens token)
-  sound_forgotten =
-      let rare = sound.rare in
-      sound_again old new connections (finite.remove tokens token) sound.each still_one
-      (held_less old new (number_of directory) (λ number. connected_to number connections + naming number tokens)
-      (λ number. connected_to number connections + naming number (finite.remove tokens token)) held sound.holds
-      (λ number. let less = count_cut (at_node number) tokens token directory there in omega (arith, less)))
-      keeps sound.few (omega (arith, shorter tokens token directory there, rare)) tree
+  where
+    still : (entry : ℕ × Seat) → 0 < watched_by (number_of entry.1.directory) seats → IsDirectory old entry.1.directory → IsDirectory new entry.1.directory
+    still entry one directory =
+        let number = number_of entry.1.directory in
+        let held = counts number in
+        let some : 0 < holds_at new number = omega (arith, one, held) in
+        still_directory old new entry.1.directory keeps (held_kept new number some) directory

@@ -1,13 +1,19 @@
 -- The lemmas of this crate.
 pub mod Maps
+pub mod Seats
 pub mod Joined
 pub mod Walking
-pub mod Today
+pub mod Acting
+pub mod Allowed
 pub mod Carried
 pub mod Handed
 pub mod Giving
 pub mod Answering
 pub mod Held
+pub mod Sound
+pub mod Told
+pub mod Binding
+pub mod Naming
 pub mod Servings
 pub mod Made
 pub mod Standing

@@ -1,9 +1,9 @@
--- What a server is behind what it binds, lets go and serves.
-use Rattle.std.proofs.Common.{◌≡◌, ◌≢◌, ◌==◌, ℕ, ◌+◌, ◌-◌, ◌<◌, ◌≤◌, ◌++◌, true, false, List, [], ◌∷◌, length, Option, Some, None, Result, IfOk, refl, sym, ap, ◌∙◌, subst, arith, rules}
-use Rattle.std.specs.Prelude.{if◌then◌else◌, IsSome}
-use Rattle.std.proofs.lemmas.Bool.{eq-eqb, ne_eqb}
+-- What a server is behind a serving.
+use Rattle.std.proofs.Common.{◌≡◌, ◌≢◌, ◌∙◌, ◌==◌, ℕ, ◌+◌, ◌<◌, ◌≤◌, ◌++◌, Bool, true, false, cond, List, [], ◌∷◌, length, All, Option, Some, None, Result, Ok, Err, IfOk, OnErr, refl, sym, ap, subst, arith, rules, append-nil, append_assoc, nat_le}
+use Rattle.std.specs.Prelude.{filter, find, if◌then◌else◌}
+use Rattle.std.proofs.lemmas.Bool.{eqb-true, eq-eqb, ne_eqb}
 use Rattle.std.proofs.lemmas.Bool.Decides.{nat_tests}
-use Rattle.std.proofs.lemmas.List.{append-nil}
+use Rattle.std.proofs.lemmas.List.Elements.{All-nil}
 use Rattle.std.specs.FinMap as finite
 use Rattle.std.specs.Option.{option_map, option_map_or}
 use Rattle.fidl_names.specs.declared.limits.TheConstants as limit
@@ -16,180 +16,41 @@ use Rattle.io_messages.specs.Requests.{request_of}
 use Rattle.node_graph.specs.declared.nodes.NodeKind.{NodeKind}
 use Rattle.node_graph.specs.declared.nodes.NodeKind.TheVariants.{Directory, File, Service, Mount}
 use Rattle.node_graph.specs.declared.nodes.NodeRef.{NodeRef}
-use Rattle.node_graph.specs.Graph.{Kept, HoldsNow, KeepsNames, Leads, holds_at, kind_at, number_of}
-use Rattle.node_graph.specs.Tree.{Tree, stay}
+use Rattle.node_graph.specs.Graph.{Kept, kind_at, number_of}
 use Rattle.conn_rules.specs.declared.births.Birth as code
 use Rattle.conn_rules.specs.declared.births.Room.{Room}
-use Rattle.conn_rules.specs.Answers.{Happening}
-use Rattle.conn_rules.specs.Answers as news
+use Rattle.conn_rules.specs.Answers.{only, silent}
 use Rattle.conn_rules.specs.Births.{Connection, Position, fresh}
-use Rattle.conn_rules.specs.Built.{today}
 use Rattle.conn_rules.specs.Opens.{is_full}
-use Rattle.conn_rules.specs.Served.{KeepsHolds}
+use Rattle.conn_rules.specs.Served.{KeepsHolds, told_by}
 use Rattle.conn_rules.specs.Shared.{CanBeBound, is_spoken_at}
 use Rattle.vfs_journal.specs.Entries.{message}
 use Rattle.vfs_journal.specs.Handles.{AreByNumber, numbers_of}
-use Rattle.vfs_journal.specs.Outcomes.{Outcome}
-use Rattle.vfs_journal.specs.Serving.{Moment, outcome_of_message, outcome_of_read, outcome_of_sending, read_by}
+use Rattle.vfs_journal.specs.Outcomes.{Outcome, outcome_with}
+use Rattle.vfs_journal.specs.Serving.{Moment, asker_of, outcome_of_message, outcome_of_read, outcome_of_sending, read_by}
 use Rattle.vfs_journal.specs.Starts.{Bound}
 use Rattle.vfs_journal.specs.View.{moved}
-use Rattle.vfs_journal.specs.Watching.{first_frames, told_by, told_frames}
+use Rattle.vfs_journal.specs.Watching.{first_frames, told_frames}
 use Rattle.vfs_server.specs.declared.asking.Asking.{Asking}
+use Rattle.vfs_server.specs.declared.done.Done.{Done}
 use Rattle.vfs_server.specs.declared.fate.Fate.{Fate}
 use Rattle.vfs_server.specs.declared.fate.Fate.TheVariants as fates
-use Rattle.vfs_server.specs.Binding.{Binds, Forgets, IsDirectory, NamesBy, Unbinds}
+use Rattle.vfs_server.specs.declared.watching.Seat.{Seat}
+use Rattle.vfs_server.specs.Binding.{IsDirectory}
 use Rattle.vfs_server.specs.Effects.{effects_told}
-use Rattle.vfs_server.specs.Kept.{Connections, Tokens}
-use Rattle.vfs_server.specs.Servers.{Server, bound_with, connected, in_use, seen_as}
-use Rattle.vfs_server.specs.Serving.{IsMomentOf, Serves, frames_here}
-use Rattle.vfs_server.specs.Steps.{Answers, AreNamed, IsAskedAt}
+use Rattle.vfs_server.specs.Kept.{Connections, HasTree, IsSound, Tokens}
+use Rattle.vfs_server.specs.Servers.{Server, bound_with, connected, in_use, seen_as, watching}
+use Rattle.vfs_server.specs.Serving.{IsMomentOf, Serves, frames_here, room_at}
+use Rattle.vfs_server.specs.Steps.{Answers, AreNamed, CanBeTold, CanTell, IsAskedAt, IsPassedOver, room_for}
+use Rattle.vfs_server.specs.Watched.{Extends, IsShort, Seats, bound_at, bounds_at, first_of, is_at, seat_at, told_of}
 use Rattle.vfs_server.proofs.Answering.{no_watcher, ok_map}
-use Rattle.vfs_server.proofs.Maps.{standing, same, other, same_map, get_put, get_put_other, get_cut, get_cut_other, longer, shorter, as_long}
+use Rattle.vfs_server.proofs.Binding.{in_use_is, seen_watching, server_of}
+use Rattle.vfs_server.proofs.Maps.{standing, same, other, get_put, get_put_other, as_long}
+use Rattle.vfs_server.proofs.Seats.{counted_as, seated}
+use Rattle.vfs_server.proofs.Sound.{sound_served}
+use Rattle.vfs_server.proofs.Told.{first_is, one_behind, told_is}
 
--- a server that nobody watches
-abbrev pub server_of : ℕ → Kept → Connections → Tokens → Server
-server_of index graph connections tokens = record { index = index; graph = graph; connections = connections; watchers = []; tokens = tokens }
-
-pub some_of : {X : Type 0} (o : Option X) → IsSome o → (x : X) × (o ≡ Some x)
-some_of None some = absurd (let wrong : false ≡ true = some in cc)
-some_of (Some x) some = (x, refl)
-
-pub is_connected : (index endpoint : ℕ) (o : Option Connection) → IsSome (seen_as index [] endpoint o) → IsSome o
-is_connected index endpoint None some = some
-is_connected index endpoint (Some connection) some = refl
-
--- ---- one more, and one less
-
-pub binds_one : (index : ℕ) (old new : Kept) (connections : Connections) (tokens : Tokens) (endpoint : ℕ) (birth : code.Birth) → finite.get connections endpoint ≡ None →
-    Leads old new stay → HoldsNow old new (number_of birth.node) (holds_at old (number_of birth.node) + 1) → KeepsNames old new →
-    Binds (server_of index old connections tokens) endpoint birth (server_of index new (finite.insert connections endpoint (record { birth = birth; position = fresh })) tokens)
-binds_one index old new connections tokens endpoint birth free tree holds names = record {
-  index = refl;
-  bound = λ one. elim (standing one endpoint) [
-    | same e b ↦
-        ap (seen_as index [] one) (ap (finite.get (finite.insert connections endpoint here)) e ∙ get_put connections endpoint here)
-        ∙ ap (λ n. Some (bound_with index n birth, fresh)) e
-        ∙ sym (ap (λ t. if t then Some (bound_with index endpoint birth, fresh) else seen_as index [] one (finite.get connections one)) (eq-eqb one endpoint e))
-    | other e b ↦
-        ap (seen_as index [] one) (get_put_other connections endpoint one here e)
-        ∙ sym (ap (λ t. if t then Some (bound_with index endpoint birth, fresh) else seen_as index [] one (finite.get connections one)) (ne_eqb one endpoint e))
-  ];
-  count = omega (arith, longer connections endpoint here free);
-  watchers = refl;
-  tokens = refl;
-  tree = tree;
-  holds = holds;
-  names = names;
-}
-  where
-    here : Connection
-    here = record { birth = birth; position = fresh }
-
-pub unbinds_one : (index : ℕ) (old new : Kept) (connections : Connections) (tokens : Tokens) (endpoint : ℕ) (connection : Connection) → finite.get connections endpoint ≡ Some connection →
-    Leads old new stay → HoldsNow old new (number_of connection.birth.node) (holds_at old (number_of connection.birth.node) - 1) → KeepsNames old new →
-    Unbinds (server_of index old connections tokens) endpoint (server_of index new (finite.remove connections endpoint) tokens)
-unbinds_one index old new connections tokens endpoint connection there tree holds names = record {
-  index = refl;
-  bound = λ one. elim (standing one endpoint) [
-    | same e b ↦
-        ap (seen_as index [] one) (ap (finite.get (finite.remove connections endpoint)) e ∙ get_cut connections endpoint)
-        ∙ sym (ap (λ t. if t then None else seen_as index [] one (finite.get connections one)) (eq-eqb one endpoint e))
-    | other e b ↦
-        ap (seen_as index [] one) (get_cut_other connections endpoint one e)
-        ∙ sym (ap (λ t. if t then None else seen_as index [] one (finite.get connections one)) (ne_eqb one endpoint e))
-  ];
-  count = omega (arith, shorter connections endpoint connection there);
-  watchers = refl;
-  tokens = refl;
-  tree = tree;
-  holds = λ pair is.
-      let here : Some (connected index endpoint connection) ≡ Some pair = sym (ap (seen_as index [] endpoint) there) ∙ is in
-      let one : connected index endpoint connection ≡ pair = cc in
-      subst (λ (p : Bound × Position). HoldsNow old new p.0.birth.node (holds_at old p.0.birth.node - 1)) one holds;
-  names = names;
-}
-
-pub is_free : (index endpoint : ℕ) (o : Option Connection) → seen_as index [] endpoint o ≡ None → o ≡ None
-is_free index endpoint None none = refl
-is_free index endpoint (Some connection) none = absurd (cc)
-
-pub roomy : (index : ℕ) (graph : Kept) (connections : Connections) (tokens : Tokens) → in_use (server_of index graph connections tokens) < limit.MAX_CONNECTIONS → finite.len connections < limit.MAX_CONNECTIONS
-roomy index graph connections tokens room = omega (arith, room)
-
--- ---- one token more, and one less
-
-pub names_one : (index : ℕ) (old new : Kept) (connections : Connections) (tokens : Tokens) (token : ℕ) (directory : NodeRef) →
-    Leads old new stay → HoldsNow old new (number_of directory) (holds_at old (number_of directory) + 1) → KeepsNames old new →
-    NamesBy (server_of index old connections tokens) token directory (server_of index new connections (finite.insert tokens token directory))
-names_one index old new connections tokens token directory tree holds names = record {
-  index = refl;
-  bound = refl;
-  watchers = refl;
-  tokens = λ one. elim (standing one token) [
-    | same e b ↦
-        ap (option_map number_of) (ap (finite.get (finite.insert tokens token directory)) e ∙ get_put tokens token directory)
-        ∙ sym (ap (λ t. if t then Some (number_of directory) else option_map number_of (finite.get tokens one)) (eq-eqb one token e))
-    | other e b ↦
-        ap (option_map number_of) (get_put_other tokens token one directory e)
-        ∙ sym (ap (λ t. if t then Some (number_of directory) else option_map number_of (finite.get tokens one)) (ne_eqb one token e))
-  ];
-  tree = tree;
-  holds = holds;
-  names = names;
-}
-
-pub is_unnamed : (o : Option NodeRef) → option_map number_of o ≡ None → o ≡ None
-is_unnamed None none = refl
-is_unnamed (Some directory) none = absurd (cc)
-
--- what a token names here is named no more
-cut_named : (tokens : Tokens) (token one : ℕ) → option_map number_of (finite.get (finite.remove tokens token) one) ≡ (if one == token then None else option_map number_of (finite.get tokens one))
-cut_named tokens token one = elim (standing one token) [
-  | same e b ↦
-      ap (option_map number_of) (ap (finite.get (finite.remove tokens token)) e ∙ get_cut tokens token)
-      ∙ sym (ap (λ t. if t then None else option_map number_of (finite.get tokens one)) (eq-eqb one token e))
-  | other e b ↦
-      ap (option_map number_of) (get_cut_other tokens token one e)
-      ∙ sym (ap (λ t. if t then None else option_map number_of (finite.get tokens one)) (ne_eqb one token e))
-]
-
-pub forgets_one : (index : ℕ) (old new : Kept) (connections : Connections) (tokens : Tokens) (token : ℕ) (directory : NodeRef) → finite.get tokens token ≡ Some directory →
-    Leads old new stay → HoldsNow old new (number_of directory) (holds_at old (number_of directory) - 1) → KeepsNames old new →
-    Forgets (server_of index old connections tokens) token (server_of index new connections (finite.remove tokens token))
-forgets_one index old new connections tokens token directory there tree holds names = record {
-  index = refl;
-  bound = refl;
-  watchers = refl;
-  tokens = cut_named tokens token;
-  tree = tree;
-  holds = λ node is.
-      let here : Some (number_of directory) ≡ Some node = sym (ap (option_map number_of) there) ∙ is in
-      let one : number_of directory ≡ node = cc in
-      subst (λ n. HoldsNow old new n (holds_at old n - 1)) one holds;
-  names = names;
-  idle = λ none. absurd (let wrong : Some (number_of directory) ≡ None = sym (ap (option_map number_of) there) ∙ none in cc);
-}
-
-pub removed_none : (tokens : Tokens) (token : ℕ) → finite.get tokens token ≡ None → finite.remove tokens token ≡ tokens
-removed_none tokens token none = same_map _ _ (λ q. elim (standing q token) [
-  | same e b ↦ ap (finite.get (finite.remove tokens token)) e ∙ get_cut tokens token ∙ sym (ap (finite.get tokens) e ∙ none)
-  | other e b ↦ get_cut_other tokens token q e
-])
-
-pub forgets_none : (index : ℕ) (graph : Kept) (connections : Connections) (tokens : Tokens) (token : ℕ) → finite.get tokens token ≡ None →
-    Forgets (server_of index graph connections tokens) token (server_of index graph connections (finite.remove tokens token))
-forgets_none index graph connections tokens token none = record {
-  index = refl;
-  bound = refl;
-  watchers = refl;
-  tokens = cut_named tokens token;
-  tree = λ tree stands. stands;
-  holds = λ node is. absurd (let wrong : None ≡ Some node = sym (ap (option_map number_of) none) ∙ is in cc);
-  names = λ node named kept. (named, refl);
-  idle = λ is. ap (server_of index graph connections) (removed_none tokens token none);
-}
-
--- ---- one served
+-- ---- directories
 
 -- what is spoken of as a directory is one
 spoken_directory : (kind : Option NodeKind) → option_map_or (is_spoken_at protocol.Directory) kind false ≡ true → kind ≡ Some Directory
@@ -199,32 +60,16 @@ spoken_directory (Some File) spoken = search rules
 spoken_directory (Some Service) spoken = search rules
 spoken_directory (Some (Mount index)) spoken = search rules
 
-is_directory : (graph : Kept) (birth : code.Birth) → CanBeBound graph birth → birth.protocol ≡ protocol.Directory → IsDirectory graph birth.node
+pub is_directory : (graph : Kept) (birth : code.Birth) → CanBeBound graph birth → birth.protocol ≡ protocol.Directory → IsDirectory graph birth.node
 is_directory graph birth can is = record {
   kept = can.named;
   kind = spoken_directory (kind_at graph (number_of birth.node)) (subst (λ (p : Protocol). option_map_or (is_spoken_at p) (kind_at graph (number_of birth.node)) false ≡ true) is can.spoken);
 }
 
-no_first : (tree : Tree) (endpoint server : ℕ) (fate : Fate) (out : Written) (o : Option Bound) → o ≡ (effects_told endpoint server fate out).bound → option_map_or (λ bound. first_frames tree bound) o [] ≡ []
-no_first tree endpoint server fates.Stays out o is = rw is refl
-no_first tree endpoint server fates.Ends out o is = rw is refl
-no_first tree endpoint server (fates.Binds object birth) out o is = rw is refl
-no_first tree endpoint server (fates.Refuses object) out o is = rw is refl
-no_first tree endpoint server (fates.Forwards mount object) out o is = rw is refl
-no_first tree endpoint server (fates.Gives token directory) out o is = rw is refl
-
--- nobody watches, so that nobody is told
-told_none : (server : ℕ) (happening : Happening) → told_by [] server happening ≡ []
-told_none server (news.removed name) = refl
-told_none server (news.added name) = refl
-told_none server (news.deleted directory) = refl
-
-none_told : (server : ℕ) (told : List Happening) → told_frames [] server told ≡ []
-none_told server [] = refl
-none_told server (happening ∷ later) = rw (told_none server happening) (none_told server later)
+-- ---- messages
 
 by_protocol : (moment : Moment) (p : Protocol) (bytes numbers : List ℕ) → p ≢ protocol.Watcher →
-    outcome_of_message today moment p bytes numbers ≡ outcome_of_read today moment (read_by p bytes numbers)
+    outcome_of_message moment p bytes numbers ≡ outcome_of_read moment (read_by p bytes numbers)
 by_protocol moment protocol.Directory bytes numbers isnt = refl
 by_protocol moment protocol.File bytes numbers isnt = refl
 by_protocol moment protocol.Node bytes numbers isnt = refl
@@ -232,37 +77,87 @@ by_protocol moment protocol.Echo bytes numbers isnt = refl
 by_protocol moment protocol.Watcher bytes numbers isnt = absurd (isnt refl)
 
 pub of_message : (moment : Moment) (p : Protocol) (bytes : List ℕ) (handles : List Handle) → moment.bound.birth.protocol ≡ p → p ≢ protocol.Watcher → AreByNumber handles →
-    outcome_of_read today moment (request_of p bytes handles) ≡ outcome_of_sending today moment (message bytes (numbers_of handles))
+    outcome_of_read moment (request_of p bytes handles) ≡ outcome_of_sending moment (message bytes (numbers_of handles))
 unfolding outcome_of_sending
 of_message moment p bytes handles is isnt numbered =
-    ap (λ hs. outcome_of_read today moment (request_of p bytes hs)) (sym numbered)
+    ap (λ hs. outcome_of_read moment (request_of p bytes hs)) (sym numbered)
     ∙ sym (by_protocol moment p bytes (numbers_of handles) isnt)
-    ∙ ap (λ q. outcome_of_message today moment q bytes (numbers_of handles)) (sym is)
+    ∙ ap (λ q. outcome_of_message moment q bytes (numbers_of handles)) (sym is)
+
+-- what is sent to a watcher answers nothing
+of_watcher : (moment : Moment) (bytes numbers : List ℕ) → moment.bound.birth.protocol ≡ protocol.Watcher →
+    outcome_of_sending moment (message bytes numbers) ≡ outcome_with (asker_of moment.bound 0 0) (only moment.position silent)
+unfolding outcome_of_sending
+of_watcher moment bytes numbers is = ap (λ p. outcome_of_message moment p bytes numbers) is
+
+-- ---- room
+
+below : (limit_is n : ℕ) → nat_le limit_is n ≡ false → n < limit_is
+below limit_is n free =
+    let least : limit_is ≤ n → ⊥ = λ over. grind (arith, nat_tests) in
+    omega (arith, least)
 
 not_full : (room : Room) (n : ℕ) → room.connections ≡ n → is_full room ≡ false → n < limit.MAX_CONNECTIONS
-not_full room n is free =
-    let least : limit.MAX_CONNECTIONS ≤ room.connections → ⊥ = λ over. grind (arith, nat_tests) in
-    omega (arith, is, least)
+not_full room n is free = let few = below limit.MAX_CONNECTIONS room.connections free in omega (arith, is, few)
 
-module _ (index : ℕ) (graph : Kept) (connections : Connections) (tokens : Tokens) (asking : Asking) (token : Option ℕ) (handles : List ℕ) (moment : Moment) (old : Connection)
-    (there : finite.get connections asking.endpoint ≡ Some old) (with_room : asking.room ≡ record { connections = finite.len connections; watchers = 0; token = token })
-    (asked : IsMomentOf (server_of index graph connections tokens) asking.endpoint token handles moment) where
+-- ---- who moves
+
+-- a watcher is found at its own endpoint
+found_there : (endpoint : ℕ) (bounds : List Bound) (bound : Bound) → find (λ (one : Bound). one.endpoint == endpoint) bounds ≡ Some bound → bound.endpoint ≡ endpoint
+found_there endpoint [] bound there = absurd (cc)
+found_there endpoint (one ∷ later) bound there = by_test (one.endpoint == endpoint) refl there (found_there endpoint later bound) where
+  by_test : (b : Bool) → (one.endpoint == endpoint) ≡ b → cond b (Some one) (find (λ (o : Bound). o.endpoint == endpoint) later) ≡ Some bound →
+      (find (λ (o : Bound). o.endpoint == endpoint) later ≡ Some bound → bound.endpoint ≡ endpoint) → bound.endpoint ≡ endpoint
+  by_test true is at rest = let same_one : one ≡ bound = cc in ap (λ (b : Bound). b.endpoint) (sym same_one) ∙ eqb-true one.endpoint endpoint is
+  by_test false is at rest = rest at
+
+-- so whoever is seen is seen at its own endpoint
+seen_there : (index endpoint : ℕ) (bounds : List Bound) (o : Option Connection) (pair : Bound × Position) → seen_as index bounds endpoint o ≡ Some pair → pair.0.endpoint ≡ endpoint
+seen_there index endpoint bounds (Some connection) pair there = let same_one : connected index endpoint connection ≡ pair = cc in ap (λ (p : Bound × Position). p.0.endpoint) (sym same_one)
+seen_there index endpoint bounds None pair there = by_found (find (λ (one : Bound). one.endpoint == endpoint) bounds) refl there where
+  by_found : (f : Option Bound) → find (λ (one : Bound). one.endpoint == endpoint) bounds ≡ f → option_map (λ (bound : Bound). (bound, fresh)) f ≡ Some pair → pair.0.endpoint ≡ endpoint
+  by_found None is at = absurd (cc)
+  by_found (Some bound) is at = let same_one : (bound, fresh) ≡ pair = cc in ap (λ (p : Bound × Position). p.0.endpoint) (sym same_one) ∙ found_there endpoint bounds bound is
+
+-- others don't move
+others_stay : (index served endpoint : ℕ) (bounds : List Bound) (o : Option Connection) (position : Position) → endpoint ≢ served →
+    option_map (moved served position) (seen_as index bounds endpoint o) ≡ seen_as index bounds endpoint o
+others_stay index served endpoint bounds o position apart = by_seen (seen_as index bounds endpoint o) refl where
+  by_seen : (s : Option (Bound × Position)) → seen_as index bounds endpoint o ≡ s → option_map (moved served position) s ≡ s
+  by_seen None is = refl
+  by_seen (Some pair) is = ap (λ t. Some (if t then (pair.0, position) else pair)) (ne_eqb pair.0.endpoint served (λ e. apart (sym (seen_there index endpoint bounds o pair is) ∙ e)))
+
+-- ---- on a connection
+
+module _ (index : ℕ) (graph : Kept) (connections : Connections) (seats : Seats) (tokens : Tokens) (asking : Asking) (handles : List ℕ) (moment : Moment) (old : Connection)
+    (there : finite.get connections asking.endpoint ≡ Some old) (used : asking.connections ≡ finite.len connections + length seats) (who : asking.watching.now ≡ seats)
+    (asked : IsMomentOf (server_of index graph connections seats tokens) asking.endpoint asking.token handles moment) where
   both : (connected index asking.endpoint old) ≡ (moment.bound, moment.position)
   both =
-      let one : Some (connected index asking.endpoint old) ≡ Some (moment.bound, moment.position) = sym (ap (seen_as index [] asking.endpoint) there) ∙ asked.bound in
+      let one : Some (connected index asking.endpoint old) ≡ Some (moment.bound, moment.position) = sym (ap (seen_as index (bounds_at index seats) asking.endpoint) there) ∙ asked.bound in
       cc
 
   pub bound_is : moment.bound ≡ bound_with index asking.endpoint old.birth
   bound_is = sym (ap (λ (pair : Bound × Position). pair.0) both)
 
+  node_is : moment.bound.birth.node ≡ number_of old.birth.node
+  node_is = ap (λ (bound : Bound). bound.birth.node) bound_is
+
   -- what comes with a message names there what it names here
   pub named_is : AreNamed tokens handles moment.directory
   named_is = asked.directory
 
-  room_is : moment.room ≡ asking.room
-  room_is = asked.room ∙ ap (λ n. record { connections = n; watchers = 0; token = token }) long ∙ sym with_room where
-    long : finite.len connections + length {A = Bound} [] ≡ finite.len connections
-    long = omega arith
+  watchers_are : (node : ℕ) → length (filter (λ (bound : Bound). bound.birth.node == node) (bounds_at index seats)) ≡ length (filter (is_at node) asking.watching.now)
+  watchers_are node = counted_as index node seats ∙ ap (λ (found : Seats). length (filter (is_at node) found)) (sym who)
+
+  room_is : moment.room ≡ room_for asking (number_of old.birth.node)
+  room_is =
+      asked.room ∙ ap (λ node. room_at (server_of index graph connections seats tokens) node asking.token) node_is
+      ∙ (λ i. record {
+        connections = (in_use_is index graph connections seats tokens ∙ sym used) i;
+        watchers = watchers_are (number_of old.birth.node) i;
+        token = asking.token;
+      })
 
   pub is_asked : IsAskedAt index asking graph old moment
   is_asked = record {
@@ -272,14 +167,21 @@ module _ (index : ℕ) (graph : Kept) (connections : Connections) (tokens : Toke
     tree = asked.tree;
   }
 
-  module _ (changed : Kept) (new : Connection) (outcome : Outcome) (fate : Fate) (out : Written) (before behind : List ℕ)
-      (answers : Answers moment outcome fate out new graph changed before behind) (keeps : KeepsHolds old new graph changed) (can_still : CanBeBound changed new.birth) where
-    frames_are : frames_here moment [] outcome ≡ outcome.frames
+  module _ (changed : Kept) (new : Connection) (outcome : Outcome) (done : Done) (out : Written) (before between behind : List ℕ)
+      (answers : Answers moment outcome done out new graph changed before between) (keeps : KeepsHolds old new graph changed) (can_still : CanBeBound changed new.birth)
+      (telling : behind ≡ between ++ spellings (first_of changed.edges done.fate ++ told_of seats (told_by done.changes))) where
+    firsts_are : option_map_or (λ bound. first_frames moment.tree bound) outcome.bound [] ≡ first_of changed.edges done.fate
+    firsts_are =
+        first_is moment.tree changed outcome.change moment.bound.endpoint moment.bound.server done.fate out outcome.bound (answers.change moment.tree asked.tree)
+        (λ object mask directory is. let watched = answers.watched object mask directory is in watched.still) (ap (λ e. e.bound) answers.effects)
+
+    told_are : told_frames (bounds_at index seats) moment.bound.server outcome.told ≡ told_of seats (told_by done.changes)
+    told_are = ap (λ (bound : Bound). told_frames (bounds_at index seats) bound.server outcome.told) bound_is ∙ told_is index seats outcome.told ∙ ap (told_of seats) answers.told
+
+    frames_are : frames_here moment (bounds_at index seats) outcome ≡ outcome.frames ++ (first_of changed.edges done.fate ++ told_of seats (told_by done.changes))
     frames_are =
-        ap (λ (fs : List Frame). outcome.frames ++ fs ++ told_frames [] moment.bound.server outcome.told)
-        (no_first moment.tree moment.bound.endpoint moment.bound.server fate out outcome.bound (ap (λ e. e.bound) answers.effects))
-        ∙ ap (λ (fs : List Frame). outcome.frames ++ [] ++ fs) (none_told moment.bound.server outcome.told)
-        ∙ append-nil (outcome.frames ++ []) ∙ append-nil outcome.frames
+        (λ i. outcome.frames ++ firsts_are i ++ told_are i)
+        ∙ append_assoc outcome.frames (first_of changed.edges done.fate) (told_of seats (told_by done.changes))
 
     endpoint_is : moment.bound.endpoint ≡ asking.endpoint
     endpoint_is = ap (λ (bound : Bound). bound.endpoint) bound_is
@@ -290,61 +192,152 @@ module _ (index : ℕ) (graph : Kept) (connections : Connections) (tokens : Toke
         ∙ ap (λ (position : Position). (bound_with index one old.birth, position)) (sym answers.position)
         ∙ ap (λ (birth : code.Birth). (bound_with index one birth, new.position)) (sym keeps.birth)
 
-    stays : (one : ℕ) (o : Option Connection) → one ≢ asking.endpoint → option_map (moved moment.bound.endpoint outcome.position) (seen_as index [] one o) ≡ seen_as index [] one o
-    stays one None apart = refl
-    stays one (Some connection) apart =
-        ap (λ t. Some (if t then (bound_with index one connection.birth, outcome.position) else connected index one connection))
-        (ne_eqb one moment.bound.endpoint (λ is. apart (is ∙ endpoint_is)))
+    abbrev served : Connections
+    served = finite.insert connections asking.endpoint new
 
-    pub serves : Serves moment outcome fate out (server_of index graph connections tokens) (server_of index changed (finite.insert connections asking.endpoint new) tokens) before behind
+    in_use_now : in_use (server_of index changed served seats tokens) ≡ in_use (server_of index graph connections seats tokens)
+    in_use_now = omega (arith, as_long connections asking.endpoint old new there)
+
+    few_now : is_full moment.room ≡ false → in_use (server_of index changed served seats tokens) < limit.MAX_CONNECTIONS
+    few_now free =
+        let few = not_full moment.room (in_use (server_of index graph connections seats tokens)) (ap (λ (room : Room). room.connections) asked.room) free in
+        omega (arith, in_use_now, few)
+
+    pub serves : Serves moment outcome done.fate out (server_of index graph connections seats tokens) (server_of index changed served seats tokens) before behind
     serves = record {
-      frames = answers.frames ∙ ap (λ (fs : List Frame). before ++ spellings fs) (sym frames_are);
+      frames = one_behind before between behind outcome.frames _ answers.frames telling ∙ ap (λ (fs : List Frame). before ++ spellings fs) (sym frames_are);
       effects = answers.effects;
       index = refl;
       bound = λ one. elim (standing one asking.endpoint) [
         | same e b ↦
-            ap (seen_as index [] one) (ap (finite.get (finite.insert connections asking.endpoint new)) e ∙ get_put connections asking.endpoint new)
+            ap (seen_as index (bounds_at index seats) one) (ap (finite.get served) e ∙ get_put connections asking.endpoint new)
             ∙ ap Some (sym (moved_here one e))
-            ∙ sym (ap (λ o. option_map (moved moment.bound.endpoint outcome.position) (seen_as index [] one o)) (ap (finite.get connections) e ∙ there))
+            ∙ sym (ap (λ o. option_map (moved moment.bound.endpoint outcome.position) (seen_as index (bounds_at index seats) one o)) (ap (finite.get connections) e ∙ there))
         | other e b ↦
-            ap (seen_as index [] one) (get_put_other connections asking.endpoint one new e)
-            ∙ sym (stays one (finite.get connections one) e)
+            ap (seen_as index (bounds_at index seats) one) (get_put_other connections asking.endpoint one new e)
+            ∙ sym (others_stay index moment.bound.endpoint one (bounds_at index seats) (finite.get connections one) outcome.position (λ is. e (is ∙ endpoint_is)))
       ];
-      count = omega (arith, as_long connections asking.endpoint old new there);
+      count = in_use_now;
       watchers = refl;
       tokens = refl;
       tree = answers.change;
       holds = keeps.holds;
       names = keeps.names;
-      has_place = λ object birth is. record {
-        node = answers.bound object birth is;
-        room =
-            omega (
-              arith,
-              as_long connections asking.endpoint old new there,
-              not_full moment.room (finite.len connections) (ap (λ (room : Room). room.connections) (room_is ∙ with_room)) (answers.room object birth is),
-            );
-      };
+      has_place = λ object birth is. record { node = answers.bound object birth is; room = few_now (answers.room object birth is) };
+      watched = λ object mask directory is.
+          let watched = answers.watched object mask directory is in
+          record {
+            directory = subst (IsDirectory changed) watched.here.node (is_directory changed new.birth can_still watched.here.protocol);
+            room = few_now watched.room;
+            few =
+                subst (λ (node : ℕ). length (filter (λ (bound : Bound). bound.birth.node == node) (bounds_at index seats)) < limit.MAX_WATCHERS)
+                (node_is ∙ ap (λ (birth : code.Birth). number_of birth.node) (sym keeps.birth) ∙ ap number_of watched.here.node)
+                (subst (λ (n : ℕ). n < limit.MAX_WATCHERS) (ap (λ (room : Room). room.watchers) asked.room) (below limit.MAX_WATCHERS moment.room.watchers watched.few));
+          };
       given = λ given_token directory is.
           let on = answers.given given_token directory is in
           subst (IsDirectory changed) on.node (is_directory changed new.birth can_still on.protocol);
       mounted = answers.mounted;
     }
 
--- a message that was served on a connection
-pub serves_message : (index : ℕ) (graph changed : Kept) (connections : Connections) (tokens : Tokens) (token : Option ℕ) (moment : Moment) (old new : Connection) (bytes : List ℕ) (handles : List Handle)
-    {E : Type 0} (result : Result Fate E) (out : Written) (before behind : List ℕ) (asking : Asking) →
-    ((server : ℕ) (moment : Moment) → IsAskedAt server asking graph old moment → AreNamed tokens (numbers_of handles) moment.directory →
-    IfOk result (λ fate. Answers moment (outcome_of_read today moment (request_of old.birth.protocol bytes handles)) fate out new graph changed before behind)) →
-    finite.get connections asking.endpoint ≡ Some old → asking.room ≡ record { connections = finite.len connections; watchers = 0; token = token } →
-    CanBeBound graph old.birth → KeepsHolds old new graph changed → CanBeBound changed new.birth → AreByNumber handles → IsMomentOf (server_of index graph connections tokens) asking.endpoint token (numbers_of handles) moment →
-    IfOk result (λ fate. Serves moment (outcome_of_sending today moment (message bytes (numbers_of handles))) fate out
-    (server_of index graph connections tokens) (server_of index changed (finite.insert connections asking.endpoint new) tokens) before behind)
-serves_message index graph changed connections tokens token moment old new bytes handles result out before behind asking answers there with_room can keeps can_still numbered asked =
-    let outcome_is = of_message moment old.birth.protocol bytes handles
-    (ap (λ (bound : Bound). bound.birth.protocol) (bound_is index graph connections tokens asking token (numbers_of handles) moment old there with_room asked)) (no_watcher old.birth.protocol _ can.spoken) numbered in
-    subst (λ outcome. IfOk result (λ fate. Serves moment outcome fate out (server_of index graph connections tokens) (server_of index changed (finite.insert connections asking.endpoint new) tokens) before behind)) outcome_is
-    (ok_map _ _ result
-    (λ fate does. serves index graph connections tokens asking token (numbers_of handles) moment old there with_room asked changed new (outcome_of_read today moment (request_of old.birth.protocol bytes handles)) fate out before behind does keeps can_still)
-    (answers index moment (is_asked index graph connections tokens asking token (numbers_of handles) moment old there with_room asked)
-    (named_is index graph connections tokens asking token (numbers_of handles) moment old there with_room asked)))
+  -- a message that was served on it
+  pub serves_message : (changed : Kept) (new : Connection) (bytes : List ℕ) (sent : List Handle) (done : Done) (out : Written) (before between behind : List ℕ) →
+      numbers_of sent ≡ handles → AreByNumber sent → CanBeBound graph old.birth → KeepsHolds old new graph changed → CanBeBound changed new.birth →
+      Answers moment (outcome_of_read moment (request_of old.birth.protocol bytes sent)) done out new graph changed before between →
+      behind ≡ between ++ spellings (first_of changed.edges done.fate ++ told_of seats (told_by done.changes)) →
+      Serves moment (outcome_of_sending moment (message bytes handles)) done.fate out
+      (server_of index graph connections seats tokens) (server_of index changed (finite.insert connections asking.endpoint new) seats tokens) before behind
+  serves_message changed new bytes sent done out before between behind same_handles numbered can keeps can_still answers telling =
+      let outcome_is = of_message moment old.birth.protocol bytes sent (ap (λ (bound : Bound). bound.birth.protocol) bound_is) (no_watcher old.birth.protocol _ can.spoken) numbered
+      ∙ ap (λ (numbers : List ℕ). outcome_of_sending moment (message bytes numbers)) same_handles in
+      subst (λ outcome. Serves moment outcome done.fate out (server_of index graph connections seats tokens) (server_of index changed (finite.insert connections asking.endpoint new) seats tokens) before behind) outcome_is
+      (serves changed new (outcome_of_read moment (request_of old.birth.protocol bytes sent)) done out before between behind answers keeps can_still telling)
+
+-- ---- on a watcher
+
+-- a message that is passed over
+module _ (index : ℕ) (graph : Kept) (connections : Connections) (seats : Seats) (tokens : Tokens) (endpoint : ℕ) (token : Option ℕ) (handles : List ℕ) (moment : Moment) (seat : Seat)
+    (free : finite.get connections endpoint ≡ None) (there : seat_at seats endpoint ≡ Some seat)
+    (asked : IsMomentOf (server_of index graph connections seats tokens) endpoint token handles moment) where
+  pair_is : seated index endpoint seat ≡ (moment.bound, moment.position)
+  pair_is =
+      let one : Some (seated index endpoint seat) ≡ Some (moment.bound, moment.position) =
+      sym (seen_watching index endpoint seats (finite.get connections endpoint) free ∙ ap (option_map (seated index endpoint)) there) ∙ asked.bound in
+      cc
+
+  watcher_is : moment.bound ≡ bound_at index (endpoint, seat)
+  watcher_is = sym (ap (λ (pair : Bound × Position). pair.0) pair_is)
+
+  -- whoever is moved to its own position stays
+  all_stay : (one : ℕ) (o : Option Connection) → finite.get connections one ≡ o →
+      seen_as index (bounds_at index seats) one o ≡ option_map (moved moment.bound.endpoint moment.position) (seen_as index (bounds_at index seats) one o)
+  all_stay one o is = elim (standing one endpoint) [
+    | same e b ↦
+        here one e o is
+    | other e b ↦ sym (others_stay index moment.bound.endpoint one (bounds_at index seats) o moment.position (λ at. e (at ∙ ap (λ (bound : Bound). bound.endpoint) watcher_is)))
+  ]
+    where
+      here : (one : ℕ) → one ≡ endpoint → (o : Option Connection) → finite.get connections one ≡ o →
+          seen_as index (bounds_at index seats) one o ≡ option_map (moved moment.bound.endpoint moment.position) (seen_as index (bounds_at index seats) one o)
+      here one e o is =
+          let seen_is : seen_as index (bounds_at index seats) one o ≡ Some (moment.bound, moment.position) =
+          ap (seen_as index (bounds_at index seats) one) (sym is) ∙ ap (λ (n : ℕ). seen_as index (bounds_at index seats) n (finite.get connections n)) e ∙ asked.bound in
+          seen_is ∙ sym (ap (option_map (moved moment.bound.endpoint moment.position)) seen_is
+          ∙ ap (λ t. Some (if t then (moment.bound, moment.position) else (moment.bound, moment.position))) (eq-eqb moment.bound.endpoint moment.bound.endpoint refl))
+
+  pub passes_over : (bytes : List ℕ) (done : Done) (out : Written) (before between behind : List ℕ) → IsPassedOver done → between ≡ before →
+      behind ≡ between ++ spellings (first_of graph.edges done.fate ++ told_of seats (told_by done.changes)) →
+      Serves moment (outcome_of_sending moment (message bytes handles)) done.fate out (server_of index graph connections seats tokens) (server_of index graph connections seats tokens) before behind
+  passes_over bytes done out before between behind passed kept telling =
+      subst (λ outcome. Serves moment outcome done.fate out (server_of index graph connections seats tokens) (server_of index graph connections seats tokens) before behind)
+      (sym (of_watcher moment bytes handles (ap (λ (bound : Bound). bound.birth.protocol) watcher_is)))
+      (record {
+        frames = telling ∙ (λ i. kept i ++ spellings (first_of graph.edges (passed.fate i) ++ told_of seats (passed.told i)));
+        effects = ap (λ (fate : Fate). effects_told moment.bound.endpoint moment.bound.server fate out) (sym passed.fate);
+        index = refl;
+        bound = λ one. all_stay one (finite.get connections one) refl;
+        count = refl;
+        watchers = refl;
+        tokens = refl;
+        tree = λ tree stands. stands;
+        holds = λ number. refl;
+        names = λ node named still. (named, refl);
+        has_place = λ object birth is. absurd (let wrong : fates.Stays ≡ fates.Binds object birth = sym passed.fate ∙ is in search rules);
+        watched = λ object mask directory is. absurd (let wrong : fates.Stays ≡ fates.Watches object directory mask = sym passed.fate ∙ is in search rules);
+        given = λ given_token directory is. absurd (let wrong : fates.Stays ≡ fates.Gives given_token directory = sym passed.fate ∙ is in search rules);
+        mounted = λ mount object is. absurd (let wrong : fates.Stays ≡ fates.Forwards mount object = sym passed.fate ∙ is in search rules);
+      })
+
+-- ---- what can be told
+
+pub can_be_told : (changed : Kept) (new : Connection) (done : Done) (before after : List ℕ) → CanBeBound changed new.birth → CanTell done new before after → CanBeTold changed done
+can_be_told changed new done before after can tells = record {
+  directory = λ object mask directory is.
+      let on = tells.directory object mask directory is in
+      subst (IsDirectory changed) on.node (is_directory changed new.birth can on.protocol);
+  short = tells.short;
+}
+
+pub nothing_told_of : (graph : Kept) (done : Done) → IsPassedOver done → CanBeTold graph done
+nothing_told_of graph done passed = record {
+  directory = λ object mask directory is. absurd (let wrong : fates.Stays ≡ fates.Watches object directory mask = sym passed.fate ∙ is in search rules);
+  short = subst (All IsShort) (sym passed.told) (All-nil IsShort);
+}
+
+-- what was written stands in front, or nothing was written
+pub front_of : {E : Type 0} (result : Result Done E) (new : Connection) (before after : List ℕ) → IfOk result (λ done. CanTell done new before after) → OnErr result (after ≡ before) → Extends before after
+front_of (Ok done) new before after tells none = tells.front
+front_of (Err e) new before after tells none = ([], none ∙ sym (append-nil before))
+
+-- on a connection that is sound behind its serving
+pub can_of : {E : Type 0} (graph changed : Kept) (connections : Connections) (seats : Seats) (tokens : Tokens) (endpoint : ℕ) → IsSound graph connections seats tokens → HasTree changed → (old new : Connection) →
+    finite.get connections endpoint ≡ Some old → KeepsHolds old new graph changed → (result : Result Done E) (before after : List ℕ) → IfOk result (λ done. CanTell done new before after) → IfOk result (CanBeTold changed)
+can_of graph changed connections seats tokens endpoint sound tree old new there keeps result before after tells =
+    let behind = sound_served graph changed connections seats tokens endpoint old new sound there keeps tree in
+    ok_map _ _ result (λ done told. can_be_told changed new done before after (behind.each endpoint new (get_put connections endpoint new)) told) tells
+
+pub none_of : {E : Type 0} (changed : Kept) (result : Result Done E) → IfOk result IsPassedOver → IfOk result (CanBeTold changed)
+none_of changed result passed = ok_map _ _ result (λ done over. nothing_told_of changed done over) passed
+
+pub ok_at : {X E : Type 0} (P : X → Type 0) (r : Result X E) (x : X) → r ≡ Ok x → IfOk r P → P x
+ok_at P r x is holds = subst (λ one. IfOk one P) is holds

@@ -1,5 +1,5 @@
 -- What a server takes in and lets go.
-use Rattle.std.specs.Prelude.{◌≡◌, ℕ, ◌+◌, ◌-◌, ◌==◌, ◌<◌, not, if◌then◌else◌, filter, Some, None}
+use Rattle.std.specs.Prelude.{◌≡◌, ℕ, ◌+◌, ◌-◌, ◌==◌, ◌<◌, not, if◌then◌else◌, List, [], ◌∷◌, ◌++◌, filter, length, Some, None}
 use Rattle.fidl_names.specs.declared.limits.TheConstants as limit
 use Rattle.node_graph.specs.declared.nodes.NodeKind.TheVariants.{Directory}
 use Rattle.node_graph.specs.declared.nodes.NodeRef.{NodeRef}
@@ -8,23 +8,28 @@ use Rattle.node_graph.specs.Tree.{stay}
 use Rattle.conn_rules.specs.declared.births.Birth as code
 use Rattle.conn_rules.specs.Births.{Position, fresh}
 use Rattle.conn_rules.specs.Shared.{CanBeBound}
+use Rattle.vfs_journal.specs.History.{is_watcher}
 use Rattle.vfs_journal.specs.Starts.{Bound}
-use Rattle.vfs_server.specs.Servers.{Server, bound_with, in_use, named, seen}
+use Rattle.vfs_server.specs.Servers.{Server, in_use, named, seen}
 
 -- the server has room, and can bind the birth
 pub record HasPlace (server : Server) (birth : code.Birth) : Type 0 where
   pub node : CanBeBound server.graph birth
   pub room : in_use server < limit.MAX_CONNECTIONS
 
+-- a watcher comes last among them
+abbrev pub watching_behind : List Bound → Bound → List Bound
+watching_behind watchers bound = watchers ++ (if is_watcher bound.birth.protocol then bound ∷ [] else [])
+
 -- an endpoint is bound and no other changes; its node has one hold more
-pub record Binds (old : Server) (endpoint : ℕ) (birth : code.Birth) (new : Server) : Type 0 where
+pub record Binds (old : Server) (newest : Bound) (new : Server) : Type 0 where
   pub index : new.index ≡ old.index
-  pub bound : (other : ℕ) → seen new other ≡ (if other == endpoint then Some (bound_with old.index endpoint birth, fresh) else seen old other)
+  pub bound : (other : ℕ) → seen new other ≡ (if other == newest.endpoint then Some (newest, fresh) else seen old other)
   pub count : in_use new ≡ in_use old + 1
-  pub watchers : new.watchers ≡ old.watchers
+  pub watchers : new.watchers ≡ watching_behind old.watchers newest
   pub tokens : new.tokens ≡ old.tokens
   pub tree : Leads old.graph new.graph stay
-  pub holds : HoldsNow old.graph new.graph (number_of birth.node) (holds_at old.graph (number_of birth.node) + 1)
+  pub holds : HoldsNow old.graph new.graph newest.birth.node (holds_at old.graph newest.birth.node + 1)
   pub names : KeepsNames old.graph new.graph
 
 -- an endpoint isn't bound any more and no other changes; the node that it was bound to has one hold less
@@ -39,12 +44,20 @@ pub record Unbinds (old : Server) (endpoint : ℕ) (new : Server) : Type 0 where
       HoldsNow old.graph new.graph pair.0.birth.node (holds_at old.graph pair.0.birth.node - 1)
   pub names : KeepsNames old.graph new.graph
 
--- ---- tokens
+-- ---- directories
 
 -- a directory that the graph keeps
 pub record IsDirectory (graph : Kept) (node : NodeRef) : Type 0 where
   pub kept : Names graph node
   pub kind : kind_at graph (number_of node) ≡ Some Directory
+
+-- the server has room for a watcher, and the directory for one more
+pub record CanWatch (server : Server) (node : NodeRef) : Type 0 where
+  pub directory : IsDirectory server.graph node
+  pub room : in_use server < limit.MAX_CONNECTIONS
+  pub few : length (filter (λ bound. bound.birth.node == number_of node) server.watchers) < limit.MAX_WATCHERS
+
+-- ---- tokens
 
 -- a token names a directory from now on and no other does; the directory has one hold more
 pub record NamesBy (old : Server) (token : ℕ) (directory : NodeRef) (new : Server) : Type 0 where

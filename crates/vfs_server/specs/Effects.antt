@@ -3,11 +3,11 @@ use Rattle.std.specs.Prelude.{ℕ, List, [], ◌∷◌, Option, Some, None}
 use Rattle.fidl_wire.specs.Written.{Written}
 use Rattle.tree_file.specs.Numbering.{end_of_mount}
 use Rattle.node_graph.specs.Graph.{number_of}
-use Rattle.conn_rules.specs.Births.{born}
 use Rattle.vfs_journal.specs.Outcomes.{Forwarded, Given, Outcome}
 use Rattle.vfs_journal.specs.Starts.{Bound}
 use Rattle.vfs_server.specs.declared.fate.Fate.{Fate}
 use Rattle.vfs_server.specs.declared.fate.Fate.TheVariants as fate
+use Rattle.vfs_server.specs.Servers.{bound_with, watcher_with}
 
 -- the endpoint that is bound, those that end, the Open that goes on, and the token that is given
 pub record Effects : Type 0 where
@@ -29,7 +29,9 @@ abbrev pub effects_told : ℕ → ℕ → Fate → Written → Effects
 effects_told endpoint server fate.Stays out = no_effects
 effects_told endpoint server fate.Ends out = record no_effects { ends = endpoint ∷ [] }
 effects_told endpoint server (fate.Binds object birth) out =
-    record no_effects { bound = Some (record { endpoint = object; server = server; birth = born birth; mask = 0 }) }
+    record no_effects { bound = Some (bound_with server object birth) }
+effects_told endpoint server (fate.Watches object directory mask) out =
+    record no_effects { bound = Some (watcher_with server object (number_of directory) mask) }
 effects_told endpoint server (fate.Refuses object) out = record no_effects { ends = object ∷ [] }
 effects_told endpoint server (fate.Forwards mount object) out =
     record no_effects { forward = Some (record { endpoint = end_of_mount mount; bytes = out.bytes; object = object }) }

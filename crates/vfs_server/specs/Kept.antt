@@ -1,5 +1,5 @@
 -- How a server keeps what is connected, and what holds of every server. No public clause needs this.
-use Rattle.std.specs.Prelude.{◌≡◌, ℕ, ◌+◌, ◌≤◌, ◌==◌, filter_map, count_by, Option, Some, IsSome}
+use Rattle.std.specs.Prelude.{◌≡◌, ℕ, ◌+◌, ◌≤◌, ◌==◌, All, length, filter_map, count_by, Option, Some, None, IsSome}
 use Rattle.std.specs.BTreeMap as tree
 use Rattle.std.specs.FinMap as finite
 use Rattle.std.specs.Option.{option_map}
@@ -12,6 +12,7 @@ use Rattle.node_graph.specs.Tree.{Tree}
 use Rattle.conn_rules.specs.Births.{Connection}
 use Rattle.conn_rules.specs.Shared.{CanBeBound}
 use Rattle.vfs_server.specs.Binding.{IsDirectory}
+use Rattle.vfs_server.specs.Watched.{Seats, is_at, seat_at}
 
 abbrev pub Connections : Type 0
 Connections = finite.FinMap nat_cmp Connection
@@ -49,12 +50,22 @@ HasTree graph = (tree : Tree) × StandsFor graph tree
 abbrev pub NameDirectories : Kept → Tokens → Type 0
 NameDirectories graph tokens = (token : ℕ) (directory : NodeRef) → finite.get tokens token ≡ Some directory → IsDirectory graph directory
 
--- each connection is to a node that the graph keeps, and each token names a directory that it keeps; a node has one hold for each of
--- both; and there are no more than a server may have
-pub record IsSound (graph : Kept) (connections : Connections) (tokens : Tokens) : Type 0 where
+-- how many watch a node
+abbrev pub watched_by : ℕ → Seats → ℕ
+watched_by number seats = count_by (is_at number) seats
+
+-- each watcher is at a directory that the graph keeps
+abbrev pub WatchDirectories : Kept → Seats → Type 0
+WatchDirectories graph seats = All (λ entry. IsDirectory graph entry.1.directory) seats
+
+-- each connection is to a node that the graph keeps, and each watcher and each token is at a directory that it keeps; a node has one
+-- hold for each of them; no endpoint is bound twice; and there are no more than a server may have
+pub record IsSound (graph : Kept) (connections : Connections) (seats : Seats) (tokens : Tokens) : Type 0 where
   pub tree : HasTree graph
   pub each : (endpoint : ℕ) (connection : Connection) → finite.get connections endpoint ≡ Some connection → CanBeBound graph connection.birth
+  pub watched : WatchDirectories graph seats
   pub named : NameDirectories graph tokens
-  pub holds : (number : ℕ) → holds_at graph number ≡ connected_to number connections + naming number tokens
-  pub few : finite.len connections ≤ limit.MAX_CONNECTIONS
+  pub holds : (number : ℕ) → holds_at graph number ≡ connected_to number connections + watched_by number seats + naming number tokens
+  pub apart : (endpoint : ℕ) → IsSome (finite.get connections endpoint) → seat_at seats endpoint ≡ None
+  pub few : finite.len connections + length seats ≤ limit.MAX_CONNECTIONS
   pub rare : finite.len tokens ≤ limit.MAX_TOKENS

@@ -3,6 +3,7 @@ pub mod Holding
 pub mod Effects
 pub mod Binding
 pub mod Serving
+pub mod Watched
 pub mod Codes
 pub mod Kept
 pub mod Steps

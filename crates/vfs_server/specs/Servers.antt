@@ -7,6 +7,7 @@ use Rattle.node_graph.specs.declared.nodes.NodeRef.{NodeRef}
 use Rattle.node_graph.specs.Graph.{Kept, number_of}
 use Rattle.conn_rules.specs.declared.births.Birth as code
 use Rattle.conn_rules.specs.Births.{Connection, Position, born, fresh}
+use Rattle.vfs_journal.specs.Outcomes.{watcher_birth}
 use Rattle.vfs_journal.specs.Starts.{Bound}
 
 -- its index among the servers, what is kept of its tree, the connections by their endpoints, the watchers in order of their births, and of
@@ -27,6 +28,10 @@ in_use server = finite.len server.connections + length server.watchers
 -- a connection has no mask, which watchers alone have
 abbrev pub bound_with : ℕ → ℕ → code.Birth → Bound
 bound_with index endpoint birth = record { endpoint = endpoint; server = index; birth = born birth; mask = 0 }
+
+-- a watcher of a directory, by its number
+abbrev pub watcher_with : ℕ → ℕ → ℕ → ℕ → Bound
+watcher_with index endpoint directory mask = record { endpoint = endpoint; server = index; birth = watcher_birth directory; mask = mask }
 
 abbrev pub connected : ℕ → ℕ → Connection → Bound × Position
 connected index endpoint connection = (bound_with index endpoint connection.birth, connection.position)

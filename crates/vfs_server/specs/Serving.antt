@@ -18,7 +18,7 @@ use Rattle.vfs_journal.specs.View.{moved}
 use Rattle.vfs_journal.specs.Watching.{first_frames, told_frames}
 use Rattle.vfs_server.specs.declared.fate.Fate.{Fate}
 use Rattle.vfs_server.specs.declared.fate.Fate.TheVariants as fates
-use Rattle.vfs_server.specs.Binding.{HasPlace, IsDirectory}
+use Rattle.vfs_server.specs.Binding.{CanWatch, HasPlace, IsDirectory}
 use Rattle.vfs_server.specs.Effects.{effects_of, effects_told}
 use Rattle.vfs_server.specs.Servers.{Server, in_use, named, seen}
 
@@ -67,7 +67,9 @@ pub record Serves (moment : Moment) (outcome : Outcome) (fate : Fate) (out : Wri
   pub tree : Leads old.graph new.graph outcome.change
   pub holds : SameHolds old.graph new.graph
   pub names : KeepsNames old.graph new.graph
-  -- what is to be bound has its place here, a token is to name a directory, and an Open goes on behind a mount of the tree
+  -- what is to be bound has its place here, a directory can be watched, a token is to name one, and an Open goes on behind a mount of the
+  -- tree
   pub has_place : (object : ℕ) (birth : code.Birth) → fate ≡ fates.Binds object birth → HasPlace new birth
+  pub watched : (object mask : ℕ) (directory : NodeRef) → fate ≡ fates.Watches object directory mask → CanWatch new directory
   pub given : (token : ℕ) (directory : NodeRef) → fate ≡ fates.Gives token directory → IsDirectory new.graph directory
   pub mounted : (mount object : ℕ) → fate ≡ fates.Forwards mount object → HasMount moment.tree mount

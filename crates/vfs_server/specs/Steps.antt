@@ -1,8 +1,10 @@
 -- Words of the steps of a serving: who asks, what a connection gives, and what is done with it. No public clause needs these.
-use Rattle.std.specs.Prelude.{◌≡◌, ◌≢◌, ◌<◌, ℕ, true, false, List, [], ◌∷◌, ◌++◌, Option, Some, None}
+use Rattle.std.specs.Prelude.{◌≡◌, ◌≢◌, ◌<◌, ℕ, true, false, nat_le, All, List, [], ◌∷◌, ◌++◌, length, filter, Option, Some, None, Result, Ok}
 use Rattle.std.specs.FinMap as finite
 use Rattle.std.specs.Option.{option_map}
 use Rattle.std.specs.Str.{IsUtf8}
+use Rattle.fidl_names.specs.declared.limits.TheConstants as limit
+use Rattle.fidl_names.specs.declared.memory.NoMemory.{NoMemory}
 use Rattle.fidl_names.specs.declared.methods.Handle.{Handle}
 use Rattle.fidl_names.specs.declared.methods.Handle.TheVariants.{Token}
 use Rattle.fidl_names.specs.declared.methods.Method.TheVariants as method
@@ -20,10 +22,12 @@ use Rattle.io_messages.specs.Replies.{done, payload, settled}
 use Rattle.io_messages.specs.ReplyWriting.{PayloadFits}
 use Rattle.node_graph.specs.declared.nodes.NodeRef.{NodeRef}
 use Rattle.node_graph.specs.Graph.{Kept, Leads, StandsFor, number_of}
+use Rattle.node_graph.specs.Tree.{Change, stay}
 use Rattle.tree_file.specs.Numbering.{end_of_mount}
 use Rattle.conn_rules.specs.Answers.{Act, Answer, Happening, nothing_told, replies, closes, binds, watches, forwards, refuses, ends}
 use Rattle.conn_rules.specs.Births.{Connection, born, connection_with, fresh}
 use Rattle.conn_rules.specs.declared.births.Birth as code
+use Rattle.conn_rules.specs.declared.births.Room.{Room}
 use Rattle.conn_rules.specs.declared.changes.Changes.{Changes}
 use Rattle.conn_rules.specs.declared.served.Served.{Served}
 use Rattle.conn_rules.specs.declared.served.Served.TheVariants as served
@@ -42,14 +46,17 @@ use Rattle.vfs_journal.specs.Serving.{Moment, fault_answer, fault_txid}
 use Rattle.vfs_server.specs.declared.asking.Asking.{Asking}
 use Rattle.vfs_server.specs.declared.conn.Conn.{Conn}
 use Rattle.vfs_server.specs.declared.conn.Conn.TheVariants as conn
+use Rattle.vfs_server.specs.declared.done.Done.{Done}
 use Rattle.vfs_server.specs.declared.fate.Fate.{Fate}
 use Rattle.vfs_server.specs.declared.fate.Fate.TheVariants as fates
 use Rattle.vfs_server.specs.declared.given.Given.{Given}
 use Rattle.vfs_server.specs.declared.given.Given.TheVariants as given
+use Rattle.vfs_server.specs.Binding.{IsDirectory}
 use Rattle.vfs_server.specs.Effects.{Effects, effects_of, effects_told, no_effects}
 use Rattle.vfs_server.specs.Kept.{Tokens}
-use Rattle.vfs_server.specs.Servers.{bound_with}
+use Rattle.vfs_server.specs.Servers.{bound_with, watcher_with}
 use Rattle.vfs_server.specs.Serving.{HasMount}
+use Rattle.vfs_server.specs.Watched.{Extends, IsShort, Seats, first_of, is_at, told_of}
 
 -- ---- connections
 
@@ -151,13 +158,13 @@ abbrev pub fate_by : NodeRef → List Handle → Fate
 fate_by node (Token number ∷ later) = fates.Gives number node
 fate_by node _ = fates.Stays
 
--- what becomes of endpoints and tokens then, at this server, where the output has these handles; nobody watches yet
+-- what becomes of endpoints and tokens then, at this server, where the output has these handles
 abbrev pub effects_given : ℕ → ℕ → ℕ → ℕ → Given → List Handle → Effects
 effects_given endpoint server node object (given.Reply changes) handles = record no_effects { token = token_given endpoint server node handles }
 effects_given endpoint server node object given.ReplyEnd handles = record no_effects { ends = endpoint ∷ [] }
 effects_given endpoint server node object (given.Bind birth changes) handles =
     record no_effects { bound = Some (record { endpoint = object; server = server; birth = born birth; mask = 0 }) }
-effects_given endpoint server node object (given.WatchBy mask) handles = no_effects
+effects_given endpoint server node object (given.WatchBy mask) handles = record no_effects { bound = Some (watcher_with server object node mask) }
 effects_given endpoint server node object (given.Forward mount flags rest) handles =
     record no_effects { forward = Some (record { endpoint = end_of_mount mount; bytes = onward_bytes flags rest object; object = object }) }
 effects_given endpoint server node object (given.Refused status) handles = record no_effects { ends = object ∷ [] }
@@ -169,11 +176,10 @@ abbrev pub HasTxid : RequestFault → Type 0
 HasTxid (UnknownTwoWay txid ordinal) = 0 < txid
 HasTxid _ = Unit {0}
 
--- no watcher is bound
-abbrev pub BindsNoWatcher : Given → Type 0
-BindsNoWatcher (given.Bind birth changes) = birth.protocol ≢ protocol.Watcher
-BindsNoWatcher (given.WatchBy mask) = ⊥
-BindsNoWatcher _ = Unit {0}
+-- what is bound by a birth is a connection
+abbrev pub BindsConnection : Given → Type 0
+BindsConnection (given.Bind birth changes) = birth.protocol ≢ protocol.Watcher
+BindsConnection _ = Unit {0}
 
 -- whom an answer goes to, by its parts
 abbrev pub asker_with : ℕ → ℕ → ℕ → ℕ → ℕ → Asker
@@ -193,12 +199,18 @@ abbrev pub GoesOnBehind : ℕ → Given → Type 0
 GoesOnBehind mount (given.Forward index flags rest) = index ≡ mount
 GoesOnBehind mount _ = ⊥
 
+-- the endpoint is to watch this node, which is the connection's, for this mask
+pub record IsToWatch (node directory : NodeRef) (mask : ℕ) (what : Given) : Type 0 where
+  pub same : node ≡ directory
+  pub asked : what ≡ given.WatchBy mask
+
 -- what a connection to this node gave was done, where it had left this output
 pub record DoesGiven (endpoint object : ℕ) (node : NodeRef) (what : Given) (left : Written) (fate : Fate) (out : Written) (before after : List ℕ) : Type 0 where
   pub some : what ≢ given.NoMemory
   pub frames : after ≡ before ++ spellings (frames_given endpoint object what left)
   pub effects : (server : ℕ) → effects_given endpoint server (number_of node) object what left.handles ≡ effects_told endpoint server fate out
   pub bound : (from : ℕ) (birth : code.Birth) → fate ≡ fates.Binds from birth → BindsBy birth what
+  pub watched : (from mask : ℕ) (directory : NodeRef) → fate ≡ fates.Watches from directory mask → IsToWatch node directory mask what
   pub onward : (mount from : ℕ) → fate ≡ fates.Forwards mount from → GoesOnBehind mount what
   pub given : (token : ℕ) (directory : NodeRef) → fate ≡ fates.Gives token directory → node ≡ directory
 
@@ -207,6 +219,7 @@ pub record DoesFault (endpoint : ℕ) (fault : RequestFault) (fate : Fate) (out 
   pub frames : (server node : ℕ) → after ≡ before ++ spellings (frames_of (asker_with endpoint server node (fault_txid fault) 0) (fault_answer fault))
   pub effects : (server node : ℕ) → effects_by (asker_with endpoint server node (fault_txid fault) 0) (fault_answer fault) ≡ effects_told endpoint server fate out
   pub bound : (from : ℕ) (birth : code.Birth) → fate ≢ fates.Binds from birth
+  pub watched : (from mask : ℕ) (directory : NodeRef) → fate ≢ fates.Watches from directory mask
   pub onward : (mount from : ℕ) → fate ≢ fates.Forwards mount from
   pub given : (token : ℕ) (directory : NodeRef) → fate ≢ fates.Gives token directory
 
@@ -237,20 +250,59 @@ pub record IsOnDirectory (directory : NodeRef) (connection : Connection) : Type 
 
 -- ---- one connection's serving
 
+-- what is in use, as a connection to this node sees it
+abbrev pub room_for : Asking → ℕ → Room
+room_for asking node =
+    record { connections = asking.connections; watchers = length (filter (is_at node) asking.watching.now); token = asking.token }
+
 -- a moment of the serving on a connection at this server, over this graph
 pub record IsAskedAt (server : ℕ) (asking : Asking) (graph : Kept) (connection : Connection) (moment : Moment) : Type 0 where
   pub bound : moment.bound ≡ bound_with server asking.endpoint connection.birth
   pub position : moment.position ≡ connection.position
-  pub room : moment.room ≡ asking.room
+  pub room : moment.room ≡ room_for asking (number_of connection.birth.node)
   pub tree : StandsFor graph moment.tree
 
--- a connection does what an outcome says, and changes the graph as it says
-pub record Answers (moment : Moment) (outcome : Outcome) (fate : Fate) (out : Written) (new : Connection) (graph changed : Kept) (before after : List ℕ) : Type 0 where
+-- a directory can be watched: a connection is to it, there is room, and its tree stays as it is
+pub record MayWatch (in_use : Room) (change : Change) (directory : NodeRef) (connection : Connection) : Type 0 where
+  pub here : IsOnDirectory directory connection
+  pub few : nat_le limit.MAX_WATCHERS in_use.watchers ≡ false
+  pub room : is_full in_use ≡ false
+  pub still : change ≡ stay
+
+-- a connection does what an outcome says, and changes the graph as it says; watchers aren't told yet
+pub record Answers (moment : Moment) (outcome : Outcome) (done : Done) (out : Written) (new : Connection) (graph changed : Kept) (before after : List ℕ) : Type 0 where
   pub frames : after ≡ before ++ spellings outcome.frames
-  pub effects : effects_of outcome ≡ effects_told moment.bound.endpoint moment.bound.server fate out
+  pub effects : effects_of outcome ≡ effects_told moment.bound.endpoint moment.bound.server done.fate out
+  pub told : outcome.told ≡ told_by done.changes
   pub position : new.position ≡ outcome.position
   pub change : Leads graph changed outcome.change
-  pub bound : (object : ℕ) (birth : code.Birth) → fate ≡ fates.Binds object birth → CanBeBound changed birth
-  pub room : (object : ℕ) (birth : code.Birth) → fate ≡ fates.Binds object birth → is_full moment.room ≡ false
-  pub given : (token : ℕ) (directory : NodeRef) → fate ≡ fates.Gives token directory → IsOnDirectory directory new
-  pub mounted : (mount object : ℕ) → fate ≡ fates.Forwards mount object → HasMount moment.tree mount
+  pub bound : (object : ℕ) (birth : code.Birth) → done.fate ≡ fates.Binds object birth → CanBeBound changed birth
+  pub room : (object : ℕ) (birth : code.Birth) → done.fate ≡ fates.Binds object birth → is_full moment.room ≡ false
+  pub watched : (object mask : ℕ) (directory : NodeRef) → done.fate ≡ fates.Watches object directory mask → MayWatch moment.room outcome.change directory new
+  pub given : (token : ℕ) (directory : NodeRef) → done.fate ≡ fates.Gives token directory → IsOnDirectory directory new
+  pub mounted : (mount object : ℕ) → done.fate ≡ fates.Forwards mount object → HasMount moment.tree mount
+
+-- watchers can be told of what was done on a connection, behind what was written of it
+pub record CanTell (done : Done) (connection : Connection) (before after : List ℕ) : Type 0 where
+  pub front : Extends before after
+  pub directory : (object mask : ℕ) (directory : NodeRef) → done.fate ≡ fates.Watches object directory mask → IsOnDirectory directory connection
+  pub short : All IsShort (told_by done.changes)
+
+-- nothing was done
+pub record IsPassedOver (done : Done) : Type 0 where
+  pub fate : done.fate ≡ fates.Stays
+  pub told : told_by done.changes ≡ nothing_told
+
+-- ---- what watchers are told
+
+-- a new watcher is at a directory that the graph keeps, and what is told are names
+pub record CanBeTold (graph : Kept) (done : Done) : Type 0 where
+  pub directory : (object mask : ℕ) (directory : NodeRef) → done.fate ≡ fates.Watches object directory mask → IsDirectory graph directory
+  pub short : All IsShort (told_by done.changes)
+
+-- these watchers were told of what was done, over this graph
+pub record IsTold (seats : Seats) (graph : Kept) (result : Result Done NoMemory) (fate : Fate) (before after : List ℕ) : Type 0 where
+  pub done : Done
+  pub some : result ≡ Ok done
+  pub same : fate ≡ done.fate
+  pub frames : after ≡ before ++ spellings (first_of graph.edges done.fate ++ told_of seats (told_by done.changes))

@@ -5,7 +5,7 @@ ghost use Rattle.endpoint_link.specs.Frames.{spellings};
 ghost use Rattle.io_messages.specs.Asked.{asked};
 ghost use Rattle.vfs_journal.specs.Outcomes.{announcement, ending};
 ghost use Rattle.vfs_journal.specs.Serving.{object_of};
-ghost use Rattle.vfs_server.specs.Steps.{BindsNoWatcher, DoesFault, DoesGiven, HasTxid, fate_by};
+ghost use Rattle.vfs_server.specs.Steps.{BindsConnection, DoesFault, DoesGiven, HasTxid, fate_by};
 
 use crate::asking::Asking;
 use crate::fate::Fate;
@@ -40,7 +40,7 @@ pub(crate) fn answer(
     out: &mut Out,
     outbox: &mut Outbox,
 ) -> Result<Fate, NoMemory>
-    requires watcher { BindsNoWatcher given }
+    requires connection { BindsConnection given }
     ensures does { IfOk result (λ fate. DoesGiven asking.now.endpoint object node given.entry out.old fate out.new outbox.old outbox.new) }
     ensures no_memory { OnErr result (outbox.new ≡ outbox.old) }
 {
@@ -55,7 +55,14 @@ pub(crate) fn answer(
             Ok(Fate::Ends)
         }
         Given::Bind(birth, _) => bind(asking.ordinals, object, birth, out, outbox),
-        Given::WatchBy(_) => unreachable!(),
+        Given::WatchBy(mask) => {
+            put_message(endpoint, out, outbox)?;
+            Ok(Fate::Watches {
+                object,
+                directory: node,
+                mask,
+            })
+        }
         Given::Forward { mount, flags, rest } => {
             out.clear();
             forward(asking.ordinals, flags, rest, object, out);

@@ -1,7 +1,6 @@
 //! What a server begins with.
 
 ghost use Rattle.std.specs.Prelude.{◌≡◌, ◌<◌, [], IfOk, length};
-ghost use Rattle.conn_rules.specs.Built.{Built};
 ghost use Rattle.vfs_journal.specs.Starts.{start_of};
 ghost use Rattle.vfs_journal.specs.View.{view_of};
 ghost use Rattle.vfs_server.specs.Holding.{HoldsAt};
@@ -21,7 +20,7 @@ const ROOT: &[u8] = b".";
 /// Makes the server of an accepted start with this index.
 pub(crate) fn begin(alloc: Global, start: &Start, index: u32) -> Result<Server, NoMemory>
     requires within { index < length start.now.servers }
-    ensures holds { (built : Built) → IfOk result (HoldsAt (view_of built (start_of start.now) [])) }
+    ensures holds { IfOk result (HoldsAt (view_of (start_of start.now) [])) }
     ensures index { IfOk result (λ server. server.index ≡ index) }
 {
     start.keeps_rules();

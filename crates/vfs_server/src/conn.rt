@@ -9,19 +9,17 @@ ghost use Rattle.node_graph.specs.Graph.{StandsFor};
 ghost use Rattle.node_graph.specs.Tree.{Tree};
 ghost use Rattle.conn_rules.specs.Acts.{act_of};
 ghost use Rattle.conn_rules.specs.Births.{fresh};
-ghost use Rattle.conn_rules.specs.Built.{today};
 ghost use Rattle.conn_rules.specs.Contexts.{context_of};
 ghost use Rattle.conn_rules.specs.Served.{HasNothing, KeepsHolds};
 ghost use Rattle.conn_rules.specs.Shared.{CanBeBound};
 ghost use Rattle.vfs_server.specs.Kept.{HasTree, NameDirectories};
 ghost use Rattle.vfs_server.specs.Steps.{Acts, CanEcho, IsOfItsKind, NamesAsThere, connection_of};
 
-use crate::asking::Asking;
 use crate::given::Given;
 use crate::tokens::Tokens;
-use conn_rules::Birth;
+use conn_rules::{Birth, Room};
 use dir_conn::DirConn;
-use fidl_wire::Out;
+use fidl_wire::{Ordinals, Out};
 use file_conn::FileConn;
 use io_messages::{Protocol, Request};
 use node_conn::{NodeConn, echo};
@@ -81,7 +79,8 @@ impl Conn {
     /// Serves a request. A directory that its token names is looked up among the server's tokens.
     pub fn serve<'a>(
         &mut self,
-        asking: &Asking<'_>,
+        ordinals: &Ordinals,
+        room: Room,
         graph: &mut Graph,
         tokens: &Tokens,
         txid: u32,
@@ -99,7 +98,7 @@ impl Conn {
         requires empty { HasNothing out.old }
         ensures acts { (tree : Tree) (directory : ℕ → Option ℕ) → StandsFor graph.old tree →
             NamesAsThere tokens.now directory (asked request.entry) → result ≢ Given.NoMemory →
-            Acts (act_of (context_of today (connection_of self.old) asking.now.room tree directory) (asked request.entry)) txid result out.new (connection_of self.new) graph.old graph.new }
+            Acts (act_of (context_of (connection_of self.old) room tree directory) (asked request.entry)) txid result out.new (connection_of self.new) graph.old graph.new }
         ensures holds { KeepsHolds (connection_of self.old) (connection_of self.new) graph.old graph.new }
         ensures tree { HasTree graph.new }
         ensures kind { IsOfItsKind self.new }
@@ -108,9 +107,9 @@ impl Conn {
             Conn::Directory(conn) => {
                 let target = tokens.target(&request);
                 Given::of_directory(conn.serve(
-                    asking.ordinals,
+                    ordinals,
                     graph,
-                    asking.room,
+                    room,
                     target,
                     txid,
                     request,
@@ -118,22 +117,22 @@ impl Conn {
                 ))
             }
             Conn::File(conn) => Given::of(conn.serve(
-                asking.ordinals,
+                ordinals,
                 graph,
-                asking.room,
+                room,
                 txid,
                 request,
                 out,
             )),
             Conn::Node(conn) => Given::of(conn.serve(
-                asking.ordinals,
+                ordinals,
                 graph,
-                asking.room,
+                room,
                 txid,
                 request,
                 out,
             )),
-            Conn::Echo(_) => Given::of(echo(asking.ordinals, txid, request, out)),
+            Conn::Echo(_) => Given::of(echo(ordinals, txid, request, out)),
         }
     }
 }

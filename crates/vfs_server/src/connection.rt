@@ -7,20 +7,19 @@ ghost use Rattle.io_messages.specs.Protocols.{has_method};
 ghost use Rattle.io_messages.specs.Requests.{has_txid, request_of};
 ghost use Rattle.io_messages.specs.Shapes.{is_one_way};
 ghost use Rattle.conn_rules.specs.Births.{fresh};
-ghost use Rattle.conn_rules.specs.Built.{today};
 ghost use Rattle.conn_rules.specs.Served.{HasNothing, KeepsHolds};
 ghost use Rattle.conn_rules.specs.Shared.{CanBeBound};
 ghost use Rattle.vfs_journal.specs.Handles.{numbers_of};
 ghost use Rattle.vfs_journal.specs.Serving.{Moment, outcome_of_read};
 ghost use Rattle.vfs_server.specs.Kept.{HasTree, NameDirectories};
-ghost use Rattle.vfs_server.specs.Steps.{Answers, AreNamed, CanEcho, IsAskedAt, NamesAsThere};
+ghost use Rattle.vfs_server.specs.Steps.{Answers, AreNamed, CanEcho, CanTell, IsAskedAt, NamesAsThere};
 
 use crate::answers::{answer, answer_fault, object_of};
 use crate::asking::Asking;
 use crate::conn::Conn;
-use crate::fate::Fate;
+use crate::done::Done;
 use crate::tokens::Tokens;
-use conn_rules::Birth;
+use conn_rules::{Birth, Changes};
 use endpoint_link::Outbox;
 use fidl_names::{Handle, NoMemory};
 use fidl_wire::Out;
@@ -67,19 +66,19 @@ impl Connection {
     }
 
     /// Serves a message: the frames of the answer are written, and the call tells what becomes of
-    /// endpoints. An Open that goes on is left in the output.
+    /// endpoints and what watchers are to be told. An Open that goes on is left in the output.
     ///
     /// For want of memory no frame is written.
-    pub fn serve(
+    pub fn serve<'a>(
         &mut self,
         asking: &Asking<'_>,
         graph: &mut Graph,
         tokens: &Tokens,
-        bytes: &[u8],
+        bytes: &'a [u8],
         handles: &[Handle],
         out: &mut Out,
         outbox: &mut Outbox,
-    ) -> Result<Fate, NoMemory>
+    ) -> Result<Done<'a>, NoMemory>
         requires tree { HasTree graph.old }
         requires made { graph.old.made < 2 ^ 63 }
         requires node { CanBeBound graph.old self.old.birth }
@@ -87,7 +86,8 @@ impl Connection {
         requires short { length bytes.now ≤ limit.MAX_BYTES }
         ensures answers { (server : ℕ) (moment : Moment) → IsAskedAt server asking.now graph.old self.old moment →
             AreNamed tokens.now (numbers_of handles.now) moment.directory →
-            IfOk result (λ fate. Answers moment (outcome_of_read today moment (request_of self.old.birth.protocol bytes.now handles.now)) fate out.new self.new graph.old graph.new outbox.old outbox.new) }
+            IfOk result (λ done. Answers moment (outcome_of_read moment (request_of self.old.birth.protocol bytes.now handles.now)) done out.new self.new graph.old graph.new outbox.old outbox.new) }
+        ensures tells { IfOk result (λ done. CanTell done self.new outbox.old outbox.new) }
         ensures holds { KeepsHolds self.old self.new graph.old graph.new }
         ensures tree { HasTree graph.new }
         ensures no_memory { OnErr result (outbox.new ≡ outbox.old) }
@@ -97,21 +97,24 @@ impl Connection {
             Ok((txid, request)) => self.serve_request(
                 asking, graph, tokens, txid, request, out, outbox,
             ),
-            Err(fault) => answer_fault(asking, fault, out, outbox),
+            Err(fault) => Ok(Done {
+                fate: answer_fault(asking, fault, out, outbox)?,
+                changes: Changes::none(),
+            }),
         }
     }
 
     /// Serves a request of the connection's protocol.
-    fn serve_request(
+    fn serve_request<'a>(
         &mut self,
         asking: &Asking<'_>,
         graph: &mut Graph,
         tokens: &Tokens,
         txid: u32,
-        request: Request<'_>,
+        request: Request<'a>,
         out: &mut Out,
         outbox: &mut Outbox,
-    ) -> Result<Fate, NoMemory>
+    ) -> Result<Done<'a>, NoMemory>
         requires tree { HasTree graph.old }
         requires made { graph.old.made < 2 ^ 63 }
         requires node { CanBeBound graph.old self.old.birth }
@@ -122,13 +125,19 @@ impl Connection {
         requires empty { HasNothing out.old }
         ensures answers { (server : ℕ) (moment : Moment) → IsAskedAt server asking.now graph.old self.old moment →
             NamesAsThere tokens.now moment.directory (asked request.entry) →
-            IfOk result (λ fate. Answers moment (outcome_of_read today moment (Ok (txid, asked request.entry))) fate out.new self.new graph.old graph.new outbox.old outbox.new) }
+            IfOk result (λ done. Answers moment (outcome_of_read moment (Ok (txid, asked request.entry))) done out.new self.new graph.old graph.new outbox.old outbox.new) }
+        ensures tells { IfOk result (λ done. CanTell done self.new outbox.old outbox.new) }
         ensures holds { KeepsHolds self.old self.new graph.old graph.new }
         ensures tree { HasTree graph.new }
         ensures no_memory { OnErr result (outbox.new ≡ outbox.old) }
     {
         let object = object_of(&request);
-        let given = self.conn.serve(asking, graph, tokens, txid, request, out);
-        answer(asking, self.conn.node(), object, given, out, outbox)
+        let room = asking.room(graph.number(self.conn.node()));
+        let given = self
+            .conn
+            .serve(asking.ordinals, room, graph, tokens, txid, request, out);
+        let changes = given.changes();
+        let fate = answer(asking, self.conn.node(), object, given, out, outbox)?;
+        Ok(Done { fate, changes })
     }
 }

@@ -10,6 +10,12 @@ pub enum Fate {
     Ends,
     /// The endpoint `object`, which the request carried, is bound.
     Binds { object: u32, birth: Birth },
+    /// The endpoint `object`, which the request carried, is to watch a directory, for the events of a mask.
+    Watches {
+        object: u32,
+        directory: NodeRef,
+        mask: u32,
+    },
     /// The endpoint `object`, which the request carried, ends.
     Refuses { object: u32 },
     /// The Open goes on to the end of a mount, by the mount's index, with the endpoint `object`. It

@@ -1,7 +1,8 @@
 //! What a connection of any kind gives.
 
 ghost use Rattle.std.specs.Prelude.{◌≡◌};
-ghost use Rattle.vfs_server.specs.Steps.{IsOf, of_directory};
+ghost use Rattle.conn_rules.specs.Served.{told_by};
+ghost use Rattle.vfs_server.specs.Steps.{IsOf, of_directory, told_given};
 
 use conn_rules::{Birth, Changes, Served};
 use dir_conn::DirServed;
@@ -63,6 +64,16 @@ impl<'a> Given<'a> {
             Served::Refused(status) => Given::Refused(status),
             Served::End(status) => Given::End(status),
             Served::NoMemory => Given::NoMemory,
+        }
+    }
+
+    /// What watchers are to be told.
+    pub fn changes(&self) -> Changes<'a>
+        ensures { told_by result ≡ told_given self.now }
+    {
+        match self {
+            Given::Reply(changes) | Given::Bind(_, changes) => *changes,
+            _ => Changes::none(),
         }
     }
 }

@@ -1,4 +1,4 @@
-//! One server: its tree as a graph, the connections to it, and the serving of what is sent to them.
+//! One server: its tree as a graph, the connections to it and its watchers, and the serving of what is sent to them.
 #![tactic(auto)]
 
 mod answers;
@@ -7,13 +7,16 @@ mod beginning;
 mod conn;
 mod connection;
 mod connections;
+mod done;
 mod fate;
 mod firsts;
 mod frames;
 mod given;
 mod making;
 mod server;
+mod telling;
 mod tokens;
+mod watching;
 
 pub use fate::Fate;
 pub use server::Server;

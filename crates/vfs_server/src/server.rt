@@ -1,17 +1,16 @@
 ghost use Rattle.std.specs.Prelude.{◌≡◌, ◌≤◌, ◌<◌, ◌^◌, ℕ, IfOk, IsSome, None, OnErr, OnOk, [], is_some, length};
 ghost use Rattle.fidl_names.specs.declared.limits.TheConstants as limit;
 ghost use Rattle.std.specs.FinMap as finite;
-ghost use Rattle.node_graph.specs.Graph.{holds_at};
-ghost use Rattle.conn_rules.specs.Built.{Built, today};
+ghost use Rattle.node_graph.specs.Graph.{holds_at, number_of};
 ghost use Rattle.vfs_journal.specs.Entries.{message};
 ghost use Rattle.vfs_journal.specs.Handles.{AreByNumber, numbers_of};
 ghost use Rattle.vfs_journal.specs.Serving.{Moment, outcome_of_sending};
 ghost use Rattle.vfs_journal.specs.Starts.{start_of};
 ghost use Rattle.vfs_journal.specs.View.{view_of};
-ghost use Rattle.vfs_server.specs.Binding.{Binds, Forgets, HasPlace, IsDirectory, NamesBy, Unbinds};
+ghost use Rattle.vfs_server.specs.Binding.{Binds, CanWatch, Forgets, HasPlace, IsDirectory, NamesBy, Unbinds};
 ghost use Rattle.vfs_server.specs.Holding.{HoldsAt};
 ghost use Rattle.vfs_server.specs.Kept.{HasTree};
-ghost use Rattle.vfs_server.specs.Servers.{in_use, named, seen};
+ghost use Rattle.vfs_server.specs.Servers.{bound_with, in_use, named, seen, watcher_with};
 ghost use Rattle.vfs_server.specs.Serving.{IsMomentOf, Serves};
 
 use crate::asking::Asking;
@@ -19,8 +18,10 @@ use crate::beginning;
 use crate::connection::Connection;
 use crate::connections::Connections;
 use crate::fate::Fate;
+use crate::telling::tell;
 use crate::tokens::Tokens;
-use conn_rules::{Birth, Room};
+use crate::watching::Watching;
+use conn_rules::Birth;
 use endpoint_link::Outbox;
 use fidl_names::{Handle, NoMemory};
 use fidl_wire::{Ordinals, Out};
@@ -29,29 +30,30 @@ use std::alloc::Global;
 use std::marker::Model;
 use tree_file::Start;
 
-/// One server: its tree, what is connected to it, and the tokens that name directories of it. Each connection
-/// holds its node, and each token its directory. Nothing watches yet.
+/// One server: its tree, what is connected to it, who watches, and the tokens that name directories of it.
+/// Each connection holds its node, and each watcher and each token its directory.
 #[derive(Drop)]
 pub struct Server {
     index: u32,
     graph: Graph,
     connections: Connections,
+    watching: Watching,
     tokens: Tokens,
 }
 
 impl Model for Server {
-    ghost use Rattle.std.specs.Prelude.{[]};
     ghost use Rattle.vfs_server.specs.Codes.{server_code};
     ghost use Rattle.vfs_server.specs.Kept.{IsSound};
     ghost use Rattle.vfs_server.specs.Servers as servers;
+    ghost use Rattle.vfs_server.specs.Watched.{bounds_at};
 
     ghost Value = { servers.Server };
 
     ghost coded = { server_code };
 
-    ghost view = { λ server. record { index = server.index; graph = server.graph; connections = server.connections; watchers = []; tokens = server.tokens } };
+    ghost view = { λ server. record { index = server.index; graph = server.graph; connections = server.connections; watchers = bounds_at server.index server.watching; tokens = server.tokens } };
 
-    ghost invariant = { λ server. IsSound server.graph server.connections server.tokens };
+    ghost invariant = { λ server. IsSound server.graph server.connections server.watching server.tokens };
 }
 
 impl Server {
@@ -59,7 +61,7 @@ impl Server {
     /// of the mounts that go on here.
     pub fn begin(alloc: Global, start: &Start, index: u32) -> Result<Server, NoMemory>
         requires within { index < length start.now.servers }
-        ensures holds { (built : Built) → IfOk result (HoldsAt (view_of built (start_of start.now) [])) }
+        ensures holds { IfOk result (HoldsAt (view_of (start_of start.now) [])) }
         ensures index { IfOk result (λ server. server.index ≡ index) }
     {
         beginning::begin(alloc, start, index)
@@ -75,29 +77,31 @@ impl Server {
             index,
             graph,
             connections: Connections::new(alloc),
+            watching: Watching::new(alloc),
             tokens: Tokens::new(alloc),
         }
     }
 
-    /// How many connections there are, at most 4,096.
+    /// How many connections there are, watchers included, at most 4,096.
     pub fn connections(&self) -> u32
         ensures { result ≡ in_use self.now }
     {
-        self.connections.len() as u32
+        (self.connections.len() + self.watching.len()) as u32
     }
 
     /// Whether an endpoint is bound here.
     pub fn is_bound(&self, endpoint: u32) -> bool
         ensures { result ≡ is_some (seen self.now endpoint) }
     {
-        self.connections.contains(endpoint)
+        self.connections.contains(endpoint) || self.watching.contains(endpoint)
     }
 
     /// Serves a message on an endpoint that is bound here: the frames of the answer are written to the
-    /// outbox, and the call tells what becomes of endpoints and tokens. `token` is the number that the
-    /// next token gets, `None` where none is given any more. An Open that goes on is left in the output;
-    /// what stands there otherwise is of no account. What the answer binds isn't bound yet, what ends is
-    /// bound still, and a token that it gives names nothing yet.
+    /// outbox, behind them what watchers are told of it, and the call tells what becomes of endpoints and
+    /// tokens. `token` is the number that the next token gets, `None` where none is given any more. An Open
+    /// that goes on is left in the output; what stands there otherwise is of no account. What the answer
+    /// binds or lets watch isn't bound yet, what ends is bound still, and a token that it gives names
+    /// nothing yet. A message to a watcher is passed over.
     ///
     /// For want of memory no frame is written.
     pub fn serve(
@@ -115,20 +119,18 @@ impl Server {
         requires short { length bytes.now ≤ limit.MAX_BYTES }
         requires made { self.old.graph.made < 2 ^ 63 }
         ensures serves { (moment : Moment) → IsMomentOf self.old endpoint token (numbers_of handles.now) moment →
-            IfOk result (λ fate. Serves moment (outcome_of_sending today moment (message bytes.now (numbers_of handles.now))) fate out.new self.old self.new outbox.old outbox.new) }
+            IfOk result (λ fate. Serves moment (outcome_of_sending moment (message bytes.now (numbers_of handles.now))) fate out.new self.old self.new outbox.old outbox.new) }
         ensures no_memory { OnErr result (outbox.new ≡ outbox.old) }
     {
-        let room = Room {
-            connections: self.connections.len() as u32,
-            watchers: 0,
-            token,
-        };
         let asking = Asking {
             ordinals,
             endpoint,
-            room,
+            connections: self.connections(),
+            watching: &self.watching,
+            token,
         };
-        self.connections.serve(
+        let len = outbox.len();
+        let done = self.connections.serve(
             &asking,
             &mut self.graph,
             &self.tokens,
@@ -136,7 +138,8 @@ impl Server {
             handles,
             out,
             outbox,
-        )
+        );
+        tell(&self.watching, &self.graph, &done, len, outbox)
     }
 
     /// Binds an endpoint that isn't bound here, and holds its node. Of want of memory the server is as
@@ -144,13 +147,26 @@ impl Server {
     pub fn bind(&mut self, endpoint: u32, birth: Birth) -> Result<(), NoMemory>
         requires free { seen self.old endpoint ≡ None }
         requires place { HasPlace self.old birth }
-        ensures bound { OnOk result (Binds self.old endpoint birth self.new) }
+        ensures bound { OnOk result (Binds self.old (bound_with self.old.index endpoint birth) self.new) }
         ensures unchanged { OnErr result (self.new ≡ self.old) }
     {
         let node = birth.node;
         let connection = Connection::new(birth);
         self.connections.insert(endpoint, connection)?;
         self.graph.hold(node);
+        Ok(())
+    }
+
+    /// Lets an endpoint that isn't bound here watch a directory, and holds that. Of want of memory the
+    /// server is as it was.
+    pub fn watch(&mut self, endpoint: u32, directory: NodeRef, mask: u32) -> Result<(), NoMemory>
+        requires free { seen self.old endpoint ≡ None }
+        requires directory { CanWatch self.old directory }
+        ensures watches { OnOk result (Binds self.old (watcher_with self.old.index endpoint (number_of directory) mask) self.new) }
+        ensures unchanged { OnErr result (self.new ≡ self.old) }
+    {
+        self.watching.add(endpoint, directory, mask, &self.graph)?;
+        self.graph.hold(directory);
         Ok(())
     }
 
@@ -182,7 +198,12 @@ impl Server {
         requires bound { IsSome (seen self.old endpoint) }
         ensures { Unbinds self.old endpoint self.new }
     {
-        let connection = self.connections.remove(endpoint);
-        self.graph.release(connection.node());
+        match self.watching.remove(endpoint, &self.graph) {
+            Some(directory) => self.graph.release(directory),
+            None => {
+                let connection = self.connections.remove(endpoint);
+                self.graph.release(connection.node());
+            }
+        }
     }
 }

@@ -9,7 +9,6 @@ use Rattle.std.proofs.lemmas.Option.{none-some, same_Some}
 use Rattle.fidl_names.specs.declared.memory.NoMemory.{NoMemory}
 use Rattle.fidl_wire.specs.Written.{Written}
 use Rattle.conn_rules.specs.Births.{Connection, Position, fresh}
-use Rattle.conn_rules.specs.Built.{today}
 use Rattle.vfs_journal.specs.Entries.{Sending, Sent, handles_of, hang_up}
 use Rattle.vfs_journal.specs.Outcomes.{Outcome}
 use Rattle.vfs_journal.specs.Serving.{Moment, outcome_of_sending}
@@ -38,15 +37,15 @@ if_ok (Err e) f h = h
 
 pub served_answers : (servers : List Server) (at endpoint : ℕ) (token next : Option ℕ) (sent : Sent) (one now : Server) (out : Written) (before after : List ℕ) (r : Result Fate NoMemory) (sending : Sending) → slice_get servers at ≡ Some one →
     sent.sending ≡ sending → next ≡ token →
-    ((moment : Moment) → IsMomentOf one endpoint next (handles_of sending) moment → IfOk r (λ fate. Serves moment (outcome_of_sending today moment sending) fate out one now before after)) →
+    ((moment : Moment) → IsMomentOf one endpoint next (handles_of sending) moment → IfOk r (λ fate. Serves moment (outcome_of_sending moment sending) fate out one now before after)) →
     IfOk r (λ fate. Answers servers at endpoint token sent fate out (set servers at now) before after)
 served_answers servers at endpoint token next sent one now out before after (Err fault) sending there is same serves = tt
 served_answers servers at endpoint token next sent one now out before after (Ok fate) sending there is same serves =
     λ other moment found moment_of. (
       now,
       refl,
-      subst (λ (x : Sending). Serves moment (outcome_of_sending today moment x) fate out other now before after) (sym is)
-          (subst (λ (x : Server). IsMomentOf x endpoint token (handles_of sent.sending) moment → Serves moment (outcome_of_sending today moment sending) fate out x now before after) (same_Some one other (sym there ∙ found))
+      subst (λ (x : Sending). Serves moment (outcome_of_sending moment x) fate out other now before after) (sym is)
+          (subst (λ (x : Server). IsMomentOf x endpoint token (handles_of sent.sending) moment → Serves moment (outcome_of_sending moment sending) fate out x now before after) (same_Some one other (sym there ∙ found))
           (λ m. serves moment (subst (λ (t : Option ℕ). IsMomentOf one endpoint t (handles_of sending) moment) (sym same) (subst (λ (x : Sending). IsMomentOf one endpoint token (handles_of x) moment) is m))) moment_of),
     )
 
@@ -74,7 +73,7 @@ seen_name one n pair e = by_found (finite.get one.connections n) e where
   by_found None h = watched_name n (find (λ bound. bound.endpoint == n) one.watchers) pair (watcher_name n one.watchers) h
 
 hangs_up : (one : Server) (endpoint : ℕ) (token : Option ℕ) (handles : List ℕ) (moment : Moment) (out : Written) (before : List ℕ) → IsMomentOf one endpoint token handles moment →
-    Serves moment (outcome_of_sending today moment hang_up) fates.Ends out one one before before
+    Serves moment (outcome_of_sending moment hang_up) fates.Ends out one one before before
 unfolding outcome_of_sending
 hangs_up one endpoint token handles moment out before m = record {
   frames = sym (append-nil before);
@@ -88,6 +87,7 @@ hangs_up one endpoint token handles moment out before m = record {
   holds = λ number. refl;
   names = λ node named kept. (named, refl);
   has_place = λ object birth e. absurd (cc);
+  watched = λ object mask directory e. absurd (cc);
   given = λ token directory e. absurd (cc);
   mounted = λ mount object e. absurd (cc);
 } where
@@ -109,5 +109,5 @@ hang_up_answers servers at endpoint token sent out before is =
     λ one moment there m. (
       one,
       set_same servers at one there,
-      subst (λ (x : Sending). Serves moment (outcome_of_sending today moment x) fates.Ends out one one before before) (sym is) (hangs_up one endpoint token (handles_of sent.sending) moment out before m),
+      subst (λ (x : Sending). Serves moment (outcome_of_sending moment x) fates.Ends out one one before before) (sym is) (hangs_up one endpoint token (handles_of sent.sending) moment out before m),
     )

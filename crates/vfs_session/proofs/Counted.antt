@@ -1,6 +1,5 @@
 -- How many entries are served.
 use Rattle.std.proofs.Common.{◌≡◌, ℕ, suc, Option, Some, None, ◌∷◌, refl}
-use Rattle.conn_rules.specs.Built.{today}
 use Rattle.vfs_journal.specs.Entries.{Journal, Sent, serves}
 use Rattle.vfs_journal.specs.Outcomes.{Forwarded}
 use Rattle.vfs_journal.specs.Past.{history_of}
@@ -14,5 +13,5 @@ forward_counts : (origin : ℕ) (journal : Journal) (o : Option Forwarded) → s
 forward_counts origin journal None = refl
 forward_counts origin journal (Some forward) = refl
 
-pub one_more_served : (start : Start) (journal : Journal) (sent : Sent) → served_in (after_serving today start journal sent) ≡ suc (served_in journal)
-one_more_served start journal sent = forward_counts sent.place (serves sent ∷ journal) (outcome_of today start (history_of today start journal) sent).forward
+pub one_more_served : (start : Start) (journal : Journal) (sent : Sent) → served_in (after_serving start journal sent) ≡ suc (served_in journal)
+one_more_served start journal sent = forward_counts sent.place (serves sent ∷ journal) (outcome_of start (history_of start journal) sent).forward

@@ -8,9 +8,8 @@ use Rattle.endpoint_link.specs.Numbering.{among}
 use Rattle.node_graph.specs.declared.nodes.NodeRef.{NodeRef}
 use Rattle.node_graph.specs.Graph.{number_of}
 use Rattle.node_graph.specs.Tree.{after}
-use Rattle.conn_rules.specs.declared.births.Birth as code
 use Rattle.conn_rules.specs.Births.{Position}
-use Rattle.vfs_journal.specs.History.{is_watcher, tree_at}
+use Rattle.vfs_journal.specs.History.{tree_at}
 use Rattle.vfs_journal.specs.Entries.{Sent, handles_of}
 use Rattle.vfs_journal.specs.Outcomes.{Given, Outcome}
 use Rattle.vfs_journal.specs.Serving.{Moment}
@@ -19,7 +18,7 @@ use Rattle.vfs_journal.specs.View.{View, at_in, is_out_in}
 use Rattle.journal_laws.proofs.Lists.{eqb_sym}
 use Rattle.vfs_server.specs.Binding.{Binds, NamesBy}
 use Rattle.vfs_server.specs.declared.fate.Fate.{Fate}
-use Rattle.vfs_server.specs.Servers.{Server, bound_with}
+use Rattle.vfs_server.specs.Servers.{Server}
 use Rattle.vfs_server.specs.Serving.{Serves}
 use Rattle.vfs_session.specs.Holding.{HoldsEach}
 use Rattle.vfs_session.specs.Steps.{ForgetsAll, ForgetsEach, answered_in, bound_in, given_in}
@@ -89,12 +88,12 @@ each_answered view servers one now pair moment outcome fate out before after' h 
 
 -- ---- an endpoint is bound
 
-pub each_bound : (view : View) (servers : List Server) (i endpoint : ℕ) (one now : Server) (birth : code.Birth) → AreNumbered view servers → slice_get servers i ≡ Some one → at_in view endpoint ≡ None →
-    is_watcher birth.protocol ≡ false → Binds one endpoint birth now → AreNumbered (bound_in view (Some (bound_with i endpoint birth))) (set servers i now)
-each_bound view servers i endpoint one now birth h there free speaks s =
-    each_set view (bound_in view (Some (bound_with i endpoint birth))) servers i one now h there s.index refl
-    (bound_here view one now i endpoint birth (h.each i one there) (h.index i one there) free speaks s)
-    (λ j server apart held. bound_there view server j (bound_with i endpoint birth) held (λ e. apart (sym e)))
+pub each_bound : (view : View) (servers : List Server) (i : ℕ) (one now : Server) (b : Bound) → AreNumbered view servers → slice_get servers i ≡ Some one → b.server ≡ i → at_in view b.endpoint ≡ None → Binds one b now →
+    AreNumbered (bound_in view (Some b)) (set servers i now)
+each_bound view servers i one now b h there at free s =
+    each_set view (bound_in view (Some b)) servers i one now h there s.index refl
+    (bound_here view one now i b (h.each i one there) at free s)
+    (λ j server apart held. bound_there view server j b held (λ e. apart (sym e ∙ at)))
 
 pub each_unbound : (view : View) (servers : List Server) → AreNumbered view servers → AreNumbered (bound_in view None) servers
 each_unbound view servers h = record {

@@ -5,7 +5,6 @@ use Rattle.fidl_wire.specs.Written.{Written}
 use Rattle.endpoint_link.specs.Frames.{spellings}
 use Rattle.endpoint_link.specs.Numbering.{among}
 use Rattle.endpoint_link.specs.Standings.{Known, ended, gone}
-use Rattle.conn_rules.specs.Built.{today}
 use Rattle.vfs_journal.specs.Entries.{Sent}
 use Rattle.journal_laws.specs.Viewing.{view_behind}
 use Rattle.message_queues.specs.Dying.{Buries}
@@ -58,6 +57,7 @@ pub one_at_most : (fate : Fate) → is_sent_on fate ≤ 1
 one_at_most fates.Stays = omega arith
 one_at_most fates.Ends = omega arith
 one_at_most (fates.Binds object birth) = omega arith
+one_at_most (fates.Watches object directory mask) = omega arith
 one_at_most (fates.Refuses object) = omega arith
 one_at_most (fates.Forwards mount object) = omega arith
 one_at_most (fates.Gives token directory) = omega arith
@@ -105,7 +105,7 @@ one_served old mid new last run endpoint server sent fate out before between aft
   bound = d.bound;
   waits = d.first;
   served = both_parts old mid last endpoint server sent fate out before between after
-      (ready_in (view_behind today run.start run.journal) old.queues endpoint server sent run.stands.holds.queues d.bound d.first).on d
+      (ready_in (view_behind run.start run.journal) old.queues endpoint server sent run.stands.holds.queues d.bound d.first).on d
       (subst (λ (w : World). SettlesHead mid sent fate out w between after) (sym same) e) able;
 }
 
@@ -113,5 +113,5 @@ one_served old mid new last run endpoint server sent fate out before between aft
 pub goes_on : (most : ℕ) (old new : World) (run : IsRunning most old) (endpoint : ℕ) (before after : List ℕ) → ServesOne (λ one. one ≡ endpoint) old new before after → IsRunning most new
 goes_on most old new run endpoint before after one =
     lasts_served most old new run one.sent
-    (ready_in (view_behind today run.start run.journal) old.queues one.endpoint one.server one.sent run.stands.holds.queues one.bound one.waits).first
+    (ready_in (view_behind run.start run.journal) old.queues one.endpoint one.server one.sent run.stands.holds.queues one.bound one.waits).first
     (head_served run.apart run.start run.journal old new one.endpoint one.server one.sent before after run.stands one.bound one.waits one.served).stands

@@ -2,7 +2,6 @@
 use Rattle.std.proofs.Common.{◌≡◌, ℕ, ◌<◌, ◌==◌, ◌⊎◌, List, [], ◌∷◌, length, map, Contains, Some, inl, inr, sym, ap, subst, arith}
 use Rattle.std.proofs.lemmas.List.Elements.{All-contains}
 use Rattle.conn_rules.specs.Births.{Position}
-use Rattle.conn_rules.specs.Built.{today}
 use Rattle.fidl_wire.specs.Names.{AreDistinct}
 use Rattle.vfs_journal.specs.Entries.{Journal, Sent}
 use Rattle.vfs_journal.specs.History.{living, trees_of}
@@ -33,23 +32,23 @@ mapped_has (one ∷ pairs) pair h = by_place (mapped_has pairs pair) (contains_c
   by_place rest (inl e) = subst (λ (b : Bound). Contains (one.0 ∷ map (λ p. p.0) pairs) b) (ap (λ (p : Bound × Position). p.0) e) (contains_here one.0 (map (λ p. p.0) pairs))
   by_place rest (inr q) = contains_later pair.0 one.0 (map (λ p. p.0) pairs) (rest q)
 
-pub server_low : (start : Start) (journal : Journal) (endpoint : ℕ) (pair : Bound × Position) → AreDistinct → IsStart start → Lawful today start journal → at_in (view_behind today start journal) endpoint ≡ Some pair →
-    pair.0.server < length (view_behind today start journal).trees
+pub server_low : (start : Start) (journal : Journal) (endpoint : ℕ) (pair : Bound × Position) → AreDistinct → IsStart start → Lawful start journal → at_in (view_behind start journal) endpoint ≡ Some pair →
+    pair.0.server < length (view_behind start journal).trees
 server_low start journal endpoint pair apart sound lawful' e =
-    let past = history_of today start journal in
-    let view = view_behind today start journal in
+    let past = history_of start journal in
+    let view = view_behind start journal in
     let lives : Contains (living start past) pair.0 =
-    subst (λ (bs : List Bound). Contains bs pair.0) (bounds_are today start past)
+    subst (λ (bs : List Bound). Contains bs pair.0) (bounds_are start past)
     (mapped_has view.living pair (found (λ (p : Bound × Position). p.0.endpoint == endpoint) view.living pair e).0) in
-    (All-contains (IsOnNode (trees_of start past)) (living start past) pair.0 (stand_on_trees (below apart) today start journal sound lawful').placed lives).server
+    (All-contains (IsOnNode (trees_of start past)) (living start past) pair.0 (stand_on_trees (below apart) start journal sound lawful').placed lives).server
 
 -- ---- the whole
 
 pub head_served : AreDistinct →
     (start : Start) (journal : Journal) (old new : World) (endpoint server : ℕ) (sent : Sent) (before after : List ℕ) → StandsFor start old journal → server_of old.queues endpoint ≡ Some server → head_of old.queues endpoint ≡ Some sent →
-    ServesHead old endpoint server sent new before after → LeadsTo start (after_serving today start journal sent) new journal before after
+    ServesHead old endpoint server sent new before after → LeadsTo start (after_serving start journal sent) new journal before after
 head_served apart start journal old new endpoint server sent before after s bound waits d =
-    let view = view_behind today start journal in
+    let view = view_behind start journal in
     let r : IsReadyIn view endpoint server sent = ready_in view old.queues endpoint server sent s.holds.queues bound waits in
     let low = server_low start journal sent.endpoint r.pair apart s.sound s.lawful r.found in
     let many = s.holds.servers.many in

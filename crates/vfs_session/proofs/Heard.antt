@@ -12,7 +12,6 @@ use Rattle.endpoint_link.specs.declared.kinds.FrameKind.{FrameKind}
 use Rattle.endpoint_link.specs.declared.kinds.FrameKind.TheVariants as kind
 use Rattle.endpoint_link.specs.declared.kinds.Refusal.{Refusal}
 use Rattle.endpoint_link.specs.declared.kinds.Side.TheVariants.{ToServers}
-use Rattle.conn_rules.specs.Built.{Built, today}
 use Rattle.vfs_journal.specs.Entries.{Journal, Sending, Sent, handles_of, hang_up, message, refuses, sends}
 use Rattle.vfs_journal.specs.Fit.{IsFit}
 use Rattle.vfs_journal.specs.History.{is_used}
@@ -46,21 +45,21 @@ use Rattle.vfs_session.proofs.Leaving.{out_sent}
 
 -- ---- what is written
 
-refusal_written : (built : Built) (start : Start) (journal : Journal) (endpoint : ℕ) (why : Refusal) →
-    output_of built start (refuses endpoint why ∷ journal) ≡ output_of built start journal ++ spelling (refused_frame endpoint why)
+refusal_written : (start : Start) (journal : Journal) (endpoint : ℕ) (why : Refusal) →
+    output_of start (refuses endpoint why ∷ journal) ≡ output_of start journal ++ spelling (refused_frame endpoint why)
 unfolding history_of event_of
-refusal_written built start journal endpoint why =
-    flat_map-append spelling (frames_of start (history_of built start journal)) (refused_frame endpoint why ∷ [])
-    ∙ ap (λ (bytes : List ℕ). output_of built start journal ++ bytes) (append-nil (spelling (refused_frame endpoint why)))
+refusal_written start journal endpoint why =
+    flat_map-append spelling (frames_of start (history_of start journal)) (refused_frame endpoint why ∷ [])
+    ∙ ap (λ (bytes : List ℕ). output_of start journal ++ bytes) (append-nil (spelling (refused_frame endpoint why)))
 
-nothing_written : (built : Built) (start : Start) (journal : Journal) (sent : Sent) → output_of built start (sends sent ∷ journal) ≡ output_of built start journal ++ []
+nothing_written : (start : Start) (journal : Journal) (sent : Sent) → output_of start (sends sent ∷ journal) ≡ output_of start journal ++ []
 unfolding history_of event_of
-nothing_written built start journal sent = flat_map-append spelling (frames_of start (history_of built start journal)) []
+nothing_written start journal sent = flat_map-append spelling (frames_of start (history_of start journal)) []
 
 -- ---- a frame is refused
 
-pub admits_same : Below → (start : Start) (journal : Journal) (world : World) (frame : Frame) → StandsFor start world journal → admission (known_look_ups world.known) frame ≡ admission (look_ups start (history_of today start journal)) frame
-admits_same below start journal world frame s = knowers_admit below today start journal world.known frame s.sound s.lawful s.knows
+pub admits_same : Below → (start : Start) (journal : Journal) (world : World) (frame : Frame) → StandsFor start world journal → admission (known_look_ups world.known) frame ≡ admission (look_ups start (history_of start journal)) frame
+admits_same below start journal world frame s = knowers_admit below start journal world.known frame s.sound s.lawful s.knows
 
 -- only a place is taken
 pub record TakesPlace (old new : World) : Type 0 where
@@ -85,23 +84,23 @@ refused_holds view old new h takes = record {
 }
 
 pub refused_on : Below → (start : Start) (journal : Journal) (old new : World) (frame : Frame) (why : Refusal) (before after : List ℕ) → StandsFor start old journal → IsFrame ToServers frame →
-    admission (known_look_ups old.known) frame ≡ Some why → TakesPlace old new → after ≡ before ++ spelling (refused_frame frame.endpoint why) → LeadsTo start (arrives today start journal frame) new journal before after
+    admission (known_look_ups old.known) frame ≡ Some why → TakesPlace old new → after ≡ before ++ spelling (refused_frame frame.endpoint why) → LeadsTo start (arrives start journal frame) new journal before after
 unfolding history_of
 refused_on below start journal old new frame why before after s is refuses' takes written =
-    let past = history_of today start journal in
+    let past = history_of start journal in
     let refused = sym (admits_same below start journal old frame s) ∙ refuses' in
-    subst (λ (j : Journal). LeadsTo start j new journal before after) (sym (ap (by_refusal today start journal frame) refused))
+    subst (λ (j : Journal). LeadsTo start j new journal before after) (sym (ap (by_refusal start journal frame) refused))
     (record {
       stands = record {
         able = takes.able;
         sound = s.sound;
         lawful = lawful.refused journal frame why s.lawful is refused;
-        knows = subst (Knows start (history_of today start (refuses frame.endpoint why ∷ journal))) (sym takes.known)
-            (refusals_known today start journal frame.endpoint why old.known s.knows);
-        holds = subst (λ (v : View). Holds v new) (sym (refused_viewed today start past frame.endpoint why)) (refused_holds (view_behind today start journal) old new s.holds takes);
+        knows = subst (Knows start (history_of start (refuses frame.endpoint why ∷ journal))) (sym takes.known)
+            (refusals_known start journal frame.endpoint why old.known s.knows);
+        holds = subst (λ (v : View). Holds v new) (sym (refused_viewed start past frame.endpoint why)) (refused_holds (view_behind start journal) old new s.holds takes);
       };
       part = spelling (refused_frame frame.endpoint why);
-      more = refusal_written today start journal frame.endpoint why;
+      more = refusal_written start journal frame.endpoint why;
       written = written;
     })
 
@@ -151,69 +150,69 @@ sent_is : (places n endpoint : ℕ) (sending : Sending) → places ≡ n →
 sent_is places n endpoint sending e = λ i. record { place = e i; endpoint = endpoint; sending = sending; origin = None }
 
 -- the view's places are the journal's entries
-history_long : (start : Start) (journal : Journal) → length (history_of today start journal) ≡ length journal
+history_long : (start : Start) (journal : Journal) → length (history_of start journal) ≡ length journal
 unfolding history_of
 history_long start [] = refl
 history_long start (entry ∷ journal) = ap (λ (n : ℕ). suc n) (history_long start journal)
 
-places_are : (start : Start) (journal : Journal) → (view_behind today start journal).places ≡ length journal
+places_are : (start : Start) (journal : Journal) → (view_behind start journal).places ≡ length journal
 places_are start journal = history_long start journal
 
 -- a token that an admitted message carries was held
-held_before : Below → (start : Start) (journal : Journal) (frame : Frame) {world : World} → StandsFor start world journal → frame.kind ≡ kind.Message → admission (look_ups start (history_of today start journal)) frame ≡ None →
-    (one : Given) → Contains (view_behind today start journal).given one → among one.token frame.handles ≡ true → is_held_in (view_behind today start journal) one.token ≡ true
+held_before : Below → (start : Start) (journal : Journal) (frame : Frame) {world : World} → StandsFor start world journal → frame.kind ≡ kind.Message → admission (look_ups start (history_of start journal)) frame ≡ None →
+    (one : Given) → Contains (view_behind start journal).given one → among one.token frame.handles ≡ true → is_held_in (view_behind start journal) one.token ≡ true
 held_before below start journal frame s e let_in one c carried =
-    let past = history_of today start journal in
-    let view = view_behind today start journal in
-    let fit : IsFit view = views_fit below today start journal s.sound s.lawful in
+    let past = history_of start journal in
+    let view = view_behind start journal in
+    let fit : IsFit view = views_fit below start journal s.sound s.lawful in
     let high = (All-contains (λ (given : Given). (limit.FIRST_TOKEN ≤ given.token) × (given.token < limit.FIRST_TOKEN + length view.given)) view.given one fit.numbered c).0 in
     let admitted = message_admitted start past frame.endpoint frame.handles (refusal_of (look_ups start past) frame kind.Message e let_in) in
-    sym (held_is today start past one.token) ∙ by_side high (or_cases (is_client one.token && not (is_used start past one.token)) (is_held past one.token) (admitted.travel one.token carried)) where
-      by_side : limit.FIRST_TOKEN ≤ one.token → ((is_client one.token && not (is_used start (history_of today start journal) one.token)) ≡ true) ⊎ (is_held (history_of today start journal) one.token ≡ true) →
-          is_held (history_of today start journal) one.token ≡ true
-      by_side high (inl h) = let low = client_low one.token (and_parts (is_client one.token) (not (is_used start (history_of today start journal) one.token)) h).0 in absurd (omega (arith, low, high))
+    sym (held_is start past one.token) ∙ by_side high (or_cases (is_client one.token && not (is_used start past one.token)) (is_held past one.token) (admitted.travel one.token carried)) where
+      by_side : limit.FIRST_TOKEN ≤ one.token → ((is_client one.token && not (is_used start (history_of start journal) one.token)) ≡ true) ⊎ (is_held (history_of start journal) one.token ≡ true) →
+          is_held (history_of start journal) one.token ≡ true
+      by_side high (inl h) = let low = client_low one.token (and_parts (is_client one.token) (not (is_used start (history_of start journal) one.token)) h).0 in absurd (omega (arith, low, high))
       by_side high (inr h) = h
 
 pub message_on : Below → (start : Start) (journal : Journal) (old new : World) (frame : Frame) (before : List ℕ) → StandsFor start old journal → IsFrame ToServers frame → frame.kind ≡ kind.Message →
-    admission (known_look_ups old.known) frame ≡ None → SendsIt old frame (message frame.bytes frame.handles) new → LeadsTo start (arrives today start journal frame) new journal before before
+    admission (known_look_ups old.known) frame ≡ None → SendsIt old frame (message frame.bytes frame.handles) new → LeadsTo start (arrives start journal frame) new journal before before
 message_on below start journal old new frame before s is e admits sends' =
     let let_in = sym (admits_same below start journal old frame s) ∙ admits in
     let sent = sent_behind journal frame.endpoint (message frame.bytes frame.handles) None in
     subst (λ (j : Journal). LeadsTo start j new journal before before)
-    (sym (ap (by_refusal today start journal frame) let_in ∙ ap (λ (one : FrameKind). admitted today start journal one frame) e))
+    (sym (ap (by_refusal start journal frame) let_in ∙ ap (λ (one : FrameKind). admitted start journal one frame) e))
     (record {
       stands = record {
         able = sends'.able;
         sound = s.sound;
         lawful = lawful.sent journal frame s.lawful is e let_in;
-        knows = messages_known below today start journal frame old.known new.known s.sound s.lawful e let_in s.knows sends'.known;
-        holds = subst (λ (v : View). Holds v new) (sym (message_viewed today start journal frame s.lawful let_in e))
-            (sent_holds (view_behind today start journal) old new frame (message frame.bytes frame.handles) sent s.holds (λ one c carried. held_before below start journal frame s e let_in one c carried) sends'
+        knows = messages_known below start journal frame old.known new.known s.sound s.lawful e let_in s.knows sends'.known;
+        holds = subst (λ (v : View). Holds v new) (sym (message_viewed start journal frame s.lawful let_in e))
+            (sent_holds (view_behind start journal) old new frame (message frame.bytes frame.handles) sent s.holds (λ one c carried. held_before below start journal frame s e let_in one c carried) sends'
             (sent_is old.places (length journal) frame.endpoint (message frame.bytes frame.handles) (s.holds.places ∙ places_are start journal)));
       };
       part = [];
-      more = nothing_written today start journal sent;
+      more = nothing_written start journal sent;
       written = sym (append-nil before);
     })
 
 pub hang_up_on : Below → (start : Start) (journal : Journal) (old new : World) (frame : Frame) (before : List ℕ) → StandsFor start old journal → IsFrame ToServers frame → frame.kind ≡ kind.Close →
-    admission (known_look_ups old.known) frame ≡ None → SendsIt old frame hang_up new → LeadsTo start (arrives today start journal frame) new journal before before
+    admission (known_look_ups old.known) frame ≡ None → SendsIt old frame hang_up new → LeadsTo start (arrives start journal frame) new journal before before
 hang_up_on below start journal old new frame before s is e admits sends' =
     let let_in = sym (admits_same below start journal old frame s) ∙ admits in
     let sent = sent_behind journal frame.endpoint hang_up None in
     subst (λ (j : Journal). LeadsTo start j new journal before before)
-    (sym (ap (by_refusal today start journal frame) let_in ∙ ap (λ (one : FrameKind). admitted today start journal one frame) e))
+    (sym (ap (by_refusal start journal frame) let_in ∙ ap (λ (one : FrameKind). admitted start journal one frame) e))
     (record {
       stands = record {
         able = sends'.able;
         sound = s.sound;
         lawful = lawful.closed journal frame s.lawful is e let_in;
-        knows = hang_ups_known below today start journal frame old.known new.known s.sound s.lawful e let_in s.knows sends'.known;
-        holds = subst (λ (v : View). Holds v new) (sym (hang_up_viewed today start journal frame s.lawful let_in e))
-            (sent_holds (view_behind today start journal) old new frame hang_up sent s.holds (λ one c carried. absurd (true≢false (sym carried))) sends'
+        knows = hang_ups_known below start journal frame old.known new.known s.sound s.lawful e let_in s.knows sends'.known;
+        holds = subst (λ (v : View). Holds v new) (sym (hang_up_viewed start journal frame s.lawful let_in e))
+            (sent_holds (view_behind start journal) old new frame hang_up sent s.holds (λ one c carried. absurd (true≢false (sym carried))) sends'
             (sent_is old.places (length journal) frame.endpoint hang_up (s.holds.places ∙ places_are start journal)));
       };
       part = [];
-      more = nothing_written today start journal sent;
+      more = nothing_written start journal sent;
       written = sym (append-nil before);
     })

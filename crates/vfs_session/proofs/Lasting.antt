@@ -4,7 +4,6 @@ use Rattle.endpoint_link.specs.Admission.{admission}
 use Rattle.endpoint_link.specs.Frames.{Frame}
 use Rattle.endpoint_link.specs.declared.kinds.FrameKind.TheVariants as kind
 use Rattle.endpoint_link.specs.declared.kinds.Refusal.{Refusal}
-use Rattle.conn_rules.specs.Built.{today}
 use Rattle.vfs_journal.specs.Entries.{Sent, hang_up, message, refuses, sends}
 use Rattle.vfs_journal.specs.Past.{history_of}
 use Rattle.vfs_journal.specs.Session.{after_serving, look_ups, sent_behind}
@@ -22,20 +21,20 @@ use Rattle.vfs_session.proofs.PlacesLeft.{few_left, sending_takes, serving_takes
 few_in : (v w : View) (most : ℕ) → v ≡ w → w.places + places_left w ≤ most → v.places + places_left v ≤ most
 few_in v w most e few = subst (λ (x : View). x.places + places_left x ≤ most) (sym e) few
 
-pub lasts_served : (most : ℕ) (old new : World) (r : IsRunning most old) (sent : Sent) → head_in (view_behind today r.start r.journal) sent.endpoint ≡ Some sent →
-    StandsFor r.start new (after_serving today r.start r.journal sent) → IsRunning most new
+pub lasts_served : (most : ℕ) (old new : World) (r : IsRunning most old) (sent : Sent) → head_in (view_behind r.start r.journal) sent.endpoint ≡ Some sent →
+    StandsFor r.start new (after_serving r.start r.journal sent) → IsRunning most new
 lasts_served most old new r sent first stands =
-    let view = view_behind today r.start r.journal in
-    let taken = serving_takes (below r.apart) today r.start r.journal sent r.stands.sound r.stands.lawful first in
+    let view = view_behind r.start r.journal in
+    let taken = serving_takes (below r.apart) r.start r.journal sent r.stands.sound r.stands.lawful first in
     let few = r.few in
     record {
       apart = r.apart;
       start = r.start;
-      journal = after_serving today r.start r.journal sent;
+      journal = after_serving r.start r.journal sent;
       stands = stands;
       few =
-          few_in (view_behind today r.start (after_serving today r.start r.journal sent)) (then_in view sent) most
-          (served_behind_viewed (below r.apart) today r.start r.journal sent r.stands.sound r.stands.lawful (head_is_in today r.start (history_of today r.start r.journal) sent.endpoint ∙ first))
+          few_in (view_behind r.start (after_serving r.start r.journal sent)) (then_in view sent) most
+          (served_behind_viewed (below r.apart) r.start r.journal sent r.stands.sound r.stands.lawful (head_is_in r.start (history_of r.start r.journal) sent.endpoint ∙ first))
           (omega (arith, taken, few));
     }
 
@@ -48,14 +47,14 @@ lasts_refused most old new r endpoint why stands =
       start = r.start;
       journal = refuses endpoint why ∷ r.journal;
       stands = stands;
-      few = few_in (view_behind today r.start (refuses endpoint why ∷ r.journal)) (refusing_in (view_behind today r.start r.journal)) (most + 4098)
-          (refused_viewed today r.start (history_of today r.start r.journal) endpoint why) (omega (arith, few));
+      few = few_in (view_behind r.start (refuses endpoint why ∷ r.journal)) (refusing_in (view_behind r.start r.journal)) (most + 4098)
+          (refused_viewed r.start (history_of r.start r.journal) endpoint why) (omega (arith, few));
     }
 
 sent_few : (view : View) (sent : Sent) (most : ℕ) → names_left sent.sending ≤ 2048 → view.places + places_left view ≤ most → (sending_in view sent).places + places_left (sending_in view sent) ≤ most + 4098
 sent_few view sent most names few = let more = sending_takes view sent in omega (arith, more, names, few)
 
-pub lasts_message : (most : ℕ) (old new : World) (r : IsRunning most old) (frame : Frame) → admission (look_ups r.start (history_of today r.start r.journal)) frame ≡ None → frame.kind ≡ kind.Message →
+pub lasts_message : (most : ℕ) (old new : World) (r : IsRunning most old) (frame : Frame) → admission (look_ups r.start (history_of r.start r.journal)) frame ≡ None → frame.kind ≡ kind.Message →
     StandsFor r.start new (sends (sent_behind r.journal frame.endpoint (message frame.bytes frame.handles) None) ∷ r.journal) → IsRunning (most + 4098) new
 lasts_message most old new r frame admits e stands =
     let sent = sent_behind r.journal frame.endpoint (message frame.bytes frame.handles) None in
@@ -64,12 +63,12 @@ lasts_message most old new r frame admits e stands =
       start = r.start;
       journal = sends sent ∷ r.journal;
       stands = stands;
-      few = few_in (view_behind today r.start (sends sent ∷ r.journal)) (sending_in (view_behind today r.start r.journal) sent) (most + 4098)
-          (message_viewed today r.start r.journal frame r.stands.lawful admits e)
-          (sent_few (view_behind today r.start r.journal) sent most (few_left (below r.apart) (message frame.bytes frame.handles)) r.few);
+      few = few_in (view_behind r.start (sends sent ∷ r.journal)) (sending_in (view_behind r.start r.journal) sent) (most + 4098)
+          (message_viewed r.start r.journal frame r.stands.lawful admits e)
+          (sent_few (view_behind r.start r.journal) sent most (few_left (below r.apart) (message frame.bytes frame.handles)) r.few);
     }
 
-pub lasts_hang_up : (most : ℕ) (old new : World) (r : IsRunning most old) (frame : Frame) → admission (look_ups r.start (history_of today r.start r.journal)) frame ≡ None → frame.kind ≡ kind.Close →
+pub lasts_hang_up : (most : ℕ) (old new : World) (r : IsRunning most old) (frame : Frame) → admission (look_ups r.start (history_of r.start r.journal)) frame ≡ None → frame.kind ≡ kind.Close →
     StandsFor r.start new (sends (sent_behind r.journal frame.endpoint hang_up None) ∷ r.journal) → IsRunning (most + 4098) new
 lasts_hang_up most old new r frame admits e stands =
     let sent = sent_behind r.journal frame.endpoint hang_up None in
@@ -78,9 +77,9 @@ lasts_hang_up most old new r frame admits e stands =
       start = r.start;
       journal = sends sent ∷ r.journal;
       stands = stands;
-      few = few_in (view_behind today r.start (sends sent ∷ r.journal)) (sending_in (view_behind today r.start r.journal) sent) (most + 4098)
-          (hang_up_viewed today r.start r.journal frame r.stands.lawful admits e)
-          (sent_few (view_behind today r.start r.journal) sent most (few_left (below r.apart) hang_up) r.few);
+      few = few_in (view_behind r.start (sends sent ∷ r.journal)) (sending_in (view_behind r.start r.journal) sent) (most + 4098)
+          (hang_up_viewed r.start r.journal frame r.stands.lawful admits e)
+          (sent_few (view_behind r.start r.journal) sent most (few_left (below r.apart) hang_up) r.few);
     }
 
 pub lasts_more : (most more : ℕ) (world : World) → most ≤ more → IsRunning most world → IsRunning more world

@@ -10,10 +10,10 @@ use Rattle.io_messages.specs.declared.protocols.Protocol.{Protocol}
 use Rattle.io_messages.specs.declared.protocols.Protocol.TheVariants as protocol
 use Rattle.node_graph.specs.Tree.{Tree}
 use Rattle.path_walk.specs.Names.{dot}
+use Rattle.watch_events.specs.Messages.{added, deleted, removed, told}
 use Rattle.conn_rules.specs.Answers.{Answer, Happening, binds, closes, ends, forwards, hangs_up, refuses, replies, silent, watches}
 use Rattle.conn_rules.specs.Answers as news
 use Rattle.conn_rules.specs.Births.{Position}
-use Rattle.conn_rules.specs.Built.{Built}
 use Rattle.conn_rules.specs.declared.births.Room.{Room}
 use Rattle.vfs_journal.specs.Entries.{Sending, hang_up, message}
 use Rattle.vfs_journal.specs.History.{Event, is_watcher, tree_at, watches_node}
@@ -22,7 +22,7 @@ use Rattle.vfs_journal.specs.Output.{close_frames, frames_of_serving}
 use Rattle.vfs_journal.specs.Serving.{Moment, Read, asker_of, fault_answer, fault_txid, object_of, outcome_of_message, outcome_of_read, outcome_of_sending, read_by, request_act}
 use Rattle.vfs_journal.specs.Starts.{Bound}
 use Rattle.vfs_journal.specs.View.{View, at_in, bounds_in, directory_in, is_out_in, moment_in, next_token_in}
-use Rattle.vfs_journal.specs.Watching.{added, asks_for, deleted, event_bytes, first_frames, removed, told_by, told_frames, told_of, watch_frame}
+use Rattle.vfs_journal.specs.Watching.{first_frames, told_by, told_frames, told_of, watcher_of}
 use Rattle.journal_laws.proofs.Lists.{filter-filter}
 use Rattle.vfs_server.specs.Holding.{if_at, living_at}
 use Rattle.vfs_server.specs.Servers.{Server}
@@ -113,24 +113,24 @@ pub record IsOn (moment : Moment) (outcome : Outcome) : Type 0 where
   pub server : outcome.server ≡ moment.bound.server
   pub bound : (b : Bound) → outcome.bound ≡ Some b → b.server ≡ moment.bound.server
 
-read_on : (built : Built) (moment : Moment) (read : Read) → IsOn moment (outcome_of_read built moment read)
+read_on : (moment : Moment) (read : Read) → IsOn moment (outcome_of_read moment read)
 unfolding on_server
-read_on built moment (Ok found) =
-    record { server = refl; bound = answer_on (asker_of moment.bound found.0 (object_of found.1)) (request_act built moment found.1).answer }
-read_on built moment (Err fault) = record { server = refl; bound = answer_on (asker_of moment.bound (fault_txid fault) 0) (fault_answer fault) }
+read_on moment (Ok found) =
+    record { server = refl; bound = answer_on (asker_of moment.bound found.0 (object_of found.1)) (request_act moment found.1).answer }
+read_on moment (Err fault) = record { server = refl; bound = answer_on (asker_of moment.bound (fault_txid fault) 0) (fault_answer fault) }
 
-message_on : (built : Built) (moment : Moment) (p : Protocol) (bytes handles : List ℕ) → IsOn moment (outcome_of_message built moment p bytes handles)
+message_on : (moment : Moment) (p : Protocol) (bytes handles : List ℕ) → IsOn moment (outcome_of_message moment p bytes handles)
 unfolding on_server
-message_on built moment protocol.Watcher bytes handles = record { server = refl; bound = none_on (asker_of moment.bound 0 0) }
-message_on built moment protocol.Directory bytes handles = read_on built moment (read_by protocol.Directory bytes handles)
-message_on built moment protocol.File bytes handles = read_on built moment (read_by protocol.File bytes handles)
-message_on built moment protocol.Node bytes handles = read_on built moment (read_by protocol.Node bytes handles)
-message_on built moment protocol.Echo bytes handles = read_on built moment (read_by protocol.Echo bytes handles)
+message_on moment protocol.Watcher bytes handles = record { server = refl; bound = none_on (asker_of moment.bound 0 0) }
+message_on moment protocol.Directory bytes handles = read_on moment (read_by protocol.Directory bytes handles)
+message_on moment protocol.File bytes handles = read_on moment (read_by protocol.File bytes handles)
+message_on moment protocol.Node bytes handles = read_on moment (read_by protocol.Node bytes handles)
+message_on moment protocol.Echo bytes handles = read_on moment (read_by protocol.Echo bytes handles)
 
-pub sending_on : (built : Built) (moment : Moment) (sending : Sending) → IsOn moment (outcome_of_sending built moment sending)
+pub sending_on : (moment : Moment) (sending : Sending) → IsOn moment (outcome_of_sending moment sending)
 unfolding outcome_of_sending on_server
-sending_on built moment (message bytes handles) = message_on built moment moment.bound.birth.protocol bytes handles
-sending_on built moment hang_up = record { server = refl; bound = none_on (asker_of moment.bound 0 0) }
+sending_on moment (message bytes handles) = message_on moment moment.bound.birth.protocol bytes handles
+sending_on moment hang_up = record { server = refl; bound = none_on (asker_of moment.bound 0 0) }
 
 -- ---- frames
 
@@ -142,7 +142,7 @@ first_same trees server (Some b) on = ap (λ (n : ℕ). first_frames (tree_at tr
 told_same : (view : View) (index directory event : ℕ) (name : List ℕ) →
     told_of (filter (λ bound. is_watcher bound.birth.protocol) (living_at view index)) index directory event name ≡ told_of (bounds_in view) index directory event name
 told_same view index directory event name =
-    ap (λ (bs : List Bound). map (λ (b : Bound). watch_frame b.endpoint (event_bytes event name)) (filter (λ (b : Bound). asks_for b.mask event) bs)) (watching_here view index directory)
+    ap (λ (bs : List Bound). told (map watcher_of bs) event name) (watching_here view index directory)
 
 told_by_same : (view : View) (index : ℕ) (one : Happening) →
     told_by (filter (λ bound. is_watcher bound.birth.protocol) (living_at view index)) index one ≡ told_by (bounds_in view) index one

@@ -8,7 +8,6 @@ use Rattle.std.proofs.lemmas.List.Sums.{length-filter}
 use Rattle.fidl_names.specs.HandleNumber.{is_client}
 use Rattle.fidl_wire.specs.Names.{AreDistinct}
 use Rattle.tree_file.specs.Numbering.{end_of_mount}
-use Rattle.conn_rules.specs.Built.{today}
 use Rattle.vfs_journal.specs.Entries.{Journal}
 use Rattle.vfs_journal.specs.History.{is_used}
 use Rattle.vfs_journal.specs.Lawful.{Lawful}
@@ -55,11 +54,11 @@ few_mounts start s =
     omega (arith, all, more, few)
 
 -- an endpoint that is bound and no client's is the end of one of them
-pub mount_low : (start : Start) (journal : Journal) (mount : ℕ) → AreDistinct → IsStart start → Lawful today start journal → is_client (end_of_mount mount) ≡ false →
-    is_bound_in (view_behind today start journal) (end_of_mount mount) ≡ true → mount < 2 ^ 30
+pub mount_low : (start : Start) (journal : Journal) (mount : ℕ) → AreDistinct → IsStart start → Lawful start journal → is_client (end_of_mount mount) ≡ false →
+    is_bound_in (view_behind start journal) (end_of_mount mount) ≡ true → mount < 2 ^ 30
 mount_low start journal mount apart s lawful other bound =
-    by_kind ((are_known (below apart) today start journal s lawful).bound (end_of_mount mount) (bound_is today start (history_of today start journal) (end_of_mount mount) ∙ bound)) where
-      by_kind : Contains (mount_ends start) (end_of_mount mount) ⊎ ((is_client (end_of_mount mount) ≡ true) × (is_used start (history_of today start journal) (end_of_mount mount) ≡ true)) → mount < 2 ^ 30
+    by_kind ((are_known (below apart) start journal s lawful).bound (end_of_mount mount) (bound_is start (history_of start journal) (end_of_mount mount) ∙ bound)) where
+      by_kind : Contains (mount_ends start) (end_of_mount mount) ⊎ ((is_client (end_of_mount mount) ≡ true) × (is_used start (history_of start journal) (end_of_mount mount) ≡ true)) → mount < 2 ^ 30
       by_kind (inr known) = absurd (true≢false (sym known.0 ∙ other))
       by_kind (inl c) =
           let n = end_of_mount mount in

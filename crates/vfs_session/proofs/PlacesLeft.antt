@@ -14,7 +14,6 @@ use Rattle.path_walk.specs.Names.{IsName, slash}
 use Rattle.path_walk.specs.Paths.{IsPath, names_of, path_fault, text_of}
 use Rattle.path_walk.specs.declared.faults.PathFault.{PathFault}
 use Rattle.path_walk.proofs.NameLemmas.{name-some}
-use Rattle.conn_rules.specs.Built.{Built}
 use Rattle.vfs_journal.specs.Entries.{Sent, Sending, Journal, message, hang_up}
 use Rattle.vfs_journal.specs.Outcomes.{Forwarded}
 use Rattle.remote_forward.specs.Onward.{onward_bytes}
@@ -148,15 +147,15 @@ open_names below k tree p f on =
     ∙ ap names_read (opens_directory below.spelled below.reads below.apart p on.bytes on.handles on.txid on.path on.word on.given f.object on.read)
     ∙ good_names on.path (path_fault on.path) on.onward.good
 
-forward_names : Below → (built : Built) (start : Start) (journal : Journal) (k : Sent) (f : Forwarded) → IsStart start → Lawful built start journal → head start (history_of built start journal) k.endpoint ≡ Some k →
-    (outcome_of built start (history_of built start journal) k).forward ≡ Some f → names_left (message f.bytes (f.object ∷ [])) < names_left k.sending
-forward_names below built start journal k f s lawful h e =
-    let history = history_of built start journal in
-    let steps = stepped built start journal lawful in
-    let past = lawful_kept below built start s journal lawful in
-    let serving' = is_serving below built start journal k s steps past.sound h in
+forward_names : Below → (start : Start) (journal : Journal) (k : Sent) (f : Forwarded) → IsStart start → Lawful start journal → head start (history_of start journal) k.endpoint ≡ Some k →
+    (outcome_of start (history_of start journal) k).forward ≡ Some f → names_left (message f.bytes (f.object ∷ [])) < names_left k.sending
+forward_names below start journal k f s lawful h e =
+    let history = history_of start journal in
+    let steps = stepped start journal lawful in
+    let past = lawful_kept below start s journal lawful in
+    let serving' = is_serving below start journal k s steps past.sound h in
     let on = serving'.parts.goes_on f e in
-    let right = goes_right below built start history k f s past.sound (is_view built start journal steps) serving' e in
+    let right = goes_right below start history k f s past.sound (is_view start journal steps) serving' e in
     let low = client_low f.object (carried_is k f.object (serving'.answered.goes_on f e).0).0 in
     let new = onward_names below on.flags on.rest f.object f.bytes right (omega arith) on.bytes_are in
     let old = open_names below k _ _ f on in
@@ -175,12 +174,12 @@ onward_takes view mid sent (Some f) at less fewer =
     let few = fewer f refl in
     omega arith
 
-pub serving_takes : Below → (built : Built) (start : Start) (journal : Journal) (sent : Sent) → IsStart start → Lawful built start journal → head_in (view_behind built start journal) sent.endpoint ≡ Some sent →
-    (then_in (view_behind built start journal) sent).places + places_left (then_in (view_behind built start journal) sent)
-    ≤ (view_behind built start journal).places + places_left (view_behind built start journal)
-serving_takes below built start journal sent s lawful h =
-    let view = view_behind built start journal in
-    let past = history_of built start journal in
-    let first = head_is_in built start past sent.endpoint ∙ h in
+pub serving_takes : Below → (start : Start) (journal : Journal) (sent : Sent) → IsStart start → Lawful start journal → head_in (view_behind start journal) sent.endpoint ≡ Some sent →
+    (then_in (view_behind start journal) sent).places + places_left (then_in (view_behind start journal) sent)
+    ≤ (view_behind start journal).places + places_left (view_behind start journal)
+serving_takes below start journal sent s lawful h =
+    let view = view_behind start journal in
+    let past = history_of start journal in
+    let first = head_is_in start past sent.endpoint ∙ h in
     onward_takes view (serving_in view sent (event_in view sent)) sent (outcome_in view sent).forward refl (served_takes view sent (is_first view sent h).waits)
-    (λ f e. forward_names below built start journal sent f s lawful first (ap (λ o. o.forward) (outcome_is_in built start past sent) ∙ e))
+    (λ f e. forward_names below start journal sent f s lawful first (ap (λ o. o.forward) (outcome_is_in start past sent) ∙ e))

@@ -14,7 +14,6 @@ use Rattle.node_graph.specs.Graph.{number_of}
 use Rattle.tree_file.specs.Numbering.{end_of_mount}
 use Rattle.conn_rules.specs.declared.births.Birth as code
 use Rattle.conn_rules.specs.Births.{Position}
-use Rattle.conn_rules.specs.Built.{today}
 use Rattle.vfs_journal.specs.Entries.{Sent, handles_of}
 use Rattle.vfs_journal.specs.Fit.{IsFit}
 use Rattle.vfs_journal.specs.History.{tree_at}
@@ -37,11 +36,11 @@ use Rattle.journal_laws.proofs.Waits.{lawful_wait}
 use Rattle.message_queues.specs.Dying.{AreDeaths}
 use Rattle.message_queues.specs.Queues.{IsAbove, Queues, Requeues, count, head_of, queue_of, server_of}
 use Rattle.message_queues.proofs.Counting.{counts_its_list}
-use Rattle.vfs_server.specs.Binding.{HasPlace}
+use Rattle.vfs_server.specs.Binding.{CanWatch, HasPlace}
 use Rattle.vfs_server.specs.Holding.{if_at}
 use Rattle.vfs_server.specs.declared.fate.Fate.{Fate}
 use Rattle.vfs_server.specs.declared.fate.Fate.TheVariants as fates
-use Rattle.vfs_server.specs.Servers.{Server, bound_with, seen}
+use Rattle.vfs_server.specs.Servers.{Server, bound_with, seen, watcher_with}
 use Rattle.vfs_server.specs.Serving.{IsMomentOf}
 use Rattle.vfs_session.specs.Heads.{TakesHead}
 use Rattle.vfs_session.specs.Steps.{Answers, CanGo, CanName, IsRunning, answered_in, first_told, given_told, spent_told}
@@ -67,6 +66,9 @@ pub record CanBind (queues : Queues) (server : ℕ) (servers : List Server) (fat
   pub free : (object : ℕ) (birth : code.Birth) (one : Server) → fate ≡ fates.Binds object birth → slice_get servers server ≡ Some one → seen one object ≡ None
   pub place : (object : ℕ) (birth : code.Birth) (one : Server) → fate ≡ fates.Binds object birth → slice_get servers server ≡ Some one → HasPlace one birth
   pub unbound : (object : ℕ) (birth : code.Birth) → fate ≡ fates.Binds object birth → server_of queues object ≡ None
+  pub unwatched : (object mask : ℕ) (directory : NodeRef) (one : Server) → fate ≡ fates.Watches object directory mask → slice_get servers server ≡ Some one → seen one object ≡ None
+  pub watches : (object mask : ℕ) (directory : NodeRef) (one : Server) → fate ≡ fates.Watches object directory mask → slice_get servers server ≡ Some one → CanWatch one directory
+  pub silent : (object mask : ℕ) (directory : NodeRef) → fate ≡ fates.Watches object directory mask → server_of queues object ≡ None
   pub names : (token : ℕ) (node : NodeRef) (one : Server) → fate ≡ fates.Gives token node → slice_get servers server ≡ Some one → CanName one token node
 
 -- what the answer, the taking and the binding count on
@@ -107,57 +109,70 @@ beside_below view sent n place all = by_test (sent.endpoint == n) (All-filter (�
 -- ---- at the server and on the endpoint that are found
 
 module _ (old : World) (run : IsRunning (2 ^ 61) old) (sent : Sent) (pair : Bound × Position)
-    (found : at_in (view_behind today run.start run.journal) sent.endpoint ≡ Some pair) (first : head_in (view_behind today run.start run.journal) sent.endpoint ≡ Some sent) where
-  fit : IsFit (view_behind today run.start run.journal)
-  fit = views_fit (below run.apart) today run.start run.journal run.stands.sound run.stands.lawful
+    (found : at_in (view_behind run.start run.journal) sent.endpoint ≡ Some pair) (first : head_in (view_behind run.start run.journal) sent.endpoint ≡ Some sent) where
+  fit : IsFit (view_behind run.start run.journal)
+  fit = views_fit (below run.apart) run.start run.journal run.stands.sound run.stands.lawful
 
-  low : pair.0.server < length (view_behind today run.start run.journal).trees
+  low : pair.0.server < length (view_behind run.start run.journal).trees
   low = server_low run.start run.journal sent.endpoint pair run.apart run.stands.sound run.stands.lawful found
 
   there : (one : Server) × (slice_get old.servers pair.0.server ≡ Some one)
   there = let many = run.stands.holds.servers.many in let l = low in by_length old.servers pair.0.server (omega (arith, many, l))
 
-  begun : Begun (view_behind today run.start run.journal) sent pair old.servers there.0 (next_token_of old.known)
+  begun : Begun (view_behind run.start run.journal) sent pair old.servers there.0 (next_token_of old.known)
   begun = record {
-    built = refl;
     fit = fit;
     first = first;
     found = found;
-    held = numbered (view_behind today run.start run.journal) old.servers run.stands.holds.servers;
+    held = numbered (view_behind run.start run.journal) old.servers run.stands.holds.servers;
     there = there.1;
-    next = run.stands.knows.next ∙ token_is today run.start (history_of today run.start run.journal);
+    next = run.stands.knows.next ∙ token_is run.start (history_of run.start run.journal);
   }
 
   counts : count old.queues ≡ old.known.waiting
-  counts = counts_its_list old.queues (view_behind today run.start run.journal).waiting run.stands.holds.queues.queue ∙ sym run.stands.knows.waiting
+  counts = counts_its_list old.queues (view_behind run.start run.journal).waiting run.stands.holds.queues.queue ∙ sym run.stands.knows.waiting
 
   -- a node was made for each place at most, but for those of the start
   made_few : there.0.graph.made < 2 ^ 63
   made_few =
-      let view = view_behind today run.start run.journal in
+      let view = view_behind run.start run.journal in
       let held = run.stands.holds.servers in
       let tree = (held.each pair.0.server there.0 there.1).tree in
       let made : there.0.graph.made ≡ length (tree_at view.trees pair.0.server).nodes = tree.made ∙ ap (λ (n : ℕ). length (tree_at view.trees n).nodes) (held.index pair.0.server there.0 there.1) in
-      let grown = trees_grow today run.start run.journal pair.0.server run.stands.sound in
-      let places : view.places ≡ length run.journal = same_length today run.start run.journal in
+      let grown = trees_grow run.start run.journal pair.0.server run.stands.sound in
+      let places : view.places ≡ length run.journal = same_length run.start run.journal in
       let few = run.few in
       omega (arith, made, grown, places, few)
 
   answered : (fate : Fate) (out : Written) (new : List Server) (before after : List ℕ) → Answers old.servers pair.0.server sent.endpoint (next_token_of old.known) sent fate out new before after →
-      Told (view_behind today run.start run.journal) sent pair old.servers there.0 fate out new before after
+      Told (view_behind run.start run.journal) sent pair old.servers there.0 fate out new before after
   answered fate out new before after answers =
-      told (view_behind today run.start run.journal) sent pair old.servers there.0 (next_token_of old.known) fate out new before after begun answers
+      told (view_behind run.start run.journal) sent pair old.servers there.0 (next_token_of old.known) fate out new before after begun answers
 
-  new_at : (fate : Fate) (out : Written) (new : List Server) (before after : List ℕ) → Told (view_behind today run.start run.journal) sent pair old.servers there.0 fate out new before after →
-      (object : ℕ) (birth : code.Birth) → fate ≡ fates.Binds object birth → at_in (view_behind today run.start run.journal) object ≡ None
-  new_at fate out new before after t object birth e =
-      new_free (view_behind today run.start run.journal) sent fit first (bound_with pair.0.server object birth) (t.tells.bound ∙ ap (bound_told pair.0.server) e)
+  new_at : (fate : Fate) (out : Written) (new : List Server) (before after : List ℕ) → Told (view_behind run.start run.journal) sent pair old.servers there.0 fate out new before after →
+      (b : Bound) → bound_told pair.0.server fate ≡ Some b → at_in (view_behind run.start run.journal) b.endpoint ≡ None
+  new_at fate out new before after t b e = new_free (view_behind run.start run.journal) sent fit first b (t.tells.bound ∙ e)
+
+  -- what is bound was bound nowhere
+  unseen : (fate : Fate) (out : Written) (new : List Server) (before after : List ℕ) → (t : Told (view_behind run.start run.journal) sent pair old.servers there.0 fate out new before after) →
+      (b : Bound) (one : Server) → bound_told pair.0.server fate ≡ Some b → slice_get new pair.0.server ≡ Some one → seen one b.endpoint ≡ None
+  unseen fate out new before after t b one e at =
+      let o = outcome_in (view_behind run.start run.journal) sent in
+      ap (λ (s : Server). seen s b.endpoint) (sym (same_Some t.now one (sym t.there ∙ at)))
+      ∙ (t.held.each pair.0.server t.now t.there).bound b.endpoint
+      ∙ ap (if_at pair.0.server)
+      (moved_found sent.endpoint o.position b.endpoint (view_behind run.start run.journal).living ∙ ap (option_map (moved sent.endpoint o.position)) (new_at fate out new before after t b e))
+
+  no_server : (fate : Fate) (out : Written) (new : List Server) (before after : List ℕ) → Told (view_behind run.start run.journal) sent pair old.servers there.0 fate out new before after →
+      (b : Bound) → bound_told pair.0.server fate ≡ Some b → server_of old.queues b.endpoint ≡ None
+  no_server fate out new before after t b e =
+      run.stands.holds.queues.bound b.endpoint ∙ ap (option_map (λ (p : Bound × Position). p.0.server)) (new_at fate out new before after t b e)
 
   -- the token that is given is the next, which was given nowhere, and there is room for it
-  can_name : (fate : Fate) (out : Written) (new : List Server) (before after : List ℕ) → (t : Told (view_behind today run.start run.journal) sent pair old.servers there.0 fate out new before after) →
+  can_name : (fate : Fate) (out : Written) (new : List Server) (before after : List ℕ) → (t : Told (view_behind run.start run.journal) sent pair old.servers there.0 fate out new before after) →
       (token : ℕ) (node : NodeRef) → fate ≡ fates.Gives token node → CanName t.now token node
   can_name fate out new before after t token node e =
-      let view = view_behind today run.start run.journal in
+      let view = view_behind run.start run.journal in
       let o = outcome_in view sent in
       let is : o.token ≡ Some (record { token = token; endpoint = sent.endpoint; server = pair.0.server; node = number_of node }) = t.tells.token ∙ ap (given_told sent.endpoint pair.0.server) e in
       let held = t.held.each pair.0.server t.now t.there in
@@ -168,20 +183,18 @@ module _ (old : World) (run : IsRunning (2 ^ 61) old) (sent : Sent) (pair : Boun
             ((fit.heads sent first).gives (record { token = token; endpoint = sent.endpoint; server = pair.0.server; node = number_of node }) is);
       }
 
-  binds_at : (fate : Fate) (out : Written) (new : List Server) (before after : List ℕ) → Told (view_behind today run.start run.journal) sent pair old.servers there.0 fate out new before after →
+  binds_at : (fate : Fate) (out : Written) (new : List Server) (before after : List ℕ) → Told (view_behind run.start run.journal) sent pair old.servers there.0 fate out new before after →
       CanBind old.queues pair.0.server new fate
   binds_at fate out new before after t =
-      let o = outcome_in (view_behind today run.start run.journal) sent in
       record {
         within = slice_get_within new pair.0.server t.now t.there;
         one_of = let those = run.stands.holds.queues.those in let l = low in omega (arith, those, l);
-        free = λ object birth one e at.
-            ap (λ (s : Server). seen s object) (sym (same_Some t.now one (sym t.there ∙ at)))
-            ∙ (t.held.each pair.0.server t.now t.there).bound object
-            ∙ ap (if_at pair.0.server)
-            (moved_found sent.endpoint o.position object (view_behind today run.start run.journal).living ∙ ap (option_map (moved sent.endpoint o.position)) (new_at fate out new before after t object birth e));
+        free = λ object birth one e at. unseen fate out new before after t (bound_with pair.0.server object birth) one (ap (bound_told pair.0.server) e) at;
         place = λ object birth one e at. subst (λ (s : Server). HasPlace s birth) (same_Some t.now one (sym t.there ∙ at)) (t.serves.has_place object birth e);
-        unbound = λ object birth e. run.stands.holds.queues.bound object ∙ ap (option_map (λ (p : Bound × Position). p.0.server)) (new_at fate out new before after t object birth e);
+        unbound = λ object birth e. no_server fate out new before after t (bound_with pair.0.server object birth) (ap (bound_told pair.0.server) e);
+        unwatched = λ object mask directory one e at. unseen fate out new before after t (watcher_with pair.0.server object (number_of directory) mask) one (ap (bound_told pair.0.server) e) at;
+        watches = λ object mask directory one e at. subst (λ (s : Server). CanWatch s directory) (same_Some t.now one (sym t.there ∙ at)) (t.serves.watched object mask directory e);
+        silent = λ object mask directory e. no_server fate out new before after t (watcher_with pair.0.server object (number_of directory) mask) (ap (bound_told pair.0.server) e);
         names = λ token node one e at. subst (λ (s : Server). CanName s token node) (same_Some t.now one (sym t.there ∙ at)) (can_name fate out new before after t token node e);
       }
 
@@ -189,8 +202,8 @@ module _ (old : World) (run : IsRunning (2 ^ 61) old) (sent : Sent) (pair : Boun
   can_take_there = record {
     one = there.0;
     there = there.1;
-    moment = moment_in (view_behind today run.start run.journal) pair;
-    is = is_moment (view_behind today run.start run.journal) there.0 sent.endpoint pair (next_token_of old.known) (handles_of sent.sending) (begun.held.each pair.0.server there.0 there.1) found begun.next (handles_are_out (view_behind today run.start run.journal) sent first);
+    moment = moment_in (view_behind run.start run.journal) pair;
+    is = is_moment (view_behind run.start run.journal) there.0 sent.endpoint pair (next_token_of old.known) (handles_of sent.sending) (begun.held.each pair.0.server there.0 there.1) found begun.next (handles_are_out (view_behind run.start run.journal) sent first);
     made = made_few;
     counted = counts;
     binds = λ fate out new before after answers. binds_at fate out new before after (answered fate out new before after answers);
@@ -198,42 +211,42 @@ module _ (old : World) (run : IsRunning (2 ^ 61) old) (sent : Sent) (pair : Boun
 
   -- behind the taking
   module _ (mid : World) (fate : Fate) (out : Written) (before after : List ℕ) (d : TakesHead old sent.endpoint pair.0.server sent fate out mid before after) where
-    t : Told (view_behind today run.start run.journal) sent pair old.servers there.0 fate out d.answered before after
+    t : Told (view_behind run.start run.journal) sent pair old.servers there.0 fate out d.answered before after
     t = answered fate out d.answered before after d.answers
 
-    beside : (n : ℕ) → queue_of mid.queues n ≡ queue_beside (view_behind today run.start run.journal) sent n
+    beside : (n : ℕ) → queue_of mid.queues n ≡ queue_beside (view_behind run.start run.journal) sent n
     beside n =
         (binds_one pair.0.server fate d.answered mid.servers d.left mid.queues d.binds).waiting n
-        ∙ queue_taken (view_behind today run.start run.journal) sent old.queues d.left run.stands.holds.queues d.taken n
+        ∙ queue_taken (view_behind run.start run.journal) sent old.queues d.left run.stands.holds.queues d.taken n
 
-    same_deaths : (dead : List ℕ) → AreDeaths mid.queues (first_told sent fate) dead → (n : ℕ) → among n dead ≡ among n (deaths_in (view_behind today run.start run.journal) sent)
+    same_deaths : (dead : List ℕ) → AreDeaths mid.queues (first_told sent fate) dead → (n : ℕ) → among n dead ≡ among n (deaths_in (view_behind run.start run.journal) sent)
     same_deaths dead died =
-        deaths_are_least (view_behind today run.start run.journal) sent dead fit first
-        (all_die (view_behind today run.start run.journal) sent mid.queues (first_told sent fate) dead beside
-        (sym (first_are_told sent (outcome_in (view_behind today run.start run.journal) sent) pair.0.server fate out t.tells)) died)
+        deaths_are_least (view_behind run.start run.journal) sent dead fit first
+        (all_die (view_behind run.start run.journal) sent mid.queues (first_told sent fate) dead beside
+        (sym (first_are_told sent (outcome_in (view_behind run.start run.journal) sent) pair.0.server fate out t.tells)) died)
 
     were_live : (dead : List ℕ) → AreDeaths mid.queues (first_told sent fate) dead → (n : ℕ) → Contains dead n → is_live (standing_of mid.known n) ≡ true
     were_live dead died n c =
-        let past = history_of today run.start run.journal in
+        let past = history_of run.start run.journal in
         let same = same_deaths dead died in
-        let ends = servings_end (below run.apart) today run.start run.journal sent run.stands.sound (numbered_of run.start run.stands.sound) run.stands.lawful
-        (head_is_in today run.start past sent.endpoint ∙ first) in
+        let ends = servings_end (below run.apart) run.start run.journal sent run.stands.sound (numbered_of run.start run.stands.sound) run.stands.lawful
+        (head_is_in run.start past sent.endpoint ∙ first) in
         ap (λ (k : Known). is_live (standing_of k n)) d.known
         ∙ ap is_live (run.stands.knows.standing n)
-        ∙ ends.were_live n (ap (among n) (deaths_are today run.start past sent) ∙ sym (same n) ∙ among_of n dead c)
+        ∙ ends.were_live n (ap (among n) (deaths_are run.start past sent) ∙ sym (same n) ∙ among_of n dead c)
 
     can_go_then : (dead : List ℕ) → AreDeaths mid.queues (first_told sent fate) dead → CanGo mid.known (spent_told sent mid.queues dead)
     can_go_then dead died =
-        let view = view_behind today run.start run.journal in
+        let view = view_behind run.start run.journal in
         let same = same_deaths dead died in
         let list = are_spent view sent mid.queues dead fit first beside same died.once in
         can_go_alike (spent_told sent mid.queues dead) old.known mid.known (sym (ap (λ (k : Known). k.tokens) d.known))
         (can_go (spent_told sent mid.queues dead) old.known (spent_apart view sent mid.queues dead fit first beside same died.once)
         (λ n h.
-        spent_known (below run.apart) today run.start run.journal sent old.known n run.stands.sound run.stands.lawful
-        (head_is_in today run.start (history_of today run.start run.journal) sent.endpoint ∙ first) run.stands.knows (sym (list.same n) ∙ h)))
+        spent_known (below run.apart) run.start run.journal sent old.known n run.stands.sound run.stands.lawful
+        (head_is_in run.start (history_of run.start run.journal) sent.endpoint ∙ first) run.stands.knows (sym (list.same n) ∙ h)))
 
-    places_are : mid.places ≡ (view_behind today run.start run.journal).places
+    places_are : mid.places ≡ (view_behind run.start run.journal).places
     places_are = d.places ∙ run.stands.holds.places
 
     pub can_settle_there : CanSettle mid sent fate
@@ -245,17 +258,17 @@ module _ (old : World) (run : IsRunning (2 ^ 61) old) (sent : Sent) (pair : Boun
           let goes = (fit.heads sent first).goes_to (record { endpoint = end_of_mount mount; bytes = out.bytes; object = object }) (t.tells.forward ∙ ap (λ (f : Fate). forward_told f out) e) in
           mount_low run.start run.journal mount run.apart run.stands.sound run.stands.lawful goes.0 goes.1;
       newest = λ n. subst (λ (p : ℕ). All (λ one. one.place < p) (queue_of mid.queues n)) (sym places_are)
-          (subst (λ (ones : List Sent). All (λ one. one.place < (view_behind today run.start run.journal).places) ones) (sym (beside n))
-          (beside_below (view_behind today run.start run.journal) sent n (view_behind today run.start run.journal).places fit.below));
-      few = let a = d.count in let b = counts in let c = run.stands.knows.waiting in let w = lawful_wait today run.start run.journal run.stands.lawful in omega (arith, a, b, c, w);
+          (subst (λ (ones : List Sent). All (λ one. one.place < (view_behind run.start run.journal).places) ones) (sym (beside n))
+          (beside_below (view_behind run.start run.journal) sent n (view_behind run.start run.journal).places fit.below));
+      few = let a = d.count in let b = counts in let c = run.stands.knows.waiting in let w = lawful_wait run.start run.journal run.stands.lawful in omega (arith, a, b, c, w);
       places = let a = places_are in let few = run.few in omega (arith, a, few);
     }
 
 -- ---- where the queues tell it
 
 found_in : (old : World) (run : IsRunning (2 ^ 61) old) (endpoint server : ℕ) (sent : Sent) → server_of old.queues endpoint ≡ Some server → head_of old.queues endpoint ≡ Some sent →
-    IsReadyIn (view_behind today run.start run.journal) endpoint server sent
-found_in old run endpoint server sent bound waits = ready_in (view_behind today run.start run.journal) old.queues endpoint server sent run.stands.holds.queues bound waits
+    IsReadyIn (view_behind run.start run.journal) endpoint server sent
+found_in old run endpoint server sent bound waits = ready_in (view_behind run.start run.journal) old.queues endpoint server sent run.stands.holds.queues bound waits
 
 pub can_take : (old : World) (run : IsRunning (2 ^ 61) old) (endpoint server : ℕ) (sent : Sent) → server_of old.queues endpoint ≡ Some server → head_of old.queues endpoint ≡ Some sent → CanTake old endpoint server sent
 can_take old run endpoint server sent bound waits =
@@ -275,6 +288,9 @@ can_bind old left run endpoint server sent queue fate out new before after bound
       free = can.free;
       place = can.place;
       unbound = λ object birth e. taken.bound object ∙ can.unbound object birth e;
+      unwatched = can.unwatched;
+      watches = can.watches;
+      silent = λ object mask directory e. taken.bound object ∙ can.silent object mask directory e;
       names = can.names;
     }
 

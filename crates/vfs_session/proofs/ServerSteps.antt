@@ -14,7 +14,6 @@ use Rattle.fidl_wire.specs.Written.{Written}
 use Rattle.node_graph.specs.declared.nodes.NodeRef.{NodeRef}
 use Rattle.node_graph.specs.Graph.{StandsFor, holds_at, number_of}
 use Rattle.node_graph.specs.Tree.{after, bare_tree}
-use Rattle.conn_rules.specs.declared.births.Birth as code
 use Rattle.conn_rules.specs.Births.{Position, fresh}
 use Rattle.vfs_journal.specs.History.{changed, is_watcher, tree_at}
 use Rattle.vfs_journal.specs.Outcomes.{Outcome}
@@ -22,10 +21,10 @@ use Rattle.vfs_journal.specs.Serving.{Moment}
 use Rattle.vfs_journal.specs.Starts.{Bound}
 use Rattle.vfs_journal.specs.View.{View, at_in, moved}
 use Rattle.journal_laws.proofs.Lists.{pairs-head, pairs-tail, eqb_sym}
-use Rattle.vfs_server.specs.Binding.{Binds}
+use Rattle.vfs_server.specs.Binding.{Binds, watching_behind}
 use Rattle.vfs_server.specs.declared.fate.Fate.{Fate}
 use Rattle.vfs_server.specs.Holding.{HoldsAt, bound_to, if_at, living_at, named_by, named_in}
-use Rattle.vfs_server.specs.Servers.{Server, bound_with, in_use, named, seen}
+use Rattle.vfs_server.specs.Servers.{Server, in_use, named, seen}
 use Rattle.vfs_server.specs.Serving.{Serves}
 use Rattle.vfs_session.specs.Steps.{answered_in, bound_in}
 
@@ -181,57 +180,50 @@ or_none : (o : Option (Bound × Position)) → option_or o None ≡ o
 or_none None = refl
 or_none (Some x) = refl
 
-pub bound_here : (view : View) (one now : Server) (index endpoint : ℕ) (birth : code.Birth) → HoldsNumber view index one → one.index ≡ index → at_in view endpoint ≡ None → is_watcher birth.protocol ≡ false →
-    Binds one endpoint birth now → HoldsNumber (bound_in view (Some (bound_with index endpoint birth))) index now
-bound_here view one now index endpoint birth h at free speaks s =
-    let b : Bound = bound_with index endpoint birth in
-    let here : (index == index) ≡ true = eq-eqb index index refl in
+pub bound_here : (view : View) (one now : Server) (index : ℕ) (b : Bound) → HoldsNumber view index one → b.server ≡ index → at_in view b.endpoint ≡ None → Binds one b now →
+    HoldsNumber (bound_in view (Some b)) index now
+bound_here view one now index b h at free s =
+    let here : (b.server == index) ≡ true = eq-eqb b.server index at in
     let one_more : living_at (bound_in view (Some b)) index ≡ living_at view index ++ b ∷ [] = living_more view b index ∙ ap (λ (t : Bool). living_at view index ++ (if t then b ∷ [] else [])) here in
     record {
-      bound = λ n.
-          s.bound n
-          ∙ ap (λ (k : ℕ). if n == endpoint then Some (bound_with k endpoint birth, fresh) else seen one n) at
-          ∙ by_test n (n == endpoint) refl
-          ∙ sym (ap (if_at index) (at_more view b n));
+      bound = λ n. s.bound n ∙ by_test n (n == b.endpoint) refl ∙ sym (ap (if_at index) (at_more view b n));
       count = let a = s.count in let c = h.count in let l = ap length one_more in let m = length-append (living_at view index) (b ∷ []) in omega arith;
+      -- a watcher is the newest of those who live
       watchers =
-          s.watchers ∙ h.watchers
+          s.watchers
+          ∙ ap (λ (ws : List Bound). watching_behind ws b) h.watchers
           ∙ sym (ap (filter (λ (x : Bound). is_watcher x.birth.protocol)) one_more
-          ∙ filter-append (λ (x : Bound). is_watcher x.birth.protocol) (living_at view index) (b ∷ [])
-          ∙ ap (λ (t : Bool). filter (λ (x : Bound). is_watcher x.birth.protocol) (living_at view index) ++ cond t (b ∷ []) []) speaks
-          ∙ append-nil (filter (λ (x : Bound). is_watcher x.birth.protocol) (living_at view index)));
+          ∙ filter-append (λ (x : Bound). is_watcher x.birth.protocol) (living_at view index) (b ∷ []));
       tokens = λ token. same_named one now s.tokens token ∙ h.tokens token;
       tree = s.tree (tree_at view.trees index) h.tree;
       holds = λ number.
           let a = s.holds number in
           let c = h.holds number in
-          let d = h.holds (number_of birth.node) in
-          let l : bound_to (bound_in view (Some b)) index number ≡ bound_to view index number + one_if (number_of birth.node == number) =
+          let l : bound_to (bound_in view (Some b)) index number ≡ bound_to view index number + one_if (b.birth.node == number) =
           ap (count_by (λ (x : Bound). x.birth.node == number)) one_more ∙ counted (λ (x : Bound). x.birth.node == number) (living_at view index) b in
-          a ∙ by_number_test number (number == number_of birth.node) refl c ∙ sym (ap (λ (m : ℕ). m + named_by view index number) l);
+          a ∙ by_number_test number (number == b.birth.node) refl c ∙ sym (ap (λ (m : ℕ). m + named_by view index number) l);
     } where
-      by_test : (n : ℕ) (t : Bool) → (n == endpoint) ≡ t → (if t then Some (bound_with index endpoint birth, fresh) else seen one n)
-          ≡ if_at index (option_or (at_in view n) (cond (endpoint == n) (Some (bound_with index endpoint birth, fresh)) None))
+      by_test : (n : ℕ) (t : Bool) → (n == b.endpoint) ≡ t → (if t then Some (b, fresh) else seen one n) ≡ if_at index (option_or (at_in view n) (cond (b.endpoint == n) (Some (b, fresh)) None))
       by_test n true e =
-          let same : n ≡ endpoint = eqb-true n endpoint e in
+          let same : n ≡ b.endpoint = eqb-true n b.endpoint e in
           let none : at_in view n ≡ None = ap (at_in view) same ∙ free in
-          sym (ap (λ (o : Option (Bound × Position)). if_at index (option_or o (cond (endpoint == n) (Some (bound_with index endpoint birth, fresh)) None))) none
-          ∙ ap (λ (t : Bool). if_at index (cond t (Some (bound_with index endpoint birth, fresh)) None)) (eq-eqb endpoint n (sym same))
-          ∙ ap (λ (t : Bool). if t then (let o : Option (Bound × Position) = Some (bound_with index endpoint birth, fresh) in o) else None) (eq-eqb index index refl))
+          sym (ap (λ (o : Option (Bound × Position)). if_at index (option_or o (cond (b.endpoint == n) (Some (b, fresh)) None))) none
+          ∙ ap (λ (t : Bool). if_at index (cond t (Some (b, fresh)) None)) (eq-eqb b.endpoint n (sym same))
+          ∙ ap (λ (t : Bool). if t then (let o : Option (Bound × Position) = Some (b, fresh) in o) else None) (eq-eqb b.server index at))
       by_test n false e =
           h.bound n
-          ∙ sym (ap (λ (t : Bool). if_at index (option_or (at_in view n) (cond t (Some (bound_with index endpoint birth, fresh)) None))) (eqb_sym endpoint n ∙ e)
+          ∙ sym (ap (λ (t : Bool). if_at index (option_or (at_in view n) (cond t (Some (b, fresh)) None))) (eqb_sym b.endpoint n ∙ e)
           ∙ ap (if_at index) (or_none (at_in view n)))
 
-      by_number_test : (number : ℕ) (t : Bool) → (number == number_of birth.node) ≡ t → holds_at one.graph number ≡ bound_to view index number + named_by view index number →
-          (if t then holds_at one.graph (number_of birth.node) + 1 else holds_at one.graph number) ≡ bound_to view index number + one_if (number_of birth.node == number) + named_by view index number
+      by_number_test : (number : ℕ) (t : Bool) → (number == b.birth.node) ≡ t → holds_at one.graph number ≡ bound_to view index number + named_by view index number →
+          (if t then holds_at one.graph b.birth.node + 1 else holds_at one.graph number) ≡ bound_to view index number + one_if (b.birth.node == number) + named_by view index number
       by_number_test number true e c =
-          let same : number ≡ number_of birth.node = eqb-true number (number_of birth.node) e in
-          let at_node : holds_at one.graph (number_of birth.node) ≡ holds_at one.graph number = ap (holds_at one.graph) (sym same) in
-          let test : one_if (number_of birth.node == number) ≡ 1 = ap one_if (eq-eqb (number_of birth.node) number (sym same)) in
+          let same : number ≡ b.birth.node = eqb-true number b.birth.node e in
+          let at_node : holds_at one.graph b.birth.node ≡ holds_at one.graph number = ap (holds_at one.graph) (sym same) in
+          let test : one_if (b.birth.node == number) ≡ 1 = ap one_if (eq-eqb b.birth.node number (sym same)) in
           omega (arith, at_node, test, c)
       by_number_test number false e c =
-          let test : one_if (number_of birth.node == number) ≡ 0 = ap one_if (eqb_sym (number_of birth.node) number ∙ e) in
+          let test : one_if (b.birth.node == number) ≡ 0 = ap one_if (eqb_sym b.birth.node number ∙ e) in
           omega (arith, test, c)
 
 -- and at any other server

@@ -211,6 +211,7 @@ pub told_with : (fate : Fate) (known : Known) (n : ℕ) → ◌≡◌ {A = Known
 told_with fates.Stays known n = refl
 told_with fates.Ends known n = refl
 told_with (fates.Binds object birth) known n = refl
+told_with (fates.Watches object directory mask) known n = refl
 told_with (fates.Refuses object) known n = refl
 told_with (fates.Forwards mount object) known n = refl
 told_with (fates.Gives token directory) known n = refl
@@ -220,6 +221,7 @@ pub told_served : (endpoint server : ℕ) (fate : Fate) (left : Known) → known
 told_served endpoint server fates.Stays left = refl
 told_served endpoint server fates.Ends left = refl
 told_served endpoint server (fates.Binds object birth) left = refl
+told_served endpoint server (fates.Watches object directory mask) left = refl
 told_served endpoint server (fates.Refuses object) left = refl
 told_served endpoint server (fates.Forwards mount object) left = refl
 told_served endpoint server (fates.Gives token directory) left = refl

@@ -4,6 +4,7 @@ use Rattle.std.specs.Option.{option_map_or}
 use Rattle.std.proofs.lemmas.List.Elements.{filter_agree}
 use Rattle.fidl_wire.specs.Written.{Written}
 use Rattle.endpoint_link.specs.Numbering.{among}
+use Rattle.node_graph.specs.Graph.{number_of}
 use Rattle.tree_file.specs.Numbering.{end_of_mount}
 use Rattle.vfs_journal.specs.Deaths.{first_deaths, is_settled}
 use Rattle.vfs_journal.specs.Entries.{Sent, endpoints_in}
@@ -12,12 +13,13 @@ use Rattle.vfs_journal.specs.Starts.{Bound}
 use Rattle.vfs_server.specs.Effects.{Effects, effects_of, effects_told}
 use Rattle.vfs_server.specs.declared.fate.Fate.{Fate}
 use Rattle.vfs_server.specs.declared.fate.Fate.TheVariants as fates
-use Rattle.vfs_server.specs.Servers.{bound_with}
+use Rattle.vfs_server.specs.Servers.{bound_with, watcher_with}
 use Rattle.vfs_session.specs.Steps.{end_told, first_told, given_told, is_it, settled_told}
 
 -- what is bound at a server, and what goes on
 abbrev pub bound_told : ℕ → Fate → Option Bound
 bound_told server (fates.Binds object birth) = Some (bound_with server object birth)
+bound_told server (fates.Watches object directory mask) = Some (watcher_with server object (number_of directory) mask)
 bound_told server _ = None
 
 abbrev pub forward_told : Fate → Written → Option Forwarded
@@ -61,6 +63,13 @@ tells outcome endpoint server fates.Ends out e = record {
 tells outcome endpoint server (fates.Binds object birth) out e = record {
   ends = ap (λ f. f.ends) e;
   settled = λ n. by_parts outcome (Some (bound_with server object birth)) [] None (ap (λ f. f.bound) e) (ap (λ f. f.ends) e) (ap (λ f. f.forward) e) n ∙ or_none (object == n);
+  bound = ap (λ f. f.bound) e;
+  forward = ap (λ f. f.forward) e;
+  token = ap (λ f. f.token) e;
+}
+tells outcome endpoint server (fates.Watches object directory mask) out e = record {
+  ends = ap (λ f. f.ends) e;
+  settled = λ n. by_parts outcome (Some (watcher_with server object (number_of directory) mask)) [] None (ap (λ f. f.bound) e) (ap (λ f. f.ends) e) (ap (λ f. f.forward) e) n ∙ or_none (object == n);
   bound = ap (λ f. f.bound) e;
   forward = ap (λ f. f.forward) e;
   token = ap (λ f. f.token) e;

@@ -9,18 +9,12 @@ use Rattle.std.proofs.lemmas.List.Elements.{All-cons, All-nil, All-weaker, All-c
 use Rattle.endpoint_link.specs.Frames.{Frame, spelling, spellings}
 use Rattle.endpoint_link.specs.Numbering.{among}
 use Rattle.fidl_wire.specs.Written.{Written}
-use Rattle.io_messages.specs.declared.protocols.Protocol.{Protocol}
-use Rattle.io_messages.specs.declared.protocols.Protocol.TheVariants as protocol
-use Rattle.node_graph.specs.declared.nodes.NodeKind.{NodeKind}
 use Rattle.node_graph.specs.Graph.{number_of}
 use Rattle.tree_file.specs.Numbering.{end_of_mount}
-use Rattle.conn_rules.specs.declared.births.Birth as code
 use Rattle.conn_rules.specs.Births.{Position, fresh}
-use Rattle.conn_rules.specs.Built.{Built, today}
-use Rattle.conn_rules.specs.Shared.{is_spoken_at}
 use Rattle.vfs_journal.specs.Entries.{Sent, handles_of, serves}
 use Rattle.vfs_journal.specs.Fit.{IsFit}
-use Rattle.vfs_journal.specs.History.{Event, is_watcher}
+use Rattle.vfs_journal.specs.History.{Event}
 use Rattle.vfs_journal.specs.Outcomes.{Forwarded, Given, Outcome, close_frame, no_outcome}
 use Rattle.vfs_journal.specs.Output.{close_frames, rising}
 use Rattle.vfs_journal.specs.Serving.{outcome_of_sending}
@@ -35,7 +29,8 @@ use Rattle.journal_laws.proofs.Members.{none_found}
 use Rattle.message_queues.specs.Queues.{Queues, queue_of, server_of}
 use Rattle.vfs_server.specs.declared.fate.Fate.{Fate}
 use Rattle.vfs_server.specs.declared.fate.Fate.TheVariants as fates
-use Rattle.vfs_server.specs.Servers.{Server, bound_with}
+use Rattle.vfs_server.specs.Servers.{Server, bound_with, watcher_with}
+use Rattle.vfs_server.specs.Binding.{Binds}
 use Rattle.vfs_server.specs.Serving.{Serves, frames_here}
 use Rattle.vfs_session.specs.Holding.{HoldsEach}
 use Rattle.vfs_session.specs.Steps.{Answers, BindsTold, ForgetsAll, SendsOn, answered_in, bound_in, closed_for, end_told, given_in, given_told, onward_told, without_in}
@@ -48,11 +43,10 @@ use Rattle.vfs_session.proofs.Telling.{Tells, bound_told, forward_told, others_a
 
 -- ---- the outcome
 
-pub outcome_is : (view : View) (sent : Sent) (pair : Bound × Position) → view.built ≡ today → at_in view sent.endpoint ≡ Some pair →
-    outcome_in view sent ≡ outcome_of_sending today (moment_in view pair) sent.sending
-outcome_is view sent pair built found =
-    ap (λ (o : Option (Bound × Position)). option_map_or (λ pair. outcome_of_sending view.built (moment_in view pair) sent.sending) o no_outcome) found
-    ∙ ap (λ (b : Built). outcome_of_sending b (moment_in view pair) sent.sending) built
+pub outcome_is : (view : View) (sent : Sent) (pair : Bound × Position) → at_in view sent.endpoint ≡ Some pair →
+    outcome_in view sent ≡ outcome_of_sending (moment_in view pair) sent.sending
+outcome_is view sent pair found =
+    ap (λ (o : Option (Bound × Position)). option_map_or (λ pair. outcome_of_sending (moment_in view pair) sent.sending) o no_outcome) found
 
 -- ---- no endpoint is bound twice
 
@@ -88,15 +82,6 @@ new_free view sent fit first b e =
 
 -- ---- what is bound
 
--- a watcher is spoken nowhere
-no_watcher : (p : Protocol) (kind : Option NodeKind) → option_map_or (is_spoken_at p) kind false ≡ true → is_watcher p ≡ false
-no_watcher protocol.Directory kind h = refl
-no_watcher protocol.File kind h = refl
-no_watcher protocol.Node kind h = refl
-no_watcher protocol.Echo kind h = refl
-no_watcher protocol.Watcher None h = absurd (true≢false (sym h))
-no_watcher protocol.Watcher (Some kind) h = absurd (true≢false (sym h))
-
 set_there : {X : Type 0} (xs : List X) (i : ℕ) (one now : X) → slice_get xs i ≡ Some one → slice_get (set xs i now) i ≡ Some now
 set_there [] i one now e = absurd (cc)
 set_there (x ∷ xs) zero one now e = refl
@@ -109,28 +94,46 @@ told_in view endpoint server fate = given_in (bound_in view (bound_told server f
 same_told : (view : View) (servers new : List Server) → AreNumbered view servers → new ≡ servers → AreNumbered (given_in (bound_in view None) None) new
 same_told view servers new h same = subst (AreNumbered (given_in (bound_in view None) None)) (sym same) (each_ungiven (bound_in view None) servers (each_unbound view servers h))
 
+-- by the endpoint's place among the servers
+same_binds : (one now : Server) (i : ℕ) (bound : ℕ → Bound) → one.index ≡ i → Binds one (bound one.index) now → Binds one (bound i) now
+same_binds one now i bound at binds = subst (λ (n : ℕ). Binds one (bound n) now) at binds
+
+one_told : (view : View) (servers new : List Server) (i : ℕ) (one now : Server) (b : Bound) → AreNumbered view servers → slice_get servers i ≡ Some one → new ≡ set servers i now → b.server ≡ i → at_in view b.endpoint ≡ None →
+    Binds one b now → AreNumbered (given_in (bound_in view (Some b)) None) new
+one_told view servers new i one now b h there is at free binds =
+    each_ungiven (bound_in view (Some b)) new (subst (AreNumbered (bound_in view (Some b))) (sym is) (each_bound view servers i one now b h there at free binds))
+
 each_told : (view : View) (servers new : List Server) (q1 q2 : Queues) (endpoint i : ℕ) (now : Server) (fate : Fate) → AreNumbered view servers → slice_get servers i ≡ Some now → BindsTold i fate servers q1 new q2 →
-    ((b : Bound) → bound_told i fate ≡ Some b → at_in view b.endpoint ≡ None) → ((object : ℕ) (birth : code.Birth) → fate ≡ fates.Binds object birth → is_watcher birth.protocol ≡ false) →
+    ((b : Bound) → bound_told i fate ≡ Some b → at_in view b.endpoint ≡ None) →
     ((one other : Given) → given_told endpoint i fate ≡ Some one → Contains view.given other → other.token ≢ one.token) → AreNumbered (told_in view endpoint i fate) new
-each_told view servers new q1 q2 endpoint i now (fates.Binds object birth) h there binds free speaks fresh' =
+each_told view servers new q1 q2 endpoint i now (fates.Binds object birth) h there binds free fresh' =
     let b = binds.0 now there in
-    each_ungiven (bound_in view (Some (bound_with i object birth))) new
-    (subst (AreNumbered (bound_in view (Some (bound_with i object birth)))) (sym b.1) (each_bound view servers i object now b.0 birth h there (free (bound_with i object birth) refl) (speaks object birth refl) b.2))
-each_told view servers new q1 q2 endpoint i now (fates.Gives token directory) h there binds free speaks fresh' =
+    one_told view servers new i now b.0 (bound_with i object birth) h there b.1 refl (free (bound_with i object birth) refl)
+    (same_binds now b.0 i (λ n. bound_with n object birth) (h.index i now there) b.2)
+each_told view servers new q1 q2 endpoint i now (fates.Watches object directory mask) h there binds free fresh' =
+    let b = binds.0 now there in
+    one_told view servers new i now b.0 (watcher_with i object (number_of directory) mask) h there b.1 refl (free (watcher_with i object (number_of directory) mask) refl)
+    (same_binds now b.0 i (λ n. watcher_with n object (number_of directory) mask) (h.index i now there) b.2)
+each_told view servers new q1 q2 endpoint i now (fates.Gives token directory) h there binds free fresh' =
     let b = binds.0 now there in
     let one : Given = record { token = token; endpoint = endpoint; server = i; node = number_of directory } in
     subst (AreNumbered (given_in (bound_in view None) (Some one))) (sym b.1)
     (each_given (bound_in view None) servers i now b.0 one directory (each_unbound view servers h) there (λ other c. fresh' one other refl c) refl refl b.2)
-each_told view servers new q1 q2 endpoint i now fates.Stays h there binds free speaks fresh' = same_told view servers new h binds.0
-each_told view servers new q1 q2 endpoint i now fates.Ends h there binds free speaks fresh' = same_told view servers new h binds.0
-each_told view servers new q1 q2 endpoint i now (fates.Refuses object) h there binds free speaks fresh' = same_told view servers new h binds.0
-each_told view servers new q1 q2 endpoint i now (fates.Forwards mount object) h there binds free speaks fresh' = same_told view servers new h binds.0
+each_told view servers new q1 q2 endpoint i now fates.Stays h there binds free fresh' = same_told view servers new h binds.0
+each_told view servers new q1 q2 endpoint i now fates.Ends h there binds free fresh' = same_told view servers new h binds.0
+each_told view servers new q1 q2 endpoint i now (fates.Refuses object) h there binds free fresh' = same_told view servers new h binds.0
+each_told view servers new q1 q2 endpoint i now (fates.Forwards mount object) h there binds free fresh' = same_told view servers new h binds.0
 
 same_queues : (q1 q2 : Queues) → q2 ≡ q1 → BindsOne q1 None q2
 same_queues q1 q2 e = record { waiting = λ n. ap (λ (q : Queues). queue_of q n) e; bound = λ n. ap (λ (q : Queues). server_of q n) e; those = ap (λ (q : Queues). q.servers) e }
 
 pub binds_one : (i : ℕ) (fate : Fate) (servers new : List Server) (q1 q2 : Queues) → BindsTold i fate servers q1 new q2 → BindsOne q1 (bound_told i fate) q2
 binds_one i (fates.Binds object birth) servers new q1 q2 binds = record {
+  waiting = binds.1.waiting;
+  bound = λ n. binds.1.bound n ∙ ap (λ (b : Bool). if b then Some i else server_of q1 n) (eqb_sym n object);
+  those = binds.1.those;
+}
+binds_one i (fates.Watches object directory mask) servers new q1 q2 binds = record {
   waiting = binds.1.waiting;
   bound = λ n. binds.1.bound n ∙ ap (λ (b : Bool). if b then Some i else server_of q1 n) (eqb_sym n object);
   those = binds.1.those;
@@ -170,6 +173,7 @@ sends_one view sent (fates.Forwards mount object) out q3 q4 sends = record {
 sends_one view sent fates.Stays out q3 q4 sends = none_sent view sent q3 q4 sends
 sends_one view sent fates.Ends out q3 q4 sends = none_sent view sent q3 q4 sends
 sends_one view sent (fates.Binds object birth) out q3 q4 sends = none_sent view sent q3 q4 sends
+sends_one view sent (fates.Watches object directory mask) out q3 q4 sends = none_sent view sent q3 q4 sends
 sends_one view sent (fates.Refuses object) out q3 q4 sends = none_sent view sent q3 q4 sends
 sends_one view sent (fates.Gives token directory) out q3 q4 sends = none_sent view sent q3 q4 sends
 
@@ -189,7 +193,6 @@ onward_given view sent (Some f) = refl
 
 -- what a serving begins with: what is served, on an endpoint that is bound at a server
 pub record Begun (view : View) (sent : Sent) (pair : Bound × Position) (servers : List Server) (one : Server) (token : Option ℕ) : Type 0 where
-  pub built : view.built ≡ today
   pub fit : IsFit view
   pub first : head_in view sent.endpoint ≡ Some sent
   pub found : at_in view sent.endpoint ≡ Some pair
@@ -218,10 +221,10 @@ told view sent pair servers one token fate out new before after b answers =
     let m = moment_in view pair in
     let i = pair.0.server in
     let name : pair.0.endpoint ≡ sent.endpoint = found_name sent.endpoint view.living pair b.found in
-    let o_is = outcome_is view sent pair b.built b.found in
+    let o_is = outcome_is view sent pair b.found in
     let a = answers one m b.there (is_moment view one sent.endpoint pair token (handles_of sent.sending) (b.held.each i one b.there) b.found b.next (handles_are_out view sent b.first)) in
     let serves : Serves m (outcome_in view sent) fate out one a.0 before after = subst (λ (o : Outcome). Serves m o fate out one a.0 before after) (sym o_is) a.2 in
-    let on : (outcome_in view sent).server ≡ i = ap (λ (o : Outcome). o.server) o_is ∙ (sending_on today m sent.sending).server in
+    let on : (outcome_in view sent).server ≡ i = ap (λ (o : Outcome). o.server) o_is ∙ (sending_on m sent.sending).server in
     record {
       now = a.0;
       set = a.1;
@@ -248,7 +251,7 @@ servers_then view sent pair s0 s1 s2 s3 s4 q1 q2 one token fate out dead spent b
     let h2 : AreNumbered v2 s2 =
     subst (λ (x : Option Given). AreNumbered (given_in (bound_in v1 o.bound) x) s2) (sym t.tells.token)
     (subst (λ (x : Option Bound). AreNumbered (given_in (bound_in v1 x) (given_told sent.endpoint i fate)) s2) (sym t.tells.bound)
-    (each_told v1 s1 s2 q1 q2 sent.endpoint i t.now fate t.held t.there binds (λ x e. free1 x (t.tells.bound ∙ e)) (λ object birth e. no_watcher birth.protocol _ (t.serves.has_place object birth e).node.spoken)
+    (each_told v1 s1 s2 q1 q2 sent.endpoint i t.now fate t.held t.there binds (λ x e. free1 x (t.tells.bound ∙ e))
     (λ new other e c. new_token view sent b.fit b.first new other (t.tells.token ∙ e) c))) in
     let h3 = goes v2 (apart_more v1.living o.bound (apart_moved sent.endpoint o.position view.living b.fit.apart) free1) (indexed v2 s2 h2) in
     let mid = serving_in view sent (event_in view sent) in
@@ -269,7 +272,7 @@ frames_then view sent pair s0 s1 one token fate out dead before between after b 
     let o = outcome_in view sent in
     let event : Event = record { entry = serves sent; outcome = o; deaths = dead } in
     let here = frames_here m one.watchers o in
-    let on = subst (λ (x : Outcome). IsOn m x) (sym (outcome_is view sent pair b.built b.found)) (sending_on today m sent.sending) in
+    let on = subst (λ (x : Outcome). IsOn m x) (sym (outcome_is view sent pair b.found)) (sending_on m sent.sending) in
     let closes : closed_for (end_told sent.endpoint fate) dead ≡ close_frames event =
     ap (λ (ns : List ℕ). map close_frame (rising ns)) (sym (others_are_told o sent.endpoint i fate out dead t.tells)) in
     let all : here ++ close_frames event ≡ frames_in view sent =

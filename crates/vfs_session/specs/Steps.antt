@@ -10,7 +10,6 @@ use Rattle.endpoint_link.specs.Numbering.{among}
 use Rattle.endpoint_link.specs.Standings.{Known, given, gone}
 use Rattle.tree_file.specs.Numbering.{end_of_mount}
 use Rattle.conn_rules.specs.Births.{Position, fresh}
-use Rattle.conn_rules.specs.Built.{today}
 use Rattle.node_graph.specs.declared.nodes.NodeRef.{NodeRef}
 use Rattle.node_graph.specs.Graph.{number_of}
 use Rattle.vfs_journal.specs.Entries.{Journal, Sent, endpoints_in, handles_of, message, tokens_in}
@@ -27,7 +26,7 @@ use Rattle.message_queues.specs.Queues.{Binds as QueuesBind}
 use Rattle.vfs_server.specs.Binding.{Binds as ServerBinds, Forgets, IsDirectory, NamesBy}
 use Rattle.vfs_server.specs.declared.fate.Fate.{Fate}
 use Rattle.vfs_server.specs.declared.fate.Fate.TheVariants as fates
-use Rattle.vfs_server.specs.Servers.{Server, named}
+use Rattle.vfs_server.specs.Servers.{Server, bound_with, named, watcher_with}
 use Rattle.vfs_server.specs.Serving.{IsMomentOf, Serves}
 use Rattle.vfs_session.specs.Places.{places_left}
 use Rattle.vfs_session.specs.World.{StandsFor, World}
@@ -67,7 +66,7 @@ pub record IsRunning (most : ℕ) (world : World) : Type 0 where
   pub start : Start
   pub journal : Journal
   pub stands : StandsFor start world journal
-  pub few : (view_behind today start journal).places + places_left (view_behind today start journal) ≤ most
+  pub few : (view_behind start journal).places + places_left (view_behind start journal) ≤ most
 
 -- a token that names nothing at a server can name a directory there
 pub record CanName (server : Server) (token : ℕ) (node : NodeRef) : Type 0 where
@@ -81,12 +80,17 @@ pub record CanName (server : Server) (token : ℕ) (node : NodeRef) : Type 0 whe
 abbrev pub Answers : List Server → ℕ → ℕ → Option ℕ → Sent → Fate → Written → List Server → List ℕ → List ℕ → Type 0
 Answers old at endpoint token sent fate out new before after =
     (one : Server) (moment : Moment) → slice_get old at ≡ Some one → IsMomentOf one endpoint token (handles_of sent.sending) moment →
-    (now : Server) × (new ≡ slice_set old at now) × Serves moment (outcome_of_sending today moment sent.sending) fate out one now before after
+    (now : Server) × (new ≡ slice_set old at now) × Serves moment (outcome_of_sending moment sent.sending) fate out one now before after
 
 -- what the fate binds is bound, at the server and for what waits, and the token that it gives names its directory at the server
 abbrev pub BindsTold : ℕ → Fate → List Server → Queues → List Server → Queues → Type 0
 BindsTold at (fates.Binds object birth) old waiting new waits =
-    ((one : Server) → slice_get old at ≡ Some one → (now : Server) × (new ≡ slice_set old at now) × ServerBinds one object birth now) × QueuesBind waiting object at waits
+    ((one : Server) → slice_get old at ≡ Some one → (now : Server) × (new ≡ slice_set old at now) × ServerBinds one (bound_with one.index object birth) now) ×
+    QueuesBind waiting object at waits
+BindsTold at (fates.Watches object directory mask) old waiting new waits =
+    ((one : Server) → slice_get old at ≡ Some one →
+    (now : Server) × (new ≡ slice_set old at now) × ServerBinds one (watcher_with one.index object (number_of directory) mask) now) ×
+    QueuesBind waiting object at waits
 BindsTold at (fates.Gives token directory) old waiting new waits =
     ((one : Server) → slice_get old at ≡ Some one → (now : Server) × (new ≡ slice_set old at now) × NamesBy one token directory now) × (waits ≡ waiting)
 BindsTold at _ old waiting new waits = (new ≡ old) × (waits ≡ waiting)
@@ -113,6 +117,7 @@ abbrev pub end_told : ℕ → Fate → Option ℕ
 end_told endpoint fates.Stays = None
 end_told endpoint fates.Ends = Some endpoint
 end_told endpoint (fates.Binds object birth) = None
+end_told endpoint (fates.Watches object directory mask) = None
 end_told endpoint (fates.Refuses object) = Some object
 end_told endpoint (fates.Forwards mount object) = None
 end_told endpoint (fates.Gives token directory) = None
@@ -122,6 +127,7 @@ abbrev pub settled_told : ℕ → Fate → Option ℕ
 settled_told endpoint fates.Stays = None
 settled_told endpoint fates.Ends = Some endpoint
 settled_told endpoint (fates.Binds object birth) = Some object
+settled_told endpoint (fates.Watches object directory mask) = Some object
 settled_told endpoint (fates.Refuses object) = Some object
 settled_told endpoint (fates.Forwards mount object) = Some object
 settled_told endpoint (fates.Gives token directory) = None

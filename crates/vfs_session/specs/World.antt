@@ -1,7 +1,6 @@
 -- What a world stands for: one journal of a session over all servers of a start.
 use Rattle.std.specs.Prelude.{◌≡◌, ℕ, Bool, false, List, ◌++◌}
 use Rattle.endpoint_link.specs.Standings.{Known}
-use Rattle.conn_rules.specs.Built.{today}
 use Rattle.vfs_journal.specs.Entries.{Journal}
 use Rattle.vfs_journal.specs.Lawful.{Lawful}
 use Rattle.vfs_journal.specs.Output.{output_of}
@@ -35,13 +34,13 @@ pub record Holds (view : View) (world : World) : Type 0 where
 pub record StandsFor (start : Start) (world : World) (journal : Journal) : Type 0 where
   pub able : world.spent ≡ false
   pub sound : IsStart start
-  pub lawful : Lawful today start journal
-  pub knows : Knows start (history_of today start journal) world.known
-  pub holds : Holds (view_behind today start journal) world
+  pub lawful : Lawful start journal
+  pub knows : Knows start (history_of start journal) world.known
+  pub holds : Holds (view_behind start journal) world
 
 -- from standing for one journal a call leads to standing for another, and writes exactly what that has more of output
 pub record LeadsTo (start : Start) (later : Journal) (new : World) (earlier : Journal) (before after : List ℕ) : Type 0 where
   pub stands : StandsFor start new later
   pub part : List ℕ
-  pub more : output_of today start later ≡ output_of today start earlier ++ part
+  pub more : output_of start later ≡ output_of start earlier ++ part
   pub written : after ≡ before ++ part

@@ -15,7 +15,11 @@ pub(crate) fn end_told(endpoint: u32, fate: &Fate) -> Option<u32>
     match fate {
         Fate::Ends => Some(endpoint),
         Fate::Refuses { object } => Some(*object),
-        Fate::Stays | Fate::Binds { .. } | Fate::Forwards { .. } | Fate::Gives { .. } => None,
+        Fate::Stays
+        | Fate::Binds { .. }
+        | Fate::Watches { .. }
+        | Fate::Forwards { .. }
+        | Fate::Gives { .. } => None,
     }
 }
 
@@ -26,9 +30,10 @@ fn settled_told(endpoint: u32, fate: &Fate) -> Option<u32>
     match fate {
         Fate::Stays | Fate::Gives { .. } => None,
         Fate::Ends => Some(endpoint),
-        Fate::Binds { object, .. } | Fate::Refuses { object } | Fate::Forwards { object, .. } => {
-            Some(*object)
-        }
+        Fate::Binds { object, .. }
+        | Fate::Watches { object, .. }
+        | Fate::Refuses { object }
+        | Fate::Forwards { object, .. } => Some(*object),
     }
 }
 

@@ -4,7 +4,7 @@ ghost use Rattle.std.specs.Prelude.{◌≡◌, ◌^◌, ℕ, false, IfOk, OnOk, 
 ghost use Rattle.message_queues.specs.Oldest.{IsBound, IsBoundAt, NothingWaits};
 ghost use Rattle.message_queues.specs.Queues.{IsReady};
 ghost use Rattle.vfs_session.specs.Running.{whole};
-ghost use Rattle.vfs_session.specs.Servings.{IsDrain, IsPick, IsTurn, ServesOne};
+ghost use Rattle.vfs_session.specs.Servings.{IsDrain, IsPick, IsTurn};
 ghost use Rattle.vfs_session.specs.Steps.{Begins, IsRunning};
 
 use crate::session::Session;

@@ -1,6 +1,6 @@
 //! What becomes of endpoints: they are bound, sent on with an Open, or die.
 
-ghost use Rattle.std.specs.Prelude.{◌≡◌, ◌≢◌, ◌≤◌, ◌<◌, ◌+◌, ◌-◌, ◌^◌, ◌++◌, ℕ, true, All, AllPairs, List, None, OnOk, OnErr, Some, fold, length, slice_get, IfOk};
+ghost use Rattle.std.specs.Prelude.{◌≡◌, ◌≢◌, ◌≤◌, ◌<◌, ◌+◌, ◌-◌, ◌^◌, ℕ, true, All, AllPairs, List, None, OnOk, Some, fold, length, slice_get, IfOk};
 ghost use Rattle.fidl_names.specs.declared.limits.TheConstants as limit;
 ghost use Rattle.endpoint_link.specs.Standings.{ended, is_live, standing_of};
 ghost use Rattle.node_graph.specs.declared.nodes.NodeRef as nodes;
@@ -8,7 +8,7 @@ ghost use Rattle.conn_rules.specs.declared.births.Birth as code;
 ghost use Rattle.vfs_journal.specs.View.{View};
 ghost use Rattle.message_queues.specs.Dying.{AreDeaths, Buries, tokens_on};
 ghost use Rattle.message_queues.specs.Queues.{IsAbove, count, server_of};
-ghost use Rattle.vfs_server.specs.Binding.{HasPlace};
+ghost use Rattle.vfs_server.specs.Binding.{CanWatch, HasPlace};
 ghost use Rattle.vfs_server.specs.Holding.{HoldsAt};
 ghost use Rattle.vfs_server.specs.Servers.{Server, seen};
 ghost use Rattle.vfs_session.specs.Holding.{HoldsEach};
@@ -21,8 +21,8 @@ use message_queues::{Buried, Parcel, Queues, Sent};
 use std::alloc::Global;
 use vfs_server::{Fate, Server};
 
-/// Binds what a fate binds, at a server and for what waits on it, or lets the token that it gives name its
-/// directory there.
+/// Binds what a fate binds, a watcher or another, at a server and for what waits on it, or lets the token
+/// that it gives name its directory there.
 pub(crate) fn bind(
     servers: &mut Vec<Server>,
     queues: &mut Queues,
@@ -33,6 +33,9 @@ pub(crate) fn bind(
     requires one_of { server < queues.old.servers }
     requires free { (object : ℕ) (birth : code.Birth) (one : Server) → fate.now ≡ Fate.Binds object birth → slice_get servers.old.items server ≡ Some one → seen one object ≡ None }
     requires place { (object : ℕ) (birth : code.Birth) (one : Server) → fate.now ≡ Fate.Binds object birth → slice_get servers.old.items server ≡ Some one → HasPlace one birth }
+    requires unwatched { (object mask : ℕ) (directory : nodes.NodeRef) (one : Server) → fate.now ≡ Fate.Watches object directory mask → slice_get servers.old.items server ≡ Some one → seen one object ≡ None }
+    requires watches { (object mask : ℕ) (directory : nodes.NodeRef) (one : Server) → fate.now ≡ Fate.Watches object directory mask → slice_get servers.old.items server ≡ Some one → CanWatch one directory }
+    requires silent { (object mask : ℕ) (directory : nodes.NodeRef) → fate.now ≡ Fate.Watches object directory mask → server_of queues.old object ≡ None }
     requires unbound { (object : ℕ) (birth : code.Birth) → fate.now ≡ Fate.Binds object birth → server_of queues.old object ≡ None }
     requires names { (token : ℕ) (directory : nodes.NodeRef) (one : Server) → fate.now ≡ Fate.Gives token directory → slice_get servers.old.items server ≡ Some one → CanName one token directory }
     ensures bound { OnOk result (BindsTold server fate.now servers.old.items queues.old servers.new.items queues.new) }
@@ -42,6 +45,15 @@ pub(crate) fn bind(
         Fate::Binds { object, birth } => {
             let one = &mut servers[server as usize];
             one.bind(*object, *birth)?;
+            queues.bind(*object, server)
+        }
+        Fate::Watches {
+            object,
+            directory,
+            mask,
+        } => {
+            let one = &mut servers[server as usize];
+            one.watch(*object, *directory, *mask)?;
             queues.bind(*object, server)
         }
         Fate::Gives { token, directory } => {

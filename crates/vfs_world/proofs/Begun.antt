@@ -18,7 +18,6 @@ use Rattle.tree_file.specs.Items.{ClientItem, Lists, MountItem}
 use Rattle.tree_file.specs.Numbering.{end_of_mount, tree_of}
 use Rattle.tree_file.proofs.Accepted.{few_of}
 use Rattle.conn_rules.specs.Births.{Position}
-use Rattle.conn_rules.specs.Built.{today}
 use Rattle.vfs_journal.specs.History.{living}
 use Rattle.vfs_journal.specs.Lawful as journals
 use Rattle.vfs_journal.specs.Past.{history_of}
@@ -74,23 +73,23 @@ distinct ns apart i inside =
 pub record AreBegun (start : Start) (count : ℕ) (servers : List Server) : Type 0 where
   pub many : length servers ≡ count
   pub index : (index : ℕ) (server : Server) → slice_get servers index ≡ Some server → server.index ≡ index
-  pub each : (index : ℕ) (server : Server) → slice_get servers index ≡ Some server → HoldsAt (view_of today start []) server
+  pub each : (index : ℕ) (server : Server) → slice_get servers index ≡ Some server → HoldsAt (view_of start []) server
 
 pub none_begun : (start : Start) → AreBegun start 0 []
 none_begun start = record { many = refl; index = λ index server e. absurd (cc); each = λ index server e. absurd (cc) }
 
-pub one_begun : (start : Start) (count : ℕ) (servers : List Server) (server : Server) → AreBegun start count servers → server.index ≡ count → HoldsAt (view_of today start []) server →
+pub one_begun : (start : Start) (count : ℕ) (servers : List Server) (server : Server) → AreBegun start count servers → server.index ≡ count → HoldsAt (view_of start []) server →
     AreBegun start (count + 1) (servers ++ server ∷ [])
 one_begun start count servers server begun at holds = record {
   many = let many = begun.many in let more = length-append servers (server ∷ []) in omega (arith, many, more);
   index = each_more (λ i one. one.index ≡ i) servers server begun.index (at ∙ sym begun.many);
-  each = each_more (λ i one. HoldsAt (view_of today start []) one) servers server begun.each holds;
+  each = each_more (λ i one. HoldsAt (view_of start []) one) servers server begun.each holds;
 }
 
 many_trees : (lists : Lists) → length (start_of lists).trees ≡ length lists.servers
 many_trees lists = length-map-range_with_len (tree_of lists) 0 (length lists.servers)
 
-pub all_begun : (lists : Lists) (servers : List Server) → AreBegun (start_of lists) (length lists.servers) servers → HoldsEach (view_of today (start_of lists) []) servers
+pub all_begun : (lists : Lists) (servers : List Server) → AreBegun (start_of lists) (length lists.servers) servers → HoldsEach (view_of (start_of lists) []) servers
 all_begun lists servers begun = record { many = begun.many ∙ sym (many_trees lists); index = begun.index; each = begun.each }
 
 -- ---- queues
@@ -224,7 +223,7 @@ servers_found endpoint (bound ∷ bounds) = by_test (bound.endpoint == endpoint)
   by_test true e rest = rw e refl
   by_test false e rest = rw e rest
 
-pub holds_queues : (start : Start) (queues : Queues) → BindsJust start (start.firsts ++ start.mounts) queues → HoldsQueues (view_of today start []) queues
+pub holds_queues : (start : Start) (queues : Queues) → BindsJust start (start.firsts ++ start.mounts) queues → HoldsQueues (view_of start []) queues
 holds_queues start queues just = record {
   queue = just.waiting;
   bound = λ endpoint.
@@ -265,8 +264,8 @@ module _ (lists : Lists) (accepted : AreAccepted lists) where
 
 -- ---- the whole
 
-pub stands : (lists : Lists) (servers : List Server) (queues : Queues) (known : Known) → AreAccepted lists → HoldsEach (view_of today (start_of lists) []) servers →
-    HoldsQueues (view_of today (start_of lists) []) queues → Knows (start_of lists) [] known →
+pub stands : (lists : Lists) (servers : List Server) (queues : Queues) (known : Known) → AreAccepted lists → HoldsEach (view_of (start_of lists) []) servers →
+    HoldsQueues (view_of (start_of lists) []) queues → Knows (start_of lists) [] known →
     StandsFor (start_of lists) (record { servers = servers; queues = queues; known = known; places = 0; spent = false; frames = 0 }) []
 unfolding history_of
 stands lists servers queues known accepted each bound knows = record {

@@ -16,7 +16,6 @@ use Rattle.endpoint_link.specs.declared.kinds.FrameKind.TheVariants as kind
 use Rattle.endpoint_link.specs.declared.kinds.Refusal.{Refusal}
 use Rattle.endpoint_link.specs.declared.kinds.Refusal.TheVariants as refusal
 use Rattle.endpoint_link.specs.declared.kinds.Side.TheVariants.{ToServers}
-use Rattle.conn_rules.specs.Built.{today}
 use Rattle.vfs_journal.specs.Entries.{Journal, Sending, Sent, hang_up, message}
 use Rattle.vfs_journal.specs.Output.{refused_frame}
 use Rattle.vfs_journal.specs.Past.{history_of}
@@ -39,13 +38,13 @@ use Rattle.vfs_world.specs.Steps.{CanWait, IsAdmitted, WaitsLast}
 
 -- looking back admits what is admitted
 admits_too : AreDistinct → (start : Start) (journal : Journal) (world : World) (frame : Frame) → StandsFor start world journal → admission (known_look_ups world.known) frame ≡ None →
-    admission (look_ups start (history_of today start journal)) frame ≡ None
+    admission (look_ups start (history_of start journal)) frame ≡ None
 admits_too apart start journal world frame s none = sym (admits_same (below apart) start journal world frame s) ∙ none
 
 arrives_by : AreDistinct → (start : Start) (journal : Journal) (world : World) (frame : Frame) (one : FrameKind) → StandsFor start world journal → admission (known_look_ups world.known) frame ≡ None → frame.kind ≡ one →
-    arrives today start journal frame ≡ admitted today start journal one frame
+    arrives start journal frame ≡ admitted start journal one frame
 arrives_by apart start journal world frame one s none is =
-    ap (by_refusal today start journal frame) (admits_too apart start journal world frame s none) ∙ ap (λ (k : FrameKind). admitted today start journal k frame) is
+    ap (by_refusal start journal frame) (admits_too apart start journal world frame s none) ∙ ap (λ (k : FrameKind). admitted start journal k frame) is
 
 -- its places are few
 pub places_low : (most : ℕ) (world : World) → IsRunning most world → world.places ≤ most
@@ -58,7 +57,7 @@ abbrev pub placed : World → World
 placed world = record world { places = world.places + 1 }
 
 pub refused_leads : AreDistinct → (start : Start) (journal : Journal) (old new : World) (frame : Frame) (why : Refusal) (before after : List ℕ) → StandsFor start old journal → IsFrame ToServers frame →
-    admission (known_look_ups old.known) frame ≡ Some why → new ≡ placed old → after ≡ before ++ spelling (refused_frame frame.endpoint why) → LeadsTo start (arrives today start journal frame) new journal before after
+    admission (known_look_ups old.known) frame ≡ Some why → new ≡ placed old → after ≡ before ++ spelling (refused_frame frame.endpoint why) → LeadsTo start (arrives start journal frame) new journal before after
 refused_leads apart start journal old new frame why before after s is some takes written =
     refused_on (below apart) start journal old new frame why before after s is some
     (record {
@@ -71,11 +70,11 @@ refused_leads apart start journal old new frame why before after s is some takes
 
 pub refused_lasts : (most : ℕ) (old new : World) (frame : Frame) (why : Refusal) → IsRunning most old → IsFrame ToServers frame → admission (known_look_ups old.known) frame ≡ Some why → new ≡ placed old → IsRunning (most + 4098) new
 refused_lasts most old new frame why r is some takes =
-    let leads : LeadsTo r.start (arrives today r.start r.journal frame) new r.journal [] (spelling (refused_frame frame.endpoint why)) =
+    let leads : LeadsTo r.start (arrives r.start r.journal frame) new r.journal [] (spelling (refused_frame frame.endpoint why)) =
     refused_leads r.apart r.start r.journal old new frame why [] (spelling (refused_frame frame.endpoint why)) r.stands is some takes refl in
     lasts_refused most old new r frame.endpoint why
     (subst (λ (j : Journal). StandsFor r.start new j)
-    (ap (by_refusal today r.start r.journal frame) (sym (admits_same (below r.apart) r.start r.journal old frame r.stands) ∙ some)) leads.stands)
+    (ap (by_refusal r.start r.journal frame) (sym (admits_same (below r.apart) r.start r.journal old frame r.stands) ∙ some)) leads.stands)
 
 -- ---- one more can wait
 
@@ -115,8 +114,8 @@ hang_up_fits known frame is none =
 
 can_wait : (old now : World) (frame : Frame) → IsRunning (2 ^ 61) old → IsAdmitted old frame now → old.known.waiting < limit.MAX_WAITING → CanWait now
 can_wait old now frame r admitted few =
-    let view = view_behind today r.start r.journal in
-    let fit = views_fit (below r.apart) today r.start r.journal r.stands.sound r.stands.lawful in
+    let view = view_behind r.start r.journal in
+    let fit = views_fit (below r.apart) r.start r.journal r.stands.sound r.stands.lawful in
     let holds = r.stands.holds in
     let places = holds.places in
     let known = r.stands.knows.waiting in
@@ -151,26 +150,26 @@ sends_it old now new frame sending able admitted waits = record {
 }
 
 pub message_leads : AreDistinct → (start : Start) (journal : Journal) (old now new : World) (frame : Frame) (before : List ℕ) → StandsFor start old journal → IsFrame ToServers frame → frame.kind ≡ kind.Message →
-    IsAdmitted old frame now → WaitsLast now frame.endpoint (message frame.bytes frame.handles) new → LeadsTo start (arrives today start journal frame) new journal before before
+    IsAdmitted old frame now → WaitsLast now frame.endpoint (message frame.bytes frame.handles) new → LeadsTo start (arrives start journal frame) new journal before before
 message_leads apart start journal old now new frame before s is e admitted waits =
     message_on (below apart) start journal old new frame before s is e admitted.none (sends_it old now new frame (message frame.bytes frame.handles) s.able admitted waits)
 
 pub hang_up_leads : AreDistinct → (start : Start) (journal : Journal) (old now new : World) (frame : Frame) (before : List ℕ) → StandsFor start old journal → IsFrame ToServers frame → frame.kind ≡ kind.Close →
-    IsAdmitted old frame now → WaitsLast now frame.endpoint hang_up new → LeadsTo start (arrives today start journal frame) new journal before before
+    IsAdmitted old frame now → WaitsLast now frame.endpoint hang_up new → LeadsTo start (arrives start journal frame) new journal before before
 hang_up_leads apart start journal old now new frame before s is e admitted waits =
     hang_up_on (below apart) start journal old new frame before s is e admitted.none (sends_it old now new frame hang_up s.able admitted waits)
 
 pub message_lasts : (most : ℕ) (old now new : World) (frame : Frame) → IsRunning most old → IsFrame ToServers frame → frame.kind ≡ kind.Message → IsAdmitted old frame now →
     WaitsLast now frame.endpoint (message frame.bytes frame.handles) new → IsRunning (most + 4098) new
 message_lasts most old now new frame r is e admitted waits =
-    let leads : LeadsTo r.start (arrives today r.start r.journal frame) new r.journal [] [] = message_leads r.apart r.start r.journal old now new frame [] r.stands is e admitted waits in
+    let leads : LeadsTo r.start (arrives r.start r.journal frame) new r.journal [] [] = message_leads r.apart r.start r.journal old now new frame [] r.stands is e admitted waits in
     lasts_message most old new r frame (admits_too r.apart r.start r.journal old frame r.stands admitted.none) e
     (subst (λ (j : Journal). StandsFor r.start new j) (arrives_by r.apart r.start r.journal old frame kind.Message r.stands admitted.none e) leads.stands)
 
 pub hang_up_lasts : (most : ℕ) (old now new : World) (frame : Frame) → IsRunning most old → IsFrame ToServers frame → frame.kind ≡ kind.Close → IsAdmitted old frame now →
     WaitsLast now frame.endpoint hang_up new → IsRunning (most + 4098) new
 hang_up_lasts most old now new frame r is e admitted waits =
-    let leads : LeadsTo r.start (arrives today r.start r.journal frame) new r.journal [] [] = hang_up_leads r.apart r.start r.journal old now new frame [] r.stands is e admitted waits in
+    let leads : LeadsTo r.start (arrives r.start r.journal frame) new r.journal [] [] = hang_up_leads r.apart r.start r.journal old now new frame [] r.stands is e admitted waits in
     lasts_hang_up most old new r frame (admits_too r.apart r.start r.journal old frame r.stands admitted.none) e
     (subst (λ (j : Journal). StandsFor r.start new j) (arrives_by r.apart r.start r.journal old frame kind.Close r.stands admitted.none e) leads.stands)
 
@@ -188,15 +187,15 @@ pick_same old now frame e admitted =
     same_known old now admitted.same (subst (λ (k : FrameKind). AdmitsKind k old.known frame.endpoint frame.handles now.known) e admitted.admits)
 
 pub turn_on : AreDistinct → (start : Start) (journal : Journal) (old now new : World) (frame : Frame) (times done : ℕ) (before after : List ℕ) → StandsFor start old journal → frame.kind ≡ kind.Turn → IsAdmitted old frame now →
-    times ≡ word_in frame.bytes → IsTurn frame.endpoint times done now new before after → LeadsTo start (arrives today start journal frame) new journal before after
+    times ≡ word_in frame.bytes → IsTurn frame.endpoint times done now new before after → LeadsTo start (arrives start journal frame) new journal before after
 turn_on apart start journal old now new frame times done before after s e admitted is turn =
     subst (λ (j : Journal). LeadsTo start j new journal before after) (sym (arrives_by apart start journal old frame kind.Turn s admitted.none e))
-    (subst (λ (n : ℕ). LeadsTo start (turned today start frame.endpoint n journal) new journal before after) is
+    (subst (λ (n : ℕ). LeadsTo start (turned start frame.endpoint n journal) new journal before after) is
     (turn_leads apart start journal frame.endpoint times done old new before after s
     (subst (λ (w : World). IsTurn frame.endpoint times done w new before after) (turn_same old now frame e admitted) turn)))
 
 pub pick_on : AreDistinct → (start : Start) (journal : Journal) (old now new : World) (frame : Frame) (before after : List ℕ) → StandsFor start old journal → frame.kind ≡ kind.Pick → IsAdmitted old frame now →
-    IsPick frame.endpoint now new before after → LeadsTo start (arrives today start journal frame) new journal before after
+    IsPick frame.endpoint now new before after → LeadsTo start (arrives start journal frame) new journal before after
 pick_on apart start journal old now new frame before after s e admitted pick =
     subst (λ (j : Journal). LeadsTo start j new journal before after) (sym (arrives_by apart start journal old frame kind.Pick s admitted.none e))
     (pick_leads apart start journal frame.endpoint old new before after s

@@ -2,7 +2,6 @@
 use Rattle.std.proofs.Common.{◌≡◌, ℕ, ◌+◌, ◌*◌, ◌<◌, ◌≤◌, ◌^◌, ◌==◌, Bool, false, List, [], ◌++◌, filter, take, length, refl, sym, subst, ap, ◌∙◌, arith}
 use Rattle.std.proofs.Math.Seq.{take-append_seam}
 use Rattle.fidl_wire.specs.Names.{AreDistinct}
-use Rattle.conn_rules.specs.Built.{today}
 use Rattle.vfs_journal.specs.Entries.{Journal, Sent}
 use Rattle.vfs_journal.specs.History.{waiting}
 use Rattle.vfs_journal.specs.Past.{history_of}
@@ -63,10 +62,10 @@ module _ (inside : Inside) {now : World} (view : as_world (whole inside.session)
 
 -- ---- what waits
 
-pub as_many_wait : (start : Start) (world : World) (journal : Journal) → StandsFor start world journal → count world.queues ≡ length (waiting (history_of today start journal))
-as_many_wait start world journal s = counts_its_list world.queues (view_behind today start journal).waiting s.holds.queues.queue
+pub as_many_wait : (start : Start) (world : World) (journal : Journal) → StandsFor start world journal → count world.queues ≡ length (waiting (history_of start journal))
+as_many_wait start world journal s = counts_its_list world.queues (view_behind start journal).waiting s.holds.queues.queue
 
-pub nothing_waits : (start : Start) (world : World) (journal : Journal) → StandsFor start world journal → waiting (history_of today start journal) ≡ [] → NothingWaits world.queues (IsBound world.queues)
+pub nothing_waits : (start : Start) (world : World) (journal : Journal) → StandsFor start world journal → waiting (history_of start journal) ≡ [] → NothingWaits world.queues (IsBound world.queues)
 nothing_waits start world journal s none endpoint bound = s.holds.queues.queue endpoint ∙ ap (filter (λ (sent : Sent). sent.endpoint == endpoint)) none
 
 -- ---- what was written is taken back

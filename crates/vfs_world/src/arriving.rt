@@ -6,7 +6,6 @@ ghost use Rattle.endpoint_link.specs.Frames.{IsFrame, spelling};
 ghost use Rattle.endpoint_link.specs.Numbers.{word_in};
 ghost use Rattle.endpoint_link.specs.Views.{frame_of, handle_numbers};
 ghost use Rattle.endpoint_link.specs.declared.kinds.Side.TheVariants as side;
-ghost use Rattle.conn_rules.specs.Built.{today};
 ghost use Rattle.vfs_journal.specs.Entries.{Journal, message};
 ghost use Rattle.vfs_journal.specs.Output.{refused_frame};
 ghost use Rattle.vfs_journal.specs.Session.{arrives};
@@ -32,7 +31,7 @@ pub(crate) fn arrive(
     requires frame { IsFrame side.ToServers (frame_of frame) }
     requires running { IsRunning (2 ^ 61) (whole session.old) }
     ensures arrived { (start : Start) (journal : Journal) → StandsFor start (whole session.old) journal →
-        OnOk result (LeadsTo start (arrives today start journal (frame_of frame.entry)) (whole session.new) journal outbox.old outbox.new) }
+        OnOk result (LeadsTo start (arrives start journal (frame_of frame.entry)) (whole session.new) journal outbox.old outbox.new) }
     ensures running { (most : ℕ) → IsRunning most (whole session.old) → OnOk result (IsRunning (most + 4098) (whole session.new)) }
     ensures begins { Begins outbox.old outbox.new }
 {
@@ -48,7 +47,7 @@ fn perform(session: &mut Session, frame: FrameView<'_>, outbox: &mut Outbox) -> 
     requires frame { IsFrame side.ToServers (frame_of frame) }
     requires heard { Hears (2 ^ 61) (frame_of frame) (whole session.old) }
     ensures arrived { (start : Start) (journal : Journal) (before : World) → StandsFor start before journal → IsAdmitted before (frame_of frame.entry) (whole session.old) →
-        OnOk result (LeadsTo start (arrives today start journal (frame_of frame.entry)) (whole session.new) journal outbox.old outbox.new) }
+        OnOk result (LeadsTo start (arrives start journal (frame_of frame.entry)) (whole session.new) journal outbox.old outbox.new) }
     ensures running { (most : ℕ) (before : World) → IsRunning most before → IsAdmitted before (frame_of frame.entry) (whole session.old) →
         OnOk result (IsRunning (most + 4098) (whole session.new)) }
     ensures begins { Begins outbox.old outbox.new }

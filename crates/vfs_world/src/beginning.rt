@@ -1,7 +1,6 @@
 //! What a session begins with: the servers of a start, and what is bound from the first on.
 
 ghost use Rattle.std.specs.Prelude.{◌≡◌, ◌++◌, [], IfOk, OnOk, map};
-ghost use Rattle.conn_rules.specs.Built.{today};
 ghost use Rattle.tree_file.specs.Accepted.{AreAccepted};
 ghost use Rattle.vfs_journal.specs.Starts.{start_of};
 ghost use Rattle.vfs_journal.specs.View.{view_of};
@@ -22,7 +21,7 @@ use vfs_session::Session;
 
 // The servers, by their indexes.
 fn begin_servers(alloc: Global, start: &Start) -> Result<Vec<Server>, NoMemory>
-    ensures { IfOk result (λ servers. HoldsEach (view_of today (start_of start.now) []) servers.items) }
+    ensures { IfOk result (λ servers. HoldsEach (view_of (start_of start.now) []) servers.items) }
 {
     let mut servers = Vec::new(alloc);
     for index in 0..start.servers() {
@@ -61,7 +60,7 @@ fn bind_mounts(start: &Start, queues: &mut Queues) -> Result<(), NoMemory>
 // Nothing waits, and first connections and the ends of mounts are bound.
 fn begin_queues(alloc: Global, start: &Start) -> Result<Queues, NoMemory>
     requires accepted { AreAccepted start.now }
-    ensures { IfOk result (HoldsQueues (view_of today (start_of start.now) [])) }
+    ensures { IfOk result (HoldsQueues (view_of (start_of start.now) [])) }
 {
     let mut queues = Queues::new(alloc, start.servers());
     bind_clients(start, &mut queues)?;

@@ -2,7 +2,6 @@ ghost use Rattle.std.specs.Prelude.{◌≡◌, ◌<◌, ◌+◌, ◌^◌, ℕ, t
 ghost use Rattle.endpoint_link.specs.Frames.{IsFrame};
 ghost use Rattle.endpoint_link.specs.declared.kinds.Side.TheVariants as side;
 ghost use Rattle.endpoint_link.specs.Views.{frame_of};
-ghost use Rattle.conn_rules.specs.Built.{today};
 ghost use Rattle.vfs_journal.specs.Entries.{Journal};
 ghost use Rattle.vfs_journal.specs.History.{waiting};
 ghost use Rattle.vfs_journal.specs.Past.{history_of};
@@ -83,7 +82,7 @@ impl World {
         requires frame { IsFrame side.ToServers (frame_of frame) }
         requires few { self.old.frames < 2 ^ 48 }
         ensures arrived { (start : Start) (journal : Journal) → StandsFor start self.old journal →
-            OnOk result (LeadsTo start (arrives today start journal (frame_of frame.entry)) self.new journal outbox.old outbox.new) }
+            OnOk result (LeadsTo start (arrives start journal (frame_of frame.entry)) self.new journal outbox.old outbox.new) }
         ensures frames { self.new.frames ≡ (if is_ok result then self.old.frames + 1 else self.old.frames) }
         ensures able { OnOk result (self.new.spent ≡ false) }
         ensures memory { result ≡ Err WorldFault.NoMemory → (self.old.spent ≡ false) × (self.new.spent ≡ true) }
@@ -107,12 +106,12 @@ impl World {
     pub fn turn(&mut self, server: u32, n: u32, outbox: &mut Outbox) -> Result<u32, WorldFault>
         requires server { server < self.old.queues.servers }
         ensures turned { (start : Start) (journal : Journal) → StandsFor start self.old journal →
-            OnOk result (LeadsTo start (turned today start server n journal) self.new journal outbox.old outbox.new) }
+            OnOk result (LeadsTo start (turned start server n journal) self.new journal outbox.old outbox.new) }
         ensures number { (start : Start) (journal : Journal) → StandsFor start self.old journal →
-            IfOk result (λ done. served_in journal + done ≡ served_in (turned today start server n journal)) }
+            IfOk result (λ done. served_in journal + done ≡ served_in (turned start server n journal)) }
         ensures fewer { (start : Start) (journal : Journal) → StandsFor start self.old journal →
-            IfOk result (λ done. done < n → oldest start (history_of today start (turned today start server n journal)) server ≡ None) }
-        ensures idle { (start : Start) (journal : Journal) → StandsFor start self.old journal → oldest start (history_of today start journal) server ≡ None → result ≡ Ok 0 }
+            IfOk result (λ done. done < n → oldest start (history_of start (turned start server n journal)) server ≡ None) }
+        ensures idle { (start : Start) (journal : Journal) → StandsFor start self.old journal → oldest start (history_of start journal) server ≡ None → result ≡ Ok 0 }
         ensures frames { self.new.frames ≡ self.old.frames }
         ensures able { OnOk result (self.new.spent ≡ false) }
         ensures memory { result ≡ Err WorldFault.NoMemory → (self.old.spent ≡ false) × (self.new.spent ≡ true) }
@@ -134,9 +133,9 @@ impl World {
     /// nothing waits on it.
     pub fn pick(&mut self, endpoint: u32, outbox: &mut Outbox) -> Result<Picked, WorldFault>
         ensures picked { (start : Start) (journal : Journal) → StandsFor start self.old journal →
-            OnOk result (LeadsTo start (picked today start endpoint journal) self.new journal outbox.old outbox.new) }
-        ensures idle { (start : Start) (journal : Journal) → StandsFor start self.old journal → head start (history_of today start journal) endpoint ≡ None → result ≡ Ok Picked.Idle }
-        ensures only_idle { (start : Start) (journal : Journal) → StandsFor start self.old journal → result ≡ Ok Picked.Idle → head start (history_of today start journal) endpoint ≡ None }
+            OnOk result (LeadsTo start (picked start endpoint journal) self.new journal outbox.old outbox.new) }
+        ensures idle { (start : Start) (journal : Journal) → StandsFor start self.old journal → head start (history_of start journal) endpoint ≡ None → result ≡ Ok Picked.Idle }
+        ensures only_idle { (start : Start) (journal : Journal) → StandsFor start self.old journal → result ≡ Ok Picked.Idle → head start (history_of start journal) endpoint ≡ None }
         ensures frames { self.new.frames ≡ self.old.frames }
         ensures able { OnOk result (self.new.spent ≡ false) }
         ensures memory { result ≡ Err WorldFault.NoMemory → (self.old.spent ≡ false) × (self.new.spent ≡ true) }
@@ -158,10 +157,10 @@ impl World {
     /// Serves all that can be served. Nothing waits then.
     pub fn drain(&mut self, outbox: &mut Outbox) -> Result<(), WorldFault>
         ensures drained { (start : Start) (journal : Journal) → StandsFor start self.old journal →
-            OnOk result (LeadsTo start (drained today start journal) self.new journal outbox.old outbox.new) }
+            OnOk result (LeadsTo start (drained start journal) self.new journal outbox.old outbox.new) }
         ensures none { (start : Start) (journal : Journal) → StandsFor start self.old journal →
-            OnOk result (waiting (history_of today start (drained today start journal)) ≡ []) }
-        ensures idle { (start : Start) (journal : Journal) → StandsFor start self.old journal → waiting (history_of today start journal) ≡ [] → result ≡ Ok tt }
+            OnOk result (waiting (history_of start (drained start journal)) ≡ []) }
+        ensures idle { (start : Start) (journal : Journal) → StandsFor start self.old journal → waiting (history_of start journal) ≡ [] → result ≡ Ok tt }
         ensures frames { self.new.frames ≡ self.old.frames }
         ensures able { OnOk result (self.new.spent ≡ false) }
         ensures memory { result ≡ Err WorldFault.NoMemory → (self.old.spent ≡ false) × (self.new.spent ≡ true) }
@@ -199,7 +198,7 @@ impl World {
 
     /// How many entries wait.
     pub fn waiting(&self) -> u32
-        ensures waiting { (start : Start) (journal : Journal) → StandsFor start self.now journal → result ≡ length (waiting (history_of today start journal)) }
+        ensures waiting { (start : Start) (journal : Journal) → StandsFor start self.now journal → result ≡ length (waiting (history_of start journal)) }
     {
         self.session.queues.len()
     }

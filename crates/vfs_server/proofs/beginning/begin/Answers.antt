@@ -12,5 +12,5 @@ bind_clients-requires-clause-holds c =
     holds_none c.args.start.now c.args.index c.add_mounts.new.graph c.add_mounts.new.places c.new-server.result c.in_ok-add_mounts.ensures c.new-server.ensures
 
 pub returns-clause-holds : goal.returns-clause-holds
-returns-clause-holds c built =
-    holds_start c.args.start.now c.keeps_rules.ensures c.args.index c.requires.within built c.bind_ends.new.server c.add_mounts.new.places c.in_ok-bind_ends.ensures
+returns-clause-holds c =
+    holds_start c.args.start.now c.keeps_rules.ensures c.args.index c.requires.within c.bind_ends.new.server c.add_mounts.new.places c.in_ok-bind_ends.ensures

@@ -1,15 +1,19 @@
 use Rattle.std.proofs.Common.{◌∙◌, refl, sym, subst}
 use Rattle.std.specs.Prelude.{slice_set}
 use Rattle.std.proofs.lemmas.Option.{same_Some, slice_get_read}
+use Rattle.node_graph.specs.Graph.{number_of}
 use Rattle.vfs_server.specs.Binding.{Binds, NamesBy}
 use Rattle.vfs_server.specs.declared.fate.Fate.{Fate}
-use Rattle.vfs_server.specs.Servers.{Server}
+use Rattle.vfs_server.specs.Servers.{Server, bound_with, watcher_with}
 use Rattle.vfs_session.specs.Steps.{BindsTold}
 use Rattle.vfs_session.proofs.Answered.{if_ok}
 use Rattle.vfs_session.proofs.settling.bind.Goals as goal
 
 pub bind-requires-clause-place : goal.bind-requires-clause-place
 bind-requires-clause-place c = c.requires.place _ _ _ c.in-Binds.is (slice_get_read _ _ _ _ refl c.requires.within c.index_mut-one.ensures.value)
+
+pub watch-requires-clause-directory : goal.watch-requires-clause-directory
+watch-requires-clause-directory c = c.requires.watches _ _ _ _ c.in-Watches.is (slice_get_read _ _ _ _ refl c.requires.within c.index_mut-one-in-Watches.ensures.value)
 
 pub give-requires-clause-free : goal.give-requires-clause-free
 give-requires-clause-free c = (c.requires.names _ _ _ c.in-Gives.is (slice_get_read _ _ _ _ refl c.requires.within c.index_mut-one-in-Gives.ensures.value)).free
@@ -28,11 +32,25 @@ returns-in_ok-bind-in-Binds-clause-bound c =
       (λ one there. (
         c.bind.new.self,
         refl,
-        subst (λ (s : Server). Binds s c.in-Binds.object c.in-Binds.birth c.bind.new.self)
+        subst (λ (s : Server). Binds s (bound_with s.index c.in-Binds.object c.in-Binds.birth) c.bind.new.self)
             (same_Some _ one (sym (slice_get_read c.args.servers.now.items _ c.args.server c.index_mut-one.result.now refl c.requires.within c.index_mut-one.ensures.value) ∙ there)) c.in_ok-bind-in-Binds.ensures.bound,
       )),
       waits,
     )) c.bind-in-Binds.ensures.bound
+
+pub returns-in_ok-watch-in-Watches-clause-bound : goal.returns-in_ok-watch-in-Watches-clause-bound
+returns-in_ok-watch-in-Watches-clause-bound c =
+    if_ok c.bind-in-Watches.result
+    (λ waits.
+    subst (λ (f : Fate). BindsTold c.args.server f c.args.servers.now.items c.args.queues.now (slice_set c.args.servers.now.items c.args.server c.watch.new.self) c.bind-in-Watches.new.self) (sym c.in-Watches.is) (
+      (λ one there. (
+        c.watch.new.self,
+        refl,
+        subst (λ (s : Server). Binds s (watcher_with s.index c.in-Watches.object (number_of c.in-Watches.directory) c.in-Watches.mask) c.watch.new.self)
+            (same_Some _ one (sym (slice_get_read c.args.servers.now.items _ c.args.server c.index_mut-one-in-Watches.result.now refl c.requires.within c.index_mut-one-in-Watches.ensures.value) ∙ there)) c.in_ok-watch-in-Watches.ensures.watches,
+      )),
+      waits,
+    )) c.bind-in-Watches.ensures.bound
 
 pub returns-in-Gives-clause-bound : goal.returns-in-Gives-clause-bound
 returns-in-Gives-clause-bound c =

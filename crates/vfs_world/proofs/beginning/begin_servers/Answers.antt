@@ -1,5 +1,4 @@
 use Rattle.std.proofs.Common.{◌≡◌, ◌+◌, ℕ, arith, length, subst, sym}
-use Rattle.conn_rules.specs.Built.{today}
 use Rattle.vfs_journal.specs.Starts.{start_of}
 use Rattle.vfs_world.proofs.Begun.{AreBegun, all_begun, one_begun}
 use Rattle.vfs_world.proofs.beginning.begin_servers.Goals as goal
@@ -7,7 +6,7 @@ use Rattle.vfs_world.proofs.beginning.begin_servers.Goals as goal
 pub loop-index-preserved : goal.loop-index-preserved
 loop-index-preserved c =
     subst (AreBegun (start_of c.args.start.now) (c.loop-index.index + 1)) (sym c.in_ok-push.ensures.items)
-    (one_begun (start_of c.args.start.now) c.loop-index.index c.loop-index.servers.items c.in_ok-server.server c.loop-index.invariant c.in_ok-server.ensures.index (c.in_ok-server.ensures.holds today))
+    (one_begun (start_of c.args.start.now) c.loop-index.index c.loop-index.servers.items c.in_ok-server.server c.loop-index.invariant c.in_ok-server.ensures.index (c.in_ok-server.ensures.holds))
 
 pub returns : goal.returns
 returns c =

@@ -3,7 +3,6 @@ use Rattle.std.specs.Option.{option_map}
 use Rattle.io_messages.specs.Asked.{asked}
 use Rattle.io_messages.specs.declared.protocols.Protocol.TheVariants as protocol
 use Rattle.conn_rules.specs.Acts.{act_of}
-use Rattle.conn_rules.specs.Built.{today}
 use Rattle.conn_rules.specs.Contexts.{context_of}
 use Rattle.node_graph.specs.Graph.{number_of}
 use Rattle.vfs_server.specs.Kept.{HasTree}
@@ -19,9 +18,9 @@ serve-requires-clause-target c node is =
 
 pub returns-in-Directory-clause-acts : goal.returns-in-Directory-clause-acts
 returns-in-Directory-clause-acts c tree directory stands named some =
-    subst (λ connection. Acts (act_of (context_of today connection c.args.asking.now.room tree directory) (asked c.args.request)) c.args.txid c.of_directory.result c.serve.new.out c.serve.new.self c.args.graph.now c.serve.new.graph)
+    subst (λ connection. Acts (act_of (context_of connection c.args.room tree directory) (asked c.args.request)) c.args.txid c.of_directory.result c.serve.new.out c.serve.new.self c.args.graph.now c.serve.new.graph)
     (sym (ap connection_of c.in-Directory.is))
-    (subst (λ one. Acts (act_of (context_of today c.in-Directory.conn c.args.asking.now.room tree directory) (asked c.args.request)) c.args.txid one c.serve.new.out c.serve.new.self c.args.graph.now c.serve.new.graph)
+    (subst (λ one. Acts (act_of (context_of c.in-Directory.conn c.args.room tree directory) (asked c.args.request)) c.args.txid one c.serve.new.out c.serve.new.self c.args.graph.now c.serve.new.graph)
     (sym c.of_directory.ensures)
     (acts_of_directory _ c.args.txid c.serve.result c.serve.new.out c.serve.new.self c.args.graph.now c.serve.new.graph
     (c.serve.ensures.serves tree directory stands (named ∙ ap (option_map number_of) (sym c.target-target.ensures)) (λ e. some (c.of_directory.ensures ∙ ap of_directory e)))))
@@ -37,7 +36,7 @@ returns-in-Directory-clause-tree c =
 
 pub returns-in-File-clause-acts : goal.returns-in-File-clause-acts
 returns-in-File-clause-acts c tree directory stands named some =
-    subst (λ connection. Acts (act_of (context_of today connection c.args.asking.now.room tree directory) (asked c.args.request)) c.args.txid c.of.result c.serve-in-File.new.out c.serve-in-File.new.self c.args.graph.now c.serve-in-File.new.graph)
+    subst (λ connection. Acts (act_of (context_of connection c.args.room tree directory) (asked c.args.request)) c.args.txid c.of.result c.serve-in-File.new.out c.serve-in-File.new.self c.args.graph.now c.serve-in-File.new.graph)
     (sym (ap connection_of c.in-File.is))
     (acts_of _ c.args.txid c.serve-in-File.result c.of.result c.serve-in-File.new.out c.serve-in-File.new.self c.args.graph.now c.serve-in-File.new.graph c.of.ensures
     (c.serve-in-File.ensures.serves tree directory stands (some_of c.serve-in-File.result c.of.result c.of.ensures some)))
@@ -51,7 +50,7 @@ returns-in-File-clause-tree c =
 
 pub returns-in-Node-clause-acts : goal.returns-in-Node-clause-acts
 returns-in-Node-clause-acts c tree directory stands named some =
-    subst (λ connection. Acts (act_of (context_of today connection c.args.asking.now.room tree directory) (asked c.args.request)) c.args.txid c.of-in-Node.result c.serve-in-Node.new.out c.serve-in-Node.new.self c.args.graph.now c.serve-in-Node.new.graph)
+    subst (λ connection. Acts (act_of (context_of connection c.args.room tree directory) (asked c.args.request)) c.args.txid c.of-in-Node.result c.serve-in-Node.new.out c.serve-in-Node.new.self c.args.graph.now c.serve-in-Node.new.graph)
     (sym (ap connection_of c.in-Node.is))
     (acts_of _ c.args.txid c.serve-in-Node.result c.of-in-Node.result c.serve-in-Node.new.out c.serve-in-Node.new.self c.args.graph.now c.serve-in-Node.new.graph c.of-in-Node.ensures
     (c.serve-in-Node.ensures.serves tree directory stands c.serve-in-Node.ensures.memory))
@@ -67,4 +66,4 @@ returns-in-Echo-clause-acts c tree directory stands named some =
     let here = connection_of c.args.self.now in
     let kind : here.birth.protocol ≡ protocol.Echo = ap (λ connection. connection.birth.protocol) (ap connection_of c.in-Echo.is) ∙ subst IsOfItsKind c.in-Echo.is c.requires.kind in
     acts_of _ c.args.txid c.echo.result c.of-in-Echo.result c.echo.new.out here c.args.graph.now c.args.graph.now c.of-in-Echo.ensures
-    (c.echo.ensures.serves here c.args.graph.now c.args.asking.now.room tree directory kind (c.requires.node.connects kind) c.echo.ensures.memory)
+    (c.echo.ensures.serves here c.args.graph.now c.args.room tree directory kind (c.requires.node.connects kind) c.echo.ensures.memory)

@@ -1,10 +1,15 @@
 use Rattle.std.proofs.Common.{◌≡◌, ◌∙◌, true, ap, subst, sym}
-use Rattle.conn_rules.specs.Births.{Connection}
-use Rattle.io_messages.specs.Protocols.{has_method}
 use Rattle.io_messages.specs.Asked.{Asked, asked, method_of}
+use Rattle.io_messages.specs.Protocols.{has_method}
+use Rattle.node_graph.specs.Graph.{number_of}
+use Rattle.conn_rules.specs.declared.births.Room.{Room}
+use Rattle.conn_rules.specs.Acts.{act_of}
+use Rattle.conn_rules.specs.Births.{Connection}
+use Rattle.conn_rules.specs.Contexts.{context_of}
 use Rattle.conn_rules.specs.Shared.{CanBeBound}
-use Rattle.vfs_server.specs.Steps.{DoesGiven, IsAskedAt, connection_of}
-use Rattle.vfs_server.proofs.Answering.{binds_no_watcher, ok_map, request_answers}
+use Rattle.vfs_journal.specs.Serving.{object_of}
+use Rattle.vfs_server.specs.Steps.{Acts, DoesGiven, IsAskedAt, connection_of, room_for}
+use Rattle.vfs_server.proofs.Answering.{binds_connection, can_tell, request_answers}
 use Rattle.vfs_server.proofs.connection.Connection.serve_request.Goals as goal
 
 -- the method is one of the connection's protocol
@@ -13,23 +18,40 @@ known_here request is known = subst (λ (connection : Connection). has_method co
 
 pub answer-requires : goal.answer-requires
 answer-requires c = record {
-  watcher =
+  connection =
       let can = subst (λ connection. CanBeBound c.args.graph.now connection.birth) (sym c.self.view_is) c.requires.node in
-      binds_no_watcher c.args.graph.now c.args.tokens.now (connection_of c.self.inside.conn) can c.requires.tree c.args.asking.now.room (asked c.args.request) (known_here (asked c.args.request) c.self.view_is c.requires.method) c.args.txid c.serve-given.result c.serve-given.new.out
+      binds_connection c.args.graph.now c.args.tokens.now (connection_of c.self.inside.conn) can c.requires.tree c.room-room.result (asked c.args.request) (known_here (asked c.args.request) c.self.view_is c.requires.method) c.args.txid c.serve-given.result c.serve-given.new.out
       (connection_of c.serve-given.new.self) c.serve-given.new.graph c.serve-given.ensures.acts;
 }
+
+-- what is in use, as the connection sees it
+room_is : (c : goal.In_ok-fate) → c.room-room.result ≡ room_for c.args.asking.now (number_of (connection_of c.self.inside.conn).birth.node)
+room_is c = c.room-room.ensures ∙ ap (room_for c.args.asking.now) (c.number.ensures ∙ ap number_of c.node.ensures)
+
+-- what was done, by the request's endpoint and the connection's node
+does : (c : goal.In_ok-fate) →
+    DoesGiven c.args.asking.now.endpoint (object_of (asked c.args.request)) (connection_of c.self.inside.conn).birth.node c.serve-given.result c.serve-given.new.out c.in_ok-fate.fate c.answer.new.out c.args.outbox.now c.answer.new.outbox
+does c =
+    subst (λ object. DoesGiven c.args.asking.now.endpoint object (connection_of c.self.inside.conn).birth.node c.serve-given.result c.serve-given.new.out c.in_ok-fate.fate c.answer.new.out c.args.outbox.now c.answer.new.outbox) c.object_of-object.ensures
+    (subst (λ node. DoesGiven c.args.asking.now.endpoint c.object_of-object.result node c.serve-given.result c.serve-given.new.out c.in_ok-fate.fate c.answer.new.out c.args.outbox.now c.answer.new.outbox)
+    (c.node-2.ensures ∙ ap (λ birth. birth.node) c.serve-given.ensures.holds.birth) c.in_ok-fate.ensures.does)
 
 pub returns-clause-answers : goal.returns-clause-answers
 returns-clause-answers c server moment asks named =
     let can = subst (λ connection. CanBeBound c.args.graph.now connection.birth) (sym c.self.view_is) c.requires.node in
     let here = subst (λ connection. IsAskedAt server c.args.asking.now c.args.graph.now connection moment) (sym c.self.view_is) asks in
-    ok_map _ _ c.answer.result
-    (λ fate does.
+    let done = does c in
     request_answers server c.args.asking.now c.args.graph.now c.serve-given.new.graph (connection_of c.self.inside.conn) can moment here
     c.args.txid (asked c.args.request) (known_here (asked c.args.request) c.self.view_is c.requires.method) c.serve-given.result c.serve-given.new.out (connection_of c.serve-given.new.self) c.serve-given.ensures.holds.birth
-    (c.serve-given.ensures.acts moment.tree moment.directory here.tree named does.some)
-    fate c.answer.new.out c.args.outbox.now c.answer.new.outbox
-    (subst (λ object. DoesGiven c.args.asking.now.endpoint object (connection_of c.self.inside.conn).birth.node c.serve-given.result c.serve-given.new.out fate c.answer.new.out c.args.outbox.now c.answer.new.outbox) c.object_of-object.ensures
-    (subst (λ node. DoesGiven c.args.asking.now.endpoint c.object_of-object.result node c.serve-given.result c.serve-given.new.out fate c.answer.new.out c.args.outbox.now c.answer.new.outbox)
-    (c.node.ensures ∙ ap (λ birth. birth.node) c.serve-given.ensures.holds.birth) does)))
-    c.answer.ensures.does
+    (subst
+    (λ (room : Room). Acts (act_of (context_of (connection_of c.self.inside.conn) room moment.tree moment.directory) (asked c.args.request)) c.args.txid c.serve-given.result c.serve-given.new.out (connection_of c.serve-given.new.self)
+    c.args.graph.now c.serve-given.new.graph)
+    (room_is c) (c.serve-given.ensures.acts moment.tree moment.directory here.tree named done.some))
+    (record { fate = c.in_ok-fate.fate; changes = c.changes-changes.result }) c.changes-changes.ensures c.answer.new.out c.args.outbox.now c.answer.new.outbox done
+
+pub returns-clause-tells : goal.returns-clause-tells
+returns-clause-tells c =
+    let can = subst (λ connection. CanBeBound c.args.graph.now connection.birth) (sym c.self.view_is) c.requires.node in
+    can_tell c.args.graph.now c.args.tokens.now (connection_of c.self.inside.conn) can c.requires.tree c.room-room.result (asked c.args.request) (known_here (asked c.args.request) c.self.view_is c.requires.method) c.args.txid c.serve-given.result c.serve-given.new.out
+    (connection_of c.serve-given.new.self) c.serve-given.new.graph c.serve-given.ensures.acts c.serve-given.ensures.holds.birth c.args.asking.now.endpoint (object_of (asked c.args.request))
+    (record { fate = c.in_ok-fate.fate; changes = c.changes-changes.result }) c.answer.new.out c.args.outbox.now c.answer.new.outbox c.changes-changes.ensures (does c)

@@ -42,7 +42,17 @@ bind-requires c =
     c.in_ok-fate.ensures.answers in
     let can = can_bind (whole c.args.self.now) c.take.new.self c.requires.running c.args.endpoint c.in_ok-server.server c.in_ok-server.sent _ c.in_ok-fate.fate _ _ _ _ c.in_ok-server.ensures.bound c.in_ok-server.ensures.first
     answers c.in_ok-server.ensures.later in
-    record { within = can.within; one_of = can.one_of; free = can.free; place = can.place; unbound = can.unbound; names = can.names }
+    record {
+      within = can.within;
+      one_of = can.one_of;
+      free = can.free;
+      place = can.place;
+      unwatched = can.unwatched;
+      watches = can.watches;
+      silent = can.silent;
+      unbound = can.unbound;
+      names = can.names;
+    }
 
 pub returns-clause-taken : goal.returns-clause-taken
 returns-clause-taken c = (

@@ -1,0 +1,77 @@
+//! What watchers are told of a serving, behind its answer.
+
+ghost use Rattle.std.specs.Prelude.{◌≡◌, ◌≤◌, ◌++◌, ℕ, IfOk, OnErr, OnOk, length, take};
+ghost use Rattle.endpoint_link.specs.Frames.{spellings};
+ghost use Rattle.node_graph.specs.declared.nodes.NodeRef.{NodeRef};
+ghost use Rattle.vfs_server.specs.Binding.{IsDirectory};
+ghost use Rattle.vfs_server.specs.Steps.{CanBeTold, IsTold};
+ghost use Rattle.vfs_server.specs.Watched.{Extends, first_of};
+
+use crate::done::Done;
+use crate::fate::Fate;
+use crate::watching::Watching;
+use endpoint_link::Outbox;
+use fidl_names::NoMemory;
+use node_graph::Graph;
+use watch_events::snapshot;
+
+/// Tells watchers of what was done, and what becomes of endpoints. For want of memory, then or before, the
+/// outbox is cut back to a length.
+pub(crate) fn tell(
+    watching: &Watching,
+    graph: &Graph,
+    done: &Result<Done<'_>, NoMemory>,
+    len: usize,
+    outbox: &mut Outbox,
+) -> Result<Fate, NoMemory>
+    requires can { IfOk done.now (CanBeTold graph.now) }
+    requires within { len ≤ length outbox.old }
+    ensures told { IfOk result (λ fate. IsTold watching.now graph.now done.now fate outbox.old outbox.new) }
+    ensures no_memory { OnErr result (outbox.new ≡ take len outbox.old) }
+{
+    match put_told(watching, graph, done, outbox) {
+        Ok(fate) => Ok(fate),
+        Err(_) => {
+            outbox.truncate(len);
+            Err(NoMemory)
+        }
+    }
+}
+
+/// Writes what watchers are told: a new one of the names that are there, and those of a directory of its
+/// changes. For want of memory a part of that is written.
+fn put_told(
+    watching: &Watching,
+    graph: &Graph,
+    done: &Result<Done<'_>, NoMemory>,
+    outbox: &mut Outbox,
+) -> Result<Fate, NoMemory>
+    requires can { IfOk done.now (CanBeTold graph.now) }
+    ensures told { IfOk result (λ fate. IsTold watching.now graph.now done.now fate outbox.old outbox.new) }
+    ensures front { OnErr result (Extends outbox.old outbox.new) }
+{
+    match done {
+        Ok(done) => {
+            put_first(graph, done.fate, outbox)?;
+            watching.tell(done.changes, outbox)?;
+            Ok(done.fate)
+        }
+        Err(_) => Err(NoMemory),
+    }
+}
+
+/// Writes what a new watcher is told of the names in its directory, if there is one.
+fn put_first(graph: &Graph, fate: Fate, outbox: &mut Outbox) -> Result<(), NoMemory>
+    requires directory { (object mask : ℕ) (directory : NodeRef) → fate ≡ Fate.Watches object directory mask → IsDirectory graph.now directory }
+    ensures told { OnOk result (outbox.new ≡ outbox.old ++ spellings (first_of graph.now.edges fate)) }
+    ensures front { OnErr result (Extends outbox.old outbox.new) }
+{
+    match fate {
+        Fate::Watches {
+            object,
+            directory,
+            mask,
+        } => snapshot(object, mask, graph.names_after(directory, None), outbox),
+        _ => Ok(()),
+    }
+}
