@@ -19,14 +19,16 @@ build:
 	@mkdir -p build
 	@tools/build.sh vfs_program $(PROGRAM) file data/hello
 
-# Sessions over a tree: one that reads, one that changes it, and one over its names; one over two servers in mode given;
-# one over a file; and the check of trees.
+# Sessions over a tree: one that reads, one that changes it, one over its names, and one that watches them; one over two
+# servers in mode given; one over a file; and the check of trees.
 run: build
 	@examples/exchange.sh $(PROGRAM) examples/session.hex serve examples/trees/small.toml auto
 	@echo
 	@examples/exchange.sh $(PROGRAM) examples/changes.hex serve examples/trees/small.toml auto
 	@echo
 	@examples/exchange.sh $(PROGRAM) examples/names.hex serve examples/trees/small.toml auto
+	@echo
+	@examples/exchange.sh $(PROGRAM) examples/watching.hex serve examples/trees/small.toml auto
 	@echo
 	@examples/exchange.sh $(PROGRAM) examples/turns.hex serve examples/trees/mounted_pair.toml given
 	@echo

@@ -193,6 +193,7 @@ exec {from}<&-
 same_text 'the session' examples/session.expected examples/exchange.sh "$program" examples/session.hex serve examples/trees/small.toml auto
 same_text 'the changes' examples/changes.expected examples/exchange.sh "$program" examples/changes.hex serve examples/trees/small.toml auto
 same_text 'the names' examples/names.expected examples/exchange.sh "$program" examples/names.hex serve examples/trees/small.toml auto
+same_text 'the watching' examples/watching.expected examples/exchange.sh "$program" examples/watching.hex serve examples/trees/small.toml auto
 same_text 'the turns' examples/turns.expected examples/exchange.sh "$program" examples/turns.hex serve examples/trees/mounted_pair.toml given
 same_text 'the exchange' examples/exchange.expected examples/exchange.sh "$program" examples/exchange.hex file examples/hello
 same_text 'the trees' examples/trees.expected examples/trees.sh "$program"

@@ -10,7 +10,7 @@ work=$(mktemp -d)
 trap 'rm -rf "$work"' EXIT
 
 explain() { # FILE FIRST-BYTE NAME NUMBER
-    tail -c +"$(($2 + 1))" "$1" | od -An -v -tx1 | awk -v name="$3" -v from="$4" -f tools/explain.awk
+    tail -c +"$(($2 + 1))" "$1" | od -An -v -tx1 | awk -v name="$3" -v from="$4" -v watchers="$work/watchers" -f tools/explain.awk
 }
 
 # Runs the program on the frames so far, and prints what is new in its output.

@@ -93,22 +93,62 @@ listings() { # TIMES TO
     } | tools/to-bytes.sh | many "$1" "$2"
 }
 
-# For each number an Open of a name of five bytes on endpoint 1, with that number as the new
+# Words of awk for frames with the bytes of their messages: numbers of four and of eight bytes, and the
+# beginning of a message, of a request with its ordinal, and a Close frame.
+writing='
+    function word(n,    i) { for (i = 0; i < 4; i++) { printf "%c", n % 256; n = int(n / 256) } }
+    function words(n, more) { word(n); word(more) }
+    function filled() { words(4294967295, 4294967295) }
+    function message(endpoint, handles, size) { word(endpoint); printf "%c%c%c%c", 1, handles, 0, 0; word(size) }
+    function asks(txid, low, high) { word(txid); printf "%c%c%c%c", 2, 0, 0, 1; words(low, high) }
+    function hang_up(endpoint) { word(endpoint); printf "%c%c%c%c", 2, 0, 0, 0; word(0) }
+    function open_path(endpoint, object, name, flags,    i) {
+        message(endpoint, 1, 72); word(object)
+        asks(0, 4286338262, 800870331)
+        words(length(name), 0); filled(); words(flags, 0); words(0, 0); filled(); words(4294967295, 0)
+        printf "%s", name
+        for (i = length(name); i < 8; i++) printf "%c", 0
+    }
+    function watch(endpoint, object, mask) {
+        message(endpoint, 1, 32); word(object)
+        asks(1, 2773604473, 1926443193)
+        words(mask, 0); words(4294967295, 0)
+    }
+    function rename(endpoint, from, token, to) {
+        message(endpoint, 0, 16)
+        asks(1, 1433922059, 740150317)
+        message(endpoint, 1, 72); word(token)
+        asks(2, 999893214, 1885398898)
+        words(1, 0); filled(); words(4294967295, 0); words(1, 0); filled()
+        printf "%s", from; padding(); printf "%s", to; padding()
+    }
+    function padding(    i) { for (i = 0; i < 7; i++) printf "%c", 0 }'
+
+# For each number an Open of a name of at most eight bytes on endpoint 1, with that number as the new
 # endpoint; with `close` as the last word a Close frame on it behind each.
 opens() { # NAME FIRST LAST [close]
-    LC_ALL=C awk -v name="$1" -v first="$2" -v last="$3" -v closes="${4-}" '
-        function word(n,    i) { for (i = 0; i < 4; i++) { printf "%c", n % 256; n = int(n / 256) } }
-        function words(n, more) { word(n); word(more) }
-        function filled() { words(4294967295, 4294967295) }
+    LC_ALL=C awk -v name="$1" -v first="$2" -v last="$3" -v closes="${4-}" "$writing"'
+        BEGIN { for (n = first; n <= last; n++) { open_path(1, n, name, 2); if (closes != "") hang_up(n) } }'
+}
+
+# 64 watchers of names that come and go, for each of so many directories; the connection that they came on
+# hangs up.
+watches() { # DIRECTORIES
+    LC_ALL=C awk -v directories="$1" "$writing"'
         BEGIN {
-            for (n = first; n <= last; n++) {
-                word(1); printf "%c%c%c%c", 1, 1, 0, 0; word(72); word(n)
-                word(0); printf "%c%c%c%c", 2, 0, 0, 1; words(4286338262, 800870331)
-                words(5, 0); filled(); words(2, 0); words(0, 0); filled(); words(4294967295, 0)
-                printf "%s%c%c%c", name, 0, 0, 0
-                if (closes != "") { word(n); printf "%c%c%c%c", 2, 0, 0, 0; word(0) }
+            for (d = 0; d < directories; d++) {
+                n = 100 + 65 * d
+                open_path(1, n, sprintf("d%02d", d), 64)
+                for (i = 1; i <= 64; i++) watch(n, n + i, 6)
+                hang_up(n)
             }
         }'
+}
+
+# So many Renames in the root, of `a` to `b` and back, each behind a token for it.
+renames() { # TIMES
+    LC_ALL=C awk -v times="$1" "$writing"'
+        BEGIN { for (i = 0; i < times; i++) rename(1, i % 2 ? "b" : "a", 2147483648 + i, i % 2 ? "a" : "b") }'
 }
 
 echo "vfs file, $frames frames of a Read of 5 bytes, $((36 * frames)) bytes in"
@@ -151,3 +191,24 @@ serving "Opens, and a Close frame behind each" 200000 "$work/frames"
 serving "Reads beside 4,000 connections" $((frames + 4000)) "$work/frames"
 listings 500 "$work/frames"
 serving "Listings of all names, eight and a Rewind" 4500 "$work/frames"
+
+# A server with a file and so many directories in its root, and a client there.
+directories() { # DIRECTORIES
+    printf 'version = 1\n[[server]]\nname = "a"\n[[client]]\nendpoint = 1\nserver = "a"\npath = "."\n'
+    printf '[[node]]\nserver = "a"\npath = "a"\nkind = "file"\n'
+    awk -v directories="$1" 'BEGIN { for (d = 0; d < directories; d++) printf "[[node]]\nserver = \"a\"\npath = \"d%02d\"\nkind = \"dir\"\n", d }'
+}
+
+# What a change costs where nobody watches mustn't grow with who watches elsewhere.
+renamed=100000
+echo "vfs serve over 63 directories: $renamed Renames in the root, each behind a token"
+directories 63 > "$work/tree"
+renames $renamed > "$work/renames"
+serving "beside no watchers" $((2 * renamed)) "$work/renames"
+{ watches 63; cat "$work/renames"; } > "$work/frames"
+serving "beside 4,032 watchers of the others" $((2 * renamed + 66 * 63)) "$work/frames"
+{
+    LC_ALL=C awk "$writing"'BEGIN { for (n = 2; n < 66; n++) watch(1, n, 6) }'
+    cat "$work/renames"
+} > "$work/frames"
+serving "beside 64 watchers of the root" $((2 * renamed + 64)) "$work/frames"

@@ -1,5 +1,5 @@
 -- A command that has all that it needs, and meets no fault, is done unless memory runs out.
-use Rattle.std.proofs.Common.{◌≡◌, ℕ, ◌<◌, ◌≤◌, List, [], ◌++◌, Option, Some, None, is_some, true≢false, length, sym, ap, ◌∙◌, subst, arith, append-nil, length-append, inl, inr}
+use Rattle.std.proofs.Common.{◌≡◌, ℕ, ◌≤◌, List, [], ◌++◌, Option, Some, None, is_some, true≢false, length, sym, ap, ◌∙◌, subst, arith, append-nil, length-append, inl, inr}
 use Rattle.std.specs.Io.KnownBytes.{Consumes, IsAtEnd}
 use Rattle.fidl_names.specs.declared.limits.TheConstants as limit
 use Rattle.fidl_wire.specs.Names.{AreDistinct}
@@ -7,7 +7,7 @@ use Rattle.host_io.specs.Causes.{Rose}
 use Rattle.host_io.specs.Told.{Told, Holds, IsAllOf, IsLongerThan}
 use Rattle.tree_file.specs.Items.{Lists}
 use Rattle.tree_file.specs.Rules.{first_failure}
-use Rattle.endpoint_link.specs.Frames.{Frame, Frames, Bad}
+use Rattle.endpoint_link.specs.Frames.{Frames, Bad}
 use Rattle.endpoint_link.specs.declared.kinds.FrameReason.{FrameReason}
 use Rattle.endpoint_link.specs.declared.kinds.Side.{Side}
 use Rattle.endpoint_link.specs.declared.kinds.Side.TheVariants.{Any, ToServers}
@@ -16,7 +16,7 @@ use Rattle.endpoint_link.proofs.Streams.{one_list, not_both}
 use Rattle.vfs_journal.specs.Starts.{start_of}
 use Rattle.vfs_program.specs.declared.statuses.Status.{Status}
 use Rattle.vfs_program.specs.declared.statuses.Status.TheVariants as status
-use Rattle.vfs_program.specs.Answers.{Answers, HasTree, IsServable, NoFault, IsDoneOrNoMemory}
+use Rattle.vfs_program.specs.Answers.{Answers, IsServable, NoFault, IsDoneOrNoMemory}
 use Rattle.vfs_program.specs.Causes.{After, AfterFile, AfterTree, Collides, HasNoFile, HasNoStart}
 use Rattle.vfs_program.specs.Files.{IsFileFault, IsWithin}
 use Rattle.vfs_program.specs.OneFile.{file_course}

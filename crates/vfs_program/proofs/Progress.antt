@@ -1,5 +1,5 @@
 -- How far a session has come: what was taken, which frames these bytes hold, and what was written for them.
-use Rattle.std.proofs.Common.{◌≡◌, ℕ, ◌+◌, ◌≤◌, List, [], ◌∷◌, ◌++◌, Option, length, drop, refl, sym, ap, ◌∙◌, subst, arith, append_assoc, append-nil, length-append, inl, inr}
+use Rattle.std.proofs.Common.{◌≡◌, ℕ, ◌+◌, ◌≤◌, List, [], ◌∷◌, ◌++◌, Option, length, drop, refl, sym, ap, ◌∙◌, subst, arith, append_assoc, append-nil, length-append, inl}
 use Rattle.std.specs.Prelude.{All, ◌⊎◌}
 use Rattle.std.proofs.lemmas.List.Elements.{All-append, All-nil}
 use Rattle.std.proofs.lemmas.List.Concat.{flat_map-append}
@@ -13,7 +13,7 @@ use Rattle.endpoint_link.proofs.Streams.{frames_stay}
 use Rattle.vfs_program.specs.Outside.{Streams}
 use Rattle.vfs_program.specs.Pieces.{TakesPiece}
 use Rattle.vfs_program.specs.Serving.{IsGrowing, Passes, Heard, HeardPart}
-use Rattle.vfs_program.specs.Session.{IsFront, Course, KeepsUp, IsCutOff, IsPartSoFar, IsPartByEnd, EndsBehind}
+use Rattle.vfs_program.specs.Session.{Course, KeepsUp, IsCutOff, IsPartSoFar, IsPartByEnd}
 
 -- frames behind a rest that they complete
 pub split-more : (bytes piece kept kept' rest : List ℕ) (frames more : List Frame) → bytes ≡ spellings frames ++ kept → kept' ≡ kept ++ piece

@@ -12,7 +12,6 @@ use Rattle.conn_rules.specs.Acts.{act_of}
 use Rattle.conn_rules.specs.Answers.{Act}
 use Rattle.conn_rules.specs.Births.{Connection, Position, born}
 use Rattle.conn_rules.specs.Births as births
-use Rattle.conn_rules.specs.Built.{today}
 use Rattle.conn_rules.specs.Contexts.{context_of, context_with}
 use Rattle.conn_rules.specs.FileRows.{is_too_much}
 use Rattle.conn_rules.specs.Served.{IsServed, KeepsHolds, takes_memory}
@@ -23,19 +22,19 @@ use Rattle.vfs_program.proofs.RowLemmas.{no_memory, read_frames, read_row, row_o
 
 -- the row that the code comes to is the session's
 as_bound : (file : List ℕ) (connection : Connection) (count : ℕ) → born connection.birth ≡ birth →
-    act_of (context_of today connection in_use (tree_of file) (λ _. None)) (asks.read count) ≡ read_at file connection.position count
+    act_of (context_of connection in_use (tree_of file) (λ _. None)) (asks.read count) ≡ read_at file connection.position count
 as_bound file connection count is =
-    ap (λ (b : births.Birth). act_of (context_with today b connection.position in_use (tree_of file) (λ _. None)) (asks.read count)) is
+    ap (λ (b : births.Birth). act_of (context_with b connection.position in_use (tree_of file) (λ _. None)) (asks.read count)) is
 
 module _ (file : List ℕ) (old new : Connection) (before later : Kept) (count txid : ℕ) (result : Served) (out : Written) (bound : IsBoundTo file before old) where
   pub has_memory : ((tree : Tree) (directory : ℕ → Option ℕ) → StandsFor before tree → result ≡ served.NoMemory →
-      takes_memory (act_of (context_of today old in_use tree directory) (asks.read count)).change ≡ true) → result ≢ served.NoMemory
+      takes_memory (act_of (context_of old in_use tree directory) (asks.read count)).change ≡ true) → result ≢ served.NoMemory
   has_memory memory = λ wants.
       no_memory file old.position count
       (subst (λ (act : Act). takes_memory act.change ≡ true) (as_bound file old count bound.birth_is) (memory (tree_of file) (λ _. None) bound.tree wants))
 
   pub is_served : ((tree : Tree) (directory : ℕ → Option ℕ) → StandsFor before tree → result ≢ served.NoMemory →
-      IsServed (act_of (context_of today old in_use tree directory) (asks.read count)) txid result out new before later) → result ≢ served.NoMemory →
+      IsServed (act_of (context_of old in_use tree directory) (asks.read count)) txid result out new before later) → result ≢ served.NoMemory →
       IsServed (row_of file old.position count (is_too_much count)) txid result out new before later
   is_served serves has =
       served_row file old.position count txid result out new before later

@@ -1,8 +1,7 @@
 -- How a session ends.
-use Rattle.std.proofs.Common.{◌≡◌, ℕ, IsTrue, ◌+◌, ◌<◌, ◌≤◌, List, [], ◌∷◌, ◌++◌, Option, length, take, drop, refl, sym, ap, ◌∙◌, subst, arith, append_assoc, append-nil, length-append, ◌⊎◌, inl, inr}
+use Rattle.std.proofs.Common.{◌≡◌, ℕ, ◌+◌, ◌<◌, ◌≤◌, List, [], ◌∷◌, ◌++◌, Option, length, take, drop, refl, sym, ap, ◌∙◌, subst, arith, append_assoc, append-nil, length-append, ◌⊎◌, inl, inr}
 use Rattle.std.proofs.lemmas.List.{take_at}
 use Rattle.std.proofs.lemmas.Bool.{cases_lt}
-use Rattle.std.proofs.lemmas.List.Concat.{flat_map-append}
 use Rattle.std.specs.Io.KnownBytes.{Appends, Keeps, IsAtEnd}
 use Rattle.std.proofs.KnownBytes.{Appends-trans, Appends-nil, Consumes-kept}
 use Rattle.fidl_names.specs.declared.limits.TheConstants as limit
@@ -18,8 +17,8 @@ use Rattle.vfs_program.specs.declared.statuses.Status.TheVariants as status
 use Rattle.vfs_program.specs.Outside.{Streams}
 use Rattle.vfs_program.specs.Pieces.{TakesPiece}
 use Rattle.vfs_program.specs.Serving.{IsGrowing, Heard, HeardPart, PassedOn, Finishes, end_of}
-use Rattle.vfs_program.specs.Session.{Course, SessionAnswers, WroteAll, IsTooLong, IsBad, IsCutOff, EndsBehind}
-use Rattle.vfs_program.proofs.Progress.{Progress, Progress-heard, Grown, empty, cut_off, cut_behind, part_so_far, heard_part, keeps_up, split-more}
+use Rattle.vfs_program.specs.Session.{Course, SessionAnswers, WroteAll, IsCutOff, EndsBehind}
+use Rattle.vfs_program.proofs.Progress.{Progress, Progress-heard, Grown, empty, cut_off, cut_behind, part_so_far, heard_part, keeps_up}
 
 -- a count that rose since later rose since earlier
 pub rose_since : (earlier later now : ℕ) → earlier ≤ later → Rose later now → Rose earlier now

@@ -1,9 +1,8 @@
 -- The world of a session over a tree, frame by frame.
-use Rattle.std.proofs.Common.{◌≡◌, List, [], ◌∷◌, ◌++◌, ℕ, IsTrue, true, Result, Ok, Err, OnOk, refl, sym, ap, ◌∙◌, subst, append_assoc}
+use Rattle.std.proofs.Common.{◌≡◌, List, [], ◌∷◌, ◌++◌, ℕ, IsTrue, Result, Ok, Err, OnOk, refl, sym, ap, ◌∙◌, subst, append_assoc}
 use Rattle.endpoint_link.specs.Frames.{Frame}
 use Rattle.endpoint_link.specs.declared.kinds.Mode.{Mode}
 use Rattle.endpoint_link.specs.declared.kinds.Mode.TheVariants as mode
-use Rattle.conn_rules.specs.Built.{today}
 use Rattle.vfs_journal.specs.Entries.{Journal}
 use Rattle.vfs_journal.specs.Output.{output_of}
 use Rattle.vfs_journal.specs.Session.{arrives, drained, session, steps}
@@ -25,51 +24,51 @@ may_starve start by = refl
 
 -- in mode given a frame arrives
 pub hears_given : (start : Start) (by : Mode) → by ≡ mode.Given → (old new : World) (before : List Frame) (frame : Frame) (held held' : List ℕ)
-    → ((journal : Journal) → StandsFor start old journal → LeadsTo start (arrives today start journal frame) new journal held held')
+    → ((journal : Journal) → StandsFor start old journal → LeadsTo start (arrives start journal frame) new journal held held')
     → StandsBehind start by old before → HeardOne (tree_course start by) (StandsBehind start by new) before frame held held'
 unfolding tree_course StandsBehind
 hears_given start by given old new before frame held held' arrive s =
-    let journal = session today start by before in
+    let journal = session start by before in
     let one = arrive journal s in
-    let is = session-append start by before (frame ∷ []) ∙ ap (λ (m : Mode). steps today start m journal frame) given in
+    let is = session-append start by before (frame ∷ []) ∙ ap (λ (m : Mode). steps start m journal frame) given in
     record {
       stands = subst (StandsFor start new) (sym is) one.stands;
       part = one.part;
-      more = ap (output_of today start) is ∙ one.more;
+      more = ap (output_of start) is ∙ one.more;
       appends = one.written;
     }
 
 -- in mode auto all that waits then is served
 all_heard : (start : Start) (by : Mode) → by ≡ mode.Auto → (old mid new : World) (before : List Frame) (frame : Frame) (held held' held'' : List ℕ)
-    → ((journal : Journal) → StandsFor start old journal → LeadsTo start (arrives today start journal frame) mid journal held held')
-    → ((journal : Journal) → StandsFor start mid journal → LeadsTo start (drained today start journal) new journal held' held'')
+    → ((journal : Journal) → StandsFor start old journal → LeadsTo start (arrives start journal frame) mid journal held held')
+    → ((journal : Journal) → StandsFor start mid journal → LeadsTo start (drained start journal) new journal held' held'')
     → StandsBehind start by old before → HeardOne (tree_course start by) (StandsBehind start by new) before frame held held''
 unfolding tree_course StandsBehind
 all_heard start by auto old mid new before frame held held' held'' arrive drain s =
-    let journal = session today start by before in
+    let journal = session start by before in
     let one = arrive journal s in
-    let two = drain (arrives today start journal frame) one.stands in
-    let is = session-append start by before (frame ∷ []) ∙ ap (λ (m : Mode). steps today start m journal frame) auto in
+    let two = drain (arrives start journal frame) one.stands in
+    let is = session-append start by before (frame ∷ []) ∙ ap (λ (m : Mode). steps start m journal frame) auto in
     record {
       stands = subst (StandsFor start new) (sym is) two.stands;
       part = one.part ++ two.part;
-      more = ap (output_of today start) is ∙ two.more ∙ ap (λ l. l ++ two.part) one.more ∙ append_assoc (output_of today start journal) one.part two.part;
+      more = ap (output_of start) is ∙ two.more ∙ ap (λ l. l ++ two.part) one.more ∙ append_assoc (output_of start journal) one.part two.part;
       appends = two.written ∙ ap (λ l. l ++ two.part) one.written ∙ append_assoc held one.part two.part;
     }
 
 pub hears_auto : {X E : Type 0} (answer : Result X E) (start : Start) (by : Mode) → by ≡ mode.Auto → (old mid new : World) (before : List Frame) (frame : Frame) (held held' held'' : List ℕ)
-    → ((journal : Journal) → StandsFor start old journal → LeadsTo start (arrives today start journal frame) mid journal held held')
-    → ((journal : Journal) → StandsFor start mid journal → OnOk answer (LeadsTo start (drained today start journal) new journal held' held''))
+    → ((journal : Journal) → StandsFor start old journal → LeadsTo start (arrives start journal frame) mid journal held held')
+    → ((journal : Journal) → StandsFor start mid journal → OnOk answer (LeadsTo start (drained start journal) new journal held' held''))
     → StandsBehind start by old before → OnOk answer (HeardOne (tree_course start by) (StandsBehind start by new) before frame held held'')
 hears_auto (Ok x) start by auto old mid new before frame held held' held'' arrive drain s = all_heard start by auto old mid new before frame held held' held'' arrive drain s
 hears_auto (Err e) start by auto old mid new before frame held held' held'' arrive drain s = tt
 
 -- the last drain
 pub drains_last : {X E : Type 0} (answer : Result X E) (start : Start) (by : Mode) (old new : World) (before : List Frame) (held held' : List ℕ)
-    → ((journal : Journal) → StandsFor start old journal → OnOk answer (LeadsTo start (drained today start journal) new journal held held'))
+    → ((journal : Journal) → StandsFor start old journal → OnOk answer (LeadsTo start (drained start journal) new journal held held'))
     → StandsBehind start by old before → OnOk answer (HeardEnd (tree_course start by) before held held')
 unfolding tree_course StandsBehind
 drains_last (Ok x) start by old new before held held' drain s =
-    let one = drain (session today start by before) s in
+    let one = drain (session start by before) s in
     record { part = one.part; more = one.more; appends = one.written }
 drains_last (Err e) start by old new before held held' drain s = tt

@@ -21,7 +21,6 @@ use Rattle.conn_rules.specs.declared.births.Room.{Room}
 use Rattle.conn_rules.specs.Acts.{act_of}
 use Rattle.conn_rules.specs.Answers.{Act}
 use Rattle.conn_rules.specs.Births.{Birth, Position, fresh}
-use Rattle.conn_rules.specs.Built.{today}
 use Rattle.conn_rules.specs.Contexts.{Context, context_with}
 use Rattle.endpoint_link.specs.Frames.{Frame, spellings}
 use Rattle.endpoint_link.specs.Admission.{LookUps, admission}
@@ -78,7 +77,7 @@ in_use = record { connections = 1; watchers = 0; token = None }
 
 -- what a Read of so many bytes is served in, from a position on, and what its row says that it does
 abbrev pub context_at : List ℕ → Position → Context
-context_at file position = context_with today birth position in_use (tree_of file) (λ _. None)
+context_at file position = context_with birth position in_use (tree_of file) (λ _. None)
 
 abbrev pub read_at : List ℕ → Position → ℕ → Act
 read_at file position count = act_of (context_at file position) (asks.read count)

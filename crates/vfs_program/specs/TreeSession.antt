@@ -2,7 +2,6 @@
 use Rattle.std.specs.Prelude.{◌≡◌, ℕ, List, true}
 use Rattle.endpoint_link.specs.Frames.{Frame, spellings}
 use Rattle.endpoint_link.specs.declared.kinds.Mode.{Mode}
-use Rattle.conn_rules.specs.Built.{today}
 use Rattle.vfs_journal.specs.Entries.{Journal}
 use Rattle.vfs_journal.specs.Output.{frames_of}
 use Rattle.vfs_journal.specs.Past.{history_of}
@@ -13,16 +12,16 @@ use Rattle.vfs_program.specs.Session.{Course}
 
 -- the frames that a journal stands for
 abbrev pub frames_by : Start → Journal → List Frame
-frames_by start journal = frames_of start (history_of today start journal)
+frames_by start journal = frames_of start (history_of start journal)
 
 -- what is written for the frames of a session so far, and with the last drain; memory may be wanting for it
 unfoldable pub tree_course : Start → Mode → Course
 tree_course start by = record {
-  so_far = λ frames. spellings (frames_by start (session today start by frames));
-  by_end = λ frames. spellings (frames_by start (ended today start by frames));
+  so_far = λ frames. spellings (frames_by start (session start by frames));
+  by_end = λ frames. spellings (frames_by start (ended start by frames));
   starves = true;
 }
 
 -- the world stands for the session of these frames
 unfoldable pub StandsBehind : Start → Mode → World → List Frame → Type 0
-StandsBehind start by world frames = StandsFor start world (session today start by frames)
+StandsBehind start by world frames = StandsFor start world (session start by frames)

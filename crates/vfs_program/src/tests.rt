@@ -2,8 +2,9 @@
 
 mod long;
 mod refusals;
+mod watched;
 
-use crate::rows::{LISTINGS, NAMES, ROWS, WHOLE_TREE};
+use crate::rows::{LISTINGS, NAMES, ROWS, WATCHERS, WHOLE_TREE};
 use crate::run::run_words;
 use crate::statuses::Status;
 use host_io::{MemFiles, MemSink, MemSource};
@@ -35,6 +36,11 @@ fn names_change_as_their_rows_say(rt: HostRuntime) -> Result<(), Fail> {
 #[test]
 fn directories_are_listed_as_their_rows_say(rt: HostRuntime) -> Result<(), Fail> {
     all_end_as_said(rt.alloc(), LISTINGS)
+}
+
+#[test]
+fn watchers_are_told_as_their_rows_say(rt: HostRuntime) -> Result<(), Fail> {
+    all_end_as_said(rt.alloc(), WATCHERS)
 }
 
 /// Fails with the name of the first row that isn't what its runs end as.

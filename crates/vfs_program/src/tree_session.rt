@@ -2,7 +2,6 @@ ghost use Rattle.std.specs.Prelude.{◌≡◌, ◌<◌, ◌+◌, ◌^◌, List, 
 ghost use Rattle.endpoint_link.specs.Frames.{Frame, IsFrame};
 ghost use Rattle.endpoint_link.specs.Views.{frame_of};
 ghost use Rattle.endpoint_link.specs.declared.kinds.Side.TheVariants as side;
-ghost use Rattle.conn_rules.specs.Built.{today};
 ghost use Rattle.vfs_journal.specs.Entries.{Journal};
 ghost use Rattle.vfs_journal.specs.Session.{drained};
 ghost use Rattle.vfs_journal.specs.Starts.{Start as TheStart, start_of};
@@ -152,7 +151,7 @@ fn hear(
 /// Serves all that can be served.
 fn drain(world: &mut World, outbox: &mut Outbox) -> Result<(), NoMemory>
     ensures drained { (start : TheStart) (journal : Journal) → StandsFor start world.old journal →
-        OnOk result (LeadsTo start (drained today start journal) world.new journal outbox.old outbox.new) }
+        OnOk result (LeadsTo start (drained start journal) world.new journal outbox.old outbox.new) }
     ensures frames { world.new.frames ≡ world.old.frames }
 {
     let Ok(()) = world.drain(outbox) else {

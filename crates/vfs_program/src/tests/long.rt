@@ -8,10 +8,16 @@ use test_rows::{bytes, rows};
 
 const GIVEN: &str = "a long session | serve held given | whole tree | - | - | - | 1000000,1000000";
 
-const AUTO: &str = "a long session | serve held auto | whole tree | - | - | - | 1000000,1000000";
+pub(crate) const AUTO: &str =
+    "a long session | serve held auto | whole tree | - | - | - | 1000000,1000000";
 
 /// Whether a session writes this for what comes in.
-fn writes(alloc: Global, session: &str, input: &[u8], output: &[u8]) -> Result<bool, Fail> {
+pub(crate) fn writes(
+    alloc: Global,
+    session: &str,
+    input: &[u8],
+    output: &[u8],
+) -> Result<bool, Fail> {
     for row in &rows(alloc, session)? {
         for piece in [1, 100_000] {
             let ran = run(alloc, row, input, piece)?;
@@ -24,7 +30,7 @@ fn writes(alloc: Global, session: &str, input: &[u8], output: &[u8]) -> Result<b
 }
 
 /// The bytes that digits stand for.
-fn spelled(alloc: Global, digits: &str) -> Result<Vec<u8>, Fail> {
+pub(crate) fn spelled(alloc: Global, digits: &str) -> Result<Vec<u8>, Fail> {
     match bytes(alloc, digits)? {
         Some(all) => Ok(all),
         None => Err(Fail::from("digits")),
@@ -32,7 +38,7 @@ fn spelled(alloc: Global, digits: &str) -> Result<Vec<u8>, Fail> {
 }
 
 /// Appends a number between what stands before and behind it.
-fn put(to: &mut Vec<u8>, before: &[u8], number: u32, behind: &[u8]) -> Result<(), Fail> {
+pub(crate) fn put(to: &mut Vec<u8>, before: &[u8], number: u32, behind: &[u8]) -> Result<(), Fail> {
     to.extend_from_slice(before)?;
     to.extend_from_slice(&number.to_le_bytes())?;
     to.extend_from_slice(behind)?;
@@ -95,9 +101,9 @@ fn what_goes_on_finds_room(rt: HostRuntime) -> Result<(), Fail> {
 }
 
 /// What stands before and behind the new endpoint of an Open of `.` without flags.
-const OPEN: &str = "010000000101000048000000";
+pub(crate) const OPEN: &str = "010000000101000048000000";
 
-const ROOT: &str =
+pub(crate) const ROOT: &str =
     "0000000002000001d6547cffbb4fbc2f0100000000000000ffffffffffffffff00000000000000000000000000000000ffffffffffffffffffffffff000000002e00000000000000";
 
 const NO_RESOURCES: &str =
@@ -186,10 +192,10 @@ const MAKE: &str =
 const MADE: &str = "00000000";
 
 /// How many names find room beside the six of the first server.
-const ROOM: u32 = 4090;
+pub(crate) const ROOM: u32 = 4090;
 
 /// A name for each number below 65,536, in their order.
-fn name_of(number: u32) -> [u8; 4] {
+pub(crate) fn name_of(number: u32) -> [u8; 4] {
     [
         letter(number / 4096),
         letter(number / 256),
@@ -203,7 +209,7 @@ fn letter(number: u32) -> u8 {
 }
 
 /// Opens that make files on endpoints from 2 on, until the first server has 4,096 names.
-fn full_of_names(alloc: Global) -> Result<Vec<u8>, Fail> {
+pub(crate) fn full_of_names(alloc: Global) -> Result<Vec<u8>, Fail> {
     let (open, make, made) = (
         spelled(alloc, OPEN)?,
         spelled(alloc, MAKE)?,

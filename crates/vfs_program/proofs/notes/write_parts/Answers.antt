@@ -1,4 +1,4 @@
-use Rattle.std.proofs.Common.{arith, ◌<◌, ◌≤◌, ◌++◌, suc, take, drop, length, sym, ◌∙◌}
+use Rattle.std.proofs.Common.{arith, ◌<◌, ◌++◌, suc, take, drop, length, sym, ◌∙◌}
 use Rattle.std.specs.List.{flat_map}
 use Rattle.std.proofs.KnownBytes.{Appends-trans}
 use Rattle.vfs_program.proofs.NoteLemmas.{front_of_part}

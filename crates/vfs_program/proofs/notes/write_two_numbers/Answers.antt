@@ -1,6 +1,5 @@
-use Rattle.std.proofs.Common.{◌≡◌, ◌++◌, OnOk, OnErr, List, ℕ, codes, decimal, ap, ◌∙◌, subst}
+use Rattle.std.proofs.Common.{◌++◌, OnOk, OnErr, List, ℕ, codes, decimal, ap, ◌∙◌, subst}
 use Rattle.host_io.specs.Streams.{AppendsPart}
-use Rattle.vfs_program.specs.Notes.{word_of}
 use Rattle.vfs_program.specs.Outside.{sink_told}
 use Rattle.vfs_program.specs.Texts.{GotAll}
 use Rattle.vfs_program.proofs.NoteLemmas.{five}

@@ -1,10 +1,9 @@
-use Rattle.std.proofs.Common.{arith, ◌≡◌, ◌<◌, ◌≤◌, ◌+◌, ◌-◌, refl, sym, ap, subst, List, ℕ, length, drop, length-drop, length-append, ◌++◌, [], inl, inr}
+use Rattle.std.proofs.Common.{arith, ◌≡◌, ◌≤◌, ◌+◌, ◌-◌, refl, sym, ap, subst, length, drop, length-drop, length-append, ◌++◌, inl, inr}
 use Rattle.fidl_names.specs.declared.limits.TheConstants as limit
-use Rattle.endpoint_link.specs.Frames.{Frame, IsPartial}
+use Rattle.endpoint_link.specs.Frames.{IsPartial}
 use Rattle.endpoint_link.proofs.Streams.{partial_short}
 use Rattle.vfs_program.specs.Outside.{Streams, streams_told}
-use Rattle.vfs_program.specs.Session.{Course}
-use Rattle.vfs_program.proofs.Progress.{Grown-partial, Progress-none, Progress-heard, Progress-ended, Progress-stands, heard_part, empty}
+use Rattle.vfs_program.proofs.Progress.{Grown-partial, Progress-none, Progress-heard, Progress-ended, Progress-stands, heard_part}
 use Rattle.vfs_program.proofs.SessionEnds.{rose_since, unheard, ended, long, bad, fault}
 use Rattle.vfs_program.proofs.sessions.run.Goals as goal
 
