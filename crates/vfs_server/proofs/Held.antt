@@ -94,11 +94,13 @@ watched_once (e ∷ es) =
   where
     counted : (number : ℕ) → watched_by number (e ∷ es) ≡ one_if (is_at number e) + watched_by number es
     counted number = sum_by-cons (λ (entry : ℕ × Seat). one_if (is_at number entry)) e es
+
     here : 0 < watched_by (number_of e.1.directory) (e ∷ es)
     here =
         let more = counted (number_of e.1.directory) in
         let one : one_if (is_at (number_of e.1.directory) e) ≡ 1 = ap one_if (eq-eqb (number_of e.1.directory) (number_of e.1.directory) refl) in
         omega (arith, more, one)
+
     behind : (entry : ℕ × Seat) → 0 < watched_by (number_of entry.1.directory) es → 0 < watched_by (number_of entry.1.directory) (e ∷ es)
     behind entry some = let more = counted (number_of entry.1.directory) in omega (arith, more, some)
 

@@ -66,16 +66,21 @@ told_apart seats changes =
   where
     gone_names : List Happening
     gone_names = option_to_list (option_map (λ at. news.removed (key_at at)) changes.removed)
+
     new_names : List Happening
     new_names = option_to_list (option_map (λ at. news.added (key_at at)) changes.added)
+
     gone_directories : List Happening
     gone_directories = option_to_list (option_map news.deleted changes.deleted)
+
     first : (o : Option At) → told_of seats (option_to_list (option_map (λ at. news.removed (key_at at)) o)) ≡ name_told seats removed o
     first None = refl
     first (Some at) = append-nil _
+
     second : (o : Option At) → told_of seats (option_to_list (option_map (λ at. news.added (key_at at)) o)) ≡ name_told seats added o
     second None = refl
     second (Some at) = append-nil _
+
     third : (o : Option ℕ) → told_of seats (option_to_list (option_map news.deleted o)) ≡ gone_told seats o
     third None = refl
     third (Some directory) = append-nil _
@@ -92,9 +97,11 @@ names_are edges directory views is =
     firsts : (vs : List Listed) → map (λ view. view.name) vs ≡ map (λ (pair : List ℕ × ℕ). pair.0) (map (λ view. (view.name, view.number)) vs)
     firsts [] = refl
     firsts (v ∷ vs) = ap (λ later. v.name ∷ later) (firsts vs)
+
     names_alone : (es : List (EdgeKey × EdgeTo)) → map (λ (pair : List ℕ × ℕ). pair.0) (map (λ entry. (entry.0.name, entry.1.child)) es) ≡ map (λ entry. entry.0.name) es
     names_alone [] = refl
     names_alone (e ∷ es) = ap (λ later. e.0.name ∷ later) (names_alone es)
+
     whole : (b : Bool) → (b && true) ≡ b
     whole true = refl
     whole false = refl

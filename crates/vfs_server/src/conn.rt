@@ -106,32 +106,10 @@ impl Conn {
         match self {
             Conn::Directory(conn) => {
                 let target = tokens.target(&request);
-                Given::of_directory(conn.serve(
-                    ordinals,
-                    graph,
-                    room,
-                    target,
-                    txid,
-                    request,
-                    out,
-                ))
+                Given::of_directory(conn.serve(ordinals, graph, room, target, txid, request, out))
             }
-            Conn::File(conn) => Given::of(conn.serve(
-                ordinals,
-                graph,
-                room,
-                txid,
-                request,
-                out,
-            )),
-            Conn::Node(conn) => Given::of(conn.serve(
-                ordinals,
-                graph,
-                room,
-                txid,
-                request,
-                out,
-            )),
+            Conn::File(conn) => Given::of(conn.serve(ordinals, graph, room, txid, request, out)),
+            Conn::Node(conn) => Given::of(conn.serve(ordinals, graph, room, txid, request, out)),
             Conn::Echo(_) => Given::of(echo(ordinals, txid, request, out)),
         }
     }

@@ -95,8 +95,7 @@ impl Watching {
         ensures unchanged { OnErr result (self.new ≡ self.old) }
     {
         self.seats.reserve(1)?;
-        self.watchers
-            .add(graph.number(directory), endpoint, mask)?;
+        self.watchers.add(graph.number(directory), endpoint, mask)?;
         if self
             .seats
             .insert(endpoint, Seat { directory, mask })
@@ -115,8 +114,7 @@ impl Watching {
         ensures gone { seat_at self.new endpoint ≡ None }
     {
         let seat = self.seats.shift_remove(&endpoint)?;
-        self.watchers
-            .remove(graph.number(seat.directory), endpoint);
+        self.watchers.remove(graph.number(seat.directory), endpoint);
         Some(seat.directory)
     }
 
