@@ -3,3 +3,5 @@ mod NumberLemmas
 mod LineLemmas
 mod ScriptLemmas
 mod PrintLemmas
+mod FrameLaws
+pub mod ScriptFacts

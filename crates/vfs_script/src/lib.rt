@@ -15,7 +15,7 @@ mod verbs;
 
 pub use calls::Call;
 pub use faults::ScriptFault;
-pub use laws::calls_are_apart;
+pub use laws::{calls_are_apart, frames_go_to_servers};
 pub use outtext::Outtext;
 pub use printing::{print_counts, print_frame};
 pub use script::{Script, script_of};

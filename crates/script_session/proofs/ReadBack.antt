@@ -1,0 +1,105 @@
+-- What a session writes is read back as the frames that its journal has more.
+use Rattle.std.proofs.Common.{◌≡◌, ℕ, List, [], ◌++◌, length, drop, refl, sym, ap, ◌∙◌, subst, append_assoc, append-nil, Result, OnOk}
+use Rattle.std.specs.Prelude.{All}
+use Rattle.std.proofs.Math.Seq.{drop-append_seam}
+use Rattle.endpoint_link.specs.Frames.{Frame, IsFrame, spellings}
+use Rattle.endpoint_link.specs.declared.kinds.Side.TheVariants as side
+use Rattle.endpoint_link.specs.declared.kinds.Mode.{Mode}
+use Rattle.endpoint_link.specs.declared.kinds.Mode.TheVariants as mode
+use Rattle.fidl_wire.proofs.Bodies.{read_spelled, spelled_read}
+use Rattle.fidl_wire.proofs.ReadHeaders.{header_again}
+use Rattle.fidl_wire.proofs.Spelled.{message_spelled}
+use Rattle.fidl_wire.specs.Names.{AreDistinct}
+use Rattle.frame_laws.proofs.Readings.{parts_are_read_back}
+use Rattle.frame_laws.specs.Bytes.{BeginsWithBytes}
+use Rattle.frame_laws.specs.Laws.{AreMore, PartsAreReadBack}
+use Rattle.io_messages.proofs.WritingLaws.{written_request}
+use Rattle.journal_laws.specs.Soundness.{IsStart}
+use Rattle.path_walk.proofs.PathLemmas.{path_complete, path_sound}
+use Rattle.vfs_journal.specs.Entries.{Journal}
+use Rattle.vfs_journal.specs.Lawful.{Lawful}
+use Rattle.vfs_journal.specs.Output.{output_of}
+use Rattle.vfs_journal.specs.Session.{arrives, drained, steps}
+use Rattle.vfs_journal.specs.Starts.{Start}
+use Rattle.vfs_script.specs.Scripts.{Spoken, frame_of}
+use Rattle.vfs_session.specs.World.{LeadsTo, StandsFor, World}
+use Rattle.io_client.specs.Calls.{Calls}
+use Rattle.script_session.specs.Playing.{Played, frames_by, frames_since}
+use Rattle.script_session.specs.Steps.{Plays}
+
+-- all that a lawful journal writes are frames, those of its history one after the other
+output_is_frames : AreDistinct → PartsAreReadBack
+output_is_frames distinct =
+    parts_are_read_back
+    (record {
+      spelled = read_spelled;
+      reads = spelled_read;
+      written = written_request message_spelled header_again;
+      apart = distinct;
+      sound = path_sound;
+      complete = path_complete;
+    })
+
+-- these frames come back, and the bytes of the output spell them
+pub record ComesBack (start : Start) (earlier later : Journal) (before after : List ℕ) : Type 0 where
+  pub each : All (IsFrame side.Any) (frames_since start earlier later)
+  pub written : after ≡ before ++ spellings (frames_since start earlier later)
+
+since_is : (start : Start) (earlier later : Journal) (more : List Frame) → frames_by start later ≡ frames_by start earlier ++ more → frames_since start earlier later ≡ more
+since_is start earlier later more grown = ap (drop (length (frames_by start earlier))) grown ∙ drop-append_seam (frames_by start earlier) more
+
+pub comes_back : (start : Start) (earlier later : Journal) (new : World) (before after : List ℕ) → AreDistinct → BeginsWithBytes start → IsStart start → Lawful start earlier →
+    LeadsTo start later new earlier before after → ComesBack start earlier later before after
+comes_back start earlier later new before after distinct bytes sound lawful led =
+    let are : AreMore start earlier later led.part = output_is_frames distinct start earlier later led.part sound bytes lawful led.stands.lawful led.more in
+    let same = since_is start earlier later are.more are.grown in
+    let spelled : led.part ≡ spellings are.more = are.read.reads.split ∙ append-nil (spellings are.more) in
+    record {
+      each = subst (All (IsFrame side.Any)) (sym same) are.read.each;
+      written = led.written ∙ ap (λ l. before ++ l) (spelled ∙ ap spellings (sym same));
+    }
+
+-- what comes back where a script is played on
+pub record Came (start : Start) (earlier later : Journal) (bytes : List ℕ) : Type 0 where
+  pub each : All (IsFrame side.Any) (frames_since start earlier later)
+  pub spelled : bytes ≡ spellings (frames_since start earlier later)
+
+pub came : (start : Start) (played : Played) (later : Journal) (old new : World) (calls : Calls) (before after bytes : List ℕ) → before ≡ [] → bytes ≡ after →
+    Plays start played old calls → LeadsTo start later new played.journal before after → Came start played.journal later bytes
+came start played later old new calls before after bytes none is plays led =
+    let back = comes_back start played.journal later new before after plays.distinct plays.bytes plays.stands.sound plays.stands.lawful led in
+    record { each = back.each; spelled = is ∙ back.written ∙ ap (λ l. l ++ spellings (frames_since start played.journal later)) none }
+
+-- and behind a line's frame
+abbrev pub since_line : Start → Mode → Played → Spoken → List Frame
+since_line start by played said = frames_since start played.journal (steps start by played.journal (frame_of said))
+
+pub record LineBack (start : Start) (by : Mode) (played : Played) (said : Spoken) (new : World) (bytes : List ℕ) : Type 0 where
+  pub stands : StandsFor start new (steps start by played.journal (frame_of said))
+  pub each : All (IsFrame side.Any) (since_line start by played said)
+  pub spelled : bytes ≡ spellings (since_line start by played said)
+
+pub line_back : (start : Start) (by : Mode) (played : Played) (said : Spoken) (frame : Frame) (old new : World) (calls : Calls) (before after bytes : List ℕ) → frame_of said ≡ frame → before ≡ [] →
+    bytes ≡ after → Plays start played old calls → ((journal : Journal) → StandsFor start old journal → LeadsTo start (steps start by journal frame) new journal before after) →
+    LineBack start by played said new bytes
+line_back start by played said frame old new calls before after bytes is none same plays heard =
+    let led = subst (λ (f : Frame). LeadsTo start (steps start by played.journal f) new played.journal before after) (sym is) (heard played.journal plays.stands) in
+    let back = came start played (steps start by played.journal (frame_of said)) old new calls before after bytes none same plays led in
+    record { stands = led.stands; each = back.each; spelled = back.spelled }
+
+-- ---- steps
+
+-- one step after another
+pub leads_on : (start : Start) (first second third : Journal) (mid new : World) (a b c : List ℕ) → LeadsTo start second mid first a b → LeadsTo start third new second b c →
+    LeadsTo start third new first a c
+leads_on start first second third mid new a b c one two = record {
+  stands = two.stands;
+  part = one.part ++ two.part;
+  more = two.more ∙ ap (λ l. l ++ two.part) one.more ∙ append_assoc (output_of start first) one.part two.part;
+  written = two.written ∙ ap (λ l. l ++ two.part) one.written ∙ append_assoc a one.part two.part;
+}
+
+-- in mode auto a drain follows each frame
+pub steps_in_auto : {X E : Type 0} (start : Start) (by : Mode) → by ≡ mode.Auto → (journal : Journal) (frame : Frame) (r : Result X E) (new : World) (a c : List ℕ) →
+    OnOk r (LeadsTo start (drained start (arrives start journal frame)) new journal a c) → OnOk r (LeadsTo start (steps start by journal frame) new journal a c)
+steps_in_auto start by is journal frame r new a c h = subst (λ (m : Mode). OnOk r (LeadsTo start (steps start m journal frame) new journal a c)) (sym is) h

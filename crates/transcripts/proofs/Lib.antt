@@ -1,0 +1,7 @@
+mod Keys
+mod Epitaphs
+mod Sending
+mod Getting
+mod Fronts
+pub mod Lines
+mod Stages

@@ -1,0 +1,13 @@
+use Rattle.std.proofs.Common.{List, ℕ, sym, ap, ◌∙◌, subst}
+use Rattle.std.specs.Io.KnownBytes.{Appends}
+use Rattle.transcripts.specs.Telling.{IsTold, Scribe}
+use Rattle.transcripts.proofs.Lines.{told_written}
+use Rattle.transcripts.proofs.scribe.Scribe.make_room.Goals as goal
+
+pub returns-clause-told : goal.returns-clause-told
+returns-clause-told g c = λ first lines told.
+    let text = c.as_bytes.ensures ∙ ap (λ (s : Scribe). s.gathered) c.self.view_is in
+    let now = g.K.Sink.written c.write_whole.new.sink in
+    subst (λ l. IsTold first now l lines) (sym c.clear.ensures)
+    (told_written first (g.K.Sink.written c.args.sink.now) now c.args.self.now.gathered lines
+    (subst (Appends (g.K.Sink.written c.args.sink.now) now) text c.in_ok-write_whole.ensures.whole) told)
