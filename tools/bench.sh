@@ -122,7 +122,21 @@ writing='
         words(1, 0); filled(); words(4294967295, 0); words(1, 0); filled()
         printf "%s", from; padding(); printf "%s", to; padding()
     }
-    function padding(    i) { for (i = 0; i < 7; i++) printf "%c", 0 }'
+    function padding(    i) { for (i = 0; i < 7; i++) printf "%c", 0 }
+    function calls(endpoint, low, high) { message(endpoint, 0, 16); asks(1, low, high) }
+    function read(endpoint, count) { message(endpoint, 0, 24); asks(1, 2444755276, 1089634246); words(count, 0) }
+    function read_at(endpoint, count, offset) { message(endpoint, 0, 32); asks(1, 2785899070, 369599123); words(count, 0); words(offset, 0) }
+    function write(endpoint) { message(endpoint, 0, 40); asks(1, 3325755781, 1234175272); words(5, 0); filled(); printf "hello"; printf "%c%c%c", 0, 0, 0 }
+    function seek(endpoint, offset) { message(endpoint, 0, 32); asks(1, 372003335, 2013761896); words(0, 0); words(offset, 0) }
+    function resize(endpoint, size) { message(endpoint, 0, 24); asks(1, 87389242, 729842271); words(size, 0) }
+    function attributes(endpoint) { message(endpoint, 0, 24); asks(1, 954860859, 1027839654); words(127, 0) }
+    function clone(endpoint, object) { message(endpoint, 1, 24); word(object); asks(0, 2719386233, 551069611); words(4294967295, 0) }
+    function unlink(endpoint, name,    i) {
+        message(endpoint, 0, 56); asks(1, 2811067373, 1963590438)
+        words(length(name), 0); filled(); words(0, 0); filled(); printf "%s", name
+        for (i = length(name); i < 8; i++) printf "%c", 0
+    }
+    function pick(endpoint) { word(endpoint); printf "%c%c%c%c", 4, 0, 0, 0; word(0) }'
 
 # For each number an Open of a name of at most eight bytes on endpoint 1, with that number as the new
 # endpoint; with `close` as the last word a Close frame on it behind each.
@@ -172,8 +186,8 @@ tree() {
     awk 'BEGIN { for (n = 0; n < 4000; n++) printf "[[node]]\nserver = \"a\"\npath = \"n%04d\"\nkind = \"file\"\n", n }'
 }
 
-serving() { # NAME FRAMES FILE: the time of one of so many frames
-    { time "$vfs" serve "$work/tree" auto < "$3" > "$work/out"; } 2> "$work/spent"
+serving() { # NAME FRAMES FILE [MODE]: the time of one of so many frames
+    { time "$vfs" serve "$work/tree" "${4-auto}" < "$3" > "$work/out"; } 2> "$work/spent"
     awk -v name="$1" -v frames="$2" -v bytes="$(wc -c < "$work/out")" '{
         printf "  %-40s %8d frames %9.1f ns each, %d bytes out\n", name, frames, ($1 + $2) * 1e9 / frames, bytes
     }' "$work/spent"
@@ -191,6 +205,77 @@ serving "Opens, and a Close frame behind each" 200000 "$work/frames"
 serving "Reads beside 4,000 connections" $((frames + 4000)) "$work/frames"
 listings 500 "$work/frames"
 serving "Listings of all names, eight and a Rewind" 4500 "$work/frames"
+{
+    opens large 2 4001
+    LC_ALL=C awk "$writing"'BEGIN { for (k = 1; k <= 200000; k++) read(2 + 7919 * k % 4000, 5) }'
+} > "$work/frames"
+serving "Reads on 4,000 connections in turn" 204000 "$work/frames"
+LC_ALL=C awk "$writing"'BEGIN {
+    for (k = 1; k <= 200000; k++) { open_path(1, k + 1, sprintf("n%04d", 7919 * k % 4000), 2); hang_up(k + 1) }
+}' > "$work/frames"
+serving "Opens of 4,000 names, and Close frames" 400000 "$work/frames"
+
+# Each round of these works on a new connection to another name: what a file is asked for, a Clone, a listing
+# behind it, and every eighth round the name is taken out.
+mixed() { # ROUNDS
+    LC_ALL=C awk -v rounds="$1" "$writing"'
+        BEGIN {
+            for (k = 1; k <= rounds; k++) {
+                n = 2 * k
+                name = sprintf("n%04d", 7919 * k % 4000)
+                open_path(1, n, name, 22)
+                write(n); seek(n, 0); read(n, 5); read_at(n, 5, 2); attributes(n); resize(n, 3)
+                calls(n, 2649553926, 643362286); calls(n, 179690569, 744237002)
+                clone(n, n + 1); read(n + 1, 5); hang_up(n); hang_up(n + 1)
+                if (k % 8 == 0) unlink(1, name)
+                message(1, 0, 24); asks(1, 711692564, 95472729); words(256, 0)
+            }
+        }'
+}
+mixed 21240 > "$work/frames"
+serving "calls of most methods, mixed" 300015 "$work/frames"
+
+# Mode given: 4,096 Reads on 64 endpoints in turn, and then as many Picks in turn, again and again.
+{
+    opens large 2 65
+    echo "00000000 03 00 0000 04000000 40000000" | tools/to-bytes.sh
+    LC_ALL=C awk "$writing"'BEGIN {
+        for (frame = 0; frame < 500000; frame += 8192) {
+            for (k = 0; k < 4096; k++) read(2 + k % 64, 5)
+            for (k = 0; k < 4096; k++) pick(2 + k % 64)
+        }
+    }'
+} > "$work/frames"
+serving "mode given, Reads and then Picks" 507969 "$work/frames" given
+
+echo "vfs run, show and make"
+# A script of a megabyte: Opens of one file, Reads on it, and Close frames.
+awk 'BEGIN {
+    print "auto"
+    for (n = 2; size < 1048000; n++) {
+        text = sprintf("open 1 n2000 0x2 %d\nread %d 5\nhangup %d\n", n, n, n)
+        size += length(text)
+        if (size < 1048000) printf "%s", text
+    }
+}' > "$work/script"
+lines=$(wc -l < "$work/script")
+{ time "$vfs" run "$work/tree" "$work/script" > "$work/transcript"; } 2> "$work/spent"
+awk -v lines="$lines" -v bytes="$(wc -c < "$work/transcript")" '{
+    printf "  run: a script of %d lines %25.1f ms, %d bytes of transcript\n", lines, ($1 + $2) * 1e3, bytes }' "$work/spent"
+# 200 megabytes of output frames: replies of 8,192 bytes each.
+{
+    opens large 2 2
+    LC_ALL=C awk "$writing"'BEGIN { for (k = 0; k < 24400; k++) { read(2, 8192); if (k % 8 == 7) seek(2, 0) } }'
+} > "$work/frames"
+"$vfs" serve "$work/tree" auto < "$work/frames" > "$work/out"
+{ time "$vfs" show < "$work/out" > "$work/shown"; } 2> "$work/spent"
+awk -v bytes="$(wc -c < "$work/out")" '{
+    spent = $1 + $2
+    printf "  show: %d bytes of frames %22.1f ms, %.2f GB/s\n", bytes, spent * 1e3, bytes / spent / 1e9 }' "$work/spent"
+for rounds in 1000 10000; do
+    { time "$vfs" make "$rounds" > "$work/made"; } 2> "$work/spent"
+    awk -v rounds="$rounds" '{ printf "  make %-5d %35.1f ms\n", rounds, ($1 + $2) * 1e3 }' "$work/spent"
+done
 
 # A server with a file and so many directories in its root, and a client there.
 directories() { # DIRECTORIES
