@@ -1,1 +1,7 @@
--- The lemmas of this crate.
+-- That the generated workload is a script.
+mod Numerals
+mod Plain
+mod RequestSizes
+mod GoodLines
+mod RoundLines
+mod PutLines

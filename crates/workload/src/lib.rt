@@ -2,8 +2,10 @@
 //! generated start.
 #![tactic(auto)]
 
+mod draws;
 mod generating;
 mod laws;
+mod rounds;
 
 pub use generating::{MAX_ROUNDS, generated};
 pub use laws::workloads_are_scripts;
