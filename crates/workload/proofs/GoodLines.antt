@@ -3,6 +3,7 @@ use Rattle.std.proofs.Common.{◌≡◌, ℕ, suc, ◌+◌, ◌==◌, ◌||◌, 
 use Rattle.std.specs.Prelude.{⊤, filter, filter_map}
 use Rattle.std.specs.List.{list_all}
 use Rattle.std.specs.Str.{is_utf8}
+use Rattle.std.proofs.lemmas.Bool.Decides.{nat_tests}
 use Rattle.fidl_names.specs.First.{cause_if, first_of}
 use Rattle.endpoint_link.specs.declared.kinds.Mode.TheVariants as mode
 use Rattle.vfs_script.specs.Words.{◌>>=◌, given, newline, pieces, space}
@@ -26,10 +27,27 @@ abbrev pub AllGood : List Words → Type 0
 AllGood [] = ⊤
 AllGood (words ∷ lines) = IsGood words × AllGood lines
 
-pub good_by : (word : List ℕ) (words : Words) (line : Line) → ArePlain (word ∷ words) → is_skipped (joined (word ∷ words)) ≡ false → line_in (word ∷ words) ≡ Some line →
+-- a word that begins with another byte than `#`
+abbrev pub begins : List ℕ → Bool
+begins [] = false
+begins (b ∷ word) = not (b == 35)
+
+not_no : (b : Bool) → not b ≡ true → b ≡ false
+not_no true h = cc
+not_no false h = refl
+
+some_bytes : (b : ℕ) (rest : List ℕ) → (length (b ∷ rest) == 0) ≡ false
+some_bytes b rest = grind (arith, nat_tests)
+
+not_skipped : (word : List ℕ) (words : Words) → begins word ≡ true → is_skipped (joined (word ∷ words)) ≡ false
+not_skipped [] words h = cc
+not_skipped (b ∷ word) [] h = rw (some_bytes b word) (not_no (b == 35) h)
+not_skipped (b ∷ word) (next ∷ words) h = rw (some_bytes b (word ++ space ∷ joined (next ∷ words))) (not_no (b == 35) h)
+
+pub good_by : (word : List ℕ) (words : Words) (line : Line) → ArePlain (word ∷ words) → begins word ≡ true → line_in (word ∷ words) ≡ Some line →
     ((number : ℕ) → fits_at number line ≡ true) → IsGood (word ∷ words)
 good_by word words line plain told says fits =
-    record { plain = plain; told = told; line = line; says = ap line_in (spaces_part word words plain) ∙ says; fits = fits }
+    record { plain = plain; told = not_skipped word words told; line = line; says = ap line_in (spaces_part word words plain) ∙ says; fits = fits }
 
 pub all_good : (a b : List Words) → AllGood a → AllGood b → AllGood (a ++ b)
 all_good [] b p q = q
@@ -84,7 +102,7 @@ module _ (lines : List Words) (good : AllGood lines) where
 
   pub is_fine : bad_line script ≡ None
   unfolding bad_line
-  is_fine = ap bad_in rows_are ∙ rw auto_mode (none_bad 2 lines good)
+  is_fine = ap bad_in rows_are ∙ rw auto_mode (ap (λ (o : Option ℕ). first_of (o ∷ [])) (none_bad 2 lines good))
 
   pub is_auto : script_mode script ≡ Some mode.Auto
   unfolding script_mode

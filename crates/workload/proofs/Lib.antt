@@ -5,3 +5,4 @@ mod RequestSizes
 mod GoodLines
 mod RoundLines
 mod PutLines
+mod Whole

@@ -35,7 +35,7 @@ padding_small n = mod-lt (8 - n % 8) (omega arith)
 padded_small : (xs : List ℕ) → length (padded_bytes xs) ≤ length xs + 7
 padded_small xs =
     let small = padding_small (length xs) in
-    let zeros : length (replicate (padding_after (length xs)) 0) ≡ padding_after (length xs) = length-replicate (padding_after (length xs)) 0 in
+    let zeros : length {A = ℕ} (replicate (padding_after (length xs)) 0) ≡ padding_after (length xs) = length-replicate (padding_after (length xs)) 0 in
     omega (arith, small, zeros, length-append xs (replicate (padding_after (length xs)) 0))
 
 -- ---- parts
@@ -66,17 +66,19 @@ object_size p = let small = padded_small p.inline in omega (arith, small, length
 abbrev pub fields_size : Asked → ℕ
 fields_size a = size (spelling_of_all (request_cells (method_of a)) (items_of a))
 
-header_size : (txid : ℕ) (a : Asked) → length (header_bytes (plain_header txid (method_ordinal (method_of a)))) ≡ 16
-header_size txid a =
-    let ordinal = method_ordinal (method_of a) in
-    omega (arith, length-append (number_bytes 4 txid) ((2 ∷ 0 ∷ 0 ∷ 1 ∷ []) ++ number_bytes 8 ordinal), length-number 4 txid, length-number 8 ordinal)
+sixteen : (txid flags ordinal : ℕ) → length (number_bytes 4 txid ++ (2 ∷ 0 ∷ flags ∷ 1 ∷ []) ++ number_bytes 8 ordinal) ≡ 16
+sixteen txid flags ordinal =
+    omega (arith, length-append (number_bytes 4 txid ++ (2 ∷ 0 ∷ flags ∷ 1 ∷ [])) (number_bytes 8 ordinal), length-append (number_bytes 4 txid) (2 ∷ 0 ∷ flags ∷ 1 ∷ []), length-number 4 txid, length-number 8 ordinal)
 
-pub fits_by : (a : Asked) (n : ℕ) → fields_size a ≤ n → n ≤ 60000 → (number endpoint : ℕ) → fits_at number (request endpoint a) ≡ true
-fits_by a n small few number endpoint =
-    let head = header_size (txid_at number a) a in
+header_size : (txid : ℕ) (a : Asked) → length (header_bytes (plain_header txid (method_ordinal (method_of a)))) ≡ 16
+header_size txid a = sixteen txid _ (method_ordinal (method_of a))
+
+pub fits_by : (a : Asked) (n : ℕ) → fields_size a ≤ n → n ≤ 60000 → (place endpoint : ℕ) → fits_at place (request endpoint a) ≡ true
+fits_by a n small few place endpoint =
+    let head = header_size (txid_at place a) a in
     let body = object_size (spelling_of_all (request_cells (method_of a)) (items_of a)) in
-    let both = length-append (header_bytes (plain_header (txid_at number a) (method_ordinal (method_of a)))) (request_body a) in
-    le-leb (length (request_bytes (txid_at number a) a)) limit.MAX_BYTES (omega (arith, head, body, both, small, few))
+    let both = length-append (header_bytes (plain_header (txid_at place a) (method_ordinal (method_of a)))) (request_body a) in
+    le-leb (length (request_bytes (txid_at place a) a)) limit.MAX_BYTES (omega (arith, head, body, both, small, few))
 
 cons_size : (cell : Cell) (x : Item) (cells : List Cell) (xs : List Item) (m n : ℕ) → size (spelling_of cell x) ≤ m → size (spelling_of_all cells xs) ≤ n →
     size (spelling_of_all (cell ∷ cells) (x ∷ xs)) ≤ m + n
@@ -94,7 +96,7 @@ pad_size = omega arith
 one_number : (n : ℕ) → size (spelling_of_all (number 8 ∷ []) (num n ∷ [])) ≤ 8
 one_number n = cons_size (number 8) (num n) [] [] 8 0 (number_size 8 n) none_size
 
-pub open_fits : (path : List ℕ) (flags object : ℕ) → length path ≤ 1000 → (number endpoint : ℕ) → fits_at number (request endpoint (asks.open_path path flags None object)) ≡ true
+pub open_fits : (path : List ℕ) (flags object : ℕ) → length path ≤ 1000 → (place endpoint : ℕ) → fits_at place (request endpoint (asks.open_path path flags None object)) ≡ true
 open_fits path flags object short =
     fits_by (asks.open_path path flags None object) (23 + length path + (8 + (16 + (4 + (4 + 0)))))
     (cons_size text (seq path) (number 8 ∷ options ∷ an_endpoint ∷ pad 4 ∷ []) (num flags ∷ members (None ∷ []) ∷ held_endpoint object ∷ blank ∷ []) (23 + length path) (8 + (16 + (4 + (4 + 0)))) (text_size path)
@@ -104,7 +106,7 @@ open_fits path flags object short =
     (cons_size (pad 4) blank [] [] 4 0 pad_size none_size)))))
     (omega (arith, short))
 
-pub watch_fits : (mask watcher number endpoint : ℕ) → fits_at number (request endpoint (asks.watch mask 0 watcher)) ≡ true
+pub watch_fits : (mask watcher place endpoint : ℕ) → fits_at place (request endpoint (asks.watch mask 0 watcher)) ≡ true
 watch_fits mask watcher =
     fits_by (asks.watch mask 0 watcher) (4 + (4 + (4 + 0)))
     (cons_size (number 4) (num mask) (number 4 ∷ an_endpoint ∷ []) (num 0 ∷ held_endpoint watcher ∷ []) 4 (4 + (4 + 0)) (number_size 4 mask)
@@ -112,17 +114,17 @@ watch_fits mask watcher =
     (cons_size an_endpoint (held_endpoint watcher) [] [] 4 0 (endpoint_size watcher) none_size)))
     (omega arith)
 
-pub write_fits : (bytes : List ℕ) → length bytes ≤ 1000 → (number endpoint : ℕ) → fits_at number (request endpoint (asks.write bytes)) ≡ true
+pub write_fits : (bytes : List ℕ) → length bytes ≤ 1000 → (place endpoint : ℕ) → fits_at place (request endpoint (asks.write bytes)) ≡ true
 write_fits bytes short =
     fits_by (asks.write bytes) (23 + length bytes + 0) (cons_size vector (seq bytes) [] [] (23 + length bytes) 0 (vector_size bytes) none_size) (omega (arith, short))
 
-pub read_fits : (count number endpoint : ℕ) → fits_at number (request endpoint (asks.read count)) ≡ true
+pub read_fits : (count place endpoint : ℕ) → fits_at place (request endpoint (asks.read count)) ≡ true
 read_fits count = fits_by (asks.read count) 8 (one_number count) (omega arith)
 
-pub list_fits : (most number endpoint : ℕ) → fits_at number (request endpoint (asks.read_dirents most)) ≡ true
+pub list_fits : (most place endpoint : ℕ) → fits_at place (request endpoint (asks.read_dirents most)) ≡ true
 list_fits most = fits_by (asks.read_dirents most) 8 (one_number most) (omega arith)
 
-pub unlink_fits : (name : List ℕ) → length name ≤ 1000 → (number endpoint : ℕ) → fits_at number (request endpoint (asks.unlink name 0)) ≡ true
+pub unlink_fits : (name : List ℕ) → length name ≤ 1000 → (place endpoint : ℕ) → fits_at place (request endpoint (asks.unlink name 0)) ≡ true
 unlink_fits name short =
     fits_by (asks.unlink name 0) (23 + length name + (16 + 0))
     (cons_size text (seq name) (options ∷ []) (members (None ∷ []) ∷ []) (23 + length name) (16 + 0) (text_size name) (cons_size options (members (None ∷ [])) [] [] 16 0 no_members none_size))

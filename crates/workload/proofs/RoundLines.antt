@@ -1,5 +1,5 @@
 -- Each line of a workload is good, and short.
-use Rattle.std.proofs.Common.{◌≡◌, ℕ, zero, suc, ◌+◌, ◌*◌, ◌/◌, ◌%◌, ◌<◌, ◌≤◌, ◌^◌, ◌==◌, ◌&&◌, nat_lt, Bool, true, false, cond, List, [], ◌∷◌, ◌++◌, length, map, decimal, codes, Option, Some, None, refl, sym, ap, ◌∙◌, arith, mod-lt, length-append, append_assoc}
+use Rattle.std.proofs.Common.{◌≡◌, ℕ, zero, suc, ◌+◌, ◌*◌, ◌/◌, ◌%◌, ◌<◌, ◌≤◌, ◌^◌, ◌==◌, ◌&&◌, nat_lt, Bool, true, false, cond, if◌then◌else◌, List, [], ◌∷◌, ◌++◌, length, map, decimal, codes, Option, Some, None, refl, sym, ap, ◌∙◌, arith, mod-lt, length-append, append_assoc}
 use Rattle.std.specs.Prelude.{⊤}
 use Rattle.std.specs.List.{flat_map, list_all}
 use Rattle.std.proofs.lemmas.Fmt.{length-decimal-le}
@@ -9,9 +9,7 @@ use Rattle.hex.specs.Hex.{encode_lower, lower_digits}
 use Rattle.hex.proofs.HexLemmas.{length-encode_with}
 use Rattle.io_messages.specs.Asked as asked
 use Rattle.vfs_script.specs.Words.{◌>>=◌, number_in, number_of, is_led, is_decimal_digit, is_digit, newline, space}
-use Rattle.vfs_script.specs.Lines.{Line, request, hang_up, verb_of, form_of, line_in, open_form, long_form, write_form, unlink_form, watch_form, hang_up_form}
-use Rattle.vfs_script.specs.declared.verbs.Verb.{Verb}
-use Rattle.vfs_script.specs.declared.verbs.Verb.TheVariants as verb
+use Rattle.vfs_script.specs.Lines.{Line, request, hang_up, verb_of, line_in, open_form, long_form, write_form, unlink_form, watch_form, hang_up_form}
 use Rattle.workload.specs.Workload.{Words, acts, asks, directory, drawn, endpoint, file, first_lines, line_text, opens, path, round, rounds_up_to, texts}
 use Rattle.workload.proofs.Numerals.{all_digits, decimal_in, digits_in, hex_digits}
 use Rattle.workload.proofs.Plain.{ArePlain, IsPlain, all_both, all_by, is_word_byte, joined}
@@ -38,7 +36,7 @@ directory_plain v = by_test (v / 128 % 2 == 0) where
   by_test true = refl
   by_test false = refl
 
-directory_short : (v : ℕ) → length (directory v) ≤ 3
+pub directory_short : (v : ℕ) → length (directory v) ≤ 3
 directory_short v = by_test (v / 128 % 2 == 0) where
   by_test : (b : Bool) → length (if b then codes "d" else codes "m/d") ≤ 3
   by_test true = omega arith
@@ -50,17 +48,17 @@ file_number v = mod-lt (v / 4) (omega arith)
 file_plain : (v : ℕ) → IsPlain (file v)
 file_plain v = let few = file_number v in decimal_plain (v / 4 % 32) (omega (arith, few))
 
-file_short : (v : ℕ) → length (file v) ≤ 3
+pub file_short : (v : ℕ) → length (file v) ≤ 3
 file_short v =
     let few = file_number v in
     let short = length-decimal-le 2 (v / 4 % 32) (omega arith) (omega (arith, few)) (omega (arith, few)) in
     omega (arith, short)
 
 path_plain : (v : ℕ) → IsPlain (path v)
-path_plain v = all_both is_word_byte (directory v) (codes "/" ++ file v) (directory_plain v) (file_plain v)
+path_plain v = all_both is_word_byte (directory v ++ codes "/") (file v) (all_both is_word_byte (directory v) (codes "/") (directory_plain v) refl) (file_plain v)
 
-path_short : (v : ℕ) → length (path v) ≤ 7
-path_short v = let a = directory_short v in let b = file_short v in omega (arith, a, b, length-append (directory v) (codes "/" ++ file v))
+pub path_short : (v : ℕ) → length (path v) ≤ 7
+path_short v = let a = directory_short v in let b = file_short v in omega (arith, a, b, length-append (directory v ++ codes "/") (file v), length-append (directory v) (codes "/"))
 
 -- ---- lines of the rounds up to 10,000
 
@@ -74,7 +72,7 @@ module _ (k : ℕ) (few : k ≤ 10000) where
   pub endpoint_short : length (endpoint k) ≤ 5
   endpoint_short = length-decimal-le 5 (k + 1) (omega arith) (omega (arith, few)) (omega (arith, few))
 
-  digits_short : length (encode_lower (decimal k)) ≤ 10
+  pub digits_short : length (encode_lower (decimal k)) ≤ 10
   digits_short =
       let short = length-decimal-le 5 k (omega arith) (omega (arith, few)) (omega (arith, few)) in
       omega (arith, short, length-encode_with lower_digits (decimal k))
@@ -83,32 +81,32 @@ module _ (k : ℕ) (few : k ≤ 10000) where
   unfolding number_in number_of is_led
   one_is = refl
 
-  open_verb : verb_of (codes "open") ≡ Some verb.Open
+  open_line : (a b c d : List ℕ) → line_in (codes "open" ∷ a ∷ b ∷ c ∷ d ∷ []) ≡ open_form a b c d
   unfolding verb_of
-  open_verb = refl
+  open_line a b c d = refl
 
   open_good : (at flags : List ℕ) (bits : ℕ) → IsPlain at → IsPlain flags → length at ≤ 1000 → number_in 64 flags ≡ Some bits → IsGood (opens k at flags)
   open_good at flags bits plain plain_flags short is =
       good_by (codes "open") (codes "1" ∷ at ∷ flags ∷ endpoint k ∷ []) (request 1 (asked.open_path at bits None (k + 1)))
-      (refl, refl, plain, plain_flags, endpoint_plain, tt) refl
-      (rw open_verb (rw one_is (rw is (rw endpoint_is refl))))
+      (refl, (refl, (plain, (plain_flags, (endpoint_plain, tt))))) refl
+      (open_line (codes "1") at flags (endpoint k) ∙ rw one_is (rw is (rw endpoint_is refl)))
       (λ number. open_fits at bits (k + 1) short number 1)
 
-  write_verb : verb_of (codes "write") ≡ Some verb.Write
+  write_line : (a b : List ℕ) → line_in (codes "write" ∷ a ∷ b ∷ []) ≡ write_form a b
   unfolding verb_of
-  write_verb = refl
+  write_line a b = refl
 
   write_good : IsGood (asks k (codes "write") (encode_lower (decimal k) ∷ []))
   write_good =
       let small = length-decimal-le 5 k (omega arith) (omega (arith, few)) (omega (arith, few)) in
       good_by (codes "write") (endpoint k ∷ encode_lower (decimal k) ∷ []) (request (k + 1) (asked.write (decimal k)))
-      (refl, endpoint_plain, hex_plain k (omega (arith, few)), tt) refl
-      (rw write_verb (rw endpoint_is (rw (digits_in k (omega (arith, few))) refl)))
+      (refl, (endpoint_plain, (hex_plain k (omega (arith, few)), tt))) refl
+      (write_line (endpoint k) (encode_lower (decimal k)) ∙ rw endpoint_is (rw (digits_in k (omega (arith, few))) refl))
       (λ number. write_fits (decimal k) (omega (arith, small)) number (k + 1))
 
-  read_verb : verb_of (codes "read") ≡ Some verb.Read
+  read_line : (a b : List ℕ) → line_in (codes "read" ∷ a ∷ b ∷ []) ≡ long_form asked.read a b
   unfolding verb_of
-  read_verb = refl
+  read_line a b = refl
 
   sixty_four : number_in 64 (codes "64") ≡ Some 64
   unfolding number_in number_of is_led
@@ -117,11 +115,11 @@ module _ (k : ℕ) (few : k ≤ 10000) where
   read_good : IsGood (asks k (codes "read") (codes "64" ∷ []))
   read_good =
       good_by (codes "read") (endpoint k ∷ codes "64" ∷ []) (request (k + 1) (asked.read 64))
-      (refl, endpoint_plain, refl, tt) refl (rw read_verb (rw endpoint_is (rw sixty_four refl))) (λ number. read_fits 64 number (k + 1))
+      (refl, (endpoint_plain, (refl, tt))) refl (read_line (endpoint k) (codes "64") ∙ rw endpoint_is (rw sixty_four refl)) (λ number. read_fits 64 number (k + 1))
 
-  list_verb : verb_of (codes "list") ≡ Some verb.List
+  list_line : (a b : List ℕ) → line_in (codes "list" ∷ a ∷ b ∷ []) ≡ long_form asked.read_dirents a b
   unfolding verb_of
-  list_verb = refl
+  list_line a b = refl
 
   most_listed : number_in 64 (codes "8192") ≡ Some 8192
   unfolding number_in number_of is_led
@@ -130,11 +128,11 @@ module _ (k : ℕ) (few : k ≤ 10000) where
   list_good : IsGood (asks k (codes "list") (codes "8192" ∷ []))
   list_good =
       good_by (codes "list") (endpoint k ∷ codes "8192" ∷ []) (request (k + 1) (asked.read_dirents 8192))
-      (refl, endpoint_plain, refl, tt) refl (rw list_verb (rw endpoint_is (rw most_listed refl))) (λ number. list_fits 8192 number (k + 1))
+      (refl, (endpoint_plain, (refl, tt))) refl (list_line (endpoint k) (codes "8192") ∙ rw endpoint_is (rw most_listed refl)) (λ number. list_fits 8192 number (k + 1))
 
-  unlink_verb : verb_of (codes "unlink") ≡ Some verb.Unlink
+  unlink_line : (a b c : List ℕ) → line_in (codes "unlink" ∷ a ∷ b ∷ c ∷ []) ≡ unlink_form a b c
   unfolding verb_of
-  unlink_verb = refl
+  unlink_line a b c = refl
 
   no_flags : number_in 64 (codes "0") ≡ Some 0
   unfolding number_in number_of is_led
@@ -144,16 +142,16 @@ module _ (k : ℕ) (few : k ≤ 10000) where
   unlink_good v =
       let short = file_short v in
       good_by (codes "unlink") (endpoint k ∷ file v ∷ codes "0" ∷ []) (request (k + 1) (asked.unlink (file v) 0))
-      (refl, endpoint_plain, file_plain v, refl, tt) refl (rw unlink_verb (rw endpoint_is (rw no_flags refl)))
+      (refl, (endpoint_plain, (file_plain v, (refl, tt)))) refl (unlink_line (endpoint k) (file v) (codes "0") ∙ rw endpoint_is (rw no_flags refl))
       (λ number. unlink_fits (file v) (omega (arith, short)) number (k + 1))
 
-  hang_up_verb : verb_of (codes "hangup") ≡ Some verb.HangUp
+  hang_up_line : (a : List ℕ) → line_in (codes "hangup" ∷ a ∷ []) ≡ hang_up_form a
   unfolding verb_of
-  hang_up_verb = refl
+  hang_up_line a = refl
 
   hang_up_good : IsGood (asks k (codes "hangup") [])
   hang_up_good =
-      good_by (codes "hangup") (endpoint k ∷ []) (hang_up (k + 1)) (refl, endpoint_plain, tt) refl (rw hang_up_verb (rw endpoint_is refl)) (λ number. refl)
+      good_by (codes "hangup") (endpoint k ∷ []) (hang_up (k + 1)) (refl, (endpoint_plain, tt)) refl (hang_up_line (endpoint k) ∙ rw endpoint_is refl) (λ number. refl)
 
   flags_are_0 : number_in 64 (codes "0x10800000006") ≡ Some 0x10800000006
   unfolding number_in number_of is_led
@@ -181,10 +179,10 @@ module _ (k : ℕ) (few : k ≤ 10000) where
         else if b then opens k (path v) (codes "0x2") ∷ asks k (codes "read") (codes "64" ∷ []) ∷ []
         else if c then opens k (directory v) (codes "0x40") ∷ asks k (codes "list") (codes "8192" ∷ []) ∷ []
         else opens k (directory v) (codes "0x100") ∷ asks k (codes "unlink") (file v ∷ codes "0" ∷ []) ∷ [])
-    by_tests true b c = let short = path_short v in (open_good (path v) (codes "0x10800000006") 0x10800000006 (path_plain v) refl (omega (arith, short)) flags_are_0, write_good, tt)
-    by_tests false true c = let short = path_short v in (open_good (path v) (codes "0x2") 0x2 (path_plain v) refl (omega (arith, short)) flags_are_1, read_good, tt)
-    by_tests false false true = let short = directory_short v in (open_good (directory v) (codes "0x40") 0x40 (directory_plain v) refl (omega (arith, short)) flags_are_2, list_good, tt)
-    by_tests false false false = let short = directory_short v in (open_good (directory v) (codes "0x100") 0x100 (directory_plain v) refl (omega (arith, short)) flags_are_3, unlink_good v, tt)
+    by_tests true b c = let short = path_short v in (open_good (path v) (codes "0x10800000006") 0x10800000006 (path_plain v) refl (omega (arith, short)) flags_are_0, (write_good, tt))
+    by_tests false true c = let short = path_short v in (open_good (path v) (codes "0x2") 0x2 (path_plain v) refl (omega (arith, short)) flags_are_1, (read_good, tt))
+    by_tests false false true = let short = directory_short v in (open_good (directory v) (codes "0x40") 0x40 (directory_plain v) refl (omega (arith, short)) flags_are_2, (list_good, tt))
+    by_tests false false false = let short = directory_short v in (open_good (directory v) (codes "0x100") 0x100 (directory_plain v) refl (omega (arith, short)) flags_are_3, (unlink_good v, tt))
 
   pub round_good : (v : ℕ) → AllGood (round k v)
   round_good v = all_good (acts k v) (asks k (codes "hangup") [] ∷ []) (acts_good v) (hang_up_good, tt)
