@@ -1,8 +1,8 @@
 -- Lines that are put word by word.
-use Rattle.std.proofs.Common.{◌≡◌, ℕ, suc, ◌+◌, ◌/◌, ◌^◌, List, [], ◌∷◌, ◌++◌, codes, refl, sym, ap, ◌∙◌, append_assoc, append-nil}
+use Rattle.std.proofs.Common.{◌≡◌, ℕ, suc, ◌+◌, ◌/◌, ◌^◌, List, [], ◌∷◌, ◌++◌, codes, refl, sym, ap, ◌∙◌, append_assoc, append-nil, ◌≤◌, le_antisymm}
 use Rattle.std.specs.List.{flat_map, join_with_byte}
 use Rattle.std.proofs.lemmas.List.Concat.{flat_map-append}
-use Rattle.workload.specs.Workload.{Words, drawn, first_lines, line_text, next_state, round, rounds_up_to, state_of, texts}
+use Rattle.workload.specs.Workload.{Words, drawn, first_lines, line_text, next_state, round, rounds_up_to, state_of, texts, workload}
 
 pub file_opened : (to a b c d dir file flags e : List ℕ) → a ≡ to ++ codes "open 1 " ++ dir → b ≡ a ++ codes "/" → c ≡ b ++ file →
     d ≡ c ++ codes " " ++ flags ++ codes " " ++ e ++ codes "\n" →
@@ -40,3 +40,8 @@ round_more rounds k v s s' text text' is at next draws more =
     ∙ sym (flat_map-append line_text (first_lines ++ rounds_up_to rounds k) (round (suc k) v))
     ∙ ap (λ (n : ℕ). texts ((first_lines ++ rounds_up_to rounds k) ++ round (suc k) n)) drawn_is
     ∙ ap texts (append_assoc first_lines (rounds_up_to rounds k) (round (suc k) (drawn rounds (suc k))))
+
+-- all rounds
+pub text_whole : (rounds done : ℕ) → done ≤ rounds → rounds ≤ done → texts (first_lines ++ rounds_up_to rounds done) ≡ workload rounds
+unfolding workload
+text_whole rounds done a b = ap (λ (k : ℕ). texts (first_lines ++ rounds_up_to rounds k)) (le_antisymm a b)
