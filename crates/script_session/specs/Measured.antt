@@ -14,7 +14,7 @@ abbrev pub output_frames : Start → Mode → List ℕ → List Frame
 output_frames start by text = frames_by start (ended start by (frames_of text))
 
 -- how many frames these are, how many bytes spell them, and the SHA-256 of those bytes
-pub record Measures (frames : List Frame) (measured : Measured) : Type 0 where
-  pub frames : measured.frames ≡ length frames
-  pub bytes : measured.bytes ≡ length (spellings frames)
-  pub hash : measured.hash ≡ sha256 (spellings frames)
+pub record Measures (all : List Frame) (measured : Measured) : Type 0 where
+  pub frames : measured.frames ≡ length all
+  pub bytes : measured.bytes ≡ length (spellings all)
+  pub hash : measured.hash ≡ sha256 (spellings all)

@@ -5,7 +5,9 @@
 mod hearing;
 mod laws;
 mod measuring;
+mod meter;
 mod playing;
+mod tally;
 
 pub use laws::transcripts_show_the_output;
 pub use measuring::{Measured, measure};
