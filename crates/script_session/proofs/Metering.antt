@@ -14,6 +14,7 @@ use Rattle.frame_laws.specs.Bytes.{HasFilesOfBytes}
 use Rattle.tree_file.specs.Accepted.{AreAccepted}
 use Rattle.tree_file.specs.Items.{Lists}
 use Rattle.vfs_journal.specs.Entries.{Journal}
+use Rattle.vfs_journal.specs.Past.{history_of}
 use Rattle.vfs_journal.specs.Session.{session, steps}
 use Rattle.vfs_journal.specs.Starts.{Start, start_of}
 use Rattle.vfs_script.proofs.ScriptFacts.{script_frames}
@@ -38,13 +39,17 @@ pub spelled_both : (before more : List Frame) → spellings before ++ spellings 
 spelled_both before more = sym (flat_map-append spelling before more)
 
 -- nothing was heard yet
+none_by : (start : Start) → frames_by start [] ≡ []
+unfolding history_of
+none_by start = refl
+
 pub metered_first : (lists : Lists) (world : World) (tally : Tally) → AreDistinct → AreAccepted lists → HasFilesOfBytes lists → StandsFor (start_of lists) world [] → Tallies [] tally →
     Metered (start_of lists) [] world tally
 metered_first lists world tally distinct accepted files stands tallies = record {
   distinct = distinct;
   bytes = starts_have_bytes lists accepted files;
   stands = stands;
-  tallies = tallies;
+  tallies = subst (λ (frames : List Frame). Tallies frames tally) (sym (none_by (start_of lists))) tallies;
 }
 
 -- the frames that a tally takes, by the bytes that spell them

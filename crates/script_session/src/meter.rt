@@ -103,7 +103,7 @@ impl Meter {
     pub(crate) fn end(mut self) -> Result<Measured, NoMemory>
         requires few { self.tally.frames < 2 ^ 126 }
         requires small { self.tally.bytes < 2 ^ 126 }
-        ensures { (start : TheStart) (journal : Journal) → Metered start journal self.entry.world self.entry.tally →
+        ensures { (start : TheStart) (journal : Journal) → Metered start journal self.world self.tally →
             IfOk result (Measures (frames_by start (drained start journal))) }
     {
         self.outbox.clear();
