@@ -1,8 +1,8 @@
--- That the generated workload is a script.
+-- That the generated workload is a script. Whole has what crates above cite.
 mod Numerals
 mod Plain
 mod RequestSizes
 mod GoodLines
 mod RoundLines
 mod PutLines
-mod Whole
+pub mod Whole
