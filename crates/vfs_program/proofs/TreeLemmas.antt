@@ -39,29 +39,20 @@ hears_given start by given old new before frame held held' arrive s =
     }
 
 -- in mode auto all that waits then is served
-all_heard : (start : Start) (by : Mode) → by ≡ mode.Auto → (old mid new : World) (before : List Frame) (frame : Frame) (held held' held'' : List ℕ)
-    → ((journal : Journal) → StandsFor start old journal → LeadsTo start (arrives start journal frame) mid journal held held')
-    → ((journal : Journal) → StandsFor start mid journal → LeadsTo start (drained start journal) new journal held' held'')
-    → StandsBehind start by old before → HeardOne (tree_course start by) (StandsBehind start by new) before frame held held''
+pub hears_auto : (start : Start) (by : Mode) → by ≡ mode.Auto → (old new : World) (before : List Frame) (frame : Frame) (held held' : List ℕ)
+    → ((journal : Journal) → StandsFor start old journal → LeadsTo start (drained start (arrives start journal frame)) new journal held held')
+    → StandsBehind start by old before → HeardOne (tree_course start by) (StandsBehind start by new) before frame held held'
 unfolding tree_course StandsBehind
-all_heard start by auto old mid new before frame held held' held'' arrive drain s =
+hears_auto start by auto old new before frame held held' hear s =
     let journal = session start by before in
-    let one = arrive journal s in
-    let two = drain (arrives start journal frame) one.stands in
+    let one = hear journal s in
     let is = session-append start by before (frame ∷ []) ∙ ap (λ (m : Mode). steps start m journal frame) auto in
     record {
-      stands = subst (StandsFor start new) (sym is) two.stands;
-      part = one.part ++ two.part;
-      more = ap (output_of start) is ∙ two.more ∙ ap (λ l. l ++ two.part) one.more ∙ append_assoc (output_of start journal) one.part two.part;
-      appends = two.written ∙ ap (λ l. l ++ two.part) one.written ∙ append_assoc held one.part two.part;
+      stands = subst (StandsFor start new) (sym is) one.stands;
+      part = one.part;
+      more = ap (output_of start) is ∙ one.more;
+      appends = one.written;
     }
-
-pub hears_auto : {X E : Type 0} (answer : Result X E) (start : Start) (by : Mode) → by ≡ mode.Auto → (old mid new : World) (before : List Frame) (frame : Frame) (held held' held'' : List ℕ)
-    → ((journal : Journal) → StandsFor start old journal → LeadsTo start (arrives start journal frame) mid journal held held')
-    → ((journal : Journal) → StandsFor start mid journal → OnOk answer (LeadsTo start (drained start journal) new journal held' held''))
-    → StandsBehind start by old before → OnOk answer (HeardOne (tree_course start by) (StandsBehind start by new) before frame held held'')
-hears_auto (Ok x) start by auto old mid new before frame held held' held'' arrive drain s = all_heard start by auto old mid new before frame held held' held'' arrive drain s
-hears_auto (Err e) start by auto old mid new before frame held held' held'' arrive drain s = tt
 
 -- the last drain
 pub drains_last : {X E : Type 0} (answer : Result X E) (start : Start) (by : Mode) (old new : World) (before : List Frame) (held held' : List ℕ)

@@ -139,12 +139,19 @@ fn hear(
         OnOk result (HeardOne (tree_course start mode) (StandsBehind start mode world.new) before (frame_of frame.entry) outbox.old outbox.new) }
     ensures frames { OnOk result (world.new.frames ≡ world.old.frames + 1) }
 {
-    let Ok(()) = world.accept(frame, outbox) else {
-        return Err(NoMemory);
-    };
     match mode {
-        Mode::Auto => drain(world, outbox),
-        Mode::Given => Ok(()),
+        Mode::Auto => {
+            let Ok(()) = world.hear(frame, outbox) else {
+                return Err(NoMemory);
+            };
+            Ok(())
+        }
+        Mode::Given => {
+            let Ok(()) = world.accept(frame, outbox) else {
+                return Err(NoMemory);
+            };
+            Ok(())
+        }
     }
 }
 

@@ -1,11 +1,10 @@
 -- What a server is behind one connection or watcher more, and one less.
-use Rattle.std.proofs.Common.{◌≡◌, ◌≢◌, ◌∙◌, ℕ, ◌==◌, ◌+◌, ◌-◌, ◌<◌, ◌++◌, Bool, true, false, ◌||◌, List, [], ◌∷◌, length, length-append, append-nil, Option, Some, None, refl, sym, ap, subst, arith}
+use Rattle.std.proofs.Common.{◌≡◌, ◌≢◌, ◌∙◌, ℕ, ◌+◌, ◌-◌, ◌++◌, true, false, ◌||◌, List, [], ◌∷◌, length, length-append, append-nil, Option, Some, None, refl, sym, ap, subst, arith}
 use Rattle.std.specs.Prelude.{IsSome, if◌then◌else◌, is_some}
 use Rattle.std.proofs.lemmas.Bool.{eq-eqb, ne_eqb}
 use Rattle.std.proofs.lemmas.List.{length-map, map-append}
 use Rattle.std.specs.FinMap as finite
 use Rattle.std.specs.Option.{option_map}
-use Rattle.fidl_names.specs.declared.limits.TheConstants as limit
 use Rattle.io_messages.specs.declared.protocols.Protocol.{Protocol}
 use Rattle.io_messages.specs.declared.protocols.Protocol.TheVariants as protocol
 use Rattle.node_graph.specs.declared.nodes.NodeRef.{NodeRef}
@@ -18,7 +17,7 @@ use Rattle.vfs_journal.specs.Starts.{Bound}
 use Rattle.vfs_server.specs.declared.watching.Seat.{Seat}
 use Rattle.vfs_server.specs.Binding.{Binds, Unbinds}
 use Rattle.vfs_server.specs.Kept.{Connections, Tokens}
-use Rattle.vfs_server.specs.Servers.{Server, bound_with, connected, in_use, seen_as, watcher_with, watching}
+use Rattle.vfs_server.specs.Servers.{Server, bound_with, connected, in_use, seen_as, watching}
 use Rattle.vfs_server.specs.Watched.{Seats, bound_at, bounds_at, seat_at, without}
 use Rattle.vfs_server.proofs.Maps.{standing, same, other, get_put, get_put_other, get_cut, get_cut_other, longer, shorter}
 use Rattle.vfs_server.proofs.Seats.{at_more, bounds_left, length_less, other_less, seated, watching_as, without_none}

@@ -1,15 +1,18 @@
 -- The lemmas of this crate.
 pub mod Maps
+pub mod Counts
 pub mod Seats
 pub mod Joined
 pub mod Walking
 pub mod Acting
+pub mod Looked
 pub mod Allowed
 pub mod Carried
 pub mod Handed
 pub mod Giving
 pub mod Answering
 pub mod Held
+pub mod KeptNodes
 pub mod Sound
 pub mod Told
 pub mod Binding

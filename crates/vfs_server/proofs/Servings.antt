@@ -15,7 +15,6 @@ use Rattle.io_messages.specs.declared.protocols.Protocol.TheVariants as protocol
 use Rattle.io_messages.specs.Requests.{request_of}
 use Rattle.node_graph.specs.declared.nodes.NodeKind.{NodeKind}
 use Rattle.node_graph.specs.declared.nodes.NodeKind.TheVariants.{Directory, File, Service, Mount}
-use Rattle.node_graph.specs.declared.nodes.NodeRef.{NodeRef}
 use Rattle.node_graph.specs.Graph.{Kept, kind_at, number_of}
 use Rattle.conn_rules.specs.declared.births.Birth as code
 use Rattle.conn_rules.specs.declared.births.Room.{Room}
@@ -39,7 +38,7 @@ use Rattle.vfs_server.specs.declared.watching.Seat.{Seat}
 use Rattle.vfs_server.specs.Binding.{IsDirectory}
 use Rattle.vfs_server.specs.Effects.{effects_told}
 use Rattle.vfs_server.specs.Kept.{Connections, HasTree, IsSound, Tokens}
-use Rattle.vfs_server.specs.Servers.{Server, bound_with, connected, in_use, seen_as, watching}
+use Rattle.vfs_server.specs.Servers.{bound_with, connected, in_use, seen_as}
 use Rattle.vfs_server.specs.Serving.{IsMomentOf, Serves, frames_here, room_at}
 use Rattle.vfs_server.specs.Steps.{Answers, AreNamed, CanBeTold, CanTell, IsAskedAt, IsPassedOver, room_for}
 use Rattle.vfs_server.specs.Watched.{Extends, IsShort, Seats, bound_at, bounds_at, first_of, is_at, seat_at, told_of}

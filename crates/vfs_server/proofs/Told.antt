@@ -1,7 +1,6 @@
 -- What a server tells its watchers is what the journal says.
-use Rattle.std.proofs.Common.{◌≡◌, ◌∙◌, ℕ, ◌==◌, Bool, true, false, ◌&&◌, cond, List, [], ◌∷◌, ◌++◌, length, map, filter, take, Option, Some, None, Result, Ok, Err, OnErr, OnOk, refl, sym, ap, append_assoc, append-nil}
+use Rattle.std.proofs.Common.{◌≡◌, ◌∙◌, ℕ, ◌==◌, Bool, true, false, ◌&&◌, cond, List, [], ◌∷◌, ◌++◌, length, map, filter, take, Option, Some, None, refl, sym, ap, append_assoc, append-nil}
 use Rattle.std.specs.FinMap as finite
-use Rattle.std.specs.List.{flat_map}
 use Rattle.std.specs.Option.{option_map_or, option_to_list, option_map}
 use Rattle.std.proofs.lemmas.Bool.{eq-eqb}
 use Rattle.std.proofs.lemmas.Grind.{flat_map-append}
@@ -27,7 +26,6 @@ use Rattle.vfs_journal.specs.Watching.{first_frames, told_frames}
 use Rattle.vfs_journal.specs.Watching as journal
 use Rattle.vfs_server.specs.declared.fate.Fate.{Fate}
 use Rattle.vfs_server.specs.declared.fate.Fate.TheVariants as fates
-use Rattle.vfs_server.specs.declared.watching.Seat.{Seat}
 use Rattle.vfs_server.specs.Effects.{effects_told}
 use Rattle.vfs_server.specs.Watched.{Extends, Seats, bound_at, bounds_at, first_of, gone_told, is_at, name_told, told_of, told_to, watcher_of, watchers_at}
 

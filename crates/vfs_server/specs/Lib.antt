@@ -1,5 +1,6 @@
 pub mod Servers
 pub mod Holding
+pub mod KeptNodes
 pub mod Effects
 pub mod Binding
 pub mod Serving

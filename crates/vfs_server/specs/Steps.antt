@@ -255,6 +255,11 @@ abbrev pub room_for : Asking → ℕ → Room
 room_for asking node =
     record { connections = asking.connections; watchers = length (filter (is_at node) asking.watching.now); token = asking.token }
 
+-- what a request looks at of it: who watches the node matters to a Watch alone
+abbrev pub looked_at : Asked → Room → Room
+looked_at (asks.watch mask options watcher) room = room
+looked_at _ room = record room { watchers = 0 }
+
 -- a moment of the serving on a connection at this server, over this graph
 pub record IsAskedAt (server : ℕ) (asking : Asking) (graph : Kept) (connection : Connection) (moment : Moment) : Type 0 where
   pub bound : moment.bound ≡ bound_with server asking.endpoint connection.birth

@@ -132,7 +132,7 @@ impl Connection {
         ensures no_memory { OnErr result (outbox.new ≡ outbox.old) }
     {
         let object = object_of(&request);
-        let room = asking.room(graph.number(self.conn.node()));
+        let room = asking.room(graph.number(self.conn.node()), &request);
         let given = self
             .conn
             .serve(asking.ordinals, room, graph, tokens, txid, request, out);

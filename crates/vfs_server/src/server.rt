@@ -1,4 +1,4 @@
-ghost use Rattle.std.specs.Prelude.{◌≡◌, ◌≤◌, ◌<◌, ◌^◌, ℕ, IfOk, IsSome, None, OnErr, OnOk, [], is_some, length};
+ghost use Rattle.std.specs.Prelude.{◌≡◌, ◌≤◌, ◌<◌, ◌+◌, ◌^◌, ℕ, IfOk, IsSome, None, OnErr, OnOk, [], is_some, length};
 ghost use Rattle.fidl_names.specs.declared.limits.TheConstants as limit;
 ghost use Rattle.std.specs.FinMap as finite;
 ghost use Rattle.node_graph.specs.Graph.{holds_at, number_of};
@@ -6,10 +6,11 @@ ghost use Rattle.vfs_journal.specs.Entries.{message};
 ghost use Rattle.vfs_journal.specs.Handles.{AreByNumber, numbers_of};
 ghost use Rattle.vfs_journal.specs.Serving.{Moment, outcome_of_sending};
 ghost use Rattle.vfs_journal.specs.Starts.{start_of};
-ghost use Rattle.vfs_journal.specs.View.{view_of};
+ghost use Rattle.vfs_journal.specs.View.{View, view_of};
 ghost use Rattle.vfs_server.specs.Binding.{Binds, CanWatch, Forgets, HasPlace, IsDirectory, NamesBy, Unbinds};
 ghost use Rattle.vfs_server.specs.Holding.{HoldsAt};
 ghost use Rattle.vfs_server.specs.Kept.{HasTree};
+ghost use Rattle.vfs_server.specs.KeptNodes.{kept_in};
 ghost use Rattle.vfs_server.specs.Servers.{bound_with, in_use, named, seen, watcher_with};
 ghost use Rattle.vfs_server.specs.Serving.{IsMomentOf, Serves};
 
@@ -87,6 +88,15 @@ impl Server {
         ensures { result ≡ in_use self.now }
     {
         (self.connections.len() + self.watching.len()) as u32
+    }
+
+    /// How many nodes of its tree are kept: the root, those that names lead to, and those that connections,
+    /// watchers and tokens hold.
+    pub fn kept(&self) -> usize
+        ensures kept { (view : View) → HoldsAt view self.now → result ≡ kept_in view self.now.index }
+        ensures few { result ≤ 1 + finite.len self.now.graph.edges + limit.MAX_CONNECTIONS + limit.MAX_TOKENS }
+    {
+        self.graph.kept()
     }
 
     /// Whether an endpoint is bound here.

@@ -28,5 +28,7 @@ pub mod Mounts
 pub mod Room
 pub mod Ready
 pub mod NoneDie
+pub mod Quiet
+pub mod Taken
 pub mod Halves
 pub mod OneMore

@@ -13,6 +13,14 @@ use Rattle.vfs_session.specs.Holding.{HoldsEach}
 use Rattle.vfs_session.specs.Steps.{Answers, AreApart, BindsTold, ForgetsAll, SendsOn, closed_for, end_told, first_told, is_sent_on, known_told, spent_told, without_in}
 use Rattle.vfs_session.specs.World.{World}
 
+-- the first entry of an endpoint that is bound at a server is taken from what waits, and nothing else happens
+pub record Takes (old : World) (endpoint server : ℕ) (sent : Sent) (new : World) : Type 0 where
+  pub bound : server_of old.queues endpoint ≡ Some server
+  pub first : head_of old.queues endpoint ≡ Some sent
+  pub taken : Requeues old.queues endpoint (drop 1 (queue_of old.queues endpoint)) new.queues
+  pub count : count new.queues + 1 ≡ count old.queues
+  pub same : new ≡ record old { queues = new.queues }
+
 -- the first entry of an endpoint is answered at its server and taken, and what its fate binds is bound
 pub record TakesHead (old : World) (endpoint server : ℕ) (sent : Sent) (fate : Fate) (out : Written) (new : World) (before after : List ℕ) : Type 0 where
   pub answered : List Server

@@ -1,6 +1,7 @@
 //! The endpoints that die of a serving first.
 
-ghost use Rattle.std.specs.Prelude.{◌≡◌, ◌++◌, IfOk, OnOk};
+ghost use Rattle.std.specs.Prelude.{◌≡◌, ◌++◌, [], true, IfOk, OnOk};
+ghost use Rattle.vfs_journal.specs.Entries.{handles_of};
 ghost use Rattle.vfs_session.specs.Steps.{carried_but, end_told, first_told, is_it, settled_told};
 
 use fidl_names::{NoMemory, is_client};
@@ -70,4 +71,11 @@ pub(crate) fn first_deaths(alloc: Global, sent: &Sent, fate: &Fate) -> Result<Ve
     }
     add_carried(sent, settled_told(sent.endpoint, fate), &mut dying)?;
     Ok(dying)
+}
+
+/// Whether a serving leaves all others as they are: the endpoint stays, and the entry carries nothing.
+pub(crate) fn is_quiet(sent: &Sent, fate: &Fate) -> bool
+    ensures { result ≡ true → (fate.now ≡ Fate.Stays) × (handles_of sent.now.sending ≡ []) }
+{
+    matches!(fate, Fate::Stays) && sent.parcel.handles().is_empty()
 }

@@ -5,14 +5,15 @@ ghost use Rattle.fidl_names.specs.declared.limits.TheConstants as limit;
 ghost use Rattle.endpoint_link.specs.Standings.{is_live, standing_of};
 ghost use Rattle.message_queues.specs.Dying.{AreDeaths};
 ghost use Rattle.message_queues.specs.Queues.{IsAbove, IsReady, count};
-ghost use Rattle.vfs_session.specs.Heads.{LetsDie, SettlesHead, TakesHead};
+ghost use Rattle.vfs_session.specs.Heads.{LetsDie, SettlesHead, Takes, TakesHead};
 ghost use Rattle.vfs_session.specs.Running.{whole};
 ghost use Rattle.vfs_session.specs.Servings.{ServesOne};
 ghost use Rattle.vfs_session.specs.Steps.{Begins, CanGo, IsRunning, first_told, spent_told};
+ghost use Rattle.vfs_session.specs.World.{World};
 
 use crate::answering::answer;
 use crate::closing::close_others;
-use crate::deaths::{end_told, first_deaths};
+use crate::deaths::{end_told, first_deaths, is_quiet};
 use crate::forgetting::{give, spend};
 use crate::session::Session;
 use crate::settling::{bind, bury, send_on};
@@ -30,20 +31,45 @@ impl Session {
         ensures running { (most : ℕ) → IsRunning most (whole self.old) → OnOk result (IsRunning most (whole self.new)) }
         ensures begins { Begins outbox.old outbox.new }
     {
-        let (sent, fate) = self.take_head(endpoint, outbox)?;
+        let (server, sent) = self.queues.take(endpoint)?;
+        self.serve_taken(endpoint, server, sent, outbox)
+    }
+
+    /// Serves what was taken from an endpoint that is bound at this server, and was the first that waited
+    /// there.
+    pub fn serve_taken(
+        &mut self,
+        endpoint: u32,
+        server: u32,
+        sent: Sent,
+        outbox: &mut Outbox,
+    ) -> Result<(), NoMemory>
+        requires taken { (before : World) × (IsRunning (2 ^ 61) before × Takes before endpoint server sent (whole self.old)) }
+        ensures served { (before : World) → IsRunning (2 ^ 61) before → Takes before endpoint server sent (whole self.old) →
+            OnOk result (ServesOne (λ one. one ≡ endpoint) before (whole self.new) outbox.old outbox.new) }
+        ensures running { (most : ℕ) (before : World) → IsRunning (2 ^ 61) before → IsRunning most before → Takes before endpoint server sent (whole self.old) →
+            OnOk result (IsRunning most (whole self.new)) }
+        ensures begins { Begins outbox.old outbox.new }
+    {
+        let fate = self.answer_taken(endpoint, server, &sent, outbox)?;
         self.settle_head(&sent, &fate, outbox)?;
         self.keep_room(sent);
         Ok(())
     }
 
-    /// Takes the first entry of an endpoint, answers it at its server, and binds what its fate binds.
-    fn take_head(&mut self, endpoint: u32, outbox: &mut Outbox) -> Result<(Sent, Fate), NoMemory>
-        requires running { IsRunning (2 ^ 61) (whole self.old) }
-        requires ready { IsReady self.old.queues endpoint }
-        ensures taken { IfOk result (λ head. (server : ℕ) × TakesHead (whole self.old) endpoint server head.0 head.1 self.new.out (whole self.new) outbox.old outbox.new) }
+    /// Answers what was taken from an endpoint at its server, and binds what its fate binds.
+    fn answer_taken(
+        &mut self,
+        endpoint: u32,
+        server: u32,
+        sent: &Sent,
+        outbox: &mut Outbox,
+    ) -> Result<Fate, NoMemory>
+        requires taken { (before : World) × (IsRunning (2 ^ 61) before × Takes before endpoint server sent.now (whole self.old)) }
+        ensures taken { (before : World) → Takes before endpoint server sent.now (whole self.old) →
+            IfOk result (λ fate. TakesHead before endpoint server sent.now fate self.new.out (whole self.new) outbox.old outbox.new) }
         ensures begins { Begins outbox.old outbox.new }
     {
-        let (server, sent) = self.queues.take(endpoint)?;
         let token = self.endpoints.next_token();
         let fate = answer(
             &mut self.servers,
@@ -51,13 +77,13 @@ impl Session {
             server,
             endpoint,
             token,
-            &sent,
+            sent,
             &mut self.out,
             outbox,
         )?;
         self.endpoints.served();
         bind(&mut self.servers, &mut self.queues, server, &fate)?;
-        Ok((sent, fate))
+        Ok(fate)
     }
 
     /// Lets whoever dies of a serving die, forgets the tokens that are spent, gives the one that is given, and
@@ -73,6 +99,10 @@ impl Session {
         ensures settled { OnOk result (SettlesHead (whole self.old) sent.now fate.now self.old.out (whole self.new) outbox.old outbox.new) }
         ensures begins { Begins outbox.old outbox.new }
     {
+        if is_quiet(sent, fate) {
+            self.places += 1;
+            return Ok(());
+        }
         let dropped = self.let_die(sent, fate, outbox)?;
         spend(&mut self.servers, &mut self.endpoints, sent, &dropped);
         give(&mut self.endpoints, fate)?;

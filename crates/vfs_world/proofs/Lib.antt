@@ -1,4 +1,6 @@
 pub mod Answered
 pub mod Hearing
 pub mod Worlds
+pub mod KeptNodes
+pub mod AtOnce
 pub mod Begun

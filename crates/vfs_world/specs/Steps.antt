@@ -1,12 +1,15 @@
 -- Words of the steps of a frame. No public clause needs these.
-use Rattle.std.specs.Prelude.{◌≡◌, ◌≤◌, ◌<◌, ◌+◌, ◌^◌, ℕ, [], ◌∷◌, ◌++◌, None}
+use Rattle.std.specs.Prelude.{◌≡◌, ◌≤◌, ◌<◌, ◌+◌, ◌^◌, ℕ, List, [], ◌∷◌, ◌++◌, None, Some}
 use Rattle.fidl_names.specs.declared.limits.TheConstants as limit
 use Rattle.endpoint_link.specs.Admission.{Admits, admission, look_ups}
 use Rattle.endpoint_link.specs.Frames.{Frame}
-use Rattle.vfs_journal.specs.Entries.{Sending}
-use Rattle.message_queues.specs.Queues.{IsAbove, Requeues, count, queue_of}
+use Rattle.endpoint_link.specs.declared.kinds.FrameKind.TheVariants as kind
+use Rattle.vfs_journal.specs.Entries.{Journal, Sending}
+use Rattle.vfs_journal.specs.Starts.{Start}
+use Rattle.message_queues.specs.Queues.{IsAbove, Requeues, count, queue_of, server_of}
+use Rattle.vfs_session.specs.Servings.{IsOldestOfAll, ServesTimes}
 use Rattle.vfs_session.specs.Steps.{IsRunning}
-use Rattle.vfs_session.specs.World.{World}
+use Rattle.vfs_session.specs.World.{LeadsTo, World}
 
 -- a frame is admitted: what is known is as its admission leaves it, and all else is as it was
 pub record IsAdmitted (old : World) (frame : Frame) (new : World) : Type 0 where
@@ -30,3 +33,18 @@ pub record CanWait (world : World) : Type 0 where
 pub record WaitsLast (old : World) (endpoint : ℕ) (sending : Sending) (new : World) : Type 0 where
   pub queued : Requeues old.queues endpoint (queue_of old.queues endpoint ++ record { place = old.places; endpoint = endpoint; sending = sending; origin = None } ∷ []) new.queues
   pub same : new ≡ record old { queues = new.queues; places = old.places + 1 }
+
+-- a frame is a message to an endpoint that is bound at this server, and nothing waits
+pub record IsFree (frame : Frame) (server : ℕ) (world : World) : Type 0 where
+  pub message : frame.kind ≡ kind.Message
+  pub bound : server_of world.queues frame.endpoint ≡ Some server
+  pub none : count world.queues ≡ 0
+
+-- what a call leads to on its way to a drain behind a journal: a world that stands for the journal, and from there servings of the oldest
+-- entries of all
+pub record Reaches (start : Start) (later : Journal) (new : World) (earlier : Journal) (before after : List ℕ) : Type 0 where
+  pub there : World
+  pub between : List ℕ
+  pub leads : LeadsTo start later there earlier before between
+  pub done : ℕ
+  pub serves : ServesTimes IsOldestOfAll done there new between after

@@ -1,19 +1,21 @@
 //! A frame that arrives: a refused one is answered, and for an admitted one what it asks is done.
 
-ghost use Rattle.std.specs.Prelude.{◌≡◌, ◌≤◌, ◌<◌, ◌+◌, ◌^◌, ◌++◌, ℕ, OnOk, OnErr, length};
+ghost use Rattle.std.specs.Prelude.{◌≡◌, ◌≤◌, ◌<◌, ◌+◌, ◌-◌, ◌^◌, ◌++◌, ℕ, [], IfSome, OnOk, OnErr, length};
 ghost use Rattle.fidl_names.specs.declared.limits.TheConstants as limit;
 ghost use Rattle.endpoint_link.specs.Frames.{IsFrame, spelling};
 ghost use Rattle.endpoint_link.specs.Numbers.{word_in};
 ghost use Rattle.endpoint_link.specs.Views.{frame_of, handle_numbers};
 ghost use Rattle.endpoint_link.specs.declared.kinds.Side.TheVariants as side;
 ghost use Rattle.vfs_journal.specs.Entries.{Journal, message};
+ghost use Rattle.vfs_journal.specs.History.{waiting};
 ghost use Rattle.vfs_journal.specs.Output.{refused_frame};
-ghost use Rattle.vfs_journal.specs.Session.{arrives};
+ghost use Rattle.vfs_journal.specs.Past.{history_of};
+ghost use Rattle.vfs_journal.specs.Session.{arrives, drained};
 ghost use Rattle.vfs_journal.specs.Starts.{Start};
 ghost use Rattle.vfs_session.specs.Running.{whole};
 ghost use Rattle.vfs_session.specs.Steps.{Begins, IsRunning};
 ghost use Rattle.vfs_session.specs.World.{LeadsTo, StandsFor, World};
-ghost use Rattle.vfs_world.specs.Steps.{CanWait, Hears, IsAdmitted, WaitsLast};
+ghost use Rattle.vfs_world.specs.Steps.{CanWait, Hears, IsAdmitted, IsFree, Reaches, WaitsLast};
 
 use byteorder::{ByteOrder, LittleEndian};
 use endpoint_link::{AdmitFault, FrameKind, FrameView, Outbox, Refusal, write_frame};
@@ -40,6 +42,102 @@ pub(crate) fn arrive(
         Err(AdmitFault::Refused(why)) => refuse(session, frame.endpoint, why, outbox),
         Err(AdmitFault::NoMemory) => Err(NoMemory),
     }
+}
+
+/// Accepts a frame, and serves all that can be served then.
+pub(crate) fn hear(
+    session: &mut Session,
+    frame: FrameView<'_>,
+    outbox: &mut Outbox,
+) -> Result<(), NoMemory>
+    requires frame { IsFrame side.ToServers (frame_of frame) }
+    requires running { IsRunning (2 ^ 61 - 4098) (whole session.old) }
+    ensures heard { (start : Start) (journal : Journal) → StandsFor start (whole session.old) journal →
+        OnOk result (LeadsTo start (drained start (arrives start journal (frame_of frame.entry))) (whole session.new) journal outbox.old outbox.new) }
+    ensures none { (start : Start) (journal : Journal) → StandsFor start (whole session.old) journal →
+        OnOk result (waiting (history_of start (drained start (arrives start journal (frame_of frame.entry)))) ≡ []) }
+    ensures running { (most : ℕ) → IsRunning most (whole session.old) → OnOk result (IsRunning (most + 4098) (whole session.new)) }
+    ensures begins { Begins outbox.old outbox.new }
+{
+    reach(session, frame, outbox)?;
+    session.drain(outbox)
+}
+
+/// Accepts a frame, on the way to a drain: what can be served at once doesn't wait.
+fn reach(session: &mut Session, frame: FrameView<'_>, outbox: &mut Outbox) -> Result<(), NoMemory>
+    requires frame { IsFrame side.ToServers (frame_of frame) }
+    requires running { IsRunning (2 ^ 61 - 4098) (whole session.old) }
+    ensures reached { (start : Start) (journal : Journal) → StandsFor start (whole session.old) journal →
+        OnOk result (Reaches start (arrives start journal (frame_of frame.entry)) (whole session.new) journal outbox.old outbox.new) }
+    ensures running { (most : ℕ) → IsRunning most (whole session.old) → OnOk result (IsRunning (most + 4098) (whole session.new)) }
+    ensures begins { Begins outbox.old outbox.new }
+{
+    match free_server(session, frame) {
+        Some(server) => serve_at_once(session, server, frame, outbox),
+        None => arrive(session, frame, outbox),
+    }
+}
+
+/// The server at which a message can be served at once: its endpoint is bound there, and nothing waits.
+fn free_server(session: &Session, frame: FrameView<'_>) -> Option<u32>
+    ensures { IfSome result (λ server. IsFree (frame_of frame.entry) server (whole session.now)) }
+{
+    match frame.kind {
+        FrameKind::Message if session.queues.len() == 0 => {
+            session.queues.server_of(frame.endpoint)
+        }
+        _ => None,
+    }
+}
+
+/// Serves a message that waits nowhere, or answers that its frame is refused. It takes a place.
+fn serve_at_once(
+    session: &mut Session,
+    server: u32,
+    frame: FrameView<'_>,
+    outbox: &mut Outbox,
+) -> Result<(), NoMemory>
+    requires frame { IsFrame side.ToServers (frame_of frame) }
+    requires running { IsRunning (2 ^ 61 - 4098) (whole session.old) }
+    requires free { IsFree (frame_of frame) server (whole session.old) }
+    ensures reached { (start : Start) (journal : Journal) → StandsFor start (whole session.old) journal →
+        OnOk result (Reaches start (arrives start journal (frame_of frame.entry)) (whole session.new) journal outbox.old outbox.new) }
+    ensures running { (most : ℕ) → IsRunning most (whole session.old) → OnOk result (IsRunning (most + 4098) (whole session.new)) }
+    ensures begins { Begins outbox.old outbox.new }
+{
+    match session.endpoints.admit(frame) {
+        Ok(()) => serve_admitted(session, server, frame, outbox),
+        Err(AdmitFault::Refused(why)) => refuse(session, frame.endpoint, why, outbox),
+        Err(AdmitFault::NoMemory) => Err(NoMemory),
+    }
+}
+
+/// Serves an admitted message that waits nowhere. It takes a place.
+fn serve_admitted(
+    session: &mut Session,
+    server: u32,
+    frame: FrameView<'_>,
+    outbox: &mut Outbox,
+) -> Result<(), NoMemory>
+    requires frame { IsFrame side.ToServers (frame_of frame) }
+    requires heard { Hears (2 ^ 61 - 4098) (frame_of frame) (whole session.old) }
+    requires free { IsFree (frame_of frame) server (whole session.old) }
+    ensures reached { (start : Start) (journal : Journal) (before : World) → StandsFor start before journal → IsAdmitted before (frame_of frame.entry) (whole session.old) →
+        OnOk result (Reaches start (arrives start journal (frame_of frame.entry)) (whole session.new) journal outbox.old outbox.new) }
+    ensures running { (most : ℕ) (before : World) → IsRunning most before → IsAdmitted before (frame_of frame.entry) (whole session.old) →
+        OnOk result (IsRunning (most + 4098) (whole session.new)) }
+    ensures begins { Begins outbox.old outbox.new }
+{
+    let room = mem::replace(&mut session.room, Vec::new(session.alloc));
+    let parcel = Parcel::of_message(session.alloc, room, frame)?;
+    let sent = Sent {
+        place: session.places,
+        endpoint: frame.endpoint,
+        parcel,
+        origin: None,
+    };
+    session.places += 1;
+    session.serve_taken(frame.endpoint, server, sent, outbox)
 }
 
 /// Does what an admitted frame asks, behind its admission.

@@ -7,10 +7,12 @@ ghost use Rattle.vfs_journal.specs.History.{waiting};
 ghost use Rattle.vfs_journal.specs.Past.{history_of};
 ghost use Rattle.vfs_journal.specs.Session.{arrives, drained, head, oldest, picked, turned};
 ghost use Rattle.vfs_journal.specs.Starts.{Start, start_of};
+ghost use Rattle.journal_laws.specs.Viewing.{view_behind};
+ghost use Rattle.vfs_server.specs.KeptNodes.{kept_in};
 ghost use Rattle.vfs_session.specs.Servings.{served_in};
 ghost use Rattle.vfs_session.specs.World.{LeadsTo, StandsFor};
 
-use crate::arriving::arrive;
+use crate::arriving::{arrive, hear};
 use crate::beginning::begin;
 use endpoint_link::{FrameView, Outbox};
 use fidl_names::NoMemory;
@@ -95,6 +97,33 @@ impl World {
         }
         let begun = outbox.len();
         if let Err(NoMemory) = arrive(&mut self.session, frame, outbox) {
+            return Err(take_back(begun, outbox, &mut self.spent));
+        }
+        self.frames += 1;
+        Ok(())
+    }
+
+    /// Accepts a frame, and serves all that can be served then: what `accept` and then `drain` do. A message
+    /// that finds nothing waiting is served without waiting itself.
+    pub fn hear(&mut self, frame: FrameView<'_>, outbox: &mut Outbox) -> Result<(), WorldFault>
+        requires frame { IsFrame side.ToServers (frame_of frame) }
+        requires few { self.old.frames < 2 ^ 48 }
+        ensures heard { (start : Start) (journal : Journal) → StandsFor start self.old journal →
+            OnOk result (LeadsTo start (drained start (arrives start journal (frame_of frame.entry))) self.new journal outbox.old outbox.new) }
+        ensures none { (start : Start) (journal : Journal) → StandsFor start self.old journal →
+            OnOk result (waiting (history_of start (drained start (arrives start journal (frame_of frame.entry)))) ≡ []) }
+        ensures frames { self.new.frames ≡ (if is_ok result then self.old.frames + 1 else self.old.frames) }
+        ensures able { OnOk result (self.new.spent ≡ false) }
+        ensures memory { result ≡ Err WorldFault.NoMemory → (self.old.spent ≡ false) × (self.new.spent ≡ true) }
+        ensures spent { self.old.spent ≡ true → (result ≡ Err WorldFault.Spent) × (self.new ≡ self.old) }
+        ensures only_spent { result ≡ Err WorldFault.Spent → self.old.spent ≡ true }
+        ensures silent { OnErr result (outbox.new ≡ outbox.old) }
+    {
+        if let Err(fault) = self.able() {
+            return Err(fault);
+        }
+        let begun = outbox.len();
+        if let Err(NoMemory) = hear(&mut self.session, frame, outbox) {
             return Err(take_back(begun, outbox, &mut self.spent));
         }
         self.frames += 1;
@@ -194,6 +223,19 @@ impl World {
         ensures { result ≡ self.now.queues.servers }
     {
         self.session.queues.servers()
+    }
+
+    /// How many nodes of a server are kept: its root, those that names lead to, and those that the births of
+    /// bound endpoints, watchers, and tokens that are held or waiting name. A spent world tells 0.
+    pub fn kept(&self, server: u32) -> u32
+        requires server { server < self.now.queues.servers }
+        ensures kept { (start : Start) (journal : Journal) → StandsFor start self.now journal → result ≡ kept_in (view_behind start journal) server }
+        ensures spent { self.now.spent ≡ true → result ≡ 0 }
+    {
+        if self.able().is_err() {
+            return 0;
+        }
+        self.session.servers[server as usize].kept() as u32
     }
 
     /// How many entries wait.

@@ -4,8 +4,8 @@ use Rattle.vfs_program.proofs.tree_session.hear.Goals as goal
 
 pub returns-in-Auto-clause-heard : goal.returns-in-Auto-clause-heard
 returns-in-Auto-clause-heard c = λ start before behind.
-    hears_auto c.drain.result start c.args.mode c.in-Auto.is c.args.world.now c.accept.new.self c.drain.new.world before (frame_of c.args.frame)
-    c.args.outbox.now c.accept.new.outbox c.drain.new.outbox (c.in-Ok.ensures.arrived start) (c.drain.ensures.drained start) behind
+    hears_auto start c.args.mode c.in-Auto.is c.args.world.now c.hear.new.self before (frame_of c.args.frame)
+    c.args.outbox.now c.hear.new.outbox (c.in-Ok.ensures.heard start) behind
 
 pub returns-in-Given-clause-heard : goal.returns-in-Given-clause-heard
 returns-in-Given-clause-heard c = λ start before behind.

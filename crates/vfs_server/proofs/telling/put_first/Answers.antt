@@ -1,4 +1,4 @@
-use Rattle.std.proofs.Common.{◌≡◌, ◌∙◌, ◌++◌, List, OnOk, ap, subst, sym, ℕ}
+use Rattle.std.proofs.Common.{◌≡◌, ◌∙◌, ◌++◌, List, OnOk, ap, subst, sym}
 use Rattle.endpoint_link.specs.Frames.{Frame, spellings}
 use Rattle.watch_events.specs.Messages.{first_frames}
 use Rattle.vfs_server.specs.Watched.{first_of}

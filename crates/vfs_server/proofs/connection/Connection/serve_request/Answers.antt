@@ -1,15 +1,18 @@
-use Rattle.std.proofs.Common.{◌≡◌, ◌∙◌, true, ap, subst, sym}
+use Rattle.std.proofs.Common.{◌≡◌, ◌∙◌, ℕ, Option, true, ap, subst, sym}
 use Rattle.io_messages.specs.Asked.{Asked, asked, method_of}
 use Rattle.io_messages.specs.Protocols.{has_method}
 use Rattle.node_graph.specs.Graph.{number_of}
+use Rattle.node_graph.specs.Tree.{Tree}
 use Rattle.conn_rules.specs.declared.births.Room.{Room}
 use Rattle.conn_rules.specs.Acts.{act_of}
+use Rattle.conn_rules.specs.Answers.{Act}
 use Rattle.conn_rules.specs.Births.{Connection}
 use Rattle.conn_rules.specs.Contexts.{context_of}
 use Rattle.conn_rules.specs.Shared.{CanBeBound}
 use Rattle.vfs_journal.specs.Serving.{object_of}
-use Rattle.vfs_server.specs.Steps.{Acts, DoesGiven, IsAskedAt, connection_of, room_for}
+use Rattle.vfs_server.specs.Steps.{Acts, DoesGiven, IsAskedAt, connection_of, looked_at, room_for}
 use Rattle.vfs_server.proofs.Answering.{binds_connection, can_tell, request_answers}
+use Rattle.vfs_server.proofs.Looked.{act_alike}
 use Rattle.vfs_server.proofs.connection.Connection.serve_request.Goals as goal
 
 -- the method is one of the connection's protocol
@@ -25,8 +28,16 @@ answer-requires c = record {
 }
 
 -- what is in use, as the connection sees it
-room_is : (c : goal.In_ok-fate) → c.room-room.result ≡ room_for c.args.asking.now (number_of (connection_of c.self.inside.conn).birth.node)
-room_is c = c.room-room.ensures ∙ ap (room_for c.args.asking.now) (c.number.ensures ∙ ap number_of c.node.ensures)
+room_is : (c : goal.In_ok-fate) → c.room-room.result ≡ looked_at (asked c.args.request) (room_for c.args.asking.now (number_of (connection_of c.self.inside.conn).birth.node))
+room_is c = c.room-room.ensures ∙ ap (λ (n : ℕ). looked_at (asked c.args.request) (room_for c.args.asking.now n)) (c.number.ensures ∙ ap number_of c.node.ensures)
+
+-- what is done, over whatever tree and tokens, doesn't look at more
+act_is : (c : goal.In_ok-fate) (tree : Tree) (directory : ℕ → Option ℕ) →
+    act_of (context_of (connection_of c.self.inside.conn) c.room-room.result tree directory) (asked c.args.request)
+    ≡ act_of (context_of (connection_of c.self.inside.conn) (room_for c.args.asking.now (number_of (connection_of c.self.inside.conn).birth.node)) tree directory) (asked c.args.request)
+act_is c tree directory =
+    ap (λ (room : Room). act_of (context_of (connection_of c.self.inside.conn) room tree directory) (asked c.args.request)) (room_is c)
+    ∙ act_alike (connection_of c.self.inside.conn) (room_for c.args.asking.now (number_of (connection_of c.self.inside.conn).birth.node)) tree directory (asked c.args.request)
 
 -- what was done, by the request's endpoint and the connection's node
 does : (c : goal.In_ok-fate) →
@@ -44,9 +55,9 @@ returns-clause-answers c server moment asks named =
     request_answers server c.args.asking.now c.args.graph.now c.serve-given.new.graph (connection_of c.self.inside.conn) can moment here
     c.args.txid (asked c.args.request) (known_here (asked c.args.request) c.self.view_is c.requires.method) c.serve-given.result c.serve-given.new.out (connection_of c.serve-given.new.self) c.serve-given.ensures.holds.birth
     (subst
-    (λ (room : Room). Acts (act_of (context_of (connection_of c.self.inside.conn) room moment.tree moment.directory) (asked c.args.request)) c.args.txid c.serve-given.result c.serve-given.new.out (connection_of c.serve-given.new.self)
+    (λ (act : Act). Acts act c.args.txid c.serve-given.result c.serve-given.new.out (connection_of c.serve-given.new.self)
     c.args.graph.now c.serve-given.new.graph)
-    (room_is c) (c.serve-given.ensures.acts moment.tree moment.directory here.tree named done.some))
+    (act_is c moment.tree moment.directory) (c.serve-given.ensures.acts moment.tree moment.directory here.tree named done.some))
     (record { fate = c.in_ok-fate.fate; changes = c.changes-changes.result }) c.changes-changes.ensures c.answer.new.out c.args.outbox.now c.answer.new.outbox done
 
 pub returns-clause-tells : goal.returns-clause-tells

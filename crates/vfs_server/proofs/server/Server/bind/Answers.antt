@@ -1,8 +1,7 @@
-use Rattle.std.proofs.Common.{◌≡◌, ◌≢◌, ◌∙◌, ◌<◌, None, ap, sym, subst}
+use Rattle.std.proofs.Common.{◌≡◌, ◌∙◌, ◌<◌, None, ap, sym, subst}
 use Rattle.std.specs.FinMap as finite
 use Rattle.fidl_names.specs.declared.limits.TheConstants as limit
-use Rattle.io_messages.specs.declared.protocols.Protocol.TheVariants as protocol
-use Rattle.conn_rules.specs.Births.{Connection, fresh}
+use Rattle.conn_rules.specs.Births.{fresh}
 use Rattle.node_graph.specs.Tree.{stay}
 use Rattle.vfs_server.specs.Binding.{Binds, HasPlace}
 use Rattle.vfs_server.specs.Kept.{Connections, IsSound}

@@ -1,7 +1,6 @@
-use Rattle.std.proofs.Common.{◌≡◌, ◌∙◌, ◌++◌, ◌∷◌, [], Bool, true, false, None, OnOk, Result, Ok, Err, ap, nat_eq, subst, sym}
+use Rattle.std.proofs.Common.{◌≡◌, ◌∙◌, ◌++◌, ◌∷◌, [], true, false, None, OnOk, Result, Ok, Err, ap, nat_eq, subst, sym}
 use Rattle.std.specs.Result.{is_err}
 use Rattle.indexmap.proofs.CallerLemmas.{insert_entry-new}
-use Rattle.node_graph.specs.Graph.{number_of}
 use Rattle.watch_events.specs.Watching.{Adds}
 use Rattle.vfs_server.specs.Watched.{AreByDirectory, Seats, seat_at}
 use Rattle.vfs_server.proofs.Seats.{by_directory_more, new_there}

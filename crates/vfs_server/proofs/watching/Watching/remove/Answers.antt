@@ -1,5 +1,4 @@
-use Rattle.std.proofs.Common.{◌≡◌, ◌∙◌, None, Some, ap, subst, sym}
-use Rattle.node_graph.specs.Graph.{number_of}
+use Rattle.std.proofs.Common.{◌≡◌, ◌∙◌, None, ap, subst, sym}
 use Rattle.watch_events.specs.Watching.{Removes}
 use Rattle.vfs_server.specs.Watched.{AreByDirectory, Seats, seat_at, without}
 use Rattle.vfs_server.proofs.Seats.{by_directory_less}

@@ -3,9 +3,13 @@ use Rattle.fidl_wire.specs.Written.{Written}
 use Rattle.endpoint_link.specs.Standings.{Known, ended, gone}
 use Rattle.vfs_journal.specs.Entries.{Sent, tokens_in}
 use Rattle.message_queues.specs.Queues.{IsAbove, count}
+use Rattle.vfs_server.specs.declared.fate.Fate.{Fate}
+use Rattle.vfs_session.specs.Heads.{SettlesHead}
+use Rattle.vfs_session.specs.Running.{whole}
 use Rattle.vfs_session.specs.Steps.{CanGo, ForgetsAll, SendsOn, known_told, spent_told}
 use Rattle.vfs_session.proofs.Halves.{above_left, known_then, one_at_most, settled_known}
 use Rattle.vfs_session.proofs.Spending.{can_go_alike, ended_tokens}
+use Rattle.vfs_session.proofs.Quiet.{settles_quietly}
 use Rattle.vfs_session.proofs.session.Session.settle_head.Goals as goal
 
 pub spend-requires : goal.spend-requires
@@ -30,8 +34,8 @@ send_on-requires-clause-counted c =
     (settled_known c.args.self.now.endpoints c.let_die.new.self.endpoints c.spend.new.endpoints c.give.new.endpoints c.args.fate.now died.dead (tokens_in c.args.sent.now ++ c.deref.result.now) (spent_told c.args.sent.now c.args.self.now.queues died.dead)
     (count c.let_die.new.self.queues) died.known (ap (λ (tokens : List ℕ). tokens_in c.args.sent.now ++ tokens) (c.deref.ensures.value ∙ died.tokens)) c.spend.ensures.known c.in_ok-give.ensures))
 
-pub overflow_add-self : goal.overflow_add-self
-overflow_add-self c = let few = c.requires.places in let p = c.in_ok-dropped.ensures.dead.places in let a = c.in_ok-more.ensures.count in let b = one_at_most c.args.fate.now in omega (arith, few, p, a, b)
+pub overflow_add-self-2 : goal.overflow_add-self-2
+overflow_add-self-2 c = let few = c.requires.places in let p = c.in_ok-dropped.ensures.dead.places in let a = c.in_ok-more.ensures.count in let b = one_at_most c.args.fate.now in omega (arith, few, p, a, b)
 
 pub returns-clause-settled : goal.returns-clause-settled
 returns-clause-settled c =
@@ -58,3 +62,9 @@ returns-clause-settled c =
           c.in_ok-more.ensures.known;
       places = let p = died.places in let a = c.in_ok-more.ensures.count in omega (arith, p, a);
     }
+
+pub returns-then-is_quiet-clause-settled : goal.returns-then-is_quiet-clause-settled
+returns-then-is_quiet-clause-settled c =
+    let quiet = c.is_quiet.ensures c.if-is_quiet.true in
+    subst (λ (fate : Fate). SettlesHead (whole c.args.self.now) c.args.sent.now fate c.args.self.now.out (record (whole c.args.self.now) { places = c.args.self.now.places + 1 }) c.args.outbox.now c.args.outbox.now) (sym quiet.0)
+    (settles_quietly (whole c.args.self.now) c.args.sent.now c.args.self.now.out c.args.outbox.now quiet.1 c.requires.counted)

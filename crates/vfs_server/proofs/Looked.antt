@@ -1,0 +1,53 @@
+-- What a request does doesn't look at who watches, unless it is a Watch.
+use Rattle.std.proofs.Common.{◌≡◌, ℕ, Option, refl, ap}
+use Rattle.fidl_names.specs.declared.methods.Method.TheVariants as method
+use Rattle.fidl_names.specs.First.{first_of}
+use Rattle.io_messages.specs.Asked.{Asked, method_of}
+use Rattle.io_messages.specs.Asked as asks
+use Rattle.node_graph.specs.Tree.{Tree}
+use Rattle.path_walk.specs.Paths.{names_of}
+use Rattle.conn_rules.specs.declared.births.Room.{Room}
+use Rattle.conn_rules.specs.Acts.{act_of, method_refusals, row_act}
+use Rattle.conn_rules.specs.Births.{Birth, Connection, Position, born}
+use Rattle.conn_rules.specs.Contexts.{context_of, context_with}
+use Rattle.conn_rules.specs.Opens.{by_walk, entry_refusals}
+use Rattle.conn_rules.specs.Refusals.{unless}
+use Rattle.conn_rules.specs.Walks.{Walk, arrives, missing, crosses, stops, walk}
+use Rattle.vfs_server.specs.Steps.{looked_at}
+
+module _ (birth : Birth) (position : Position) (room : Room) (tree : Tree) (directory : ℕ → Option ℕ) where
+  walk_alike : (word : ℕ) (w : Walk) → by_walk (context_with birth position (record room { watchers = 0 }) tree directory) word w ≡ by_walk (context_with birth position room tree directory) word w
+  walk_alike word (arrives node masks) = refl
+  walk_alike word (missing parent name masks) = refl
+  walk_alike word (crosses mount rest masks) = refl
+  walk_alike word (stops status) = refl
+
+  row_alike : (request : Asked) → row_act (context_with birth position (looked_at request room) tree directory) request ≡ row_act (context_with birth position room tree directory) request
+  row_alike (asks.clone endpoint) = refl
+  row_alike asks.close = refl
+  row_alike asks.query = refl
+  row_alike (asks.get_attributes bits) = refl
+  row_alike asks.sync = refl
+  row_alike (asks.open_path path flags attributes object) =
+      ap (unless (first_of (entry_refusals birth flags path)) position method.OpenPath) (walk_alike flags (walk tree flags (names_of path) birth.node))
+  row_alike (asks.read_dirents most) = refl
+  row_alike asks.rewind = refl
+  row_alike asks.get_token = refl
+  row_alike (asks.rename src token dst) = refl
+  row_alike (asks.link src token dst) = refl
+  row_alike (asks.unlink name flags) = refl
+  row_alike (asks.watch mask options watcher) = refl
+  row_alike (asks.read count) = refl
+  row_alike (asks.read_at count offset) = refl
+  row_alike (asks.write bytes) = refl
+  row_alike (asks.write_at bytes offset) = refl
+  row_alike (asks.seek origin offset) = refl
+  row_alike (asks.resize size) = refl
+  row_alike (asks.echo_string value) = refl
+
+pub act_alike : (connection : Connection) (room : Room) (tree : Tree) (directory : ℕ → Option ℕ) (request : Asked) →
+    act_of (context_of connection (looked_at request room) tree directory) request ≡ act_of (context_of connection room tree directory) request
+unfolding act_of
+act_alike connection room tree directory request =
+    ap (unless (first_of (method_refusals (born connection.birth) (method_of request))) connection.position (method_of request))
+    (row_alike (born connection.birth) connection.position room tree directory request)

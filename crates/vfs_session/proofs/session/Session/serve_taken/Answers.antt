@@ -1,0 +1,30 @@
+use Rattle.std.proofs.Common.{refl}
+use Rattle.vfs_session.specs.Running.{whole}
+use Rattle.vfs_session.proofs.Halves.{begins_on, goes_on, one_served}
+use Rattle.vfs_session.proofs.Ready.{can_settle}
+use Rattle.vfs_session.proofs.session.Session.serve_taken.Goals as goal
+
+pub settle_head-requires : goal.settle_head-requires
+settle_head-requires c =
+    let taken = c.requires.taken in
+    let can = can_settle taken.0 (whole c.answer_taken.new.self) taken.1.0 _ _ _ _ _ _ _ (c.in_ok-fate.ensures.taken taken.0 taken.1.1) in
+    record { live = can.live; out = can.out; counted = can.counted; low = can.low; newest = can.newest; few = can.few; places = can.places }
+
+pub returns-in_err-settle_head-clause-begins : goal.returns-in_err-settle_head-clause-begins
+returns-in_err-settle_head-clause-begins c = begins_on c.args.outbox.now c.answer_taken.new.outbox c.settle_head.new.outbox c.answer_taken.ensures.begins c.settle_head.ensures.begins
+
+pub returns-clause-served : goal.returns-clause-served
+returns-clause-served c =
+    λ before run takes.
+    one_served before (whole c.answer_taken.new.self) (whole c.settle_head.new.self) (whole c.keep_room.new.self) run _ _ _ _ _ _ _ _ (c.in_ok-fate.ensures.taken before takes)
+    c.in_ok-settle_head.ensures.settled c.keep_room.ensures refl
+
+pub returns-clause-running : goal.returns-clause-running
+returns-clause-running c =
+    λ most before run few takes.
+    goes_on most before (whole c.keep_room.new.self) few c.args.endpoint _ _
+    (one_served before (whole c.answer_taken.new.self) (whole c.settle_head.new.self) (whole c.keep_room.new.self) run _ _ _ _ _ _ _ _ (c.in_ok-fate.ensures.taken before takes)
+    c.in_ok-settle_head.ensures.settled c.keep_room.ensures refl)
+
+pub returns-clause-begins : goal.returns-clause-begins
+returns-clause-begins c = begins_on c.args.outbox.now c.answer_taken.new.outbox c.settle_head.new.outbox c.answer_taken.ensures.begins c.settle_head.ensures.begins

@@ -1,0 +1,190 @@
+-- A message that is served at once is served as if it had waited: it is behind nothing, and is taken again at once.
+use Rattle.std.proofs.Common.{◌≡◌, ℕ, zero, suc, ◌+◌, ◌-◌, ◌<◌, ◌≤◌, ◌^◌, ◌==◌, Bool, true, false, cond, if◌then◌else◌, IsSome, List, [], ◌∷◌, ◌++◌, length, filter, drop, Option, Some, None, refl, sym, ap, ◌∙◌, subst, arith}
+use Rattle.std.specs.Prelude.{slice_get}
+use Rattle.std.specs.Cmp.{nat_cmp_total}
+use Rattle.std.specs.FinMap as finite
+use Rattle.std.specs.Option.{option_map_or, option_and_then}
+use Rattle.std.specs.Ordering.{eq_by_cmp, nat_cmp}
+use Rattle.std.proofs.Math.Nat.{zero-add}
+use Rattle.std.proofs.lemmas.Bool.{eq-eqb, eqb-true}
+use Rattle.std.proofs.lemmas.Bool.Decides.{nat_tests}
+use Rattle.std.proofs.lemmas.Option.{none-some, same_Some}
+use Rattle.fidl_wire.specs.Names.{AreDistinct}
+use Rattle.endpoint_link.specs.Frames.{Frame, IsFrame}
+use Rattle.endpoint_link.specs.declared.kinds.Side.TheVariants.{ToServers}
+use Rattle.vfs_journal.specs.Entries.{Journal, Sent, message}
+use Rattle.vfs_journal.specs.History.{waiting}
+use Rattle.vfs_journal.specs.Past.{history_of}
+use Rattle.vfs_journal.specs.Session.{arrives, drained}
+use Rattle.vfs_journal.specs.Starts.{Start}
+use Rattle.message_queues.specs.Oldest.{IsBound, IsOldest}
+use Rattle.message_queues.specs.Queues.{Mailbox, Queues, Requeues, count, head_of, queue_of, server_of}
+use Rattle.message_queues.proofs.Counting.{counts_its_list}
+use Rattle.vfs_session.specs.Heads.{Takes}
+use Rattle.vfs_session.specs.Servings.{IsDrain, IsOldestOfAll, ServesOne, ServesTimes}
+use Rattle.vfs_session.specs.Steps.{IsRunning}
+use Rattle.vfs_session.specs.World.{LeadsTo, StandsFor, World}
+use Rattle.vfs_session.proofs.OneMore.{one_of_these}
+use Rattle.vfs_session.proofs.Serves.{drain_leads, drained_none}
+use Rattle.vfs_session.proofs.Times.{goes_on}
+use Rattle.vfs_world.specs.Steps.{IsAdmitted, IsFree, Reaches, WaitsLast}
+use Rattle.vfs_world.proofs.Hearing.{message_lasts, message_leads}
+
+-- ---- queues with one entry more
+
+abbrev last_box : Queues → Sent → Mailbox
+last_box queues sent = record { server = server_of queues sent.endpoint; queue = queue_of queues sent.endpoint ++ sent ∷ [] }
+
+abbrev pub with_last : Queues → Sent → Queues
+with_last queues sent = record { boxes = finite.insert queues.boxes sent.endpoint (last_box queues sent); servers = queues.servers }
+
+tests_alike : (a b : ℕ) → eq_by_cmp nat_cmp a b ≡ (a == b)
+tests_alike a b = grind (arith, nat_tests)
+
+box_at : (queues : Queues) (sent : Sent) (other : ℕ) → finite.get (with_last queues sent).boxes other ≡ cond (other == sent.endpoint) (Some (last_box queues sent)) (finite.get queues.boxes other)
+box_at queues sent other =
+    finite.get-insert nat_cmp_total queues.boxes sent.endpoint (last_box queues sent) other
+    ∙ ap (λ (b : Bool). cond b (Some (last_box queues sent)) (finite.get queues.boxes other)) (tests_alike other sent.endpoint)
+
+either_queue : (b : Bool) (one : Mailbox) (two : Option Mailbox) → option_map_or (λ (box : Mailbox). box.queue) (cond b (Some one) two) [] ≡ (if b then one.queue else option_map_or (λ (box : Mailbox). box.queue) two [])
+either_queue true one two = refl
+either_queue false one two = refl
+
+pub waits_there : (queues : Queues) (sent : Sent) → Requeues queues sent.endpoint (queue_of queues sent.endpoint ++ sent ∷ []) (with_last queues sent)
+waits_there queues sent = record {
+  waiting = λ other. ap (λ (box : Option Mailbox). option_map_or (λ (b : Mailbox). b.queue) box []) (box_at queues sent other) ∙ either_queue (other == sent.endpoint) (last_box queues sent) (finite.get queues.boxes other);
+  bound = λ other. ap (option_and_then (λ (b : Mailbox). b.server)) (box_at queues sent other) ∙ by_test other (other == sent.endpoint) refl;
+  those = refl;
+}
+  where
+    by_test : (other : ℕ) (b : Bool) → (other == sent.endpoint) ≡ b → option_and_then (λ (box : Mailbox). box.server) (cond b (Some (last_box queues sent)) (finite.get queues.boxes other)) ≡ server_of queues other
+    by_test other true e = ap (server_of queues) (sym (eqb-true other sent.endpoint e))
+    by_test other false e = refl
+
+-- ---- where nothing waits
+
+module _ (queues : Queues) (sent : Sent) (none : (endpoint : ℕ) → queue_of queues endpoint ≡ []) where
+  alone : (endpoint : ℕ) → queue_of (with_last queues sent) endpoint ≡ (if endpoint == sent.endpoint then sent ∷ [] else [])
+  alone endpoint =
+      (waits_there queues sent).waiting endpoint
+      ∙ (λ i. if endpoint == sent.endpoint then none sent.endpoint i ++ sent ∷ [] else none endpoint i)
+
+  here : queue_of (with_last queues sent) sent.endpoint ≡ sent ∷ []
+  here = alone sent.endpoint ∙ ap (λ (b : Bool). if b then sent ∷ [] else []) (eq-eqb sent.endpoint sent.endpoint refl)
+
+  pub is_first : head_of (with_last queues sent) sent.endpoint ≡ Some sent
+  is_first = ap (λ (q : List Sent). slice_get q 0) here
+
+  turned : (a b : ℕ) → (a == b) ≡ (b == a)
+  turned a b = grind (arith, nat_tests)
+
+  counted : count (with_last queues sent) ≡ 1
+  counted = counts_its_list (with_last queues sent) (sent ∷ []) (λ n. alone n ∙ by_test (n == sent.endpoint) ∙ ap (λ (b : Bool). cond b (sent ∷ []) []) (turned n sent.endpoint)) where
+    by_test : (b : Bool) → (if b then sent ∷ [] else []) ≡ cond b (sent ∷ []) []
+    by_test true = refl
+    by_test false = refl
+
+  none_counted : count queues ≡ 0
+  none_counted = counts_its_list queues [] none
+
+  -- it is taken again, and no other waits
+  pub taken_again : (server : ℕ) (now : World) → server_of queues sent.endpoint ≡ Some server → now.queues ≡ queues → Takes (record now { queues = with_last queues sent }) sent.endpoint server sent now
+  taken_again server now bound same = record {
+    bound = (waits_there queues sent).bound sent.endpoint ∙ bound;
+    first = is_first;
+    taken = record {
+      waiting = λ other. ap (λ (q : Queues). queue_of q other) same ∙ none other ∙ by_test other (other == sent.endpoint) refl;
+      bound = λ other. ap (λ (q : Queues). server_of q other) same ∙ sym ((waits_there queues sent).bound other);
+      those = ap (λ (q : Queues). q.servers) same;
+    };
+    count = let a = counted in let b = none_counted in let c = ap count same in omega (arith, a, b, c);
+    same = refl;
+  }
+    where
+      by_test : (other : ℕ) (b : Bool) → (other == sent.endpoint) ≡ b →
+          [] ≡ (if b then drop 1 (queue_of (with_last queues sent) sent.endpoint) else queue_of (with_last queues sent) other)
+      by_test other true e = sym (ap (drop 1) here)
+      by_test other false e = sym (alone other ∙ ap (λ (t : Bool). if t then sent ∷ [] else []) e)
+
+  -- it is the oldest of all
+  pub oldest_then : IsSome (server_of queues sent.endpoint) → IsOldestOfAll (with_last queues sent) sent.endpoint
+  oldest_then bound = record {
+    sent = sent;
+    one_of = subst IsSome (sym ((waits_there queues sent).bound sent.endpoint)) bound;
+    waits = is_first;
+    least = λ other later there waits. by_test other later (other == sent.endpoint) refl (sym (ap (λ (q : List Sent). slice_get q 0) (alone other)) ∙ waits);
+  }
+    where
+      by_test : (other : ℕ) (later : Sent) (b : Bool) → (other == sent.endpoint) ≡ b → slice_get (if other == sent.endpoint then sent ∷ [] else []) 0 ≡ Some later → sent.place ≤ later.place
+      by_test other later true e waits =
+          let same = same_Some sent later (sym (ap (λ (t : Bool). slice_get (if t then sent ∷ [] else []) 0) e) ∙ waits) in
+          let places = ap (λ (one : Sent). one.place) same in
+          omega (arith, places)
+      by_test other later false e waits = absurd (none-some later (sym (ap (λ (t : Bool). slice_get (if t then sent ∷ [] else []) 0) e) ∙ waits))
+
+-- ---- from a frame to its serving
+
+-- the world in which the message of a frame waits, as it would
+abbrev pub sent_in : World → Frame → Sent
+sent_in now frame = record { place = now.places; endpoint = frame.endpoint; sending = message frame.bytes frame.handles; origin = None }
+
+abbrev pub waits_in : World → Frame → World
+waits_in now frame = record now { queues = with_last now.queues (sent_in now frame); places = now.places + 1 }
+
+pub waits_last : (now : World) (frame : Frame) → WaitsLast now frame.endpoint (message frame.bytes frame.handles) (waits_in now frame)
+waits_last now frame = record { queued = waits_there now.queues (sent_in now frame); same = refl }
+
+-- where no more than none are counted, nothing waits on any endpoint
+pub none_waits : (old now : World) (most : ℕ) → IsRunning most old → now ≡ record old { known = now.known } → count now.queues ≡ 0 → (endpoint : ℕ) → queue_of now.queues endpoint ≡ []
+none_waits old now most r same none endpoint =
+    let queues : now.queues ≡ old.queues = ap (λ (w : World). w.queues) same in
+    let view = r.stands.holds.queues in
+    ap (λ (q : Queues). queue_of q endpoint) queues ∙ view.queue endpoint
+    ∙ ap (filter (λ (sent : Sent). sent.endpoint == endpoint)) (no_items (waiting (history_of r.start r.journal)) (sym (counts_its_list old.queues (waiting (history_of r.start r.journal)) view.queue) ∙ sym (ap count queues) ∙ none))
+  where
+    no_items : (ones : List Sent) → length ones ≡ 0 → ones ≡ []
+    no_items [] e = refl
+    no_items (one ∷ ones) e = absurd (omega (arith, e))
+
+pub reached_at_once : AreDistinct → (start : Start) (journal : Journal) (old now new : World) (frame : Frame) (before after : List ℕ) → StandsFor start old journal → IsFrame ToServers frame →
+    IsAdmitted old frame now → (server : ℕ) → IsFree frame server now → ((endpoint : ℕ) → queue_of now.queues endpoint ≡ []) → ServesOne (λ one. one ≡ frame.endpoint) (waits_in now frame) new before after →
+    Reaches start (arrives start journal frame) new journal before after
+reached_at_once apart start journal old now new frame before after stands is admitted server free none one = record {
+  there = waits_in now frame;
+  between = before;
+  leads = message_leads apart start journal old now (waits_in now frame) frame before stands is free.message admitted (waits_last now frame);
+  done = 1;
+  serves = (
+    new,
+    (
+      after,
+      (
+        one_of_these (IsOldestOfAll (with_last now.queues (sent_in now frame))) frame.endpoint (waits_in now frame) new before after
+            (oldest_then now.queues (sent_in now frame) none (subst IsSome (sym free.bound) refl)) one,
+        (refl, refl),
+      ),
+    ),
+  );
+}
+
+pub reached_by : (start : Start) (journal later : Journal) (new : World) (before after : List ℕ) → LeadsTo start later new journal before after → Reaches start later new journal before after
+reached_by start journal later new before after leads = record { there = new; between = after; leads = leads; done = 0; serves = (refl, refl) }
+
+-- ---- and to all that can be served then
+
+times_on : (Chosen : Queues → ℕ → Type 0) (done more : ℕ) (old k new : World) (before between after : List ℕ) → ServesTimes Chosen done old k before between → ServesTimes Chosen more k new between after →
+    ServesTimes Chosen (done + more) old new before after
+times_on Chosen zero more old k new before between after same rest =
+    subst (λ (n : ℕ). ServesTimes Chosen n old new before after) (sym (zero-add more))
+    (subst (λ (w : World). ServesTimes Chosen more w new before after) same.0 (subst (λ (bytes : List ℕ). ServesTimes Chosen more k new bytes after) same.1 rest))
+times_on Chosen (suc done) more old k new before between after serves rest =
+    let e : suc (done + more) ≡ suc done + more = omega arith in
+    subst (λ (n : ℕ). ServesTimes Chosen n old new before after) e
+    (serves.0, (serves.1.0, (serves.1.1.0, times_on Chosen done more serves.0 k new serves.1.0 between after serves.1.1.1 rest)))
+
+pub drained_behind : AreDistinct → (start : Start) (journal later : Journal) (k new : World) (before between after : List ℕ) → Reaches start later k journal before between → IsDrain k new between after →
+    LeadsTo start (drained start later) new journal before after × (waiting (history_of start (drained start later)) ≡ [])
+drained_behind apart start journal later k new before between after r d =
+    let whole = drain_leads apart start later r.there new r.between after r.leads.stands
+    (record { done = r.done + d.done; serves = times_on IsOldestOfAll r.done d.done r.there k new r.between between after r.serves d.serves; last = d.last }) in
+    (goes_on start journal later (drained start later) r.there new before r.between after r.leads whole.0, whole.1)

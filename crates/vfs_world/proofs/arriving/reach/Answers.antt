@@ -1,0 +1,17 @@
+use Rattle.std.proofs.Common.{◌-◌, ◌^◌, arith}
+use Rattle.endpoint_link.specs.Views.{frame_of}
+use Rattle.vfs_journal.specs.Session.{arrives}
+use Rattle.vfs_session.specs.Running.{whole}
+use Rattle.vfs_session.proofs.Lasting.{lasts_more}
+use Rattle.vfs_world.proofs.Answered.{on_ok}
+use Rattle.vfs_world.proofs.AtOnce.{reached_by}
+use Rattle.vfs_world.proofs.arriving.reach.Goals as goal
+
+pub arrive-requires-clause-running : goal.arrive-requires-clause-running
+arrive-requires-clause-running c = lasts_more (2 ^ 61 - 4098) (2 ^ 61) (whole c.args.session.now) (omega arith) c.requires.running
+
+pub returns-in-None-clause-reached : goal.returns-in-None-clause-reached
+returns-in-None-clause-reached c =
+    λ start journal stands.
+    on_ok c.arrive.result (reached_by start journal (arrives start journal (frame_of c.args.frame)) (whole c.arrive.new.session) c.args.outbox.now c.arrive.new.outbox)
+    (c.arrive.ensures.arrived start journal stands)

@@ -1,0 +1,56 @@
+use Rattle.std.proofs.Common.{◌≡◌, ◌+◌, ◌-◌, ◌^◌, ℕ, None, refl, sym, ap, subst}
+use Rattle.endpoint_link.specs.Frames.{Frame, IsFrame}
+use Rattle.endpoint_link.specs.declared.kinds.Side.TheVariants.{ToServers}
+use Rattle.endpoint_link.specs.Views.{frame_of}
+use Rattle.vfs_journal.specs.Entries.{Sending, Sent, message}
+use Rattle.vfs_session.specs.Heads.{Takes}
+use Rattle.vfs_session.specs.Running.{whole}
+use Rattle.vfs_session.specs.Steps.{IsRunning}
+use Rattle.vfs_session.specs.World.{World}
+use Rattle.vfs_world.specs.Steps.{Hears, IsFree}
+use Rattle.vfs_world.proofs.Answered.{on_ok}
+use Rattle.vfs_world.proofs.AtOnce.{none_waits, reached_at_once, sent_in, taken_again, waits_in, waits_last}
+use Rattle.vfs_world.proofs.Hearing.{message_lasts}
+use Rattle.vfs_world.proofs.arriving.serve_admitted.Goals as goal
+
+-- behind its place it stands as what waited and was taken
+takes : (now : World) (frame : Frame) (server : ℕ) (sending : Sending) → Hears (2 ^ 61 - 4098) frame now → IsFree frame server now → sending ≡ message frame.bytes frame.handles →
+    Takes (waits_in now frame) frame.endpoint server (record { place = now.places; endpoint = frame.endpoint; sending = sending; origin = None }) (record now { places = now.places + 1 })
+takes now frame server sending heard free is =
+    subst (λ (s : Sending). Takes (waits_in now frame) frame.endpoint server (record { place = now.places; endpoint = frame.endpoint; sending = s; origin = None }) (record now { places = now.places + 1 })) (sym is)
+    (taken_again now.queues (sent_in now frame) (none_waits heard.before now (2 ^ 61 - 4098) heard.running heard.admitted.same free.none) server (record now { places = now.places + 1 }) free.bound refl)
+
+runs : (now : World) (frame : Frame) (server : ℕ) → Hears (2 ^ 61 - 4098) frame now → IsFrame ToServers frame → IsFree frame server now → IsRunning (2 ^ 61) (waits_in now frame)
+runs now frame server heard is free = message_lasts (2 ^ 61 - 4098) heard.before now (waits_in now frame) frame heard.running is free.message heard.admitted (waits_last now frame)
+
+pub serve_taken-requires : goal.serve_taken-requires
+serve_taken-requires c = record {
+  taken = (
+    waits_in (whole c.args.session.now) (frame_of c.args.frame),
+    (
+      runs (whole c.args.session.now) (frame_of c.args.frame) c.args.server c.requires.heard c.requires.frame c.requires.free,
+      takes (whole c.args.session.now) (frame_of c.args.frame) c.args.server c.in_ok-parcel.parcel c.requires.heard c.requires.free c.in_ok-parcel.ensures.message,
+    ),
+  );
+}
+
+pub returns-clause-reached : goal.returns-clause-reached
+returns-clause-reached c =
+    λ start journal before stands admitted.
+    let now : World = whole c.args.session.now in
+    let heard = c.requires.heard in
+    on_ok c.serve_taken.result
+    (reached_at_once heard.running.apart start journal before now (whole c.serve_taken.new.self) (frame_of c.args.frame) c.args.outbox.now c.serve_taken.new.outbox stands c.requires.frame admitted c.args.server c.requires.free
+    (none_waits heard.before now (2 ^ 61 - 4098) heard.running heard.admitted.same c.requires.free.none))
+    (c.serve_taken.ensures.served (waits_in now (frame_of c.args.frame))
+    (runs now (frame_of c.args.frame) c.args.server heard c.requires.frame c.requires.free)
+    (takes now (frame_of c.args.frame) c.args.server c.in_ok-parcel.parcel heard c.requires.free c.in_ok-parcel.ensures.message))
+
+pub returns-clause-running : goal.returns-clause-running
+returns-clause-running c =
+    λ most before run admitted.
+    let now : World = whole c.args.session.now in
+    c.serve_taken.ensures.running (most + 4098) (waits_in now (frame_of c.args.frame))
+    (runs now (frame_of c.args.frame) c.args.server c.requires.heard c.requires.frame c.requires.free)
+    (message_lasts most before now (waits_in now (frame_of c.args.frame)) (frame_of c.args.frame) run c.requires.frame c.requires.free.message admitted (waits_last now (frame_of c.args.frame)))
+    (takes now (frame_of c.args.frame) c.args.server c.in_ok-parcel.parcel c.requires.heard c.requires.free c.in_ok-parcel.ensures.message)

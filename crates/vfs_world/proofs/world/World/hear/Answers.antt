@@ -1,0 +1,34 @@
+use Rattle.std.proofs.Common.{◌≡◌, ◌∙◌, ◌+◌, ◌-◌, ◌*◌, ◌^◌, ◌<◌, ◌≤◌, ap, arith}
+use Rattle.endpoint_link.specs.Views.{frame_of}
+use Rattle.vfs_session.specs.Running.{whole}
+use Rattle.vfs_session.specs.World.{World}
+use Rattle.vfs_session.proofs.Lasting.{lasts_more}
+use Rattle.vfs_world.proofs.Worlds.{leads_inside, stands_inside, within_more}
+use Rattle.vfs_world.proofs.world.World.hear.Goals as goal
+
+pub hear-requires-clause-running : goal.hear-requires-clause-running
+hear-requires-clause-running c =
+    let within = c.self.invariant (ap (λ (w : World). w.spent) c.self.view_is ∙ c.in_default.ensures.able) in
+    let same : c.self.inside.frames ≡ c.args.self.now.frames = ap (λ (w : World). w.frames) c.self.view_is in
+    let few : c.args.self.now.frames < 2 ^ 48 = c.requires.few in
+    lasts_more (4098 * c.self.inside.frames) (2 ^ 61 - 4098) (whole c.self.inside.session) (omega (arith, same, few)) within.0
+
+pub invariant_of-self-2 : goal.invariant_of-self-2
+invariant_of-self-2 c =
+    λ able.
+    let within = c.self.invariant able in
+    let same : c.self.inside.frames ≡ c.args.self.now.frames = ap (λ (w : World). w.frames) c.self.view_is in
+    let few : c.args.self.now.frames < 2 ^ 48 = c.requires.few in
+    within_more c.self.inside.frames (whole c.hear.new.session) (omega (arith, same, few)) (c.in_default-hear.ensures.running (4098 * c.self.inside.frames) within.0)
+
+pub returns-clause-heard : goal.returns-clause-heard
+returns-clause-heard c =
+    λ start journal stands.
+    leads_inside c.self.inside c.self.view_is (whole c.hear.new.session) (c.self.inside.frames + 1) stands
+    (c.in_default-hear.ensures.heard start journal
+    (stands_inside c.self.inside c.self.view_is start journal stands))
+
+pub returns-clause-none : goal.returns-clause-none
+returns-clause-none c =
+    λ start journal stands.
+    c.in_default-hear.ensures.none start journal (stands_inside c.self.inside c.self.view_is start journal stands)
