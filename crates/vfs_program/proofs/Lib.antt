@@ -9,6 +9,7 @@ pub mod Progress
 pub mod SessionEnds
 pub mod Outputs
 pub mod TreeLemmas
+pub mod ScriptLemmas
 pub mod Complete
 pub mod NoteLemmas
 pub mod SeenLemmas

@@ -2,7 +2,7 @@
 use Rattle.std.proofs.Common.{◌≡◌, ℕ, List, [], ◌∷◌, refl, sym, ◌∙◌, codes, arith}
 use Rattle.endpoint_link.specs.declared.kinds.Mode.{Mode}
 use Rattle.endpoint_link.specs.declared.kinds.Mode.TheVariants as mode
-use Rattle.vfs_program.specs.Words.{Asks, FileOf, ServeOf, CheckOf, ShowAll, Means, mode_word}
+use Rattle.vfs_program.specs.Words.{Asks, FileOf, ServeOf, RunOf, CheckOf, ShowAll, Means, mode_word}
 
 same_mode : (a b : Mode) → mode_word a ≡ mode_word b → a ≡ b
 same_mode mode.Auto mode.Auto e = refl
@@ -18,5 +18,6 @@ serves_alone words tree by (ServeOf other mode') m n =
     let word : mode_word mode' ≡ mode_word by = cc in
     let same : mode' ≡ by = same_mode mode' by word in
     cc
+serves_alone words tree by (RunOf other script) m n = absurd (grind (arith, m, n))
 serves_alone words tree by (CheckOf name) m n = absurd (grind (arith, m, n))
 serves_alone words tree by ShowAll m n = absurd (grind (arith, m, n))

@@ -10,6 +10,7 @@ pub mod Pieces
 pub mod Serving
 pub mod Files
 pub mod Trees
+pub mod Scripts
 pub mod TreeSession
 pub mod Shown
 pub mod Texts

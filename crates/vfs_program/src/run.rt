@@ -9,6 +9,7 @@ ghost use Rattle.vfs_program.specs.declared.statuses.Status.TheVariants as statu
 use crate::checks::check_tree;
 use crate::file_session::serve_file;
 use crate::notes::tell;
+use crate::scripts::run_script;
 use crate::show::show;
 use crate::statuses::Status;
 use crate::tree_session::serve_tree;
@@ -68,6 +69,7 @@ fn answer<F: Files, S: Source, K: Sink>(
     match command_of(words) {
         Some(Command::File { name }) => serve_file(alloc, name, files, source, sink),
         Some(Command::Serve { tree, mode }) => serve_tree(alloc, tree, mode, files, source, sink),
+        Some(Command::Run { tree, script }) => run_script(alloc, tree, script, files, sink),
         Some(Command::Check { tree }) => check_tree(alloc, tree, files, sink),
         Some(Command::Show) => show(alloc, source, sink),
         None => Status::Usage,
