@@ -15,3 +15,4 @@ pub mod NoteLemmas
 pub mod SeenLemmas
 mod ShowLemmas
 pub mod OneMeaning
+pub mod Lawful

@@ -16,3 +16,4 @@ pub mod Shown
 pub mod Texts
 pub mod Causes
 pub mod Answers
+pub mod Lawful

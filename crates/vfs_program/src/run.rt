@@ -1,5 +1,6 @@
 ghost use Rattle.std.specs.Prelude.{◌≡◌, map, string_bytes};
 ghost use Rattle.vfs_program.specs.Answers.{Answers, IsServable, NoFault, IsDoneOrNoMemory};
+ghost use Rattle.vfs_program.specs.Lawful.{IsLawfulRun};
 ghost use Rattle.vfs_program.specs.Notes.{note_of};
 ghost use Rattle.vfs_program.specs.Outside.{outside_told, sink_told};
 ghost use Rattle.vfs_program.specs.Texts.{Tells};
@@ -42,6 +43,11 @@ pub fn run_words<F: Files, S: Source, K: Sink, N: Sink>(
     ensures complete { let told = outside_told F.told F.faults F.overlong S.left S.faults K.written K.flushed K.faults in
         (asks : Asks) → Means (map string_bytes words.now) asks → IsServable asks (told files.old source.old sink.old) →
         NoFault asks (told files.old source.old sink.old) (told files.new source.new sink.new) → IsDoneOrNoMemory result }
+
+    // What a session over a tree writes is the output of a lawful journal, which keeps the laws, or a front of it.
+    ensures lawful { let told = outside_told F.told F.faults F.overlong S.left S.faults K.written K.flushed K.faults in
+        (asks : Asks) → Means (map string_bytes words.now) asks →
+        IsLawfulRun asks (told files.old source.old sink.old) (told files.new source.new sink.new) }
 
     // The note of the status is told last, and nothing else.
     ensures note { Tells (note_of result) (sink_told N.written N.flushed N.faults notes.old) (sink_told N.written N.flushed N.faults notes.new) }
