@@ -3,6 +3,8 @@
 
 mod laws;
 mod playing;
+mod sending;
 
 pub use laws::transcripts_show_the_output;
 pub use playing::play;
+pub use sending::scripts_are_frames;

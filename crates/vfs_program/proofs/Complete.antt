@@ -24,7 +24,7 @@ use Rattle.vfs_program.specs.Causes.{After, AfterFile, AfterScript, AfterTree, C
 use Rattle.vfs_program.specs.Files.{IsFileFault, IsWithin}
 use Rattle.vfs_program.specs.OneFile.{file_course}
 use Rattle.vfs_program.specs.Outside.{FilesTold, Outside, Streams, SinkTold, sink_of}
-use Rattle.vfs_program.specs.Scripts.{IsBadAt, Said, Says}
+use Rattle.vfs_program.specs.Scripts.{IsBadAt, IsPlayable, Said, Says}
 use Rattle.vfs_program.specs.Session.{Course, SessionAnswers, IsWhole, IsTooLong, IsTruncated, IsBad}
 use Rattle.vfs_program.specs.Shown.{lines_course}
 use Rattle.vfs_program.specs.Texts.{WritesPieces, WritesText}
@@ -213,7 +213,7 @@ complete (RunOf tree script) before after S K answer a s n =
     after_done Collides K (λ (none : Unit {0}). AreDistinct) (λ none. AfterTree tree before.files after.files K plays) answer (no_collision s.0 answer)
     (λ none distinct. after_done (HasNoStart tree before.files after.files) K (Stands (before.files.told tree)) plays answer
     (has_tree tree before.files after.files s.1.0 s.1.1 s.1.2 s.1.3 (λ f. n.file (inl f)) answer)
-    (λ lists stands. after_done (HasNoScript script before.files after.files) K (Says (before.files.told script)) (told lists) answer
+    (λ lists stands. after_done (HasNoScript script before.files after.files) K (IsPlayable (before.files.told script)) (told lists) answer
     (has_script script before.files after.files s.2.said s.2.told s.2.says (λ f. n.file (inr f)) answer)
     (λ said says. text_done (transcript (start_of lists) said.by said.text)
     (AppendsPart before.streams.written after.streams.written (transcript (start_of lists) said.by said.text))

@@ -1,7 +1,8 @@
 -- What a session over a tree writes is the output of a lawful journal, or a front of it.
-use Rattle.std.proofs.Common.{◌≡◌, ℕ, ◌⊎◌, List, [], ◌∷◌, Option, Some, None, All, sym, subst, append-nil, inl, inr}
+use Rattle.std.proofs.Common.{◌≡◌, ℕ, ◌⊎◌, List, [], ◌∷◌, Option, Some, None, All, sym, ◌∙◌, subst, append-nil, inl, inr}
 use Rattle.std.specs.Option.{option_map}
 use Rattle.fidl_wire.specs.Names.{AreDistinct}
+use Rattle.host_io.specs.Streams.{AppendsPart}
 use Rattle.host_io.specs.Told.{Told}
 use Rattle.toml.specs.Data.{Data}
 use Rattle.tree_file.specs.Accepted.{AreAccepted}
@@ -21,11 +22,17 @@ use Rattle.session_laws.specs.Laws.{IsLawfulOutput}
 use Rattle.session_laws.proofs.Keeping.{lawful_over}
 use Rattle.vfs_program.specs.declared.statuses.Status.{Status}
 use Rattle.vfs_program.specs.declared.statuses.Status.TheVariants as status
+use Rattle.vfs_script.specs.Scripts.{calls_of, count_calls, frames_of, script_lines}
+use Rattle.transcripts.specs.Answering.{count_answers}
+use Rattle.script_session.specs.Playing.{play_all, transcript}
+use Rattle.script_session.proofs.Shown.{transcript_is}
 use Rattle.vfs_program.specs.Answers.{Answers}
-use Rattle.vfs_program.specs.Causes.{After, AfterTree, Collides, HasNoStart}
-use Rattle.vfs_program.specs.Lawful.{IsLawfulRun, IsLawfulServing, WroteNothing}
-use Rattle.vfs_program.specs.Outside.{Outside, Streams}
+use Rattle.vfs_program.specs.Causes.{After, AfterScript, AfterTree, Collides, HasNoScript, HasNoStart}
+use Rattle.vfs_program.specs.Lawful.{IsLawfulPlaying, IsLawfulRun, IsLawfulServing, WroteNothing}
+use Rattle.vfs_program.specs.Outside.{Outside, SinkTold, Streams, sink_of}
+use Rattle.vfs_program.specs.Scripts.{IsPlayable, Said}
 use Rattle.vfs_program.specs.Session.{EndsBehind, IsCutOff, IsFront, IsPartByEnd, IsPartSoFar, SessionAnswers, Wrote}
+use Rattle.vfs_program.specs.Texts.{WritesPieces}
 use Rattle.vfs_program.specs.Trees.{Stands}
 use Rattle.vfs_program.specs.TreeSession.{tree_course}
 use Rattle.vfs_program.specs.Words.{Asks, FileOf, ServeOf, RunOf, CheckOf, ShowAll}
@@ -136,6 +143,42 @@ serving_lawful apart told lists by before after same answer stands a =
     let h = session_lawful apart lists (stands_accepted told lists stands) by before after same answer a in
     record { lists = lists; stands = stands; bytes = h.bytes; wrote = h.wrote; lawful = h.lawful }
 
+-- ---- scripts
+
+-- a text of which a front was written
+text_part : (text : List ℕ) (before after : SinkTold) (answer : Status) → WritesPieces text before after answer → AppendsPart before.written after.written text
+text_part text before after status.Done a = (text, [], sym (append-nil text), a.0)
+text_part text before after status.WriteFault a = a.0
+text_part text before after status.NoMemory a = a
+text_part text before after status.Usage a = absurd a
+text_part text before after (status.TreeRefused rule item) a = absurd a
+text_part text before after (status.ScriptRefused line) a = absurd a
+text_part text before after (status.Collision first second) a = absurd a
+text_part text before after status.FileFault a = absurd a
+text_part text before after status.FileTooLarge a = absurd a
+text_part text before after status.ReadFault a = absurd a
+text_part text before after status.InputTooLong a = absurd a
+text_part text before after (status.Truncated at) a = absurd a
+text_part text before after (status.BadFrame at why) a = absurd a
+
+played_lawful : (apart : AreDistinct) (told : Told) (lists : Lists) (said : Said) (before after : Streams) (answer : Status) → Stands told lists → All (IsFrame ToServers) (frames_of said.text)
+    → WritesPieces (transcript (start_of lists) said.by said.text) (sink_of before) (sink_of after) answer → IsLawfulPlaying told before after
+played_lawful apart told lists said before after answer stands frames a =
+    let start = start_of lists in
+    let part = text_part (transcript start said.by said.text) (sink_of before) (sink_of after) answer a in
+    let journal = ended start said.by (frames_of said.text) in
+    record {
+      lists = lists;
+      stands = stands;
+      journal = journal;
+      over = lawful_over apart lists journal (stands_accepted told lists stands) (sessions_are_lawful start said.by (frames_of said.text) frames).1;
+      calls = count_calls (calls_of said.text);
+      answers = count_answers (play_all start said.by (script_lines said.text));
+      bytes = part.0;
+      wrote = part.3;
+      front = (part.1, sym (transcript_is start said.by said.text) ∙ part.2);
+    }
+
 pub lawful : (asks : Asks) (before after : Outside) (source_same sink_same : Type 0) (answer : Status) → (sink_same → WroteNothing before.streams after.streams)
     → Answers asks before after source_same sink_same answer → IsLawfulRun asks before after
 lawful (ServeOf tree by) before after S K answer none a =
@@ -146,6 +189,16 @@ lawful (ServeOf tree by) before after S K answer none a =
     (λ alone apart. after_either (HasNoStart tree before.files after.files) (S × K) (Stands (before.files.told tree)) session answer Goal still
     (λ lists stands h. inr (serving_lawful apart (before.files.told tree) lists by before.streams after.streams K answer stands h))) a
 lawful (FileOf name) before after S K answer none a = tt
-lawful (RunOf tree script) before after S K answer none a = tt
+lawful (RunOf tree script) before after S K answer none a =
+    let Goal : Type 0 = WroteNothing before.streams after.streams ⊎ IsLawfulPlaying (before.files.told tree) before.streams after.streams in
+    let told : Lists → Said → Status → Type 0 =
+    λ lists said. WritesPieces (transcript (start_of lists) said.by said.text) (sink_of before.streams) (sink_of after.streams)
+    in
+    let plays : Lists → Status → Type 0 = λ lists. AfterScript script before.files after.files K (told lists) in
+    let still : K → Goal = λ same. inl (none same) in
+    after_either Collides K (λ (alone : Unit {0}). AreDistinct) (λ alone. AfterTree tree before.files after.files K plays) answer Goal still
+    (λ alone apart. after_either (HasNoStart tree before.files after.files) K (Stands (before.files.told tree)) plays answer Goal still
+    (λ lists stands. after_either (HasNoScript script before.files after.files) K (IsPlayable (before.files.told script)) (told lists) answer Goal still
+    (λ said can h. inr (played_lawful apart (before.files.told tree) lists said before.streams after.streams answer stands can.frames h)))) a.1
 lawful (CheckOf tree) before after S K answer none a = tt
 lawful ShowAll before after S K answer none a = tt

@@ -16,7 +16,10 @@ returns-in-Ok-play g c =
         c.in-Ok-read_start.ensures.stands,
         inr (
           _,
-          still_says c.args.script.now _ _ (record { text = says.0; by = c.in-Ok-read_script.script.mode }) c.in-Ok-read_start.ensures.files says.2,
+          record {
+            says = still_says c.args.script.now _ _ (record { text = says.0; by = c.in-Ok-read_script.script.mode }) c.in-Ok-read_start.ensures.files says.2;
+            frames = c.scripts_are_frames.ensures says.0 says.1;
+          },
           (c.in-Ok-play.ensures.whole says.0 says.1, c.in-Ok-play.ensures.flushed),
         ),
       ),
@@ -33,9 +36,14 @@ returns-in-Err-Failed g c =
         c.in-Ok-read_start.ensures.stands,
         inr (
           _,
-          still_says c.args.script.now _ _ (record { text = says.0; by = c.in-Ok-read_script.script.mode }) c.in-Ok-read_start.ensures.files says.2,
-          (c.in-Err-Failed.ensures.part says.0 says.1,
-          subst (λ (fault : TranscriptFault). FailedOnly (Err fault) (Rose (g.K.Sink.faults c.args.sink.now) (g.K.Sink.faults c.play.new.sink))) c.in-Err-Failed.field-0-is c.in-Err-Failed.ensures.cause.failed),
+          record {
+            says = still_says c.args.script.now _ _ (record { text = says.0; by = c.in-Ok-read_script.script.mode }) c.in-Ok-read_start.ensures.files says.2;
+            frames = c.scripts_are_frames.ensures says.0 says.1;
+          },
+          (
+            c.in-Err-Failed.ensures.part says.0 says.1,
+            subst (λ (fault : TranscriptFault). FailedOnly (Err fault) (Rose (g.K.Sink.faults c.args.sink.now) (g.K.Sink.faults c.play.new.sink))) c.in-Err-Failed.field-0-is c.in-Err-Failed.ensures.cause.failed,
+          ),
         ),
       ),
     )
@@ -51,7 +59,10 @@ returns g c =
         c.in-Ok-read_start.ensures.stands,
         inr (
           _,
-          still_says c.args.script.now _ _ (record { text = says.0; by = c.in-Ok-read_script.script.mode }) c.in-Ok-read_start.ensures.files says.2,
+          record {
+            says = still_says c.args.script.now _ _ (record { text = says.0; by = c.in-Ok-read_script.script.mode }) c.in-Ok-read_start.ensures.files says.2;
+            frames = c.scripts_are_frames.ensures says.0 says.1;
+          },
           c.in-Err-NoMemory.ensures.part says.0 says.1,
         ),
       ),
