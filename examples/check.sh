@@ -35,6 +35,10 @@ declare -A bytes=(
     [four]='01000000 01 00 0000 04000000  61626364'
     [closed]='01000000 02 00 0000 00000000'
     [lines]='312072656675736564202d31310a31206d65737361676520726177202d2036313632363336340a3120636c6f73650a'
+    # The transcript of an Open of `nope` with the new endpoint 2.
+    [transcript]='32206d6573736167652065706974617068202d20303030303030303030323030303030316666666666666666666666666666
+        6666653766666666666630303030303030300a3220636c6f73650a63616c
+        6c73203020616e73776572656420300a'
     # Fixed parts, each bad for one reason, and the front of a Read.
     [kind]='01000000 09 00 0000 00000000'
     [zero]='01000000 01 00 0100 00000000'
@@ -53,6 +57,8 @@ head -c 65537 /dev/zero > "$work/over"
 head -c 1048576 "$work/long" > "$work/tree"
 head -c 1048577 "$work/long" > "$work/large"
 printf 'version = 2\n' > "$work/wrong"
+printf 'auto\nopen 1 nope 0x2 2\n' > "$work/script"
+printf 'auto\njump 1\n' > "$work/bad"
 
 # What is run                   | words                             | input       | output       | exit | note
 cases="
@@ -83,6 +89,11 @@ mode given                      | serve examples/trees/mounted_pair.toml given |
 a bad frame in mode given       | serve examples/trees/mounted_pair.toml given | open kind | missing | 6 | bad frame at 88: kind
 an end in a frame in mode given | serve examples/trees/mounted_pair.toml given | open front | missing | 7 | input ends inside the frame at 88
 a mode that is none             | serve examples/trees/small.toml once | open     | nothing      | 1 | $usage
+a script of one Open            | run examples/trees/small.toml @script | open      | transcript   | 0 |
+a script with a bad line        | run examples/trees/small.toml @bad | nothing      | nothing      | 2 | script refused: line 2
+a script over a refused tree    | run @wrong @script                | nothing     | nothing      | 2 | tree refused: rule 2 item 0
+a script that isn't there       | run examples/trees/small.toml @none | nothing     | nothing      | 5 | file failed
+a script that is too large      | run examples/trees/small.toml @large | nothing    | nothing      | 5 | file too large
 a tree that stands              | check examples/trees/mounted_pair.toml | nothing | ok servers 2 nodes 2 mounts 2 clients 1 | 0 |
 a tree of the largest size      | check @tree                       | nothing     | ok servers 1 nodes 2 mounts 0 clients 1 | 0 |
 a tree that breaks a rule       | check @wrong                      | nothing     | nothing      | 2 | tree refused: rule 2 item 0
@@ -163,6 +174,8 @@ run serve examples/trees/small.toml auto < "$work/in" > /dev/full 2> "$work/note
 judge 'a full output of a tree' $? 4 'write failed' nothing
 run check examples/trees/small.toml > /dev/full 2> "$work/note"
 judge 'a full output of a check' $? 4 'write failed' nothing
+run run examples/trees/small.toml "$work/script" > /dev/full 2> "$work/note"
+judge 'a full output of a transcript' $? 4 'write failed' nothing
 run file examples/hello < "$work/in" 2> "$work/note" >&-
 judge 'a closed output' $? 4 'write failed' nothing
 

@@ -1,5 +1,5 @@
 -- The laws: in order, once, and after a drain.
-use Rattle.std.proofs.Common.{◌≡◌, ℕ, ◌==◌, ◌⊎◌, ◌∙◌, Bool, true, false, not, cond, if◌then◌else◌, [], ◌∷◌, ◌++◌, map, find, Option, Some, None, Contains, refl, sym, ap, subst, inl, inr}
+use Rattle.std.proofs.Common.{◌≡◌, ℕ, ◌==◌, ◌&&◌, ◌⊎◌, ◌∙◌, Bool, true, false, not, cond, if◌then◌else◌, [], ◌∷◌, ◌++◌, map, find, Option, Some, None, Contains, refl, sym, ap, subst, inl, inr}
 use Rattle.std.specs.List.{list_any}
 use Rattle.std.specs.Option.{option_map_or}
 use Rattle.std.proofs.lemmas.Bool.{eqb-true, or_parts}
@@ -8,11 +8,11 @@ use Rattle.fidl_names.specs.HandleNumber.{handle_with}
 use Rattle.io_messages.specs.Asked.{method_of}
 use Rattle.io_messages.specs.Shapes.{is_one_way}
 use Rattle.vfs_journal.specs.Entries.{Journal, Sent}
-use Rattle.vfs_journal.specs.History.{Event, History, all_sent, is_dead, serves_place, was_served}
+use Rattle.vfs_journal.specs.History.{Event, History, all_sent, is_dead, serves_place, waiting, waits, was_served}
 use Rattle.vfs_journal.specs.Past.{history_of}
 use Rattle.vfs_journal.specs.Session.{drained}
 use Rattle.vfs_journal.specs.Starts.{Start}
-use Rattle.journal_laws.proofs.Members.{kept_of}
+use Rattle.journal_laws.proofs.Members.{contains_none, kept, kept_of}
 use Rattle.journal_laws.specs.Soundness.{DrainsServeAll, IsDrained}
 use Rattle.reply_laws.proofs.Forms.{HasId, read_has}
 use Rattle.reply_laws.proofs.Front.{front, not_served}
@@ -20,7 +20,7 @@ use Rattle.reply_laws.proofs.Grown.{Grown, earlier_grown, grown}
 use Rattle.journal_laws.proofs.Filters.{all_of, none_kept}
 use Rattle.reply_laws.proofs.Once.{answered, last_served}
 use Rattle.reply_laws.proofs.Ordered.{ordered}
-use Rattle.reply_laws.specs.Laws.{ArePipelined, DrainsSettleAll, IsSettled, RepliesAreInOrder, RequestsAskByTheirIds, ServedIsAnswered}
+use Rattle.reply_laws.specs.Laws.{ArePipelined, DrainsSettleAll, IsSettled, RepliesAreInOrder, RequestsAskByTheirIds, RestsAreSettled, ServedIsAnswered}
 use Rattle.reply_laws.specs.Pipelined.{answer_to, is_on, sent_on, served_on, txid_in}
 
 pipelined : (start : Start) (journal : Journal) (endpoint : ℕ) → Grown start journal → ArePipelined start (history_of start journal) endpoint
@@ -49,7 +49,7 @@ requests_ask_by_their_ids protocol bytes handles txid asked e =
     let has = subst (HasId (txid_in bytes)) e (read_has protocol bytes (map handle_with handles)) in
     (has.0, way_of (is_one_way (method_of asked)) (txid_in bytes == 0) has.1)
 
--- ---- after a drain
+-- ---- where nothing waits
 
 -- what wasn't served has no answer
 none_serves : (place : ℕ) (history : History) → list_any (serves_place place) history ≡ false → find (serves_place place) history ≡ None
@@ -93,6 +93,21 @@ settled start journal endpoint h drained =
           let of = kept_of (is_on endpoint) (all_sent history) one there in
           (dead_by history endpoint one of.1 unserved (drained.each one of.0), no_answer history one unserved);
     }
+
+-- where nothing waits each thing that was sent was served, or its endpoint is dead
+served_or_dead : (history : History) → waiting history ≡ [] → (one : Sent) → Contains (all_sent history) one → (was_served history one ≡ true) ⊎ (is_dead history one.endpoint ≡ true)
+served_or_dead history none one there = by_tests (was_served history one) (is_dead history one.endpoint) refl refl where
+  by_tests : (a b : Bool) → was_served history one ≡ a → is_dead history one.endpoint ≡ b → (was_served history one ≡ true) ⊎ (is_dead history one.endpoint ≡ true)
+  by_tests true b e f = inl e
+  by_tests false true e f = inr f
+  by_tests false false e f =
+      let it_waits : waits history one ≡ true = ap (λ (c : Bool). not c && not (is_dead history one.endpoint)) e ∙ ap not f in
+      absurd (contains_none one (subst (λ ones. Contains ones one) none (kept (waits history) (all_sent history) one there it_waits)))
+
+pub rests_are_settled : RestsAreSettled
+rests_are_settled start newer journal endpoint h none =
+    settled start journal endpoint (earlier_grown start newer journal (grown start (newer ++ journal) h))
+    (record { none = none; each = λ sent there. served_or_dead (history_of start journal) none sent there })
 
 pub drains_settle_all : DrainsServeAll → DrainsSettleAll
 drains_settle_all serve_all start journal endpoint is h =

@@ -5,7 +5,7 @@ use Rattle.io_messages.specs.Asked.{Asked, method_of}
 use Rattle.io_messages.specs.declared.protocols.Protocol.{Protocol}
 use Rattle.io_messages.specs.Shapes.{is_one_way}
 use Rattle.vfs_journal.specs.Entries.{Journal, Sent, message}
-use Rattle.vfs_journal.specs.History.{History, births, is_dead, is_watcher, serves_on, was_served}
+use Rattle.vfs_journal.specs.History.{History, births, is_dead, is_watcher, serves_on, waiting, was_served}
 use Rattle.vfs_journal.specs.Lawful.{Lawful}
 use Rattle.vfs_journal.specs.Past.{history_of}
 use Rattle.vfs_journal.specs.Serving.{read_by}
@@ -51,7 +51,7 @@ RequestsAskByTheirIds =
     (protocol : Protocol) (bytes handles : List ℕ) (txid : ℕ) (asked : Asked) → read_by protocol bytes handles ≡ Ok (txid, asked) →
     (txid ≡ txid_in bytes) × (is_two_way (message bytes handles) ≡ not (is_one_way (method_of asked)))
 
--- ---- after a drain
+-- ---- where nothing waits
 
 -- all that was sent on an endpoint that lives was served; what wasn't served was sent on one that is dead, and has no reply
 pub record IsSettled (start : Start) (history : History) (endpoint : ℕ) : Type 0 where
@@ -59,6 +59,12 @@ pub record IsSettled (start : Start) (history : History) (endpoint : ℕ) : Type
   pub lives : is_dead history endpoint ≡ false → served_on history endpoint ≡ sent_on history endpoint
   pub dropped : (sent : Sent) → Contains (sent_on history endpoint) sent → was_served history sent ≡ false → (is_dead history endpoint ≡ true) × (answer_to history sent ≡ [])
 
+-- so it is whenever nothing waits
+abbrev pub RestsAreSettled : Type 0
+RestsAreSettled =
+    (start : Start) (newer journal : Journal) (endpoint : ℕ) → Lawful start (newer ++ journal) → waiting (history_of start journal) ≡ [] → IsSettled start (history_of start journal) endpoint
+
+-- and behind a drain nothing waits
 abbrev pub DrainsSettleAll : Type 0
 DrainsSettleAll =
     (start : Start) (journal : Journal) (endpoint : ℕ) → IsStart start → Lawful start journal → IsSettled start (history_of start (drained start journal)) endpoint

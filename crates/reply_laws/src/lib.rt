@@ -5,5 +5,6 @@
 mod pipelining;
 
 pub use pipelining::{
-    drains_settle_all, replies_are_in_order, requests_ask_by_their_ids, served_is_answered,
+    drains_settle_all, replies_are_in_order, requests_ask_by_their_ids, rests_are_settled,
+    served_is_answered,
 };

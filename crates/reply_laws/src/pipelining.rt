@@ -1,7 +1,7 @@
 //! Laws of pipelining, over every lawful journal.
 
 ghost use Rattle.fidl_wire.specs.Names.{AreDistinct};
-ghost use Rattle.reply_laws.specs.Laws.{DrainsSettleAll, RepliesAreInOrder, RequestsAskByTheirIds, ServedIsAnswered};
+ghost use Rattle.reply_laws.specs.Laws.{DrainsSettleAll, RepliesAreInOrder, RequestsAskByTheirIds, RestsAreSettled, ServedIsAnswered};
 
 use journal_laws::drains_serve_all;
 
@@ -20,6 +20,12 @@ pub fn served_is_answered()
 /// A message that is read as a request asks for a reply where its method has one.
 pub fn requests_ask_by_their_ids()
     ensures { RequestsAskByTheirIds }
+{}
+
+/// Whenever nothing waits in a lawful journal, all that was sent on an endpoint that lives was served, and what wasn't served has no
+/// reply.
+pub fn rests_are_settled()
+    ensures { RestsAreSettled }
 {}
 
 /// After a drain all that was sent on an endpoint that lives was served, and what wasn't served has no reply; where no two names have

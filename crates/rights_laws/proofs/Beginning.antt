@@ -9,7 +9,7 @@ use Rattle.vfs_journal.specs.Outcomes.{Forwarded, Outcome}
 use Rattle.vfs_journal.specs.Serving.{Moment, asker_of, context_at, object_of, outcome_of_sending, read_by, request_act}
 use Rattle.vfs_journal.specs.Starts.{Bound, Start}
 use Rattle.journal_laws.proofs.Acts.{IsAnswer, act_answers}
-use Rattle.rights_laws.specs.Lineage.{Lines, asked_by, end_rights, lineage_given, masks_along, request_in, trail_by, trail_given, trail_in, walk_at}
+use Rattle.rights_laws.specs.Lineage.{Ancestors, Lines, ancestor_by, ancestor_in, asked_by, end_rights, lineage_given, masks_along, request_in, trail_by, trail_given, trail_in, walk_at}
 use Rattle.rights_laws.specs.Rights.{BeginsAt}
 use Rattle.rights_laws.proofs.Heard.{Heard, heard, unheard, SendsOn, sending_heard, sends_on}
 use Rattle.rights_laws.proofs.Serving.{found}
@@ -52,36 +52,38 @@ forwards_asked moment sending forward e = forwards_by moment sending (outcome_of
 
 -- ---- beginnings
 
-begins_more : (start : Start) (members more : List OperationSet) → BeginsAt start members → BeginsAt start (members ++ more)
-begins_more start members more h = record {
+begins_more : (start : Start) (ancestor : ℕ) (members more : List OperationSet) → BeginsAt start ancestor members → BeginsAt start ancestor (members ++ more)
+begins_more start ancestor members more h = record {
   first = h.first;
   there = h.there;
+  on = h.on;
   rest = h.rest ++ more;
   is = ap (λ (ms : List OperationSet). ms ++ more) h.is;
 }
 
-module _ (start : Start) (moment : Moment) (lines : Lines) (sent : Sent) (own : sent.origin ≡ None → BeginsAt start (lines.lineage sent.endpoint)) (over : (origin : ℕ) → sent.origin ≡ Some origin → BeginsAt start (lines.onward origin)) where
-  trail_begins : (o : Option ℕ) → sent.origin ≡ o → BeginsAt start (trail_by lines sent.endpoint o)
+module _ (start : Start) (moment : Moment) (lines : Lines) (ancestors : Ancestors) (sent : Sent) (own : sent.origin ≡ None → BeginsAt start (ancestors.bound sent.endpoint) (lines.lineage sent.endpoint))
+    (over : (origin : ℕ) → sent.origin ≡ Some origin → BeginsAt start (ancestors.onward origin) (lines.onward origin)) where
+  pub trail_begins : (o : Option ℕ) → sent.origin ≡ o → BeginsAt start (ancestor_by ancestors sent.endpoint o) (trail_by lines sent.endpoint o)
   trail_begins None e = own e
   trail_begins (Some origin) e = over origin e
 
-  pub trail_given_begins : IsOpen (asked_by moment sent.sending) → BeginsAt start (found (trail_given start lines sent moment) (asked_by moment sent.sending))
+  pub trail_given_begins : IsOpen (asked_by moment sent.sending) → BeginsAt start (ancestor_in ancestors sent) (found (trail_given start lines sent moment) (asked_by moment sent.sending))
   trail_given_begins h =
-      subst (λ (o : Option Asked). BeginsAt start (found (trail_given start lines sent moment) o)) (sym h.is)
-      (begins_more start (trail_in lines sent ++ masks_of (walk_at moment h.path h.word)) (end_rights start (walk_at moment h.path h.word))
-      (begins_more start (trail_in lines sent) (masks_of (walk_at moment h.path h.word)) (trail_begins sent.origin refl)))
+      subst (λ (o : Option Asked). BeginsAt start (ancestor_in ancestors sent) (found (trail_given start lines sent moment) o)) (sym h.is)
+      (begins_more start (ancestor_in ancestors sent) (trail_in lines sent ++ masks_of (walk_at moment h.path h.word)) (end_rights start (walk_at moment h.path h.word))
+      (begins_more start (ancestor_in ancestors sent) (trail_in lines sent) (masks_of (walk_at moment h.path h.word)) (trail_begins sent.origin refl)))
 
   -- what came over a mount is an Open, so that anything else came from a client
-  own_begins : (request : Asked) → asked_by moment sent.sending ≡ Some request → ((origin : ℕ) → sent.origin ≡ Some origin → IsOpen (asked_by moment sent.sending)) → (IsOpen (Some request) → ⊥) → (o : Option ℕ) → sent.origin ≡ o → BeginsAt start (lines.lineage sent.endpoint)
+  pub own_begins : (request : Asked) → asked_by moment sent.sending ≡ Some request → ((origin : ℕ) → sent.origin ≡ Some origin → IsOpen (asked_by moment sent.sending)) → (IsOpen (Some request) → ⊥) → (o : Option ℕ) → sent.origin ≡ o → BeginsAt start (ancestor_by ancestors sent.endpoint o) (lines.lineage sent.endpoint)
   own_begins request is opens other None e = own e
   own_begins request is opens other (Some origin) e = absurd (other (subst IsOpen is (opens origin e)))
 
-  request_begins : (request : Asked) → asked_by moment sent.sending ≡ Some request → ((origin : ℕ) → sent.origin ≡ Some origin → IsOpen (asked_by moment sent.sending)) → BeginsAt start (lineage_given lines sent moment request)
-  request_begins (asks.open_path path word attributes object) is opens = begins_more start (trail_in lines sent) (masks_along (walk_at moment path word)) (trail_begins sent.origin refl)
+  request_begins : (request : Asked) → asked_by moment sent.sending ≡ Some request → ((origin : ℕ) → sent.origin ≡ Some origin → IsOpen (asked_by moment sent.sending)) → BeginsAt start (ancestor_in ancestors sent) (lineage_given lines sent moment request)
+  request_begins (asks.open_path path word attributes object) is opens = begins_more start (ancestor_in ancestors sent) (trail_in lines sent) (masks_along (walk_at moment path word)) (trail_begins sent.origin refl)
   request_begins request is opens = own_begins request is opens (λ h. no_open h.is) sent.origin refl where
     no_open : {path : List ℕ} {word : ℕ} {attributes : Option ℕ} {object : ℕ} → Some request ≡ Some (asks.open_path path word attributes object) → ⊥
     no_open e = cc
 
-  pub lineage_given_begins : (request : Asked) → asked_by moment sent.sending ≡ Some request → ((origin : ℕ) → sent.origin ≡ Some origin → IsOpen (asked_by moment sent.sending)) → BeginsAt start (found (lineage_given lines sent moment) (asked_by moment sent.sending))
+  pub lineage_given_begins : (request : Asked) → asked_by moment sent.sending ≡ Some request → ((origin : ℕ) → sent.origin ≡ Some origin → IsOpen (asked_by moment sent.sending)) → BeginsAt start (ancestor_in ancestors sent) (found (lineage_given lines sent moment) (asked_by moment sent.sending))
   lineage_given_begins request is opens =
-      subst (λ (o : Option Asked). BeginsAt start (found (lineage_given lines sent moment) o)) (sym is) (request_begins request is opens)
+      subst (λ (o : Option Asked). BeginsAt start (ancestor_in ancestors sent) (found (lineage_given lines sent moment) o)) (sym is) (request_begins request is opens)

@@ -86,7 +86,7 @@ stepped_before start (entry ∷ later) past h = stepped_before start later past 
 served_head : (start : Start) (past : Journal) (k : Sent) → Stepped start (serves k ∷ past) → Stepped start past × (head start (history_of start past) k.endpoint ≡ Some k)
 served_head start past k (serving earlier one h first) = (h, first)
 
-joined : (later past : Journal) (entry : Entry) → (later ++ entry ∷ []) ++ past ≡ later ++ entry ∷ past
+pub joined : (later past : Journal) (entry : Entry) → (later ++ entry ∷ []) ++ past ≡ later ++ entry ∷ past
 joined [] past entry = refl
 joined (one ∷ later) past entry = ap (λ (rest : Journal). one ∷ rest) (joined later past entry)
 

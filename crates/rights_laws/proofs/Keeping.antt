@@ -15,7 +15,7 @@ use Rattle.vfs_journal.specs.Starts.{Bound, Start}
 use Rattle.journal_laws.specs.Soundness.{IsStart, OtherEndpoint}
 use Rattle.journal_laws.proofs.Members.{contains_cases, contains_none, found, first_found, none_found}
 use Rattle.journal_laws.proofs.Steps.{refusals_change_nothing, sendings_wait_last}
-use Rattle.rights_laws.specs.Lineage.{lines_of, lineage_of, first_lineage}
+use Rattle.rights_laws.specs.Lineage.{ancestor_of, ancestors_of, lines_of, lineage_of, first_lineage}
 use Rattle.rights_laws.specs.Rights.{AreWithinEach, BeginsAt}
 use Rattle.rights_laws.proofs.Serving.{AreTrailed}
 use Rattle.fidl_names.specs.HandleNumber.{is_client}
@@ -23,13 +23,13 @@ use Rattle.fidl_names.specs.HandleNumber.{is_client}
 pub record Holds (start : Start) (history : History) : Type 0 where
   -- the rights of whatever was bound lie within its lineage
   pub rights : (bound : Bound) → Contains (births start history) bound → AreWithinEach bound.birth.rights (lineage_of start history bound.endpoint)
-  -- that of a client's endpoint begins at a first connection
-  pub begun : (bound : Bound) → Contains (births start history) bound → is_client bound.endpoint ≡ true → BeginsAt start (lineage_of start history bound.endpoint)
+  -- that of a client's endpoint begins at its ancestor
+  pub begun : (bound : Bound) → Contains (births start history) bound → is_client bound.endpoint ≡ true → BeginsAt start (ancestor_of history bound.endpoint) (lineage_of start history bound.endpoint)
   -- what came over a mount has an origin that was served
   pub origins : (sent : Sent) (origin : ℕ) → Contains (all_sent history) sent → sent.origin ≡ Some origin → list_any (serves_place origin) history ≡ true
   -- and what its flags can get lies within its trail
   pub trails : (sent : Sent) → Contains (all_sent history) sent → AreTrailed (lines_of start history) sent
-  pub trails_begun : (sent : Sent) (origin : ℕ) → Contains (all_sent history) sent → sent.origin ≡ Some origin → BeginsAt start ((lines_of start history).onward origin)
+  pub trails_begun : (sent : Sent) (origin : ℕ) → Contains (all_sent history) sent → sent.origin ≡ Some origin → BeginsAt start ((ancestors_of history).onward origin) ((lines_of start history).onward origin)
 
 -- ---- the start
 
@@ -49,15 +49,15 @@ first_alone : (start : Start) → IsStart start → (bound : Bound) → Contains
 first_alone start s bound there =
     first_found_alone start bound (find (λ b. b.endpoint == bound.endpoint) (start.firsts ++ start.mounts)) s.apart (subst (λ (bounds : List Bound). Contains bounds bound) (append-nil (start.firsts ++ start.mounts)) there) refl
 
-first_begins : (start : Start) → IsStart start → (bound : Bound) → Contains (births start []) bound → is_client bound.endpoint ≡ true → BeginsAt start (first_lineage start bound.endpoint)
+first_begins : (start : Start) → IsStart start → (bound : Bound) → Contains (births start []) bound → is_client bound.endpoint ≡ true → BeginsAt start bound.endpoint (first_lineage start bound.endpoint)
 first_begins start s bound there client =
     by_side (Contains-append_cases start.firsts start.mounts bound (subst (λ (bounds : List Bound). Contains bounds bound) (append-nil (start.firsts ++ start.mounts)) there)) where
-      by_side : Contains start.firsts bound ⊎ Contains start.mounts bound → BeginsAt start (first_lineage start bound.endpoint)
-      by_side (inl first) = record { first = bound; there = first; rest = []; is = first_alone start s bound there }
+      by_side : Contains start.firsts bound ⊎ Contains start.mounts bound → BeginsAt start bound.endpoint (first_lineage start bound.endpoint)
+      by_side (inl first) = record { first = bound; there = first; on = refl; rest = []; is = first_alone start s bound there }
       by_side (inr mount) = absurd (true≢false (sym client ∙ All-contains (λ (b : Bound). is_client b.endpoint ≡ false) start.mounts bound s.ends mount))
 
 pub begins : (start : Start) → IsStart start → Holds start []
-unfolding lines_of
+unfolding lines_of ancestors_of
 begins start s = record {
   rights = λ bound there. subst (AreWithinEach bound.birth.rights) (sym (first_alone start s bound there))
       (All-cons (λ member. IsTrue (is_within bound.birth.rights member)) bound.birth.rights [] (within_self bound.birth.rights) (All-nil (λ member. IsTrue (is_within bound.birth.rights member))));
@@ -70,7 +70,7 @@ begins start s = record {
 -- ---- a refusal
 
 pub refused_holds : (start : Start) (past : History) (endpoint : ℕ) (why : Refusal) → Holds start past → Holds start (behind start (refuses endpoint why) past)
-unfolding event_of lines_of
+unfolding event_of lines_of ancestors_of
 refused_holds start past endpoint why h =
     let same = refusals_change_nothing start past endpoint why in
     record {
@@ -97,10 +97,10 @@ last_of {X} xs x y h = by_side (Contains-append_cases xs (x ∷ []) y h) where
 pub record IsNew (start : Start) (past : History) (new : Sent) : Type 0 where
   pub origin : (origin : ℕ) → new.origin ≡ Some origin → list_any (serves_place origin) past ≡ true
   pub trail : AreTrailed (lines_of start past) new
-  pub begun : (origin : ℕ) → new.origin ≡ Some origin → BeginsAt start ((lines_of start past).onward origin)
+  pub begun : (origin : ℕ) → new.origin ≡ Some origin → BeginsAt start ((ancestors_of past).onward origin) ((lines_of start past).onward origin)
 
 pub sent_holds : (start : Start) (past : History) (new : Sent) → IsNew start past new → Holds start past → Holds start (behind start (sends new) past)
-unfolding event_of lines_of
+unfolding event_of lines_of ancestors_of
 sent_holds start past new is h =
     let step = sendings_wait_last start past new in
     record {
@@ -114,7 +114,7 @@ sent_holds start past new is h =
       origin_by sent origin e (inl there) = h.origins sent origin there e
       origin_by sent origin e (inr same) = is.origin origin (ap (λ (s : Sent). s.origin) same ∙ e)
 
-      begun_by : (sent : Sent) (origin : ℕ) → sent.origin ≡ Some origin → Contains (all_sent past) sent ⊎ (new ≡ sent) → BeginsAt start ((lines_of start past).onward origin)
+      begun_by : (sent : Sent) (origin : ℕ) → sent.origin ≡ Some origin → Contains (all_sent past) sent ⊎ (new ≡ sent) → BeginsAt start ((ancestors_of past).onward origin) ((lines_of start past).onward origin)
       begun_by sent origin e (inl there) = h.trails_begun sent origin there e
       begun_by sent origin e (inr same) = is.begun origin (ap (λ (s : Sent). s.origin) same ∙ e)
 

@@ -7,9 +7,10 @@ mod Serving
 mod Beginning
 mod Keeping
 mod Served
-mod Times
+pub mod Times
 mod Wanted
 mod Allowing
 mod Opening
 mod TokensGiven
-mod Changes
+pub mod Changes
+pub mod Narrow

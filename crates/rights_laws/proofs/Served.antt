@@ -36,7 +36,7 @@ use Rattle.journal_laws.proofs.Sound.{ByOrigin, IsForwarded, IsKnown, bytes_in, 
 use Rattle.journal_laws.proofs.Stepping.{stepped}
 use Rattle.journal_laws.proofs.Steps.{servings_take_effect}
 use Rattle.journal_laws.proofs.TransitLaws.{in_transit}
-use Rattle.rights_laws.specs.Lineage.{asked_by, at_serving, request_in, lineage_given, lines_of, lineage_of, trail_given}
+use Rattle.rights_laws.specs.Lineage.{ancestor_of, ancestors_of, asked_by, at_serving, request_in, lineage_given, lines_of, lineage_of, sent_from, trail_given}
 use Rattle.rights_laws.specs.Rights.{AreWithinEach, BeginsAt, HasAllAsked}
 use Rattle.rights_laws.proofs.Beginning.{IsOpen, binds_asked, forwards_asked, lineage_given_begins, trail_given_begins}
 use Rattle.rights_laws.proofs.Keeping.{Holds, IsNew}
@@ -75,13 +75,13 @@ module _ (below : Below) (narrow : OpensOnlyNarrow) (start : Start) (journal : J
 
   -- ---- the connection that serves it
 
-  record IsBoundTo (b : Bound) : Type 0 where
-    born : Contains (births start (history_of start journal)) b
-    on : b.endpoint ≡ k.endpoint
-    at : bound_at start (history_of start journal) k.endpoint ≡ Some b
-    within : AreWithinEach b.birth.rights ((lines_of start (history_of start journal)).lineage k.endpoint)
+  pub record IsBoundTo (b : Bound) : Type 0 where
+    pub born : Contains (births start (history_of start journal)) b
+    pub on : b.endpoint ≡ k.endpoint
+    pub at : bound_at start (history_of start journal) k.endpoint ≡ Some b
+    pub within : AreWithinEach b.birth.rights ((lines_of start (history_of start journal)).lineage k.endpoint)
 
-  bound_to : (b : Bound) × IsBoundTo b
+  pub bound_to : (b : Bound) × IsBoundTo b
   bound_to =
       let is = head_is start (history_of start journal) k first in
       let b = some_found (λ bound. bound.endpoint == k.endpoint) (living start (history_of start journal)) is.bound in
@@ -150,15 +150,15 @@ module _ (below : Below) (narrow : OpensOnlyNarrow) (start : Start) (journal : J
 
   -- ---- where it begins
 
-  own_by : (b : Bound) → IsBoundTo b → (o : Option ℕ) → ByOrigin start (all_sent (history_of start journal)) k o → o ≡ None → BeginsAt start (lineage_of start (history_of start journal) k.endpoint)
+  own_by : (b : Bound) → IsBoundTo b → (o : Option ℕ) → ByOrigin start (all_sent (history_of start journal)) k o → o ≡ None → BeginsAt start (ancestor_of (history_of start journal) k.endpoint) (lineage_of start (history_of start journal) k.endpoint)
   own_by b to None origin e =
-      subst (λ (n : ℕ). BeginsAt start (lineage_of start (history_of start journal) n)) to.on (holds.begun b to.born (ap is_client to.on ∙ origin.client))
+      subst (λ (n : ℕ). BeginsAt start (ancestor_of (history_of start journal) n) (lineage_of start (history_of start journal) n)) to.on (holds.begun b to.born (ap is_client to.on ∙ origin.client))
   own_by b to (Some place) origin e = absurd (cc)
 
-  own_begun : (b : Bound) → IsBoundTo b → k.origin ≡ None → BeginsAt start (lineage_of start (history_of start journal) k.endpoint)
+  pub own_begun : (b : Bound) → IsBoundTo b → k.origin ≡ None → BeginsAt start (ancestor_of (history_of start journal) k.endpoint) (lineage_of start (history_of start journal) k.endpoint)
   own_begun b to e = own_by b to k.origin ((lawful_kept below start s journal lawful').sound.right k waits.0).by_origin e
 
-  over_begun : (origin : ℕ) → k.origin ≡ Some origin → BeginsAt start ((lines_of start (history_of start journal)).onward origin)
+  pub over_begun : (origin : ℕ) → k.origin ≡ Some origin → BeginsAt start ((ancestors_of (history_of start journal)).onward origin) ((lines_of start (history_of start journal)).onward origin)
   over_begun origin e = holds.trails_begun k origin waits.0 e
 
   -- the connection that serves what came over a mount is a directory
@@ -181,17 +181,32 @@ module _ (below : Below) (narrow : OpensOnlyNarrow) (start : Start) (journal : J
         is = ap (asked_by (moment_of start (history_of start journal) b)) f.sent ∙ ap request_in (directory ∙ reads);
       }
 
-  opens : (b : Bound) → IsBoundTo b → (origin : ℕ) → k.origin ≡ Some origin → IsOpen (asked_by (moment_of start (history_of start journal) b) k.sending)
+  pub opens : (b : Bound) → IsBoundTo b → (origin : ℕ) → k.origin ≡ Some origin → IsOpen (asked_by (moment_of start (history_of start journal) b) k.sending)
   opens b to origin e = open_by b to k.origin ((lawful_kept below start s journal lawful').sound.right k waits.0).by_origin origin e
 
-  new_begun : (x : Bound) → (outcome_of start (history_of start journal) k).bound ≡ Some x → BeginsAt start (lineage_of start (behind start (serves k) (history_of start journal)) x.endpoint)
+  -- what is bound comes from where what is served does, and the others from where they did
+  new_ancestor : (x : Bound) → (outcome_of start (history_of start journal) k).bound ≡ Some x → ancestor_of (behind start (serves k) (history_of start journal)) x.endpoint ≡ sent_from (history_of start journal) k
+  unfolding event_of ancestors_of
+  new_ancestor x e =
+      let binds : option_map_or (λ bound. bound.endpoint == x.endpoint) (outcome_of start (history_of start journal) k).bound false ≡ true =
+      ap (λ (o : Option Bound). option_map_or (λ bound. bound.endpoint == x.endpoint) o false) e ∙ eq-eqb x.endpoint x.endpoint refl in
+      ap (λ (t : Bool). if t then sent_from (history_of start journal) k else ancestor_of (history_of start journal) x.endpoint) binds
+
+  old_ancestor : (bound : Bound) → Contains (births start (history_of start journal)) bound → ancestor_of (behind start (serves k) (history_of start journal)) bound.endpoint ≡ ancestor_of (history_of start journal) bound.endpoint
+  unfolding event_of ancestors_of
+  old_ancestor bound there =
+      ap (λ (t : Bool). if t then sent_from (history_of start journal) k else ancestor_of (history_of start journal) bound.endpoint) (old_line bound there _ refl)
+
+  new_begun : (x : Bound) → (outcome_of start (history_of start journal) k).bound ≡ Some x →
+      BeginsAt start (ancestor_of (behind start (serves k) (history_of start journal)) x.endpoint) (lineage_of start (behind start (serves k) (history_of start journal)) x.endpoint)
   new_begun x e =
       let to = bound_to in
       let b = to.0 in
       let moment = moment_of start (history_of start journal) b in
       let request = binds_asked moment k.sending x (sym (ap (λ (o : Outcome). o.bound) (whole b to.1)) ∙ e) in
-      new_then (BeginsAt start) x e b to.1
-      (lineage_given_begins start moment (lines_of start (history_of start journal)) k (own_begun b to.1) over_begun request.0 request.1 (opens b to.1))
+      new_then (BeginsAt start (ancestor_of (behind start (serves k) (history_of start journal)) x.endpoint)) x e b to.1
+      (subst (λ (n : ℕ). BeginsAt start n (found (lineage_given (lines_of start (history_of start journal)) k moment) (asked_by moment k.sending))) (sym (new_ancestor x e))
+      (lineage_given_begins start moment (lines_of start (history_of start journal)) (ancestors_of (history_of start journal)) k (own_begun b to.1) over_begun request.0 request.1 (opens b to.1)))
 
   -- ---- what went on before
 
@@ -211,11 +226,15 @@ module _ (below : Below) (narrow : OpensOnlyNarrow) (start : Start) (journal : J
             (sym (other_place origin (holds.origins sent origin there from))) h.asked;
       }
 
-  still_begun : (sent : Sent) (origin : ℕ) → Contains (all_sent (history_of start journal)) sent → sent.origin ≡ Some origin → BeginsAt start ((lines_of start (behind start (serves k) (history_of start journal))).onward origin)
-  unfolding event_of lines_of
+  still_begun : (sent : Sent) (origin : ℕ) → Contains (all_sent (history_of start journal)) sent → sent.origin ≡ Some origin →
+      BeginsAt start ((ancestors_of (behind start (serves k) (history_of start journal))).onward origin) ((lines_of start (behind start (serves k) (history_of start journal))).onward origin)
+  unfolding event_of lines_of ancestors_of
   still_begun sent origin there from =
       let lines = lines_of start (history_of start journal) in
-      subst (λ (t : Bool). BeginsAt start (if t then at_serving (trail_given start lines k) start (history_of start journal) k else lines.onward origin))
+      subst
+      (λ (t : Bool).
+      BeginsAt start (if t then sent_from (history_of start journal) k else (ancestors_of (history_of start journal)).onward origin)
+      (if t then at_serving (trail_given start lines k) start (history_of start journal) k else lines.onward origin))
       (sym (other_place origin (holds.origins sent origin there from))) (holds.trails_begun sent origin there from)
 
   pub served_holds : Holds start (behind start (serves k) (history_of start journal))
@@ -235,8 +254,10 @@ module _ (below : Below) (narrow : OpensOnlyNarrow) (start : Start) (journal : J
         rights_by bound (inr there) = new_within bound (the_one (outcome_of start (history_of start journal) k).bound bound there)
 
         begun_by : (bound : Bound) → is_client bound.endpoint ≡ true → Contains (births start (history_of start journal)) bound ⊎ Contains (option_to_list (outcome_of start (history_of start journal) k).bound) bound →
-            BeginsAt start (lineage_of start (behind start (serves k) (history_of start journal)) bound.endpoint)
-        begun_by bound client (inl there) = old_then (BeginsAt start) bound there (holds.begun bound there client)
+            BeginsAt start (ancestor_of (behind start (serves k) (history_of start journal)) bound.endpoint) (lineage_of start (behind start (serves k) (history_of start journal)) bound.endpoint)
+        begun_by bound client (inl there) =
+            old_then (BeginsAt start (ancestor_of (behind start (serves k) (history_of start journal)) bound.endpoint)) bound there
+            (subst (λ (n : ℕ). BeginsAt start n (lineage_of start (history_of start journal) bound.endpoint)) (sym (old_ancestor bound there)) (holds.begun bound there client))
         begun_by bound client (inr there) = new_begun bound (the_one (outcome_of start (history_of start journal) k).bound bound there)
 
   -- ---- what goes on
@@ -258,7 +279,7 @@ module _ (below : Below) (narrow : OpensOnlyNarrow) (start : Start) (journal : J
 
   pub forward_new : (f : Forwarded) → (outcome_of start (history_of start journal) k).forward ≡ Some f →
       IsNew start (behind start (serves k) (history_of start journal)) (sent_behind (serves k ∷ journal) f.endpoint (message f.bytes (f.object ∷ [])) (Some k.place))
-  unfolding event_of lines_of
+  unfolding event_of lines_of ancestors_of
   forward_new f e =
       let to = bound_to in
       let b = to.0 in
@@ -269,9 +290,12 @@ module _ (below : Below) (narrow : OpensOnlyNarrow) (start : Start) (journal : J
       (sym (ap (λ (o : Outcome). o.forward) (whole b to.1)) ∙ e) in
       record {
         begun = λ origin from.
-            subst (λ (t : Bool). BeginsAt start (if t then at_serving (trail_given start lines k) start (history_of start journal) k else lines.onward origin))
-            (sym (eq-eqb k.place origin (same_place from))) (subst (BeginsAt start) (sym (seen b to.1 (trail_given start lines k)))
-            (trail_given_begins start (moment_of start (history_of start journal) b) lines k (own_begun b to.1) over_begun
+            subst
+            (λ (t : Bool).
+            BeginsAt start (if t then sent_from (history_of start journal) k else (ancestors_of (history_of start journal)).onward origin)
+            (if t then at_serving (trail_given start lines k) start (history_of start journal) k else lines.onward origin))
+            (sym (eq-eqb k.place origin (same_place from))) (subst (BeginsAt start (sent_from (history_of start journal) k)) (sym (seen b to.1 (trail_given start lines k)))
+            (trail_given_begins start (moment_of start (history_of start journal) b) lines (ancestors_of (history_of start journal)) k (own_begun b to.1) over_begun
             (forwards_asked (moment_of start (history_of start journal) b) k.sending f (sym (ap (λ (o : Outcome). o.forward) (whole b to.1)) ∙ e))));
         origin = λ origin from. or_left (k.place == origin) _ (eq-eqb k.place origin (same_place from));
         trail = λ origin bytes handles txid path word attributes object from sending read.

@@ -86,15 +86,13 @@ module _ (below : Below) (narrow : OpensOnlyNarrow) (start : Start) (s : IsStart
 -- ---- the laws
 
 pub rights_stay : Below → OpensOnlyNarrow → RightsStayWithinLineage
-rights_stay below narrow start later past bound s h there =
-    (time_holds below narrow start s past (time_of start (later ++ past) h later past refl)).rights bound there
+rights_stay below narrow start later past s h = (time_holds below narrow start s past (time_of start (later ++ past) h later past refl)).rights
 
 pub lineages_begin : Below → OpensOnlyNarrow → LineagesBeginAtFirsts
-lineages_begin below narrow start later past bound s h there client =
-    (time_holds below narrow start s past (time_of start (later ++ past) h later past refl)).begun bound there client
+lineages_begin below narrow start later past s h = (time_holds below narrow start s past (time_of start (later ++ past) h later past refl)).begun
 
 pub flags_stay : Below → OpensOnlyNarrow → FlagsStayWithinTrail
-flags_stay below narrow start later past sent origin bytes handles txid path word attributes object s h there from sending read =
+flags_stay below narrow start later past s h sent origin bytes handles txid path word attributes object there from sending read =
     let holds = time_holds below narrow start s past (time_of start (later ++ past) h later past refl) in
     subst (λ (o : Option ℕ). All (HasAllAsked word) (trail_by (lines_of start (history_of start past)) sent.endpoint o)) (sym from)
     (holds.trails sent there origin bytes handles txid path word attributes object from sending read).asked

@@ -1,10 +1,10 @@
 -- Who changes a tree has the authority to, all the way.
-use Rattle.std.specs.Prelude.{◌≡◌, ◌≢◌, ℕ, ◌==◌, List, ◌∷◌, ◌++◌, find, Some}
+use Rattle.std.specs.Prelude.{◌≡◌, ◌≢◌, ℕ, ◌==◌, Contains, false, List, ◌∷◌, ◌++◌, find, Some}
 use Rattle.io_messages.specs.Asked.{Asked}
 use Rattle.io_messages.specs.Asked as asks
 use Rattle.io_rights.specs.declared.operations.Operation.{Operation}
 use Rattle.io_rights.specs.declared.operations.Operation.TheVariants as op
-use Rattle.io_rights.specs.Operations.{OperationSet, single}
+use Rattle.io_rights.specs.Operations.{OperationSet, has, single}
 use Rattle.node_graph.specs.Tree.{Change, make, fill, stay}
 use Rattle.dir_conn.specs.Laws.{masks_of}
 use Rattle.vfs_journal.specs.Entries.{Journal, Sent, serves}
@@ -16,7 +16,7 @@ use Rattle.vfs_journal.specs.Serving.{Moment, moment_of, outcome_of}
 use Rattle.vfs_journal.specs.Starts.{Bound, Start}
 use Rattle.vfs_journal.specs.Tokens.{all_given}
 use Rattle.journal_laws.specs.Soundness.{IsStart}
-use Rattle.rights_laws.specs.Lineage.{asked_by, lineage_given, lineage_of, lines_of, trail_of, walk_at}
+use Rattle.rights_laws.specs.Lineage.{asked_by, lineage_given, lineage_of, lines_of, sent_from, trail_of, walk_at}
 use Rattle.rights_laws.specs.Rights.{AreWithinEach}
 
 -- each of these sets has a right
@@ -53,9 +53,29 @@ pub record IsAllowed (start : Start) (past : History) (sent : Sent) (change : Ch
   pub asked : asked_by (moment_of start past bound) sent.sending ≡ Some request
   pub authority : HasAuthority start past sent (moment_of start past bound) request change
 
--- each serving of a session that changes a tree, whatever came later, is allowed
+-- a first connection has neither of the rights that a change takes
+pub record IsNarrow (first : Bound) : Type 0 where
+  pub writes : has first.birth.rights op.WriteBytes ≡ false
+  pub modifies : has first.birth.rights op.ModifyDirectory ≡ false
+
+-- ---- of one serving
+
+-- if it changes a tree, that is allowed
+abbrev pub ChangeIsAllowed : Start → History → Sent → Type 0
+ChangeIsAllowed start past sent = (outcome_of start past sent).change ≢ stay → IsAllowed start past sent (outcome_of start past sent).change
+
+-- if what is served comes from a narrow first connection, it changes nothing: not on that connection, nor on what was opened or cloned from
+-- it, nor through whatever went on behind mounts
+abbrev pub NarrowChangesNothing : Start → History → Sent → Type 0
+NarrowChangesNothing start past sent =
+    (first : Bound) → Contains start.firsts first → sent_from past sent ≡ first.endpoint → IsNarrow first → (outcome_of start past sent).change ≡ stay
+
+-- ---- of each serving of a session, whatever came later
+
 abbrev pub ChangesAreAllowed : Type 0
 ChangesAreAllowed =
-    (start : Start) (later past : Journal) (sent : Sent) → IsStart start → Lawful start (later ++ serves sent ∷ past) →
-    (outcome_of start (history_of start past) sent).change ≢ stay →
-    IsAllowed start (history_of start past) sent (outcome_of start (history_of start past) sent).change
+    (start : Start) (later past : Journal) (sent : Sent) → IsStart start → Lawful start (later ++ serves sent ∷ past) → ChangeIsAllowed start (history_of start past) sent
+
+abbrev pub NarrowAncestorsChangeNothing : Type 0
+NarrowAncestorsChangeNothing =
+    (start : Start) (later past : Journal) (sent : Sent) → IsStart start → Lawful start (later ++ serves sent ∷ past) → NarrowChangesNothing start (history_of start past) sent

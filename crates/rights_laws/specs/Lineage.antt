@@ -105,3 +105,41 @@ lineage_of start history endpoint = (lines_of start history).lineage endpoint
 
 abbrev pub trail_of : Start → History → Sent → List OperationSet
 trail_of start history sent = trail_in (lines_of start history) sent
+
+-- ---- ancestors
+
+-- the first connection that each endpoint comes from, and by the place of each Open that went on behind a mount the one that what went on
+-- comes from
+pub record Ancestors : Type 0 where
+  pub bound : ℕ → ℕ
+  pub onward : ℕ → ℕ
+
+abbrev pub ancestor_by : Ancestors → ℕ → Option ℕ → ℕ
+ancestor_by ancestors endpoint None = ancestors.bound endpoint
+ancestor_by ancestors endpoint (Some origin) = ancestors.onward origin
+
+-- where what was sent comes from: over a mount where its origin comes from, and else where its endpoint does
+abbrev pub ancestor_in : Ancestors → Sent → ℕ
+ancestor_in ancestors sent = ancestor_by ancestors sent.endpoint sent.origin
+
+abbrev pub ancestor_served : Ancestors → Event → ℕ
+ancestor_served ancestors event = option_map_or (ancestor_in ancestors) (served_by event.entry) 0
+
+-- behind an event, the endpoint that it binds and what goes on of it come from where what it serves comes from; the others are as they were
+abbrev pub ancestors_behind : Ancestors → Event → Ancestors
+ancestors_behind ancestors event =
+    record {
+      bound = λ endpoint. if binds_endpoint endpoint event then ancestor_served ancestors event else ancestors.bound endpoint;
+      onward = λ place. if serves_place place event then ancestor_served ancestors event else ancestors.onward place;
+    }
+
+-- a first connection is its own ancestor
+unfoldable pub ancestors_of : History → Ancestors
+ancestors_of [] = record { bound = λ endpoint. endpoint; onward = λ place. 0 }
+ancestors_of (event ∷ past) = ancestors_behind (ancestors_of past) event
+
+abbrev pub ancestor_of : History → ℕ → ℕ
+ancestor_of history endpoint = (ancestors_of history).bound endpoint
+
+abbrev pub sent_from : History → Sent → ℕ
+sent_from history sent = ancestor_in (ancestors_of history) sent

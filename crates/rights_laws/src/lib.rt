@@ -4,5 +4,5 @@
 mod authority;
 mod rights;
 
-pub use authority::changes_are_allowed;
+pub use authority::{changes_are_allowed, narrow_ancestors_change_nothing};
 pub use rights::{flags_stay_within_trail, lineages_begin_at_firsts, rights_stay_within_lineage};

@@ -20,7 +20,7 @@ pub fn rights_stay_within_lineage()
 }
 
 /// At each time of a lawful journal over a sound start the lineage of each client's endpoint that is or was bound begins with the rights of
-/// a first connection; where no two names have equal ordinals.
+/// its ancestor, which is a first connection; where no two names have equal ordinals.
 pub fn lineages_begin_at_firsts()
     ensures { AreDistinct → LineagesBeginAtFirsts }
 {

@@ -1,7 +1,7 @@
 pub mod Growth
 mod ReadBack
 mod Played
-mod Shown
+pub mod Shown
 mod Stages
 mod Answered
 mod Whole

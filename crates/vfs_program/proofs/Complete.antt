@@ -4,6 +4,7 @@ use Rattle.std.specs.Io.KnownBytes.{Consumes, IsAtEnd}
 use Rattle.fidl_names.specs.declared.limits.TheConstants as limit
 use Rattle.fidl_wire.specs.Names.{AreDistinct}
 use Rattle.host_io.specs.Causes.{Rose}
+use Rattle.host_io.specs.Streams.{AppendsPart}
 use Rattle.host_io.specs.Told.{Told, Holds, IsAllOf, IsLongerThan}
 use Rattle.tree_file.specs.Items.{Lists}
 use Rattle.tree_file.specs.Rules.{first_failure}
@@ -13,20 +14,23 @@ use Rattle.endpoint_link.specs.declared.kinds.Side.{Side}
 use Rattle.endpoint_link.specs.declared.kinds.Side.TheVariants.{Any, ToServers}
 use Rattle.endpoint_link.proofs.Runs.{bad_stays}
 use Rattle.endpoint_link.proofs.Streams.{one_list, not_both}
+use Rattle.script_session.specs.Playing.{transcript}
 use Rattle.vfs_journal.specs.Starts.{start_of}
+use Rattle.vfs_script.specs.Scripts.{bad_line}
 use Rattle.vfs_program.specs.declared.statuses.Status.{Status}
 use Rattle.vfs_program.specs.declared.statuses.Status.TheVariants as status
 use Rattle.vfs_program.specs.Answers.{Answers, IsServable, NoFault, IsDoneOrNoMemory}
-use Rattle.vfs_program.specs.Causes.{After, AfterFile, AfterTree, Collides, HasNoFile, HasNoStart}
+use Rattle.vfs_program.specs.Causes.{After, AfterFile, AfterScript, AfterTree, Collides, HasNoFile, HasNoScript, HasNoStart}
 use Rattle.vfs_program.specs.Files.{IsFileFault, IsWithin}
 use Rattle.vfs_program.specs.OneFile.{file_course}
 use Rattle.vfs_program.specs.Outside.{FilesTold, Outside, Streams, SinkTold, sink_of}
+use Rattle.vfs_program.specs.Scripts.{IsBadAt, IsPlayable, Said, Says}
 use Rattle.vfs_program.specs.Session.{Course, SessionAnswers, IsWhole, IsTooLong, IsTruncated, IsBad}
 use Rattle.vfs_program.specs.Shown.{lines_course}
-use Rattle.vfs_program.specs.Texts.{WritesText}
+use Rattle.vfs_program.specs.Texts.{WritesPieces, WritesText}
 use Rattle.vfs_program.specs.Trees.{Stands, IsBroken, line_of}
 use Rattle.vfs_program.specs.TreeSession.{tree_course}
-use Rattle.vfs_program.specs.Words.{Asks, FileOf, ServeOf, CheckOf, ShowAll}
+use Rattle.vfs_program.specs.Words.{Asks, FileOf, ServeOf, RunOf, CheckOf, ShowAll}
 
 -- what is left behind the bytes that were taken of a told input
 untaken : (input taken : List ℕ) (left : Option (List ℕ)) → Consumes (Some input) left taken
@@ -61,6 +65,7 @@ session_done side course before after same is source sink status.Done a = tt
 session_done side course before after same is source sink status.NoMemory a = tt
 session_done side course before after same is source sink status.Usage a = a
 session_done side course before after same is source sink (status.TreeRefused rule item) a = a
+session_done side course before after same is source sink (status.ScriptRefused line) a = a
 session_done side course before after same is source sink (status.Collision first second) a = a
 session_done side course before after same is source sink status.FileFault a = a
 session_done side course before after same is source sink status.FileTooLarge a = a
@@ -71,20 +76,21 @@ session_done side course before after same is source sink (status.Truncated at) 
 session_done side course before after same is source sink (status.BadFrame at why) a = not_bad side course before after at why is a
 
 -- a text that is written without faults is done
-text_done : (text : List ℕ) (before after : SinkTold) → (Rose before.faults after.faults → ⊥)
-    → (answer : Status) → WritesText text ⊥ before after answer → IsDoneOrNoMemory answer
-text_done text before after sink status.Done a = tt
-text_done text before after sink status.NoMemory a = tt
-text_done text before after sink status.WriteFault a = sink a.1
-text_done text before after sink status.Usage a = a
-text_done text before after sink (status.TreeRefused rule item) a = a
-text_done text before after sink (status.Collision first second) a = a
-text_done text before after sink status.FileFault a = a
-text_done text before after sink status.FileTooLarge a = a
-text_done text before after sink status.ReadFault a = a
-text_done text before after sink status.InputTooLong a = a
-text_done text before after sink (status.Truncated at) a = a
-text_done text before after sink (status.BadFrame at why) a = a
+text_done : (text : List ℕ) (starved : Type 0) (before after : SinkTold) → (Rose before.faults after.faults → ⊥)
+    → (answer : Status) → WritesText text starved before after answer → IsDoneOrNoMemory answer
+text_done text starved before after sink status.Done a = tt
+text_done text starved before after sink status.NoMemory a = tt
+text_done text starved before after sink status.WriteFault a = sink a.1
+text_done text starved before after sink status.Usage a = a
+text_done text starved before after sink (status.TreeRefused rule item) a = a
+text_done text starved before after sink (status.ScriptRefused line) a = a
+text_done text starved before after sink (status.Collision first second) a = a
+text_done text starved before after sink status.FileFault a = a
+text_done text starved before after sink status.FileTooLarge a = a
+text_done text starved before after sink status.ReadFault a = a
+text_done text starved before after sink status.InputTooLong a = a
+text_done text starved before after sink (status.Truncated at) a = a
+text_done text starved before after sink (status.BadFrame at why) a = a
 
 -- names that differ don't collide
 no_collision : AreDistinct → (answer : Status) → Collides answer → IsDoneOrNoMemory answer
@@ -94,6 +100,7 @@ no_collision distinct status.NoMemory a = absurd a
 no_collision distinct status.WriteFault a = absurd a
 no_collision distinct status.Usage a = absurd a
 no_collision distinct (status.TreeRefused rule item) a = absurd a
+no_collision distinct (status.ScriptRefused line) a = absurd a
 no_collision distinct status.FileFault a = absurd a
 no_collision distinct status.FileTooLarge a = absurd a
 no_collision distinct status.ReadFault a = absurd a
@@ -116,6 +123,7 @@ has_file most name before after file e few good status.Done a = absurd a
 has_file most name before after file e few good status.WriteFault a = absurd a
 has_file most name before after file e few good status.Usage a = absurd a
 has_file most name before after file e few good (status.TreeRefused rule item) a = absurd a
+has_file most name before after file e few good (status.ScriptRefused line) a = absurd a
 has_file most name before after file e few good (status.Collision first second) a = absurd a
 has_file most name before after file e few good status.ReadFault a = absurd a
 has_file most name before after file e few good status.InputTooLong a = absurd a
@@ -136,6 +144,7 @@ not_broken told lists text rule item e stands broken =
 has_tree : (tree : List ℕ) (before after : FilesTold) (text : List ℕ) (lists : Lists) → before.told tree ≡ Holds text → Stands (Holds text) lists
     → (IsFileFault tree before after → ⊥) → (answer : Status) → HasNoStart tree before after answer → IsDoneOrNoMemory answer
 has_tree tree before after text lists e stands good (status.TreeRefused rule item) a = not_broken (before.told tree) lists text rule item e stands a
+has_tree tree before after text lists e stands good (status.ScriptRefused line) a = absurd a
 has_tree tree before after text lists e stands good status.NoMemory a = tt
 has_tree tree before after text lists e stands good status.FileFault a = good a
 has_tree tree before after text lists e stands good status.FileTooLarge a =
@@ -148,6 +157,32 @@ has_tree tree before after text lists e stands good status.ReadFault a = absurd 
 has_tree tree before after text lists e stands good status.InputTooLong a = absurd a
 has_tree tree before after text lists e stands good (status.Truncated at) a = absurd a
 has_tree tree before after text lists e stands good (status.BadFrame at why) a = absurd a
+
+-- a text with a bad line isn't one that has none
+no_line : (text : List ℕ) (line : ℕ) → bad_line text ≡ Some line → bad_line text ≡ None → ⊥
+no_line text line some none = true≢false (ap is_some (sym some ∙ none))
+
+-- no line of the script is bad
+not_bad_at : (told : Told) (said : Said) (line : ℕ) → told ≡ Holds said.text → Says (Holds said.text) said → IsBadAt told line → ⊥
+not_bad_at told said line e says bad =
+    let same : bad.text ≡ said.text = subst (λ t. IsAllOf t bad.text) e bad.within.0 in
+    no_line bad.text line bad.first (ap bad_line same ∙ says.good)
+
+has_script : (script : List ℕ) (before after : FilesTold) (said : Said) → before.told script ≡ Holds said.text → Says (Holds said.text) said
+    → (IsFileFault script before after → ⊥) → (answer : Status) → HasNoScript script before after answer → IsDoneOrNoMemory answer
+has_script script before after said e says good (status.ScriptRefused line) a = not_bad_at (before.told script) said line e says a
+has_script script before after said e says good status.NoMemory a = tt
+has_script script before after said e says good status.FileFault a = good a
+has_script script before after said e says good status.FileTooLarge a = not_large limit.MAX_TEXT (before.told script) said.text e says.within.1 a.1
+has_script script before after said e says good status.Done a = absurd a
+has_script script before after said e says good status.WriteFault a = absurd a
+has_script script before after said e says good status.Usage a = absurd a
+has_script script before after said e says good (status.TreeRefused rule item) a = absurd a
+has_script script before after said e says good (status.Collision first second) a = absurd a
+has_script script before after said e says good status.ReadFault a = absurd a
+has_script script before after said e says good status.InputTooLong a = absurd a
+has_script script before after said e says good (status.Truncated at) a = absurd a
+has_script script before after said e says good (status.BadFrame at why) a = absurd a
 
 -- causes that don't hold, and a rest that is done
 after_done : {X : Type 0} (stops : Status → Type 0) (same : Type 0) (Found : X → Type 0) (rest : X → Status → Type 0) (answer : Status)
@@ -170,11 +205,24 @@ complete (ServeOf tree by) before after S K answer a s n =
     (λ none distinct. after_done (HasNoStart tree before.files after.files) (S × K) (Stands (before.files.told tree)) session answer
     (has_tree tree before.files after.files s.1.0 s.1.1 s.1.2 s.1.3 n.file answer)
     (λ lists stands. session_done ToServers (tree_course (start_of lists) by) before.streams after.streams K s.2 n.source n.sink answer)) a
+complete (RunOf tree script) before after S K answer a s n =
+    let told : Lists → Said → Status → Type 0 =
+    λ lists said. WritesPieces (transcript (start_of lists) said.by said.text) (sink_of before.streams) (sink_of after.streams)
+    in
+    let plays : Lists → Status → Type 0 = λ lists. AfterScript script before.files after.files K (told lists) in
+    after_done Collides K (λ (none : Unit {0}). AreDistinct) (λ none. AfterTree tree before.files after.files K plays) answer (no_collision s.0 answer)
+    (λ none distinct. after_done (HasNoStart tree before.files after.files) K (Stands (before.files.told tree)) plays answer
+    (has_tree tree before.files after.files s.1.0 s.1.1 s.1.2 s.1.3 (λ f. n.file (inl f)) answer)
+    (λ lists stands. after_done (HasNoScript script before.files after.files) K (IsPlayable (before.files.told script)) (told lists) answer
+    (has_script script before.files after.files s.2.said s.2.told s.2.says (λ f. n.file (inr f)) answer)
+    (λ said says. text_done (transcript (start_of lists) said.by said.text)
+    (AppendsPart before.streams.written after.streams.written (transcript (start_of lists) said.by said.text))
+    (sink_of before.streams) (sink_of after.streams) n.sink answer))) a.1
 complete (CheckOf tree) before after S K answer a s n =
     after_done (HasNoStart tree before.files after.files) K (Stands (before.files.told tree))
     (λ lists. WritesText (line_of lists) ⊥ (sink_of before.streams) (sink_of after.streams)) answer
     (has_tree tree before.files after.files s.0 s.1 s.2 s.3 n.file answer)
-    (λ lists stands. text_done (line_of lists) (sink_of before.streams) (sink_of after.streams) n.sink answer) a.1
+    (λ lists stands. text_done (line_of lists) ⊥ (sink_of before.streams) (sink_of after.streams) n.sink answer) a.1
 complete ShowAll before after S K answer a s n =
     after_done Collides (S × K) (λ (none : Unit {0}). AreDistinct) (λ none. SessionAnswers Any lines_course before.streams after.streams K) answer (no_collision s.0 answer)
     (λ none distinct. session_done Any lines_course before.streams after.streams K s.1 n.source n.sink answer) a

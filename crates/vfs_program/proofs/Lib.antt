@@ -9,8 +9,10 @@ pub mod Progress
 pub mod SessionEnds
 pub mod Outputs
 pub mod TreeLemmas
+pub mod ScriptLemmas
 pub mod Complete
 pub mod NoteLemmas
 pub mod SeenLemmas
 mod ShowLemmas
 pub mod OneMeaning
+pub mod Lawful

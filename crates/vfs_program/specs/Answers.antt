@@ -1,5 +1,5 @@
 -- What a command may answer, and what it did by then.
-use Rattle.std.specs.Prelude.{ℕ, List, length, ◌≡◌, ◌≤◌}
+use Rattle.std.specs.Prelude.{ℕ, List, length, ◌≡◌, ◌≤◌, ◌⊎◌}
 use Rattle.fidl_names.specs.declared.limits.TheConstants as limit
 use Rattle.host_io.specs.Causes.{Rose}
 use Rattle.host_io.specs.Told.{Holds}
@@ -7,18 +7,20 @@ use Rattle.fidl_wire.specs.Names.{AreDistinct}
 use Rattle.tree_file.specs.Items.{Lists}
 use Rattle.endpoint_link.specs.declared.kinds.Side.TheVariants as side
 use Rattle.vfs_journal.specs.Starts.{start_of}
+use Rattle.script_session.specs.Playing.{transcript}
 use Rattle.vfs_program.specs.declared.statuses.Status.{Status}
 use Rattle.vfs_program.specs.declared.statuses.Status.TheVariants as status
-use Rattle.vfs_program.specs.Causes.{AfterNames, AfterFile, AfterTree}
+use Rattle.vfs_program.specs.Causes.{AfterNames, AfterFile, AfterScript, AfterTree}
 use Rattle.vfs_program.specs.Files.{IsFileFault}
 use Rattle.vfs_program.specs.OneFile.{file_course}
 use Rattle.vfs_program.specs.Outside.{Outside, sink_of}
+use Rattle.vfs_program.specs.Scripts.{Said, Says}
 use Rattle.vfs_program.specs.Session.{SessionAnswers, IsWhole}
 use Rattle.vfs_program.specs.Shown.{lines_course}
-use Rattle.vfs_program.specs.Texts.{WritesText}
+use Rattle.vfs_program.specs.Texts.{WritesPieces, WritesText}
 use Rattle.vfs_program.specs.TreeSession.{tree_course}
 use Rattle.vfs_program.specs.Trees.{Stands, line_of}
-use Rattle.vfs_program.specs.Words.{Asks, FileOf, ServeOf, CheckOf, ShowAll}
+use Rattle.vfs_program.specs.Words.{Asks, FileOf, ServeOf, RunOf, CheckOf, ShowAll}
 
 -- what each command answers: its causes in their order, and then its work
 abbrev pub Answers : Asks → Outside → Outside → Type 0 → Type 0 → Status → Type 0
@@ -30,6 +32,11 @@ Answers (ServeOf tree by) before after source_same sink_same =
     AfterNames (source_same × sink_same)
     (AfterTree tree before.files after.files (source_same × sink_same)
     (λ lists. SessionAnswers side.ToServers (tree_course (start_of lists) by) before.streams after.streams sink_same))
+Answers (RunOf tree script) before after source_same sink_same =
+    λ status. source_same × AfterNames sink_same
+    (AfterTree tree before.files after.files sink_same
+    (λ lists. AfterScript script before.files after.files sink_same
+    (λ said. WritesPieces (transcript (start_of lists) said.by said.text) (sink_of before.streams) (sink_of after.streams)))) status
 Answers (CheckOf tree) before after source_same sink_same =
     λ status. source_same × AfterTree tree before.files after.files sink_same
     (λ lists. WritesText (line_of lists) ⊥ (sink_of before.streams) (sink_of after.streams)) status
@@ -44,21 +51,30 @@ HasFile name before = (file : List ℕ) × (before.files.told name ≡ Holds fil
 abbrev pub HasTree : List ℕ → Outside → Type 0
 HasTree tree before = (text : List ℕ) × (lists : Lists) × (before.files.told tree ≡ Holds text) × Stands (Holds text) lists
 
+-- the script's file is told, within its limit, and none of its lines is bad
+pub record HasScript (script : List ℕ) (before : Outside) : Type 0 where
+  pub said : Said
+  pub told : before.files.told script ≡ Holds said.text
+  pub says : Says (Holds said.text) said
+
 -- the command has all that it needs
 abbrev pub IsServable : Asks → Outside → Type 0
 IsServable (FileOf name) before = AreDistinct × HasFile name before × IsWhole side.ToServers before.streams
 IsServable (ServeOf tree by) before = AreDistinct × HasTree tree before × IsWhole side.ToServers before.streams
+IsServable (RunOf tree script) before = AreDistinct × HasTree tree before × HasScript script before
 IsServable (CheckOf tree) before = HasTree tree before
 IsServable ShowAll before = AreDistinct × IsWhole side.Any before.streams
 
--- the file that a command names, and the source where it reads that, met a fault
+-- a file that a command names, and the source where it reads that, met a fault
 abbrev pub FileRose : Asks → Outside → Outside → Type 0
 FileRose (FileOf name) before after = IsFileFault name before.files after.files
 FileRose (ServeOf tree by) before after = IsFileFault tree before.files after.files
+FileRose (RunOf tree script) before after = IsFileFault tree before.files after.files ⊎ IsFileFault script before.files after.files
 FileRose (CheckOf tree) before after = IsFileFault tree before.files after.files
 FileRose ShowAll before after = ⊥
 
 abbrev pub SourceRose : Asks → Outside → Outside → Type 0
+SourceRose (RunOf tree script) before after = ⊥
 SourceRose (CheckOf tree) before after = ⊥
 SourceRose asks before after = Rose before.streams.read_faults after.streams.read_faults
 

@@ -9,6 +9,7 @@ use Rattle.vfs_program.specs.declared.statuses.Status.{Status}
 use Rattle.vfs_program.specs.declared.statuses.Status.TheVariants as status
 use Rattle.vfs_program.specs.Outside.{FilesTold}
 use Rattle.vfs_program.specs.Files.{IsFileFault, IsFileTooLarge, IsWithin}
+use Rattle.vfs_program.specs.Scripts.{IsBadAt, IsPlayable, Said}
 use Rattle.vfs_program.specs.Trees.{IsBroken, Stands}
 
 -- a cause stops the command, which changed nothing by then; or something is found, and with that the rest of the command answers
@@ -43,3 +44,12 @@ HasNoStart tree before after status = HasNoFile limit.MAX_TEXT tree before after
 -- or the tree file, which breaks no rule
 abbrev pub AfterTree : List ℕ → FilesTold → FilesTold → Type 0 → (Lists → Status → Type 0) → Status → Type 0
 AfterTree tree before after same = After (HasNoStart tree before after) same (Stands (before.told tree))
+
+-- why a command has no script: it has no file, or the first bad line of the file
+abbrev pub HasNoScript : List ℕ → FilesTold → FilesTold → Status → Type 0
+HasNoScript script before after (status.ScriptRefused line) = IsBadAt (before.told script) line
+HasNoScript script before after status = HasNoFile limit.MAX_TEXT script before after status
+
+-- or the script, none of whose lines is bad, so that it can be played
+abbrev pub AfterScript : List ℕ → FilesTold → FilesTold → Type 0 → (Said → Status → Type 0) → Status → Type 0
+AfterScript script before after same = After (HasNoScript script before after) same (IsPlayable (before.told script))

@@ -10,8 +10,10 @@ pub mod Pieces
 pub mod Serving
 pub mod Files
 pub mod Trees
+pub mod Scripts
 pub mod TreeSession
 pub mod Shown
 pub mod Texts
 pub mod Causes
 pub mod Answers
+pub mod Lawful

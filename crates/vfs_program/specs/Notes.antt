@@ -9,6 +9,7 @@ abbrev pub exit_of : Status → ℕ
 exit_of status.Done = 0
 exit_of status.Usage = 1
 exit_of (status.TreeRefused rule item) = 2
+exit_of (status.ScriptRefused line) = 2
 exit_of status.ReadFault = 3
 exit_of status.WriteFault = 4
 exit_of status.FileFault = 5
@@ -32,6 +33,7 @@ abbrev pub note_of : Status → List ℕ
 note_of status.Done = []
 note_of status.Usage = codes "usage: vfs file NAME | serve TREE auto | serve TREE given | run TREE SCRIPT | check TREE | show | make N\n"
 note_of (status.TreeRefused rule item) = codes "tree refused: rule " ++ decimal rule ++ codes " item " ++ decimal item ++ codes "\n"
+note_of (status.ScriptRefused line) = codes "script refused: line " ++ decimal line ++ codes "\n"
 note_of status.ReadFault = codes "read failed\n"
 note_of status.WriteFault = codes "write failed\n"
 note_of status.FileFault = codes "file failed\n"

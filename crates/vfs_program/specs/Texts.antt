@@ -18,6 +18,10 @@ WritesText text starved before after status.WriteFault = AppendsPart before.writ
 WritesText text starved before after status.NoMemory = starved
 WritesText text starved before after _ = ⊥
 
+-- a text that is written piece by piece: where memory is wanting a front of it was written
+abbrev pub WritesPieces : List ℕ → SinkTold → SinkTold → Status → Type 0
+WritesPieces text before after = WritesText text (AppendsPart before.written after.written text) before after
+
 -- the note is all that is told, and it is passed on, where telling it met no fault; where it met one, a front of it is all
 pub record Tells (note : List ℕ) (before after : SinkTold) : Type 0 where
   pub whole : (Rose before.faults after.faults → ⊥) → GotAll before after note

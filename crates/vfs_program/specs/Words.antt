@@ -3,7 +3,7 @@ use Rattle.std.specs.Prelude.{◌≡◌, ℕ, List, [], ◌∷◌, codes}
 use Rattle.endpoint_link.specs.declared.kinds.Mode.{Mode}
 use Rattle.endpoint_link.specs.declared.kinds.Mode.TheVariants as mode
 use Rattle.vfs_program.specs.declared.words.Command.{Command}
-use Rattle.vfs_program.specs.declared.words.Command.TheVariants.{File, Serve, Check, Show}
+use Rattle.vfs_program.specs.declared.words.Command.TheVariants.{File, Serve, Run, Check, Show}
 
 -- what the words ask for
 pub data Asks : Type 0 where
@@ -11,6 +11,8 @@ pub data Asks : Type 0 where
   FileOf : (name : List ℕ) → Asks
   -- serve the tree of the file of this name, in this mode
   ServeOf : (tree : List ℕ) (by : Mode) → Asks
+  -- play the script of this name over the tree of that one
+  RunOf : (tree script : List ℕ) → Asks
   -- tell whether the tree file of this name stands
   CheckOf : (tree : List ℕ) → Asks
   -- print each frame of the source as a line
@@ -25,6 +27,7 @@ mode_word mode.Given = codes "given"
 abbrev pub Means : List (List ℕ) → Asks → Type 0
 Means words (FileOf name) = words ≡ codes "file" ∷ name ∷ []
 Means words (ServeOf tree by) = words ≡ codes "serve" ∷ tree ∷ mode_word by ∷ []
+Means words (RunOf tree script) = words ≡ codes "run" ∷ tree ∷ script ∷ []
 Means words (CheckOf tree) = words ≡ codes "check" ∷ tree ∷ []
 Means words ShowAll = words ≡ codes "show" ∷ []
 
@@ -36,5 +39,6 @@ MeanNothing words = (asks : Asks) → Means words asks → ⊥
 abbrev pub command_seen : Command → Asks
 command_seen (File name) = FileOf name.now
 command_seen (Serve tree by) = ServeOf tree.now by
+command_seen (Run tree script) = RunOf tree.now script.now
 command_seen (Check tree) = CheckOf tree.now
 command_seen Show = ShowAll

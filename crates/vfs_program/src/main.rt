@@ -12,6 +12,7 @@ mod one_file;
 #[cfg(test)]
 mod rows;
 mod run;
+mod scripts;
 mod sessions;
 mod show;
 mod statuses;

@@ -36,6 +36,7 @@ fn write_note<N: Sink>(notes: &mut N, status: Status) -> Result<(), Failed>
                 item,
             )
         }
+        Status::ScriptRefused { line } => write_number(notes, "script refused: line ", line),
         Status::ReadFault => write_line(notes, "read failed\n"),
         Status::WriteFault => write_line(notes, "write failed\n"),
         Status::FileFault => write_line(notes, "file failed\n"),

@@ -19,8 +19,8 @@ client = [{endpoint = 1, server = "a", path = "."}]
 "#;
 
 /// Whole runs of the program: the words, the file `held` (behind `'` a text, in which `;` ends a line, or `whole tree`, and else bytes),
-/// the input, the most bytes of a read, the call that fails, the sink's room and the most bytes of a write, the output (`?`: any), the
-/// note and the exit status.
+/// the input, written in the same way, which the file `input` has as well, the most bytes of a read, the call that fails, the sink's room
+/// and the most bytes of a write, the output (`?`: any), the note and the exit status.
 pub const ROWS: &str = r#"
 # one file, in every cut
 one Read | file held | 'hello world | 01000000010000001800000001000000020000014c01b891c67ff2400500000000000000 | 1,7,13,36,100000 | - | 100000,100000 | 01000000010000003800000001000000020000014c01b891c67ff240010000000000000018000000000000000500000000000000ffffffffffffffff68656c6c6f000000 | - | 0
@@ -68,6 +68,17 @@ check without a name | check | 'hello world | 010000000500000004000000e8ffffff |
 a tree to check that is none | check held | 'hello world | 010000000500000004000000e8ffffff | 100 | - | 100000,100000 | - | tree refused: rule 1 item 0 | 2
 a tree to check that is missing | check nothing | 'hello world | 010000000500000004000000e8ffffff | 100 | - | 100000,100000 | - | file failed | 5
 no words | - | 'hello world | 010000000500000004000000e8ffffff | 100 | - | 100000,100000 | - | usage | 1
+# scripts that are played
+a script of one Open | run held input | whole tree | 'auto;open 1 nope 0x2 2; | 100 | - | 100000,100000 | '2 message epitaph - 0000000002000001ffffffffffffffffe7ffffff00000000;2 close;calls 0 answered 0; | - | 0
+a script whose second line is bad | run held input | whole tree | 'auto;jump 1; | 100 | - | 100000,100000 | - | script refused: line 2 | 2
+a script without a mode | run held input | whole tree | 'open 1 nope 0x2 2; | 100 | - | 100000,100000 | - | script refused: line 0 | 2
+a good script over a tree that is none | run held input | 'hello world | 'auto; | 100 | - | 100000,100000 | - | tree refused: rule 1 item 0 | 2
+a script that is missing | run held nothing | whole tree | 'auto; | 100 | - | 100000,100000 | - | file failed | 5
+a script whose file fails | run held input | whole tree | 'auto; | 100 | file 1 | 100000,100000 | - | file failed | 5
+a script of 1,048,577 bytes | run held input | whole tree | [23*1048577] | 100 | - | 100000,100000 | - | file too large | 5
+a transcript into a sink of 19 bytes | run held input | whole tree | 'auto;open 1 nope 0x2 2; | 100 | - | 19,100 | '2 message epitaph - | write failed | 4
+a transcript whose first write fails | run held input | whole tree | 'auto; | 100 | write 0 | 100000,100000 | - | write failed | 4
+run without a script | run held | whole tree | - | 100 | - | 100000,100000 | - | usage | 1
 # a full sink has the front of the output
 a sink of 20 bytes | file held | 'hello world | 01000000010000001800000001000000020000014c01b891c67ff2400500000000000000 | 100 | - | 20,100 | 0100000001000000380000000100000002000001 | write failed | 4
 # trees that are checked

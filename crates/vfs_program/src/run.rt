@@ -1,5 +1,6 @@
 ghost use Rattle.std.specs.Prelude.{◌≡◌, map, string_bytes};
 ghost use Rattle.vfs_program.specs.Answers.{Answers, IsServable, NoFault, IsDoneOrNoMemory};
+ghost use Rattle.vfs_program.specs.Lawful.{IsLawfulRun};
 ghost use Rattle.vfs_program.specs.Notes.{note_of};
 ghost use Rattle.vfs_program.specs.Outside.{outside_told, sink_told};
 ghost use Rattle.vfs_program.specs.Texts.{Tells};
@@ -9,6 +10,7 @@ ghost use Rattle.vfs_program.specs.declared.statuses.Status.TheVariants as statu
 use crate::checks::check_tree;
 use crate::file_session::serve_file;
 use crate::notes::tell;
+use crate::scripts::run_script;
 use crate::show::show;
 use crate::statuses::Status;
 use crate::tree_session::serve_tree;
@@ -42,6 +44,11 @@ pub fn run_words<F: Files, S: Source, K: Sink, N: Sink>(
         (asks : Asks) → Means (map string_bytes words.now) asks → IsServable asks (told files.old source.old sink.old) →
         NoFault asks (told files.old source.old sink.old) (told files.new source.new sink.new) → IsDoneOrNoMemory result }
 
+    // What a session over a tree writes is the output of a lawful journal, which keeps the laws, or a front of it.
+    ensures lawful { let told = outside_told F.told F.faults F.overlong S.left S.faults K.written K.flushed K.faults in
+        (asks : Asks) → Means (map string_bytes words.now) asks →
+        IsLawfulRun asks (told files.old source.old sink.old) (told files.new source.new sink.new) }
+
     // The note of the status is told last, and nothing else.
     ensures note { Tells (note_of result) (sink_told N.written N.flushed N.faults notes.old) (sink_told N.written N.flushed N.faults notes.new) }
 {
@@ -68,6 +75,7 @@ fn answer<F: Files, S: Source, K: Sink>(
     match command_of(words) {
         Some(Command::File { name }) => serve_file(alloc, name, files, source, sink),
         Some(Command::Serve { tree, mode }) => serve_tree(alloc, tree, mode, files, source, sink),
+        Some(Command::Run { tree, script }) => run_script(alloc, tree, script, files, sink),
         Some(Command::Check { tree }) => check_tree(alloc, tree, files, sink),
         Some(Command::Show) => show(alloc, source, sink),
         None => Status::Usage,

@@ -12,9 +12,11 @@ pub enum Status {
     Usage,
     /// The first rule that the tree file breaks, and the first item that fails it.
     TreeRefused { rule: u32, item: u64 },
+    /// The first bad line of the script, counted from 1; 0 where no line says the mode.
+    ScriptRefused { line: u64 },
     ReadFault,
     WriteFault,
-    /// The named file is missing, or couldn't be read.
+    /// A named file is missing, or couldn't be read.
     FileFault,
     FileTooLarge,
     /// The input was cut off at 2^40 bytes.
@@ -36,7 +38,7 @@ impl Status {
         match self {
             Status::Done => 0,
             Status::Usage => 1,
-            Status::TreeRefused { .. } => 2,
+            Status::TreeRefused { .. } | Status::ScriptRefused { .. } => 2,
             Status::ReadFault => 3,
             Status::WriteFault => 4,
             Status::FileFault | Status::FileTooLarge => 5,

@@ -55,7 +55,7 @@ fn all_end_as_said(alloc: Global, text: &str) -> Result<(), Fail> {
 
 /// Whether runs by each of the pieces of a row end as it says.
 fn runs_as_said(alloc: Global, row: &Row<'_>) -> Result<bool, Fail> {
-    let input = row.bytes(alloc, 3)?;
+    let input = told(alloc, row, 3)?;
     for piece in &row.numbers(alloc, 4)? {
         let ran = run(alloc, row, &input, *piece as usize)?;
         if !is_said(alloc, row, &ran)? {
@@ -123,6 +123,7 @@ fn files(alloc: Global, row: &Row<'_>) -> Result<MemFiles, Fail> {
     } else {
         files.put("held", &told(alloc, row, 2)?)?;
     }
+    files.put("input", &told(alloc, row, 3)?)?;
     for call in &failing(alloc, row, "file")? {
         files.fail_at(*call)?;
     }

@@ -1,5 +1,6 @@
 ghost use Rattle.std.specs.Prelude.{IfOk, IfErr};
 ghost use Rattle.vfs_program.specs.Causes.{HasNoStart};
+ghost use Rattle.vfs_program.specs.Files.{StillTold};
 ghost use Rattle.vfs_program.specs.Outside.{files_told};
 ghost use Rattle.vfs_program.specs.Trees.{Stands};
 
@@ -14,6 +15,7 @@ pub fn read_start<F: Files>(alloc: Global, name: &str, files: &mut F) -> Result<
     ensures stands { IfOk result (λ start. Stands (F.told files.old name.now) start) }
     ensures refused { IfErr result (HasNoStart name.now
         (files_told F.told F.faults F.overlong files.old) (files_told F.told F.faults F.overlong files.new)) }
+    ensures files { StillTold (files_told F.told F.faults F.overlong files.old) (files_told F.told F.faults F.overlong files.new) }
 {
     let text = match files.read_all(alloc, name, MAX_TEXT) {
         Ok(text) => text,

@@ -8,6 +8,7 @@ use endpoint_link::Mode;
 pub enum Command<'a> {
     File { name: &'a str },
     Serve { tree: &'a str, mode: Mode },
+    Run { tree: &'a str, script: &'a str },
     Check { tree: &'a str },
     Show,
 }
@@ -33,6 +34,10 @@ pub fn command_of(words: &[String]) -> Option<Command<'_>>
                 mode: Mode::Given,
             })
         }
+        [first, tree, script] if is_word(first, "run") => Some(Command::Run {
+            tree: tree.as_str(),
+            script: script.as_str(),
+        }),
         [first, tree] if is_word(first, "check") => Some(Command::Check {
             tree: tree.as_str(),
         }),

@@ -1,0 +1,55 @@
+-- Each lawful journal keeps the laws.
+use Rattle.std.proofs.Common.{◌≡◌, ◌∷◌, ◌++◌, subst}
+use Rattle.fidl_wire.specs.Names.{AreDistinct}
+use Rattle.dir_conn.proofs.Narrow.{opens_narrow}
+use Rattle.tree_file.specs.Accepted.{AreAccepted}
+use Rattle.tree_file.specs.Items.{Lists}
+use Rattle.vfs_journal.specs.Entries.{Journal, serves}
+use Rattle.vfs_journal.specs.Lawful.{Lawful}
+use Rattle.vfs_journal.specs.Starts.{start_of}
+use Rattle.journal_laws.proofs.Places.{served_once}
+use Rattle.journal_laws.proofs.Starting.{starts_are_sound}
+use Rattle.rights_laws.proofs.Changes.{changes_allowed}
+use Rattle.rights_laws.proofs.Narrow.{narrow_change_nothing}
+use Rattle.rights_laws.proofs.Times.{flags_stay, lineages_begin, rights_stay}
+use Rattle.reply_laws.proofs.Settled.{replies_are_in_order, rests_are_settled, served_is_answered}
+use Rattle.watch_laws.proofs.Knowing.{know_their_names}
+use Rattle.watch_laws.proofs.Seen.{die_of_no_change, told_their_sight}
+use Rattle.watch_laws.proofs.Starting.{starts_have_names}
+use Rattle.frame_laws.proofs.Readings.{output_is_read_back}
+use Rattle.vfs_session.proofs.Grounds.{below}
+use Rattle.session_laws.specs.Laws.{IsLawfulOver, LawfulJournalsKeepLaws, WorldsKeepLaws}
+use Rattle.session_laws.proofs.Once.{events_once}
+
+pub lawful_keep : AreDistinct → LawfulJournalsKeepLaws
+lawful_keep apart start journal s h =
+    let under = below apart in
+    record {
+      once = served_once start journal h;
+      rights = λ later past e. rights_stay under opens_narrow start later past s (lawful later past e);
+      ancestors = λ later past e. lineages_begin under opens_narrow start later past s (lawful later past e);
+      flags = λ later past e. flags_stay under opens_narrow start later past s (lawful later past e);
+      changes = λ later past sent e. changes_allowed under opens_narrow start later past sent s (lawful later (serves sent ∷ past) e);
+      narrow = λ later past sent e. narrow_change_nothing under opens_narrow start later past sent s (lawful later (serves sent ∷ past) e);
+      sight = λ later past e watcher there is. told_their_sight under start later past watcher s (lawful later past e) there is;
+      deaths = λ later past sent e watcher there is dies. die_of_no_change under start later past sent watcher s (lawful later (serves sent ∷ past) e) there is dies;
+      names = λ named later past e watcher there is all. know_their_names under events_once start later past watcher s named (lawful later past e) there is all;
+      replies = λ later past e endpoint. replies_are_in_order start later past endpoint (lawful later past e);
+      answered = λ later past e sent there. served_is_answered start later past sent (lawful later past e) there;
+      settled = λ later past e none endpoint. rests_are_settled start later past endpoint (lawful later past e) none;
+      frames = λ bytes later past e. output_is_read_back under start later past s bytes (lawful later past e);
+    } where
+      lawful : (later past : Journal) → journal ≡ later ++ past → Lawful start (later ++ past)
+      lawful later past e = subst (Lawful start) e h
+
+pub worlds_keep : AreDistinct → WorldsKeepLaws
+worlds_keep apart start world journal h = lawful_keep apart start journal h.sound h.lawful
+
+-- over the start of an accepted tree
+pub lawful_over : AreDistinct → (lists : Lists) (journal : Journal) → AreAccepted lists → Lawful (start_of lists) journal → IsLawfulOver lists journal
+lawful_over apart lists journal accepted h = record {
+  accepted = accepted;
+  named = starts_have_names lists accepted;
+  lawful = h;
+  keeps = lawful_keep apart (start_of lists) journal (starts_are_sound lists accepted) h;
+}

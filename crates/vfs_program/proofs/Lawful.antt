@@ -1,0 +1,204 @@
+-- What a session over a tree writes is the output of a lawful journal, or a front of it.
+use Rattle.std.proofs.Common.{◌≡◌, ℕ, ◌⊎◌, List, [], ◌∷◌, Option, Some, None, All, sym, ◌∙◌, subst, append-nil, inl, inr}
+use Rattle.std.specs.Option.{option_map}
+use Rattle.fidl_wire.specs.Names.{AreDistinct}
+use Rattle.host_io.specs.Streams.{AppendsPart}
+use Rattle.host_io.specs.Told.{Told}
+use Rattle.toml.specs.Data.{Data}
+use Rattle.tree_file.specs.Accepted.{AreAccepted}
+use Rattle.tree_file.specs.Items.{Lists}
+use Rattle.tree_file.specs.Rules.{document_of, failure_of, first_broken, first_failure, lists_of, rules_on_lists, start_from}
+use Rattle.tree_file.proofs.Accepted.{accepted_of}
+use Rattle.endpoint_link.specs.Frames.{Frame, IsFrame}
+use Rattle.endpoint_link.specs.declared.kinds.Mode.{Mode}
+use Rattle.endpoint_link.specs.declared.kinds.Side.TheVariants.{ToServers}
+use Rattle.vfs_journal.specs.Entries.{Journal}
+use Rattle.vfs_journal.specs.Lawful.{Lawful}
+use Rattle.vfs_journal.specs.Output.{output_of}
+use Rattle.vfs_journal.specs.Session.{ended, session}
+use Rattle.vfs_journal.specs.Starts.{start_of}
+use Rattle.journal_laws.proofs.Draining.{sessions_are_lawful}
+use Rattle.session_laws.specs.Laws.{IsLawfulOutput}
+use Rattle.session_laws.proofs.Keeping.{lawful_over}
+use Rattle.vfs_program.specs.declared.statuses.Status.{Status}
+use Rattle.vfs_program.specs.declared.statuses.Status.TheVariants as status
+use Rattle.vfs_script.specs.Scripts.{calls_of, count_calls, frames_of, script_lines}
+use Rattle.transcripts.specs.Answering.{count_answers}
+use Rattle.script_session.specs.Playing.{play_all, transcript}
+use Rattle.script_session.proofs.Shown.{transcript_is}
+use Rattle.vfs_program.specs.Answers.{Answers}
+use Rattle.vfs_program.specs.Causes.{After, AfterScript, AfterTree, Collides, HasNoScript, HasNoStart}
+use Rattle.vfs_program.specs.Lawful.{IsLawfulPlaying, IsLawfulRun, IsLawfulServing, WroteNothing}
+use Rattle.vfs_program.specs.Outside.{Outside, SinkTold, Streams, sink_of}
+use Rattle.vfs_program.specs.Scripts.{IsPlayable, Said}
+use Rattle.vfs_program.specs.Session.{EndsBehind, IsCutOff, IsFront, IsPartByEnd, IsPartSoFar, SessionAnswers, Wrote}
+use Rattle.vfs_program.specs.Texts.{WritesPieces}
+use Rattle.vfs_program.specs.Trees.{Stands}
+use Rattle.vfs_program.specs.TreeSession.{tree_course}
+use Rattle.vfs_program.specs.Words.{Asks, FileOf, ServeOf, RunOf, CheckOf, ShowAll}
+
+-- ---- a tree that stands is accepted
+
+last_rules : (a b c d e f : Option ℕ) (rules : List (Option ℕ)) → first_broken 2 (a ∷ b ∷ c ∷ d ∷ e ∷ f ∷ rules) ≡ None → first_broken 8 rules ≡ None
+last_rules None None None None None None rules h = h
+last_rules None None None None None (Some x) rules h = absurd (cc)
+last_rules None None None None (Some x) f rules h = absurd (cc)
+last_rules None None None (Some x) e f rules h = absurd (cc)
+last_rules None None (Some x) d e f rules h = absurd (cc)
+last_rules None (Some x) c d e f rules h = absurd (cc)
+last_rules (Some x) b c d e f rules h = absurd (cc)
+
+some_lists : {a b : Lists} → Some a ≡ Some b → a ≡ b
+some_lists e = cc
+
+document_accepted : (read : Option Data) (lists : Lists) → failure_of read ≡ None → option_map lists_of read ≡ Some lists → AreAccepted lists
+document_accepted None lists unbroken is = absurd (cc)
+document_accepted (Some document) lists unbroken is =
+    subst AreAccepted (some_lists is) (accepted_of document (last_rules _ _ _ _ _ _ (rules_on_lists (lists_of document)) unbroken))
+
+text_accepted : (text : List ℕ) (lists : Lists) → first_failure text ≡ None → start_from text ≡ Some lists → AreAccepted lists
+unfolding first_failure start_from
+text_accepted text lists unbroken is = document_accepted (document_of text) lists unbroken is
+
+pub stands_accepted : (told : Told) (lists : Lists) → Stands told lists → AreAccepted lists
+stands_accepted told lists h = text_accepted h.text lists h.unbroken h.is
+
+-- ---- fronts of the output
+
+front_whole : (bytes : List ℕ) → IsFront bytes bytes
+front_whole bytes = ([], sym (append-nil bytes))
+
+module _ (apart : AreDistinct) (lists : Lists) (accepted : AreAccepted lists) where
+  pub front_lawful : (journal : Journal) (part : List ℕ) → Lawful (start_of lists) journal → IsFront part (output_of (start_of lists) journal) → IsLawfulOutput lists part
+  front_lawful journal part h front = record { journal = journal; over = lawful_over apart lists journal accepted h; more = front.0; front = front.1 }
+
+  so_far_lawful : (by : Mode) (frames : List Frame) (part : List ℕ) → All (IsFrame ToServers) frames → IsFront part ((tree_course (start_of lists) by).so_far frames) → IsLawfulOutput lists part
+  unfolding tree_course
+  so_far_lawful by frames part each front =
+      front_lawful (session (start_of lists) by frames) part (sessions_are_lawful (start_of lists) by frames each).0 front
+
+  by_end_lawful : (by : Mode) (frames : List Frame) (part : List ℕ) → All (IsFrame ToServers) frames → IsFront part ((tree_course (start_of lists) by).by_end frames) → IsLawfulOutput lists part
+  unfolding tree_course
+  by_end_lawful by frames part each front =
+      front_lawful (ended (start_of lists) by frames) part (sessions_are_lawful (start_of lists) by frames each).1 front
+
+  -- ---- what a session writes
+
+  record WritesLawfully (before after : Streams) : Type 0 where
+    bytes : List ℕ
+    wrote : Wrote before after bytes
+    lawful : IsLawfulOutput lists bytes
+
+  wrote_so_far : (by : Mode) (before after : Streams) (frames : List Frame) → All (IsFrame ToServers) frames → Wrote before after ((tree_course (start_of lists) by).so_far frames) → WritesLawfully before after
+  wrote_so_far by before after frames each w = record {
+    bytes = (tree_course (start_of lists) by).so_far frames;
+    wrote = w;
+    lawful = so_far_lawful by frames ((tree_course (start_of lists) by).so_far frames) each (front_whole ((tree_course (start_of lists) by).so_far frames));
+  }
+
+  wrote_by_end : (by : Mode) (before after : Streams) (frames : List Frame) → All (IsFrame ToServers) frames → Wrote before after ((tree_course (start_of lists) by).by_end frames) → WritesLawfully before after
+  wrote_by_end by before after frames each w = record {
+    bytes = (tree_course (start_of lists) by).by_end frames;
+    wrote = w;
+    lawful = by_end_lawful by frames ((tree_course (start_of lists) by).by_end frames) each (front_whole ((tree_course (start_of lists) by).by_end frames));
+  }
+
+  ends_are_frames : (taken : List ℕ) (at_end : Type 0) (frames : List Frame) → EndsBehind ToServers taken at_end frames → All (IsFrame ToServers) frames
+  ends_are_frames taken at_end frames (inl h) = h.1.each
+  ends_are_frames taken at_end frames (inr h) = h.3.each
+
+  part_lawful : (by : Mode) (taken part : List ℕ) (at_end : Type 0) →
+      IsPartSoFar ToServers (tree_course (start_of lists) by) taken part ⊎ IsPartByEnd ToServers (tree_course (start_of lists) by) taken at_end part → IsLawfulOutput lists part
+  part_lawful by taken part at_end (inl h) = so_far_lawful by h.frames part h.read.each h.lawful
+  part_lawful by taken part at_end (inr h) = by_end_lawful by h.frames part (ends_are_frames taken at_end h.frames h.ends) h.lawful
+
+  cut_lawful : (by : Mode) (before after : Streams) → IsCutOff ToServers (tree_course (start_of lists) by) before after → WritesLawfully before after
+  cut_lawful by before after h = record { bytes = h.part; wrote = h.wrote; lawful = part_lawful by h.taken h.part _ h.lawful }
+
+  session_lawful : (by : Mode) (before after : Streams) (same : Type 0) (answer : Status) → SessionAnswers ToServers (tree_course (start_of lists) by) before after same answer → WritesLawfully before after
+  session_lawful by before after same status.Done a = wrote_by_end by before after a.frames a.read.each a.wrote.0
+  session_lawful by before after same (status.Truncated at) a = wrote_by_end by before after a.frames a.read.each a.wrote.0
+  session_lawful by before after same (status.BadFrame at why) a = wrote_by_end by before after a.frames a.before_it.each a.wrote.0
+  session_lawful by before after same status.InputTooLong a = wrote_by_end by before after a.frames a.read.each a.wrote.0
+  session_lawful by before after same status.ReadFault a = wrote_so_far by before after a.frames a.read.each a.wrote
+  session_lawful by before after same status.WriteFault a = cut_lawful by before after a.0
+  session_lawful by before after same status.NoMemory a = cut_lawful by before after a.1
+  session_lawful by before after same status.Usage a = absurd a
+  session_lawful by before after same (status.TreeRefused rule item) a = absurd a
+  session_lawful by before after same (status.ScriptRefused line) a = absurd a
+  session_lawful by before after same (status.Collision first second) a = absurd a
+  session_lawful by before after same status.FileFault a = absurd a
+  session_lawful by before after same status.FileTooLarge a = absurd a
+
+-- ---- commands
+
+after_either : {X : Type 0} (stops : Status → Type 0) (same : Type 0) (Found : X → Type 0) (rest : X → Status → Type 0) (answer : Status) (Goal : Type 0)
+    → (same → Goal) → ((x : X) → Found x → rest x answer → Goal) → After stops same Found rest answer → Goal
+after_either stops same Found rest answer Goal still goes (inl a) = still a.1
+after_either stops same Found rest answer Goal still goes (inr a) = goes a.0 a.1 a.2
+
+serving_lawful : (apart : AreDistinct) (told : Told) (lists : Lists) (by : Mode) (before after : Streams) (same : Type 0) (answer : Status) → Stands told lists
+    → SessionAnswers ToServers (tree_course (start_of lists) by) before after same answer → IsLawfulServing told before after
+serving_lawful apart told lists by before after same answer stands a =
+    let h = session_lawful apart lists (stands_accepted told lists stands) by before after same answer a in
+    record { lists = lists; stands = stands; bytes = h.bytes; wrote = h.wrote; lawful = h.lawful }
+
+-- ---- scripts
+
+-- a text of which a front was written
+text_part : (text : List ℕ) (before after : SinkTold) (answer : Status) → WritesPieces text before after answer → AppendsPart before.written after.written text
+text_part text before after status.Done a = (text, [], sym (append-nil text), a.0)
+text_part text before after status.WriteFault a = a.0
+text_part text before after status.NoMemory a = a
+text_part text before after status.Usage a = absurd a
+text_part text before after (status.TreeRefused rule item) a = absurd a
+text_part text before after (status.ScriptRefused line) a = absurd a
+text_part text before after (status.Collision first second) a = absurd a
+text_part text before after status.FileFault a = absurd a
+text_part text before after status.FileTooLarge a = absurd a
+text_part text before after status.ReadFault a = absurd a
+text_part text before after status.InputTooLong a = absurd a
+text_part text before after (status.Truncated at) a = absurd a
+text_part text before after (status.BadFrame at why) a = absurd a
+
+played_lawful : (apart : AreDistinct) (told : Told) (lists : Lists) (said : Said) (before after : Streams) (answer : Status) → Stands told lists → All (IsFrame ToServers) (frames_of said.text)
+    → WritesPieces (transcript (start_of lists) said.by said.text) (sink_of before) (sink_of after) answer → IsLawfulPlaying told before after
+played_lawful apart told lists said before after answer stands frames a =
+    let start = start_of lists in
+    let part = text_part (transcript start said.by said.text) (sink_of before) (sink_of after) answer a in
+    let journal = ended start said.by (frames_of said.text) in
+    record {
+      lists = lists;
+      stands = stands;
+      journal = journal;
+      over = lawful_over apart lists journal (stands_accepted told lists stands) (sessions_are_lawful start said.by (frames_of said.text) frames).1;
+      calls = count_calls (calls_of said.text);
+      answers = count_answers (play_all start said.by (script_lines said.text));
+      bytes = part.0;
+      wrote = part.3;
+      front = (part.1, sym (transcript_is start said.by said.text) ∙ part.2);
+    }
+
+pub lawful : (asks : Asks) (before after : Outside) (source_same sink_same : Type 0) (answer : Status) → (sink_same → WroteNothing before.streams after.streams)
+    → Answers asks before after source_same sink_same answer → IsLawfulRun asks before after
+lawful (ServeOf tree by) before after S K answer none a =
+    let Goal : Type 0 = WroteNothing before.streams after.streams ⊎ IsLawfulServing (before.files.told tree) before.streams after.streams in
+    let session : Lists → Status → Type 0 = λ lists. SessionAnswers ToServers (tree_course (start_of lists) by) before.streams after.streams K in
+    let still : S × K → Goal = λ same. inl (none same.1) in
+    after_either Collides (S × K) (λ (alone : Unit {0}). AreDistinct) (λ alone. AfterTree tree before.files after.files (S × K) session) answer Goal still
+    (λ alone apart. after_either (HasNoStart tree before.files after.files) (S × K) (Stands (before.files.told tree)) session answer Goal still
+    (λ lists stands h. inr (serving_lawful apart (before.files.told tree) lists by before.streams after.streams K answer stands h))) a
+lawful (FileOf name) before after S K answer none a = tt
+lawful (RunOf tree script) before after S K answer none a =
+    let Goal : Type 0 = WroteNothing before.streams after.streams ⊎ IsLawfulPlaying (before.files.told tree) before.streams after.streams in
+    let told : Lists → Said → Status → Type 0 =
+    λ lists said. WritesPieces (transcript (start_of lists) said.by said.text) (sink_of before.streams) (sink_of after.streams)
+    in
+    let plays : Lists → Status → Type 0 = λ lists. AfterScript script before.files after.files K (told lists) in
+    let still : K → Goal = λ same. inl (none same) in
+    after_either Collides K (λ (alone : Unit {0}). AreDistinct) (λ alone. AfterTree tree before.files after.files K plays) answer Goal still
+    (λ alone apart. after_either (HasNoStart tree before.files after.files) K (Stands (before.files.told tree)) plays answer Goal still
+    (λ lists stands. after_either (HasNoScript script before.files after.files) K (IsPlayable (before.files.told script)) (told lists) answer Goal still
+    (λ said can h. inr (played_lawful apart (before.files.told tree) lists said before.streams after.streams answer stands can.frames h)))) a.1
+lawful (CheckOf tree) before after S K answer none a = tt
+lawful ShowAll before after S K answer none a = tt

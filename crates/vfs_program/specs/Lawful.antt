@@ -1,0 +1,47 @@
+-- That what a command writes is the output of a lawful journal, which keeps the laws of every session.
+use Rattle.std.specs.Prelude.{◌≡◌, ◌⊎◌, ℕ, List, ◌++◌}
+use Rattle.host_io.specs.Told.{Told}
+use Rattle.tree_file.specs.Items.{Lists}
+use Rattle.vfs_journal.specs.Entries.{Journal}
+use Rattle.vfs_journal.specs.Starts.{start_of}
+use Rattle.vfs_script.specs.Transcripts.{counts_line}
+use Rattle.session_laws.specs.Laws.{IsLawfulOutput, IsLawfulOver}
+use Rattle.vfs_program.specs.Outside.{Outside, Streams}
+use Rattle.vfs_program.specs.Session.{IsFront, Wrote}
+use Rattle.vfs_program.specs.Shown.{lines_of}
+use Rattle.vfs_program.specs.Trees.{Stands}
+use Rattle.vfs_program.specs.TreeSession.{frames_by}
+use Rattle.vfs_program.specs.Words.{Asks, FileOf, ServeOf, RunOf, CheckOf, ShowAll}
+
+-- nothing was written
+abbrev pub WroteNothing : Streams → Streams → Type 0
+WroteNothing before after = after.written ≡ before.written
+
+-- the tree's file stands, and what was written is the output of a lawful journal over its start, or a front of it
+pub record IsLawfulServing (told : Told) (before after : Streams) : Type 0 where
+  pub lists : Lists
+  pub stands : Stands told lists
+  pub bytes : List ℕ
+  pub wrote : Wrote before after bytes
+  pub lawful : IsLawfulOutput lists bytes
+
+-- and where a script was played: a front of the lines of all frames that such a journal stands for, and then of the counts of calls and
+-- answers
+pub record IsLawfulPlaying (told : Told) (before after : Streams) : Type 0 where
+  pub lists : Lists
+  pub stands : Stands told lists
+  pub journal : Journal
+  pub over : IsLawfulOver lists journal
+  pub calls : ℕ
+  pub answers : ℕ
+  pub bytes : List ℕ
+  pub wrote : Wrote before after bytes
+  pub front : IsFront bytes (lines_of (frames_by (start_of lists) journal) ++ counts_line calls answers)
+
+-- a session over a tree wrote nothing, or what is lawful over that tree; the other commands have no such session
+abbrev pub IsLawfulRun : Asks → Outside → Outside → Type 0
+IsLawfulRun (ServeOf tree by) before after = WroteNothing before.streams after.streams ⊎ IsLawfulServing (before.files.told tree) before.streams after.streams
+IsLawfulRun (FileOf name) before after = Unit {0}
+IsLawfulRun (RunOf tree script) before after = WroteNothing before.streams after.streams ⊎ IsLawfulPlaying (before.files.told tree) before.streams after.streams
+IsLawfulRun (CheckOf tree) before after = Unit {0}
+IsLawfulRun ShowAll before after = Unit {0}
