@@ -6,6 +6,7 @@ pub mod Places
 pub mod First
 pub mod Read
 pub mod Accepted
+pub mod GeneratedRules
 pub mod Numbers
 pub mod Trees
 pub mod Standing

@@ -4,6 +4,7 @@ pub mod Items
 pub mod Reading
 pub mod Rules
 pub mod Accepted
+pub mod Generated
 pub mod Faults
 pub mod Kept
 pub mod Lent

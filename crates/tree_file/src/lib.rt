@@ -3,6 +3,7 @@
 
 mod faults;
 mod fields;
+mod generated;
 mod items;
 mod laws;
 mod lent;
@@ -12,6 +13,7 @@ mod rules;
 mod start;
 
 pub use faults::TreeFault;
+pub use generated::generated_start;
 pub use laws::starts_are_sound;
 pub use lent::{StartClient, StartMount, StartNode};
 pub use start::{Start, start_of};
