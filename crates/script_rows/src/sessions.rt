@@ -104,7 +104,7 @@ fn long_script(alloc: Global, row: &Row<'_>) -> Result<Vec<u8>, Fail> {
     let mut text = Vec::from_slice(alloc, row.cell(1)?.as_bytes())?;
     text.push(b'\n')?;
     let line = row.cell(2)?;
-    for number in row.number(3)?..row.number(4)? + 1 {
+    for number in row.number(3)?..=row.number(4)? {
         let said = match line.strip_suffix('N') {
             Some(front) => format!(in alloc; "{front}{number}\n")?,
             None => format!(in alloc; "{line}\n")?,
