@@ -457,6 +457,105 @@ list 1 8192
 calls 4 answered 4
 ";
 
+/// Over either tree: handles as they are written, and which calls are answered. Worked out by hand from the rules.
+pub const ANSWERS: &str = "
+== a script without a frame
+# nothing
+
+given
+--
+calls 0 answered 0
+== a token as the object of an Open is malformed, and gone
+auto
+token 1
+open 1 d 0 2147483648
+--
+1 message GetToken 2147483648 02000000020000010bea77552dcc1d2c00000000ffffffff
+1 message epitaph - 0000000002000001fffffffffffffffff6ffffff00000000
+1 close
+calls 1 answered 1
+== an endpoint as the token of a Rename is malformed, and dies
+auto
+rename 1 d 5 e
+sync 5
+--
+1 message epitaph - 0000000002000001fffffffffffffffff6ffffff00000000
+1 close
+5 close
+5 refused -24
+calls 2 answered 0
+== an endpoint that is no new one is BAD_HANDLE
+auto
+open 1 d 0 0
+open 1 d 0 1
+open 1 d 0 1073741824
+raw 1 2,2 -
+sync 1
+--
+1 refused -11
+1 refused -11
+1 refused -11
+1 refused -11
+1 message Sync - 060000000200000149dcb50aca275c2c01000000000000000000000000000100
+calls 1 answered 1
+== calls die with their endpoint, and those on what they carry
+given
+open 1 nope 0x2 2
+read 2 5
+clone 2 3
+sync 3
+sync 1
+--
+2 message epitaph - 0000000002000001ffffffffffffffffe7ffffff00000000
+2 close
+3 close
+1 message Sync - 060000000200000149dcb50aca275c2c01000000000000000000000000000100
+calls 3 answered 1
+== messages of one transaction id: the first behind the call answers it
+given
+raw 1 - 030000000200000149dcb50aca275c2c
+sync 1
+turn 0 1
+sync 1
+--
+1 message Sync - 030000000200000149dcb50aca275c2c01000000000000000000000000000100
+1 message Sync - 030000000200000149dcb50aca275c2c01000000000000000000000000000100
+1 message Sync - 050000000200000149dcb50aca275c2c01000000000000000000000000000100
+calls 2 answered 2
+== a reply in front of a call answers it not
+auto
+raw 1 - 030000000200000149dcb50aca275c2c
+rename 1 d 2147483648 e
+--
+1 message Sync - 030000000200000149dcb50aca275c2c01000000000000000000000000000100
+1 refused -11
+calls 1 answered 0
+== a reply of another method answers the call in front of it
+given
+raw 1 - 030000000200000149dcb50aca275c2c
+rename 1 d 2147483648 e
+--
+1 refused -11
+1 message Sync - 030000000200000149dcb50aca275c2c01000000000000000000000000000100
+calls 1 answered 1
+== a watcher answers nothing
+auto
+watch 1 2 3
+sync 3
+--
+1 message Watch - 020000000200000179d851a5b930d3720000000000000000
+calls 2 answered 1
+== an endpoint that the Watch of a refused frame carried gets no answers
+auto
+open 1 d/f 0x2 2
+watch 1 31 2
+sync 2
+--
+1 refused -11
+2 message Sync - 040000000200000149dcb50aca275c2c01000000000000000000000000000100
+calls 2 answered 0
+";
+
 /// Long sessions over the tree with mounts, each by a row: its name, the mode, the line, the first and the last number that stands in place
 /// of `N`, how many lines the transcript has, its first line, and its last ones with `;` between them.
 pub const LONG: &str = "

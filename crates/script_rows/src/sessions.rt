@@ -3,7 +3,7 @@ ghost use Rattle.std.specs.Prelude.{ℕ, List, IfOk};
 ghost use Rattle.script_session.specs.Steps.{IsScript};
 
 use crate::rows::{
-    LONE_TREE, LONG, LONGEST_PATH, MOUNTED_TREE, OVER_EITHER, OVER_LONE, OVER_MOUNTED,
+    ANSWERS, LONE_TREE, LONG, LONGEST_PATH, MOUNTED_TREE, OVER_EITHER, OVER_LONE, OVER_MOUNTED,
 };
 use fidl_names::MAX_TEXT;
 use fidl_wire::Ordinals;
@@ -87,6 +87,12 @@ fn all_hold(alloc: Global, tree: &str, table: &str) -> Result<(), Fail> {
 fn sessions_over_either_tree_have_their_transcripts(rt: HostRuntime) -> Result<(), Fail> {
     all_hold(rt.alloc(), MOUNTED_TREE, OVER_EITHER)?;
     all_hold(rt.alloc(), LONE_TREE, OVER_EITHER)
+}
+
+#[test]
+fn calls_are_answered_as_worked_out(rt: HostRuntime) -> Result<(), Fail> {
+    all_hold(rt.alloc(), MOUNTED_TREE, ANSWERS)?;
+    all_hold(rt.alloc(), LONE_TREE, ANSWERS)
 }
 
 #[test]
