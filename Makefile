@@ -7,7 +7,7 @@ BENCH := build/bench
 
 help:
 	@echo "make build  prove the program and build it, as $(PROGRAM)"
-	@echo "make run    build it, serve example trees and a file (frames with what comes back), and check example trees"
+	@echo "make run    build it, serve example trees and a file (frames with what comes back), play a script, and check example trees"
 	@echo "make test   all proofs, the edits that must be refused, the tests and the programs, the examples and the documents"
 	@echo "make check  build it, and run it on the examples alone"
 	@echo "make bench  processor time, frames a second and memory"
@@ -20,7 +20,7 @@ build:
 	@tools/build.sh vfs_program $(PROGRAM) file data/hello
 
 # Sessions over a tree: one that reads, one that changes it, one over its names, and one that watches them; one over two
-# servers in mode given; one over a file; and the check of trees.
+# servers in mode given; one over a file; a script with its transcript; and the check of trees.
 run: build
 	@examples/exchange.sh $(PROGRAM) examples/session.hex serve examples/trees/small.toml auto
 	@echo
@@ -33,6 +33,12 @@ run: build
 	@examples/exchange.sh $(PROGRAM) examples/turns.hex serve examples/trees/mounted_pair.toml given
 	@echo
 	@examples/exchange.sh $(PROGRAM) examples/exchange.hex file examples/hello
+	@echo
+	@echo "vfs run examples/trees/small.toml examples/scripts/reading.script"
+	@echo
+	@cat examples/scripts/reading.script
+	@echo
+	@$(PROGRAM) run examples/trees/small.toml examples/scripts/reading.script
 	@echo
 	@examples/trees.sh $(PROGRAM)
 

@@ -49,6 +49,12 @@ declare -A bytes=(
 )
 usage='usage: vfs file NAME | serve TREE auto | serve TREE given | run TREE SCRIPT | check TREE | show | make N'
 
+# What `make N` writes for one round and for a hundred.
+printf '%s\n' 'frames in 5' 'frames out 4' 'bytes out 133' \
+    'sha256 f98b487e3464889d172adffad867c99148a6e43e8ccc4c05df16925b4f0548b3' > "$work/one"
+printf '%s\n' 'frames in 302' 'frames out 152' 'bytes out 8039' \
+    'sha256 8d581ba451fabdf01a18dceac78371548c83f47325eb550e162482637365e670' > "$work/hundred"
+
 # Files that the words name: @full and @over have as many bytes as a file may have and one more, and
 # @tree and @large so many as a tree file.
 head -c 65536 /dev/zero > "$work/full"
@@ -56,6 +62,7 @@ head -c 65537 /dev/zero > "$work/over"
 { cat examples/trees/small.toml; printf '#'; head -c 1048576 /dev/zero | tr '\0' x; } > "$work/long"
 head -c 1048576 "$work/long" > "$work/tree"
 head -c 1048577 "$work/long" > "$work/large"
+printf '\n# no mode\nopen 1 nope 0x2 2\n' > "$work/modeless"
 printf 'version = 2\n' > "$work/wrong"
 printf 'auto\nopen 1 nope 0x2 2\n' > "$work/script"
 printf 'auto\njump 1\n' > "$work/bad"
@@ -99,14 +106,31 @@ a tree of the largest size      | check @tree                       | nothing   
 a tree that breaks a rule       | check @wrong                      | nothing     | nothing      | 2 | tree refused: rule 2 item 0
 a tree that isn't there         | check @none                       | nothing     | nothing      | 5 | file failed
 a tree that is too large        | check @large                      | nothing     | nothing      | 5 | file too large
+the script on reading           | run examples/trees/small.toml examples/scripts/reading.script | nothing | examples/scripts/reading.transcript | 0 |
+the script on writing           | run examples/trees/small.toml examples/scripts/writing.script | nothing | examples/scripts/writing.transcript | 0 |
+the script on directories       | run examples/trees/small.toml examples/scripts/directories.script | nothing | examples/scripts/directories.transcript | 0 |
+the script on rights            | run examples/trees/every_kind.toml examples/scripts/rights.script | nothing | examples/scripts/rights.transcript | 0 |
+the script on mounts            | run examples/trees/mounted_pair.toml examples/scripts/mounts.script | nothing | examples/scripts/mounts.transcript | 0 |
+the script on watching          | run examples/trees/small.toml examples/scripts/watching.script | nothing | examples/scripts/watching.transcript | 0 |
+the script on turns             | run examples/trees/mounted_pair.toml examples/scripts/turns.script | nothing | examples/scripts/turns.transcript | 0 |
+the script on refusals          | run examples/trees/small.toml examples/scripts/refusals.script | nothing | examples/scripts/refusals.transcript | 0 |
+a script without a mode         | run examples/trees/small.toml @modeless | nothing | nothing   | 2 | script refused: line 0
+no script over a refused tree   | run @wrong @none                  | nothing     | nothing      | 2 | tree refused: rule 2 item 0
+one round                       | make 1                            | nothing     | @one         | 0 |
+a hundred rounds                | make 100                          | nothing     | @hundred     | 0 |
+no round                        | make 0                            | nothing     | nothing      | 1 | $usage
 no word                         |                                   | read        | nothing      | 1 | $usage
 a word too many                 | file examples/hello more          | read        | nothing      | 1 | $usage
-a command that isn't there yet  | make 1                            | nothing     | nothing      | 1 | $usage
+a script and no tree            | run examples/scripts/reading.script | nothing   | nothing      | 1 | $usage
 "
 
-# Writes what a cell of the table stands for: bytes by their names, or a line of text.
+# Writes what a cell of the table stands for: a file, bytes by their names, or a line of text.
 spell() { # CELL
     local name
+    if [ -f "$1" ]; then
+        cat "$1"
+        return
+    fi
     for name in $1; do
         if [ -z "${bytes[$name]+there}" ]; then
             printf '%s\n' "$1"
@@ -152,7 +176,7 @@ same_text() { # WHAT FILE COMMAND..
 while IFS='|' read -r what words input output status note; do
     [ -n "$what" ] || continue
     read -r what <<< "$what"
-    read -r output <<< "$output"
+    read -r output <<< "${output//@/$work/}"
     read -r status <<< "$status"
     read -r note <<< "$note"
     read -ra words <<< "${words//@/$work/}"
