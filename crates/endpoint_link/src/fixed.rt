@@ -1,8 +1,8 @@
 // The fixed part of a frame: endpoint u32, kind u8, handle count u8, zero u16, byte count u32.
 
-ghost use Rattle.std.specs.Prelude.{◌≡◌, ◌≤◌, length};
+ghost use Rattle.std.specs.Prelude.{◌≡◌, ◌≤◌, length, drop, slice_index};
 ghost use Rattle.endpoint_link.specs.Frames.{number_of, kind_of, goes_to, keeps_shape, reason_of, first_reason, size_of};
-ghost use Rattle.endpoint_link.specs.Numbers.{word_in};
+ghost use Rattle.endpoint_link.specs.Numbers.{half_in, word_in};
 
 use crate::kinds::{FrameKind, FrameReason, Side};
 use byteorder::{ByteOrder, LittleEndian};
@@ -103,12 +103,21 @@ pub(crate) fn word_in(bytes: &[u8]) -> u32
 }
 
 /// The first reason for which the fixed part in front is bad, if there is one.
-#[tactic(auto, unfolding(crate::specs::Frames::first_reason, fidl_names::specs::Numbers::number_at))]
+#[tactic(auto, unfolding(crate::specs::Frames::first_reason))]
 pub(crate) fn first_reason(side: Side, bytes: &[u8]) -> Option<FrameReason>
     requires { FIXED_LEN ≤ length bytes.now }
     ensures { result ≡ first_reason side bytes.now }
 {
-    let kind = kind_of(side, bytes[4]);
+    reason_in(kind_of(side, bytes[4]), bytes)
+}
+
+/// The first reason for which the fixed part in front, which is of this kind, is bad, if there is one.
+#[tactic(auto, unfolding(fidl_names::specs::Numbers::number_at))]
+#[inline(always)]
+pub(crate) fn reason_in(kind: Option<FrameKind>, bytes: &[u8]) -> Option<FrameReason>
+    requires { FIXED_LEN ≤ length bytes.now }
+    ensures { result ≡ reason_of kind (half_in (drop 6 bytes.now)) (slice_index bytes.now 5) (word_in (drop 8 bytes.now)) }
+{
     let zero = LittleEndian::read_u16(&bytes[6..]);
     let handles = usize::from(bytes[5]);
     let count = word_in(&bytes[8..]);

@@ -122,6 +122,7 @@ impl FrameRoom {
     }
 
     /// Appends the whole frame. It takes no memory.
+    #[inline(always)]
     pub fn put_frame(&mut self, endpoint: u32, kind: FrameKind, handles: &[u32], bytes: &[u8])
         requires shape { HasShape kind (length handles.now) (length bytes.now) }
         requires room { length self.old.bytes + spelled_len (length handles.now) (length bytes.now) ≤ self.old.size }
@@ -287,7 +288,7 @@ fn put_handles(to: &mut Vec<u8>, handles: &[Handle])
 }
 
 /// Appends a whole frame to bytes that have room for it.
-#[inline]
+#[inline(always)]
 fn put_spelling(to: &mut Vec<u8>, endpoint: u32, kind: FrameKind, handles: &[u32], bytes: &[u8])
     requires shape { HasShape kind (length handles.now) (length bytes.now) }
     requires room { vec_len to.old + spelled_len (length handles.now) (length bytes.now) ≤ vec_capacity to.old }

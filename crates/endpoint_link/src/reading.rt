@@ -1,24 +1,22 @@
 // What stands in front of some bytes.
 
-ghost use Rattle.std.specs.Prelude.{◌≡◌, ◌≤◌, length, take, None};
+ghost use Rattle.std.specs.Prelude.{◌≡◌, ◌≤◌, length, take, slice_index, Some, None};
 ghost use Rattle.endpoint_link.specs.Frames.{IsFrame, spelling, kind_of, first_reason, size_of};
-ghost use Rattle.fidl_names.specs.Numbers.{AreBytes};
 ghost use Rattle.endpoint_link.specs.Views.{Reads, frame_of};
 
-use crate::fixed::{FIXED_LEN, first_reason, kind_of, size_of, word_in};
+use crate::fixed::{FIXED_LEN, kind_of, reason_in, size_of, word_in};
 use crate::frame::{FrameView, HandleBytes, Reading};
-use crate::kinds::{FrameKind, Side};
+use crate::kinds::{FrameKind, FrameReason, Side};
 
-/// The frame whose sound fixed part stands in front of its other bytes.
-fn view_of(side: Side, bytes: &[u8]) -> FrameView<'_>
+/// The frame of this kind whose sound fixed part stands in front of its other bytes.
+#[inline(always)]
+fn view_of(kind: FrameKind, bytes: &[u8]) -> FrameView<'_>
     requires long { FIXED_LEN ≤ length bytes.now }
-    requires sound { first_reason side bytes.now ≡ None }
     requires whole { size_of bytes.now ≤ length bytes.now }
-    ensures sound { IsFrame side (frame_of result) }
-    ensures spelled { spelling (frame_of result) ≡ take (size_of bytes.now) bytes.now }
+    ensures { (side : Side) → kind_of side (slice_index bytes.now 4) ≡ Some kind → first_reason side bytes.now ≡ None →
+        IsFrame side (frame_of result) × (spelling (frame_of result) ≡ take (size_of bytes.now) bytes.now) }
 {
     let (handles, rest) = bytes[FIXED_LEN..].split_at(4 * usize::from(bytes[5]));
-    let kind = kind_of(side, bytes[4]).unwrap_or(FrameKind::Message);
     let count = word_in(&bytes[8..]);
     FrameView {
         endpoint: word_in(bytes),
@@ -28,14 +26,13 @@ fn view_of(side: Side, bytes: &[u8]) -> FrameView<'_>
     }
 }
 
-/// What stands in front of these bytes: a whole frame that may go this way, the beginning of one, or a bad fixed part.
-pub fn frame_at(side: Side, bytes: &[u8]) -> Reading<'_>
-    ensures { Reads side bytes.now result }
+/// What stands in front of these bytes, whose fixed part is of this kind.
+#[inline(always)]
+fn front_of(kind: FrameKind, bytes: &[u8]) -> Reading<'_>
+    requires long { FIXED_LEN ≤ length bytes.now }
+    ensures { (side : Side) → kind_of side (slice_index bytes.now 4) ≡ Some kind → Reads side bytes.now result }
 {
-    if bytes.len() < FIXED_LEN {
-        return Reading::NotWhole;
-    }
-    if let Some(reason) = first_reason(side, bytes) {
+    if let Some(reason) = reason_in(Some(kind), bytes) {
         return Reading::Bad(reason);
     }
     let size = size_of(bytes);
@@ -43,7 +40,23 @@ pub fn frame_at(side: Side, bytes: &[u8]) -> Reading<'_>
         return Reading::NotWhole;
     }
     Reading::Whole {
-        frame: view_of(side, bytes),
+        frame: view_of(kind, bytes),
         size,
+    }
+}
+
+/// What stands in front of these bytes: a whole frame that may go this way, the beginning of one, or a bad fixed part.
+#[tactic(auto, unfolding(crate::specs::Frames::first_reason))]
+pub fn frame_at(side: Side, bytes: &[u8]) -> Reading<'_>
+    ensures { Reads side bytes.now result }
+{
+    if bytes.len() < FIXED_LEN {
+        return Reading::NotWhole;
+    }
+    match kind_of(side, bytes[4]) {
+        None => Reading::Bad(FrameReason::Kind),
+        // Nearly every frame is a message, and is read by code of its own.
+        Some(FrameKind::Message) => front_of(FrameKind::Message, bytes),
+        Some(kind) => front_of(kind, bytes),
     }
 }

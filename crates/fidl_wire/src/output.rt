@@ -158,15 +158,22 @@ impl Out {
     /// Appends the zeros that bring the number of bytes to a multiple of eight. There is always room
     /// for them.
     #[tactic(auto, unfolding(crate::specs::Numbers::padding_after))]
-    #[inline]
+    #[inline(always)]
     pub fn pad(&mut self)
         ensures bytes { self.new.bytes ≡ padded_bytes self.old.bytes }
         ensures len { length self.new.bytes ≡ padded (length self.old.bytes) }
         ensures handles { self.new.handles ≡ self.old.handles }
     {
         let zeros = [0; 8];
-        let size = padding_after(self.bytes.len());
-        self.put_bytes(&zeros[..size]);
+        let len = self.bytes.len();
+        let size = padding_after(len);
+        if len + 8 <= MAX_BYTES {
+            // Eight are put at once, and cut back.
+            self.put_bytes(&zeros);
+            self.bytes.truncate(len + size);
+        } else {
+            self.put_bytes(&zeros[..size]);
+        }
     }
 
     /// Appends a handle.

@@ -31,22 +31,21 @@ same_frame : (e e' : ℕ) (k k' : FrameKind) (h h' b b' : List ℕ) → e ≡ e'
 same_frame e e' k k' h h' b b' p q r s = cc
 
 pub returns : goal.returns
-returns c =
+returns c = λ s known none.
     let b = c.args.bytes.now in
-    let s = c.args.side in
     let are = are_bytes b c.type_inv.bytes in
-    let read = spelling-frame_in s b are c.requires.long c.requires.sound c.requires.whole in
+    let read = spelling-frame_in s b are c.requires.long none c.requires.whole in
     let n : c.word_in-count.result ≡ word_in (drop 8 b) = c.word_in-count.ensures ∙ ap word_in (take_rest b 8) in
     let h = c.from.result in
     let fits = counts b h c.word_in-count.result c.from.ensures n c.requires.whole in
     let rest = take_rest b 12 in
     let front : c.split_at.result.0.now ≡ take (4 * h) (drop 12 b) = c.split_at.ensures.front ∙ ap (take (4 * h)) rest in
     let far : c.split_at.result.1.now ≡ drop (12 + 4 * h) b = c.split_at.ensures.back ∙ (ap (drop (4 * h)) rest ∙ drop-drop (4 * h) 12 b) in
-    let kinds : c.unwrap_or-kind.result ≡ (frame_in s b).kind = c.unwrap_or-kind.ensures ∙ ap (λ (o : Option FrameKind). unwrap_or o kind.Message) c.kind_of.ensures in
+    let kinds : c.args.kind ≡ (frame_in s b).kind = sym (ap (λ (o : Option FrameKind). unwrap_or o kind.Message) known) in
     let quarter' : length c.split_at.result.0.now / 4 ≡ h = ap (λ (l : List ℕ). length l / 4) front ∙ (ap (λ (m : ℕ). m / 4) (length-take-le (4 * h) (drop 12 b) (omega (arith, length-drop 12 b, fits))) ∙ quarter h) in
     let handles : words_in (length c.split_at.result.0.now / 4) c.split_at.result.0.now ≡ (frame_in s b).handles =
     ap (λ (m : ℕ). words_in m c.split_at.result.0.now) quarter' ∙ (ap (words_in h) front ∙ (words_in-take h (drop 12 b) (omega (arith, length-drop 12 b, fits)) ∙ ap (λ (m : ℕ). words_in m (drop 12 b)) c.from.ensures)) in
     let bytes : take c.word_in-count.result c.split_at.result.1.now ≡ (frame_in s b).bytes =
     ap (λ (m : ℕ). take m c.split_at.result.1.now) n ∙ (ap (take (word_in (drop 8 b))) far ∙ ap (λ (m : ℕ). take (word_in (drop 8 b)) (drop (12 + 4 * m) b)) c.from.ensures) in
     let same = same_frame _ _ _ _ _ _ _ _ c.word_in.ensures kinds (c.new.ensures ∙ handles) bytes in
-    record { sound = subst (IsFrame s) (sym same) read.0; spelled = ap spelling same ∙ read.1 }
+    (subst (IsFrame s) (sym same) read.0, ap spelling same ∙ read.1)
