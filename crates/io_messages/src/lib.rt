@@ -22,7 +22,7 @@ pub use laws::{
 pub use protocols::{Protocol, has_method};
 pub use replies::{Attributes, Reply, Shape, is_one_way, shape_of};
 pub use reply_reader::{read_event, read_reply};
-pub use reply_writer::{begin_listing, write_event, write_reply};
+pub use reply_writer::{begin_listing, write_bytes, write_event, write_reply};
 pub use request_reader::read_request;
 pub use request_writer::write_request;
 pub use requests::{Request, RequestFault, TooLong};

@@ -39,6 +39,26 @@ pub fn write_reply(ordinals: &Ordinals, txid: u32, reply: Reply<'_>, out: &mut O
     put_reply(reply, out);
 }
 
+/// Writes the reply of Read or ReadAt into an empty output: a success with these bytes, spelled as
+/// `write_reply` spells their payload. The caller sees to it that the transaction id is not 0, and that
+/// the message has at most `MAX_BYTES` bytes.
+#[inline(always)]
+pub fn write_bytes(ordinals: &Ordinals, txid: u32, method: Method, bytes: &[u8], out: &mut Out)
+    requires empty { out.old ≡ record { bytes = []; handles = [] } }
+    requires way { 0 < txid }
+    requires shape { shape_of method ≡ Some Shape.Bytes }
+    requires fits { PayloadFits (payload method bytes.now) }
+    ensures bytes { out.new.bytes ≡ reply_bytes txid (payload method bytes.now) }
+    ensures handles { out.new.handles ≡ reply_handles (payload method bytes.now) }
+{
+    out.begin(Header {
+        txid,
+        flexible: false,
+        ordinal: ordinals.of(method),
+    });
+    put_success(bytes, out);
+}
+
 /// Begins the reply of ReadDirents in an empty output, for a listing of so many bytes. The caller appends
 /// these bytes behind it, as they are, and then pads.
 pub fn begin_listing(ordinals: &Ordinals, txid: u32, bytes: u32, out: &mut Out)
