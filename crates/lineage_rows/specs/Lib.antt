@@ -1,0 +1,2 @@
+-- A worked row of lineages. No other crate needs it.
+pub mod Rows
