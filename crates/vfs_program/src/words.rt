@@ -66,7 +66,7 @@ fn rounds_of(word: &String) -> Option<u32>
 {
     let rounds = word.as_str().parse::<u32>().ok()?;
     let mut digits = Buffer::new();
-    let is_printed = word.as_str() == digits.format(rounds);
+    let is_printed = is_word(word, digits.format(rounds));
     if is_printed && rounds >= 1 && rounds <= MAX_ROUNDS {
         Some(rounds)
     } else {
