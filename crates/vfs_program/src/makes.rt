@@ -51,6 +51,7 @@ fn report_of(alloc: Global, ordinals: Ordinals, rounds: u32) -> Result<Vec<u8>, 
 }
 
 /// The generated script of so many rounds.
+#[tactic(auto, using(crate::proofs::WorkloadLemmas::is_good))]
 fn generated_script(alloc: Global, ordinals: &Ordinals, rounds: u32) -> Result<Script, NoMemory>
     requires some { 1 ≤ rounds }
     requires few { rounds ≤ MAX_ROUNDS }

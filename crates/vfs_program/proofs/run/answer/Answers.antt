@@ -1,9 +1,9 @@
-use Rattle.std.proofs.Common.{◌≡◌, map, string_bytes, sym, subst}
+use Rattle.std.proofs.Common.{◌≡◌, map, string_bytes, refl, sym, subst}
 use Rattle.vfs_program.specs.Answers.{Answers}
 use Rattle.vfs_program.specs.Outside.{outside_told}
 use Rattle.vfs_program.specs.Words.{Asks, Means, command_seen}
 use Rattle.vfs_program.specs.declared.words.Command.{Command}
-use Rattle.vfs_program.proofs.OneMeaning.{serves_alone}
+use Rattle.vfs_program.proofs.OneMeaning.{makes_alone, serves_alone}
 use Rattle.vfs_program.proofs.run.answer.Goals as goal
 
 pub returns-in-Some-Serve-clause-answers : goal.returns-in-Some-Serve-clause-answers
@@ -16,3 +16,14 @@ returns-in-Some-Serve-clause-answers g c = λ asks means.
     (sym (serves_alone _ c.in-Some-Serve.tree.now c.in-Some-Serve.mode asks
     (subst (λ (k : Command). Means (map string_bytes c.args.words.now) (command_seen k)) c.in-Some-Serve.field-0-is c.in-Some-Serve.ensures.meant) means))
     c.serve_tree.ensures
+
+pub returns-in-Some-Make-clause-answers : goal.returns-in-Some-Make-clause-answers
+returns-in-Some-Make-clause-answers g c = λ asks means.
+    subst
+    (λ (one : Asks). Answers one
+    (outside_told g.F.Files.told g.F.Files.faults g.F.Files.overlong g.S.Source.left g.S.Source.faults g.K.Sink.written g.K.Sink.flushed g.K.Sink.faults c.args.files.now c.args.source.now c.args.sink.now)
+    (outside_told g.F.Files.told g.F.Files.faults g.F.Files.overlong g.S.Source.left g.S.Source.faults g.K.Sink.written g.K.Sink.flushed g.K.Sink.faults c.args.files.now c.args.source.now c.make.new.sink)
+    (c.args.source.now ≡ c.args.source.now) (c.make.new.sink ≡ c.args.sink.now) c.make.result)
+    (sym (makes_alone _ c.in-Some-Make.rounds asks
+    (subst (λ (k : Command). Means (map string_bytes c.args.words.now) (command_seen k)) c.in-Some-Make.field-0-is c.in-Some-Make.ensures.meant) means))
+    (refl, refl, c.make.ensures)

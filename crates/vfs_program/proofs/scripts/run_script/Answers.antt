@@ -34,8 +34,10 @@ returns-in-Err-Failed g c =
         inr (
           _,
           still_says c.args.script.now _ _ (record { text = says.0; by = c.in-Ok-read_script.script.mode }) c.in-Ok-read_start.ensures.files says.2,
-          (c.in-Err-Failed.ensures.part says.0 says.1,
-          subst (λ (fault : TranscriptFault). FailedOnly (Err fault) (Rose (g.K.Sink.faults c.args.sink.now) (g.K.Sink.faults c.play.new.sink))) c.in-Err-Failed.field-0-is c.in-Err-Failed.ensures.cause.failed),
+          (
+            c.in-Err-Failed.ensures.part says.0 says.1,
+            subst (λ (fault : TranscriptFault). FailedOnly (Err fault) (Rose (g.K.Sink.faults c.args.sink.now) (g.K.Sink.faults c.play.new.sink))) c.in-Err-Failed.field-0-is c.in-Err-Failed.ensures.cause.failed,
+          ),
         ),
       ),
     )
