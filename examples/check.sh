@@ -39,6 +39,10 @@ declare -A bytes=(
     [transcript]='32206d6573736167652065706974617068202d20303030303030303030323030303030316666666666666666666666666666
         6666653766666666666630303030303030300a3220636c6f73650a63616c
         6c73203020616e73776572656420300a'
+    # The report of a workload of one round.
+    [report]='6672616d657320696e20350a6672616d6573206f757420340a6279746573206f757420313333
+        0a73686132353620663938623438376533343634383839643137326164666661643836376339393134386136653433653863
+        636334633035646631363932356234663035343862330a'
     # Fixed parts, each bad for one reason, and the front of a Read.
     [kind]='01000000 09 00 0000 00000000'
     [zero]='01000000 01 00 0100 00000000'
@@ -101,7 +105,9 @@ a tree that isn't there         | check @none                       | nothing   
 a tree that is too large        | check @large                      | nothing     | nothing      | 5 | file too large
 no word                         |                                   | read        | nothing      | 1 | $usage
 a word too many                 | file examples/hello more          | read        | nothing      | 1 | $usage
-a command that isn't there yet  | make 1                            | nothing     | nothing      | 1 | $usage
+one round                       | make 1                            | nothing     | report       | 0 |
+no rounds                       | make 0                            | nothing     | nothing      | 1 | $usage
+a round too many                | make 10001                        | nothing     | nothing      | 1 | $usage
 "
 
 # Writes what a cell of the table stands for: bytes by their names, or a line of text.
@@ -176,6 +182,8 @@ run check examples/trees/small.toml > /dev/full 2> "$work/note"
 judge 'a full output of a check' $? 4 'write failed' nothing
 run run examples/trees/small.toml "$work/script" > /dev/full 2> "$work/note"
 judge 'a full output of a transcript' $? 4 'write failed' nothing
+run make 1 > /dev/full 2> "$work/note"
+judge 'a full output of a report' $? 4 'write failed' nothing
 run file examples/hello < "$work/in" 2> "$work/note" >&-
 judge 'a closed output' $? 4 'write failed' nothing
 
