@@ -1,4 +1,4 @@
--- Words that ask for a tree in a mode, or for so many rounds, ask for nothing else.
+-- Words that ask for a tree in a mode, for a script or for so many rounds ask for nothing else.
 use Rattle.std.proofs.Common.{◌≡◌, ℕ, List, [], ◌∷◌, refl, sym, ap, ◌∙◌, codes, decimal, arith}
 use Rattle.std.proofs.lemmas.Fmt.{decimal_injective}
 use Rattle.endpoint_link.specs.declared.kinds.Mode.{Mode}
@@ -23,6 +23,18 @@ serves_alone words tree by (RunOf other script) m n = absurd (grind (arith, m, n
 serves_alone words tree by (CheckOf name) m n = absurd (grind (arith, m, n))
 serves_alone words tree by ShowAll m n = absurd (grind (arith, m, n))
 serves_alone words tree by (MakeOf rounds) m n = absurd (grind (arith, m, n.0))
+
+pub runs_alone : (words : List (List ℕ)) (tree script : List ℕ) (asks : Asks) → Means words (RunOf tree script) → Means words asks → asks ≡ RunOf tree script
+runs_alone words tree script (FileOf name) m n = absurd (grind (arith, m, n))
+runs_alone words tree script (ServeOf other by) m n = absurd (grind (arith, m, n))
+runs_alone words tree script (RunOf other second) m n =
+    let both : codes "run" ∷ other ∷ second ∷ [] ≡ codes "run" ∷ tree ∷ script ∷ [] = sym n ∙ m in
+    let tree' : other ≡ tree = cc in
+    let script' : second ≡ script = cc in
+    cc
+runs_alone words tree script (CheckOf name) m n = absurd (grind (arith, m, n))
+runs_alone words tree script ShowAll m n = absurd (grind (arith, m, n))
+runs_alone words tree script (MakeOf rounds) m n = absurd (grind (arith, m, n.0))
 
 same_rounds : (a b : ℕ) → IsRounds a → IsRounds b → decimal a ≡ decimal b → a ≡ b
 same_rounds a b p q e = decimal_injective a b (omega (arith, p.1)) (omega (arith, q.1)) e

@@ -1,10 +1,8 @@
 -- Causes in their order, for all commands.
-use Rattle.std.specs.Prelude.{◌≡◌, ◌⊎◌, ℕ, List, Some}
+use Rattle.std.specs.Prelude.{◌⊎◌, ℕ, List}
 use Rattle.fidl_wire.specs.Names.{AreDistinct, IsFirstCollision}
 use Rattle.tree_file.specs.Items.{Lists}
-use Rattle.tree_file.specs.Rules.{first_failure}
 use Rattle.fidl_names.specs.declared.limits.TheConstants as limit
-use Rattle.host_io.specs.Told.{Told}
 use Rattle.vfs_program.specs.declared.statuses.Status.{Status}
 use Rattle.vfs_program.specs.declared.statuses.Status.TheVariants as status
 use Rattle.vfs_program.specs.Outside.{FilesTold}

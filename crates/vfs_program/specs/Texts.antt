@@ -1,5 +1,5 @@
 -- How a command ends that writes one text, and how the note is told.
-use Rattle.std.specs.Prelude.{List, ℕ, Option}
+use Rattle.std.specs.Prelude.{List, ℕ}
 use Rattle.std.specs.Io.KnownBytes.{Appends}
 use Rattle.host_io.specs.Causes.{Rose}
 use Rattle.host_io.specs.Streams.{AppendsPart, IsFlushed}

@@ -1,5 +1,5 @@
 -- The session over a tree: what is written for its frames, and which world stands behind them.
-use Rattle.std.specs.Prelude.{◌≡◌, ℕ, List, true}
+use Rattle.std.specs.Prelude.{List, true}
 use Rattle.endpoint_link.specs.Frames.{Frame, spellings}
 use Rattle.endpoint_link.specs.declared.kinds.Mode.{Mode}
 use Rattle.vfs_journal.specs.Entries.{Journal}
