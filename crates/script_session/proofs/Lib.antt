@@ -5,3 +5,5 @@ mod Shown
 mod Stages
 mod Answered
 mod Whole
+mod Counting
+mod Metering

@@ -42,6 +42,7 @@ output_is_frames distinct =
 
 -- these frames come back, and the bytes of the output spell them
 pub record ComesBack (start : Start) (earlier later : Journal) (before after : List ℕ) : Type 0 where
+  pub grown : frames_by start later ≡ frames_by start earlier ++ frames_since start earlier later
   pub each : All (IsFrame side.Any) (frames_since start earlier later)
   pub written : after ≡ before ++ spellings (frames_since start earlier later)
 
@@ -55,6 +56,7 @@ comes_back start earlier later new before after distinct bytes sound lawful led 
     let same = since_is start earlier later are.more are.grown in
     let spelled : led.part ≡ spellings are.more = are.read.reads.split ∙ append-nil (spellings are.more) in
     record {
+      grown = are.grown ∙ ap (λ l. frames_by start earlier ++ l) (sym same);
       each = subst (All (IsFrame side.Any)) (sym same) are.read.each;
       written = led.written ∙ ap (λ l. before ++ l) (spelled ∙ ap spellings (sym same));
     }

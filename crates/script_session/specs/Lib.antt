@@ -1,2 +1,4 @@
 pub mod Playing
 pub mod Steps
+pub mod Measured
+pub mod Tallies

@@ -7,19 +7,18 @@ ghost use Rattle.endpoint_link.specs.Views.{frame_of};
 ghost use Rattle.endpoint_link.specs.declared.kinds.Side.TheVariants as side;
 ghost use Rattle.host_io.specs.Streams.{AppendsPart, IsFlushed};
 ghost use Rattle.io_client.specs.Calls.{none_yet};
-ghost use Rattle.vfs_journal.specs.Entries.{Journal};
-ghost use Rattle.vfs_journal.specs.Session.{drained, steps};
 ghost use Rattle.vfs_journal.specs.Starts.{Start as TheStart, start_of};
 ghost use Rattle.vfs_script.specs.Noting.{IsFree};
 ghost use Rattle.vfs_script.specs.Scripts.{Spoken, call_in, count_calls, frame_of as spoken_frame, script_lines};
 ghost use Rattle.vfs_script.specs.declared.calls.Call.{Call};
-ghost use Rattle.vfs_session.specs.World.{LeadsTo, StandsFor};
+ghost use Rattle.vfs_session.specs.World.{StandsFor};
 ghost use Rattle.transcripts.specs.Answering.{count_calls as calls_made, one_of};
 ghost use Rattle.transcripts.specs.Telling.{HasSinkCause, IsOver, IsTold, IsWithin, last_of};
 ghost use Rattle.transcripts.specs.Transcript.{lines_of, text_of};
 ghost use Rattle.script_session.specs.Playing.{Played, drain_played, not_yet, play_line, play_lines, transcript};
 ghost use Rattle.script_session.specs.Steps.{IsScript, Plays};
 
+use crate::hearing::{drain, hear};
 use endpoint_link::{FrameView, Mode, Outbox, Reading, Side, frame_at};
 use fidl_names::NoMemory;
 use fidl_wire::Ordinals;
@@ -163,38 +162,4 @@ impl Player {
         self.scribe.gets_all(self.outbox.as_bytes(), sink)?;
         self.scribe.finish(calls, sink)
     }
-}
-
-/// Accepts one frame. In mode auto all that waits then is served.
-fn hear(
-    world: &mut World,
-    mode: Mode,
-    frame: FrameView<'_>,
-    outbox: &mut Outbox,
-) -> Result<(), NoMemory>
-    requires frame { IsFrame side.ToServers (frame_of frame) }
-    requires few { world.old.frames < 2 ^ 48 }
-    ensures heard { (start : TheStart) (journal : Journal) → StandsFor start world.old journal →
-        OnOk result (LeadsTo start (steps start mode journal (frame_of frame.entry)) world.new journal outbox.old outbox.new) }
-    ensures frames { OnOk result (world.new.frames ≡ world.old.frames + 1) }
-{
-    let Ok(()) = world.accept(frame, outbox) else {
-        return Err(NoMemory);
-    };
-    match mode {
-        Mode::Auto => drain(world, outbox),
-        Mode::Given => Ok(()),
-    }
-}
-
-/// Serves all that can be served.
-fn drain(world: &mut World, outbox: &mut Outbox) -> Result<(), NoMemory>
-    ensures drained { (start : TheStart) (journal : Journal) → StandsFor start world.old journal →
-        OnOk result (LeadsTo start (drained start journal) world.new journal outbox.old outbox.new) }
-    ensures frames { world.new.frames ≡ world.old.frames }
-{
-    let Ok(()) = world.drain(outbox) else {
-        return Err(NoMemory);
-    };
-    Ok(())
 }

@@ -2,6 +2,6 @@ mod Keys
 mod Epitaphs
 mod Sending
 mod Getting
-mod Fronts
+pub mod Fronts
 pub mod Lines
 mod Stages

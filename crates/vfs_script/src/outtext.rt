@@ -64,7 +64,7 @@ impl Outtext {
     }
 
     /// Appends bytes, or for want of memory nothing.
-    pub(crate) fn put(&mut self, part: &[u8]) -> Result<(), NoMemory>
+    pub fn put(&mut self, part: &[u8]) -> Result<(), NoMemory>
         ensures put { OnOk result (self.new ≡ self.old ++ part.now) }
         ensures no_memory { OnErr result (self.new ≡ self.old) }
         ensures grows { take (length self.old) self.new ≡ self.old }

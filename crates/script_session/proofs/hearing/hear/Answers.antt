@@ -4,7 +4,7 @@ use Rattle.vfs_journal.specs.Session.{arrives, drained}
 use Rattle.vfs_session.specs.World.{LeadsTo}
 use Rattle.script_session.proofs.Answered.{on_ok}
 use Rattle.script_session.proofs.ReadBack.{leads_on, steps_in_auto}
-use Rattle.script_session.proofs.playing.hear.Goals as goal
+use Rattle.script_session.proofs.hearing.hear.Goals as goal
 
 pub returns-in-Auto-clause-heard : goal.returns-in-Auto-clause-heard
 returns-in-Auto-clause-heard c = λ start journal stands.

@@ -1,0 +1,19 @@
+use Rattle.std.proofs.Common.{◌∙◌, subst}
+use Rattle.endpoint_link.specs.declared.kinds.Mode.{Mode}
+use Rattle.vfs_journal.specs.Session.{session}
+use Rattle.vfs_journal.specs.Starts.{start_of}
+use Rattle.vfs_script.specs.Scripts.{frames_of}
+use Rattle.script_session.specs.Measured.{Measures, output_frames}
+use Rattle.script_session.proofs.Metering.{if_ok, metered_first}
+use Rattle.script_session.proofs.measuring.measure.Goals as goal
+
+pub returns : goal.returns
+returns c = λ text is.
+    let lists = c.args.start.now in
+    let start = start_of lists in
+    let meter = c.in_ok-meter.meter in
+    let first = metered_first lists meter.world meter.tally c.args.ordinals.distinct c.keeps_rules.ensures c.files_are_bytes.ensures c.in_ok-meter.ensures.stands c.in_ok-meter.ensures.tally in
+    let heard = c.in_ok-hear_all.ensures.metered start text is first in
+    if_ok c.end.result (Measures (output_frames start meter.mode text)) (Measures (output_frames start c.args.script.now.mode text))
+    (λ told are. subst (λ (by : Mode). Measures (output_frames start by text) told) (c.in_ok-meter.ensures.mode ∙ c.mode.ensures) are)
+    (c.end.ensures start (session start meter.mode (frames_of text)) heard)

@@ -1,0 +1,43 @@
+//! The output of a script, told by its size and its hash.
+
+ghost use Rattle.std.specs.Prelude.{◌≡◌, ℕ, List, IfOk};
+ghost use Rattle.vfs_journal.specs.Starts.{start_of};
+ghost use Rattle.script_session.specs.Measured.{Measures, output_frames};
+ghost use Rattle.script_session.specs.Steps.{IsScript};
+
+use crate::meter::Meter;
+use fidl_names::NoMemory;
+use fidl_wire::Ordinals;
+use frame_laws::files_are_bytes;
+use std::alloc::Global;
+use tree_file::Start;
+use vfs_script::Script;
+
+/// What is told of output frames: how many there are, how many bytes they have, and the SHA-256 of these. The sums are wider than 64 bits,
+/// since nothing but memory bounds what each line of a script makes the servers write.
+#[derive(Clone, Copy, Debug, PartialEq, Eq)]
+pub struct Measured {
+    pub frames: u128,
+    pub bytes: u128,
+    pub hash: [u8; 32],
+}
+
+/// Plays a script over the tree of an accepted start, and measures its output. The output is hashed as the session goes on, and isn't kept.
+///
+/// The script is one that `script_of` read from a text.
+pub fn measure(
+    alloc: Global,
+    ordinals: Ordinals,
+    start: &Start,
+    script: &Script,
+) -> Result<Measured, NoMemory>
+    requires { (text : List ℕ) × IsScript text script.now }
+    ensures { (text : List ℕ) → IsScript text script.now →
+        IfOk result (Measures (output_frames (start_of start.now) script.now.mode text)) }
+{
+    start.keeps_rules();
+    files_are_bytes(start);
+    let mut meter = Meter::new(alloc, ordinals, start, script.mode())?;
+    meter.hear_all(script)?;
+    meter.end()
+}

@@ -1,0 +1,114 @@
+//! A session whose output is tallied.
+
+ghost use Rattle.std.specs.Prelude.{◌≡◌, ◌<◌, ◌≤◌, ◌+◌, ◌*◌, ◌^◌, ℕ, List, [], IfOk, OnOk, length};
+ghost use Rattle.endpoint_link.specs.Frames.{IsFrame};
+ghost use Rattle.endpoint_link.specs.Views.{frame_of};
+ghost use Rattle.endpoint_link.specs.declared.kinds.Side.TheVariants as side;
+ghost use Rattle.vfs_journal.specs.Entries.{Journal};
+ghost use Rattle.vfs_journal.specs.Session.{drained, session, steps};
+ghost use Rattle.vfs_journal.specs.Starts.{Start as TheStart, start_of};
+ghost use Rattle.vfs_script.specs.Scripts.{frames_of};
+ghost use Rattle.vfs_session.specs.World.{StandsFor};
+ghost use Rattle.script_session.specs.Measured.{Measures};
+ghost use Rattle.script_session.specs.Playing.{frames_by};
+ghost use Rattle.script_session.specs.Steps.{IsScript};
+ghost use Rattle.script_session.specs.Tallies.{Metered, Tallies};
+
+use crate::hearing::{drain, hear};
+use crate::measuring::Measured;
+use crate::tally::Tally;
+use endpoint_link::{FrameView, Mode, Outbox, Reading, Side, frame_at};
+use fidl_names::NoMemory;
+use fidl_wire::Ordinals;
+use std::alloc::Global;
+use tree_file::Start;
+use vfs_script::Script;
+use vfs_world::World;
+
+/// A session over a tree, and the tally of what it wrote.
+#[derive(Drop)]
+pub(crate) struct Meter {
+    pub(crate) world: World,
+    pub(crate) mode: Mode,
+    pub(crate) outbox: Outbox,
+    pub(crate) tally: Tally,
+}
+
+impl Meter {
+    /// Nothing was heard yet.
+    pub(crate) fn new(
+        alloc: Global,
+        ordinals: Ordinals,
+        start: &Start,
+        mode: Mode,
+    ) -> Result<Meter, NoMemory>
+        ensures mode { IfOk result (λ meter. meter.mode ≡ mode) }
+        ensures stands { IfOk result (λ meter. StandsFor (start_of start.now) meter.world []) }
+        ensures frames { IfOk result (λ meter. meter.world.frames ≡ 0) }
+        ensures tally { IfOk result (λ meter. Tallies [] meter.tally) }
+        ensures few { IfOk result (λ meter. meter.tally.frames ≡ 0) }
+        ensures small { IfOk result (λ meter. meter.tally.bytes ≡ 0) }
+    {
+        let world = World::new(alloc, ordinals, start)?;
+        Ok(Meter {
+            world,
+            mode,
+            outbox: Outbox::new(alloc),
+            tally: Tally::new(),
+        })
+    }
+
+    /// Hears each frame of a script.
+    pub(crate) fn hear_all(&mut self, script: &Script) -> Result<(), NoMemory>
+        requires script { (text : List ℕ) × IsScript text script.now }
+        requires frames { self.old.world.frames ≡ 0 }
+        requires few { self.old.tally.frames ≡ 0 }
+        requires small { self.old.tally.bytes ≡ 0 }
+        ensures metered { (start : TheStart) (text : List ℕ) → IsScript text script.now → Metered start [] self.old.world self.old.tally →
+            OnOk result (Metered start (session start self.old.mode (frames_of text)) self.new.world self.new.tally) }
+        ensures few { OnOk result (self.new.tally.frames < 2 ^ 126) }
+        ensures small { OnOk result (self.new.tally.bytes < 2 ^ 126) }
+    {
+        let mut rest = script.frames();
+        for _ in 0..script.len() {
+            let Reading::Whole { frame, size } = frame_at(Side::ToServers, rest) else {
+                unreachable!();
+            };
+            self.hear_one(frame)?;
+            rest = &rest[size..];
+        }
+        Ok(())
+    }
+
+    /// Hears a frame, and tallies what is written for it.
+    fn hear_one(&mut self, frame: FrameView<'_>) -> Result<(), NoMemory>
+        requires frame { IsFrame side.ToServers (frame_of frame) }
+        requires accepted { self.old.world.frames < 2 ^ 48 }
+        requires few { self.old.tally.frames < 2 ^ 126 }
+        requires small { self.old.tally.bytes < 2 ^ 126 }
+        ensures metered { (start : TheStart) (journal : Journal) → Metered start journal self.old.world self.old.tally →
+            OnOk result (Metered start (steps start self.old.mode journal (frame_of frame.entry)) self.new.world self.new.tally) }
+        ensures mode { self.new.mode ≡ self.old.mode }
+        ensures frames { OnOk result (self.new.world.frames ≡ self.old.world.frames + 1) }
+        ensures few { OnOk result (self.new.tally.frames ≤ self.old.tally.frames + 2 ^ 63) }
+        ensures small { OnOk result (self.new.tally.bytes ≤ self.old.tally.bytes + 2 ^ 63) }
+    {
+        self.outbox.clear();
+        hear(&mut self.world, self.mode, frame, &mut self.outbox)?;
+        self.tally.take(self.outbox.as_bytes());
+        Ok(())
+    }
+
+    /// Serves all that waits, and tells what was written from the beginning on.
+    pub(crate) fn end(mut self) -> Result<Measured, NoMemory>
+        requires few { self.tally.frames < 2 ^ 126 }
+        requires small { self.tally.bytes < 2 ^ 126 }
+        ensures { (start : TheStart) (journal : Journal) → Metered start journal self.world self.tally →
+            IfOk result (Measures (frames_by start (drained start journal))) }
+    {
+        self.outbox.clear();
+        drain(&mut self.world, &mut self.outbox)?;
+        self.tally.take(self.outbox.as_bytes());
+        Ok(self.tally.finish())
+    }
+}
