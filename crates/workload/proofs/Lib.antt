@@ -5,4 +5,4 @@ mod RequestSizes
 mod GoodLines
 mod RoundLines
 mod PutLines
-mod Whole
+pub mod Whole
