@@ -1,16 +1,15 @@
 -- A text of good lines is a script: none of its lines is bad, and each says something.
-use Rattle.std.proofs.Common.{◌≡◌, ℕ, suc, ◌+◌, ◌==◌, ◌||◌, ◌&&◌, not, Bool, true, false, cond, List, [], ◌∷◌, ◌++◌, length, map, Option, Some, None, is_none, refl, sym, ap, ◌∙◌, arith, codes}
-use Rattle.std.specs.Prelude.{⊤, filter, filter_map}
-use Rattle.std.specs.List.{list_all}
+use Rattle.std.proofs.Common.{◌≡◌, ℕ, suc, ◌+◌, ◌==◌, not, Bool, true, false, List, [], ◌∷◌, ◌++◌, length, map, Option, Some, None, is_none, refl, ap, ◌∙◌, arith, codes}
+use Rattle.std.specs.Prelude.{⊤}
 use Rattle.std.specs.Str.{is_utf8}
 use Rattle.std.proofs.lemmas.Bool.Decides.{nat_tests}
-use Rattle.fidl_names.specs.First.{cause_if, first_of}
+use Rattle.fidl_names.specs.First.{first_of}
 use Rattle.endpoint_link.specs.declared.kinds.Mode.TheVariants as mode
-use Rattle.vfs_script.specs.Words.{◌>>=◌, given, newline, pieces, space}
+use Rattle.vfs_script.specs.Words.{space}
 use Rattle.vfs_script.specs.Lines.{Line, line_in, line_of, fits_at}
-use Rattle.vfs_script.specs.Scripts.{Numbered, Spoken, bad_in, bad_line, bad_lines, behind_mode, is_bad, is_skipped, lines_of, mode_of, numbered_from, said_at, script_lines, script_mode, spoken, spoken_in}
+use Rattle.vfs_script.specs.Scripts.{Numbered, bad_in, bad_line, bad_lines, is_bad, is_skipped, lines_of, mode_of, numbered_from, script_lines, script_mode, spoken, spoken_in}
 use Rattle.workload.specs.Workload.{Words, texts}
-use Rattle.workload.proofs.Plain.{AllPlain, ArePlain, is_line_byte, joined, lines_part, plain_line, plain_utf8, spaces_part}
+use Rattle.workload.proofs.Plain.{AllPlain, ArePlain, joined, lines_part, plain_line, plain_utf8, spaces_part}
 
 abbrev pub numbered : ℕ → Words → Numbered
 numbered number words = record { number = number; bytes = joined words }

@@ -1,4 +1,4 @@
--- That the generated workload is a script.
+-- That the generated workload is a script. Whole has what crates above cite.
 mod Numerals
 mod Plain
 mod RequestSizes

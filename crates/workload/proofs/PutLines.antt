@@ -1,6 +1,5 @@
 -- Lines that are put word by word.
-use Rattle.std.proofs.Common.{◌≡◌, ℕ, suc, ◌+◌, ◌/◌, ◌^◌, List, [], ◌∷◌, ◌++◌, codes, refl, sym, ap, ◌∙◌, append_assoc, append-nil, ◌≤◌, le_antisymm}
-use Rattle.std.specs.List.{flat_map, join_with_byte}
+use Rattle.std.proofs.Common.{◌≡◌, ℕ, suc, ◌/◌, ◌^◌, List, [], ◌∷◌, ◌++◌, codes, sym, ap, ◌∙◌, append_assoc, append-nil, ◌≤◌, le_antisymm}
 use Rattle.std.proofs.lemmas.List.Concat.{flat_map-append}
 use Rattle.workload.specs.Workload.{Words, drawn, first_lines, line_text, next_state, round, rounds_up_to, state_of, texts, workload}
 

@@ -1,5 +1,5 @@
 -- The messages of the workload's requests are far from too long.
-use Rattle.std.proofs.Common.{◌≡◌, ℕ, ◌+◌, ◌-◌, ◌%◌, ◌<◌, ◌≤◌, nat_le, true, List, [], ◌∷◌, ◌++◌, length, replicate, None, refl, arith, mod-lt, length-append}
+use Rattle.std.proofs.Common.{◌≡◌, ℕ, ◌+◌, ◌-◌, ◌%◌, ◌<◌, ◌≤◌, true, List, [], ◌∷◌, ◌++◌, length, replicate, None, arith, mod-lt, length-append}
 use Rattle.std.proofs.lemmas.Bool.{le-leb}
 use Rattle.std.proofs.lemmas.List.{length-replicate}
 use Rattle.byteorder.specs.Numbers.{length-bytes_low_first}
@@ -7,7 +7,7 @@ use Rattle.fidl_names.specs.declared.limits.TheConstants as limit
 use Rattle.fidl_names.specs.Numbers.{number_bytes}
 use Rattle.fidl_wire.specs.Grammar.{Part, join, nothing}
 use Rattle.fidl_wire.specs.Headers.{header_bytes}
-use Rattle.fidl_wire.specs.Layout.{Cell, Item, number, pad, handle, text, vector, table, num, blank, held, seq, members}
+use Rattle.fidl_wire.specs.Layout.{Cell, Item, number, pad, text, vector, num, blank, seq, members}
 use Rattle.fidl_wire.specs.Names.{method_ordinal}
 use Rattle.fidl_wire.specs.Numbers.{padding_after}
 use Rattle.fidl_wire.specs.Reading.{present_list, present_word}
@@ -17,7 +17,7 @@ use Rattle.io_messages.specs.Asked.{Asked, method_of}
 use Rattle.io_messages.specs.Asked as asks
 use Rattle.io_messages.specs.Requests.{an_endpoint, held_endpoint, items_of, options, request_cells}
 use Rattle.io_messages.specs.Writing.{plain_header, request_bytes, request_body}
-use Rattle.vfs_script.specs.Lines.{Line, fits_at, request, txid_at}
+use Rattle.vfs_script.specs.Lines.{fits_at, request, txid_at}
 
 -- ---- bytes
 

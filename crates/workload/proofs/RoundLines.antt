@@ -1,19 +1,16 @@
 -- Each line of a workload is good, and short.
-use Rattle.std.proofs.Common.{◌≡◌, ℕ, zero, suc, ◌+◌, ◌*◌, ◌/◌, ◌%◌, ◌<◌, ◌≤◌, ◌^◌, ◌==◌, ◌&&◌, nat_lt, Bool, true, false, cond, if◌then◌else◌, List, [], ◌∷◌, ◌++◌, length, map, decimal, codes, Option, Some, None, refl, sym, ap, ◌∙◌, arith, mod-lt, length-append, append_assoc}
-use Rattle.std.specs.Prelude.{⊤}
-use Rattle.std.specs.List.{flat_map, list_all}
+use Rattle.std.proofs.Common.{◌≡◌, ℕ, zero, suc, ◌+◌, ◌*◌, ◌/◌, ◌%◌, ◌<◌, ◌≤◌, ◌^◌, ◌==◌, Bool, true, false, if◌then◌else◌, List, [], ◌∷◌, ◌++◌, length, decimal, codes, Some, None, refl, ◌∙◌, arith, mod-lt, length-append}
 use Rattle.std.proofs.lemmas.Fmt.{length-decimal-le}
 use Rattle.std.proofs.lemmas.Bool.Decides.{nat_tests}
-use Rattle.std.proofs.lemmas.List.Concat.{flat_map-append}
 use Rattle.hex.specs.Hex.{encode_lower, lower_digits}
 use Rattle.hex.proofs.HexLemmas.{length-encode_with}
 use Rattle.io_messages.specs.Asked as asked
-use Rattle.vfs_script.specs.Words.{◌>>=◌, number_in, number_of, is_led, is_decimal_digit, is_digit, newline, space}
-use Rattle.vfs_script.specs.Lines.{Line, request, hang_up, verb_of, line_in, open_form, long_form, write_form, unlink_form, watch_form, hang_up_form}
-use Rattle.workload.specs.Workload.{Words, acts, asks, directory, drawn, endpoint, file, first_lines, line_text, opens, path, round, rounds_up_to, texts}
+use Rattle.vfs_script.specs.Words.{number_in, number_of, is_led, is_decimal_digit, is_digit}
+use Rattle.vfs_script.specs.Lines.{request, hang_up, verb_of, line_in, open_form, long_form, write_form, unlink_form, hang_up_form}
+use Rattle.workload.specs.Workload.{Words, acts, asks, directory, drawn, endpoint, file, opens, path, round, rounds_up_to}
 use Rattle.workload.proofs.Numerals.{all_digits, decimal_in, digits_in, hex_digits}
-use Rattle.workload.proofs.Plain.{ArePlain, IsPlain, all_both, all_by, is_word_byte, joined}
-use Rattle.workload.proofs.RequestSizes.{list_fits, open_fits, read_fits, unlink_fits, watch_fits, write_fits}
+use Rattle.workload.proofs.Plain.{IsPlain, all_both, all_by, is_word_byte}
+use Rattle.workload.proofs.RequestSizes.{list_fits, open_fits, read_fits, unlink_fits, write_fits}
 use Rattle.workload.proofs.GoodLines.{AllGood, IsGood, all_good, good_by}
 
 -- ---- words

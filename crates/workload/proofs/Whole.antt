@@ -1,6 +1,5 @@
 -- The whole text.
-use Rattle.std.proofs.Common.{◌≡◌, ℕ, zero, suc, ◌+◌, ◌*◌, ◌/◌, ◌%◌, ◌<◌, ◌≤◌, ◌==◌, Bool, true, false, if◌then◌else◌, List, [], ◌∷◌, ◌++◌, length, map, decimal, codes, Some, None, refl, sym, ap, ◌∙◌, arith, length-append}
-use Rattle.std.specs.List.{flat_map}
+use Rattle.std.proofs.Common.{◌≡◌, ℕ, zero, suc, ◌+◌, ◌*◌, ◌%◌, ◌≤◌, ◌==◌, Bool, true, false, if◌then◌else◌, List, [], ◌∷◌, ◌++◌, length, decimal, codes, Some, None, refl, ap, ◌∙◌, arith, length-append}
 use Rattle.std.proofs.lemmas.List.{length-map}
 use Rattle.std.proofs.lemmas.List.Concat.{flat_map-append}
 use Rattle.hex.specs.Hex.{encode_lower}
@@ -10,9 +9,9 @@ use Rattle.io_messages.specs.Asked as asked
 use Rattle.vfs_script.specs.Words.{number_in, number_of, is_led, newline}
 use Rattle.vfs_script.specs.Lines.{line_in, open_form, request, verb_of, watch_form}
 use Rattle.vfs_script.specs.Scripts.{bad_line, frame_of, frames_of, script_lines, script_mode}
-use Rattle.workload.specs.Laws.{IsGoodScript, WorkloadsAreScripts}
-use Rattle.workload.specs.Workload.{Words, acts, asks, directory, drawn, endpoint, file, first_lines, line_text, opens, path, round, rounds_up_to, texts, workload, workload_lines}
-use Rattle.workload.proofs.GoodLines.{AllGood, IsGood, all_good, good_by, is_auto, is_fine, speaks_all}
+use Rattle.workload.specs.Laws.{WorkloadsAreScripts}
+use Rattle.workload.specs.Workload.{Words, acts, asks, directory, drawn, endpoint, file, first_lines, line_text, opens, path, round, rounds_up_to, texts, workload}
+use Rattle.workload.proofs.GoodLines.{AllGood, IsGood, good_by, is_auto, is_fine, speaks_all}
 use Rattle.workload.proofs.RequestSizes.{open_fits, watch_fits}
 use Rattle.workload.proofs.RoundLines.{digits_short, directory_short, endpoint_short, file_short, path_short, rounds_good, rounds_many}
 

@@ -9,3 +9,6 @@ mod rounds;
 
 pub use generating::{MAX_ROUNDS, generated};
 pub use laws::workloads_are_scripts;
+
+#[cfg(test)]
+mod tests;

@@ -1,4 +1,4 @@
-use Rattle.std.proofs.Common.{◌<◌, ◌≤◌, ◌∙◌, arith}
+use Rattle.std.proofs.Common.{◌∙◌, arith}
 use Rattle.workload.proofs.PutLines.{text_whole}
 use Rattle.workload.proofs.generating.generated.Goals as goal
 

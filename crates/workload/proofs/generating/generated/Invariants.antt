@@ -1,4 +1,4 @@
-use Rattle.std.proofs.Common.{◌≡◌, ◌++◌, ℕ}
+use Rattle.std.proofs.Common.{◌≡◌, ◌++◌}
 use Rattle.workload.specs.Workload.{first_lines, rounds_up_to, state_of, texts}
 use Rattle.workload.proofs.generating.generated.Given as goal
 
