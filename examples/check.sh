@@ -122,6 +122,7 @@ no round                        | make 0                            | nothing   
 no word                         |                                   | read        | nothing      | 1 | $usage
 a word too many                 | file examples/hello more          | read        | nothing      | 1 | $usage
 a script and no tree            | run examples/scripts/reading.script | nothing   | nothing      | 1 | $usage
+a round too many                | make 10001                        | nothing     | nothing      | 1 | $usage
 "
 
 # Writes what a cell of the table stands for: a file, bytes by their names, or a line of text.
@@ -200,6 +201,8 @@ run check examples/trees/small.toml > /dev/full 2> "$work/note"
 judge 'a full output of a check' $? 4 'write failed' nothing
 run run examples/trees/small.toml "$work/script" > /dev/full 2> "$work/note"
 judge 'a full output of a transcript' $? 4 'write failed' nothing
+run make 1 > /dev/full 2> "$work/note"
+judge 'a full output of a report' $? 4 'write failed' nothing
 run file examples/hello < "$work/in" 2> "$work/note" >&-
 judge 'a closed output' $? 4 'write failed' nothing
 

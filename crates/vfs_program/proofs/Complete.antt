@@ -30,7 +30,8 @@ use Rattle.vfs_program.specs.Shown.{lines_course}
 use Rattle.vfs_program.specs.Texts.{WritesPieces, WritesText}
 use Rattle.vfs_program.specs.Trees.{Stands, IsBroken, line_of}
 use Rattle.vfs_program.specs.TreeSession.{tree_course}
-use Rattle.vfs_program.specs.Words.{Asks, FileOf, ServeOf, RunOf, CheckOf, ShowAll}
+use Rattle.vfs_program.specs.Words.{Asks, FileOf, ServeOf, RunOf, CheckOf, ShowAll, MakeOf}
+use Rattle.vfs_program.specs.Workloads.{report_of}
 
 -- what is left behind the bytes that were taken of a told input
 untaken : (input taken : List ℕ) (left : Option (List ℕ)) → Consumes (Some input) left taken
@@ -226,3 +227,7 @@ complete (CheckOf tree) before after S K answer a s n =
 complete ShowAll before after S K answer a s n =
     after_done Collides (S × K) (λ (none : Unit {0}). AreDistinct) (λ none. SessionAnswers Any lines_course before.streams after.streams K) answer (no_collision s.0 answer)
     (λ none distinct. session_done Any lines_course before.streams after.streams K s.1 n.source n.sink answer) a
+complete (MakeOf rounds) before after S K answer a s n =
+    after_done Collides K (λ (none : Unit {0}). AreDistinct) (λ none. WritesText (report_of rounds) K (sink_of before.streams) (sink_of after.streams)) answer
+    (no_collision s answer)
+    (λ none distinct. text_done (report_of rounds) K (sink_of before.streams) (sink_of after.streams) n.sink answer) a.2

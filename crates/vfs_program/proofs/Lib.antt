@@ -10,6 +10,7 @@ pub mod SessionEnds
 pub mod Outputs
 pub mod TreeLemmas
 pub mod ScriptLemmas
+pub mod WorkloadLemmas
 pub mod Complete
 pub mod NoteLemmas
 pub mod SeenLemmas

@@ -20,7 +20,8 @@ use Rattle.vfs_program.specs.Shown.{lines_course}
 use Rattle.vfs_program.specs.Texts.{WritesPieces, WritesText}
 use Rattle.vfs_program.specs.TreeSession.{tree_course}
 use Rattle.vfs_program.specs.Trees.{Stands, line_of}
-use Rattle.vfs_program.specs.Words.{Asks, FileOf, ServeOf, RunOf, CheckOf, ShowAll}
+use Rattle.vfs_program.specs.Words.{Asks, FileOf, ServeOf, RunOf, CheckOf, ShowAll, MakeOf}
+use Rattle.vfs_program.specs.Workloads.{report_of}
 
 -- what each command answers: its causes in their order, and then its work
 abbrev pub Answers : Asks → Outside → Outside → Type 0 → Type 0 → Status → Type 0
@@ -42,6 +43,9 @@ Answers (CheckOf tree) before after source_same sink_same =
     (λ lists. WritesText (line_of lists) ⊥ (sink_of before.streams) (sink_of after.streams)) status
 Answers ShowAll before after source_same sink_same =
     AfterNames (source_same × sink_same) (SessionAnswers side.Any lines_course before.streams after.streams sink_same)
+Answers (MakeOf rounds) before after source_same sink_same =
+    λ status. source_same × (after.files ≡ before.files) × AfterNames sink_same
+    (WritesText (report_of rounds) sink_same (sink_of before.streams) (sink_of after.streams)) status
 
 -- the file is told, and within its limit
 abbrev pub HasFile : List ℕ → Outside → Type 0
@@ -64,6 +68,7 @@ IsServable (ServeOf tree by) before = AreDistinct × HasTree tree before × IsWh
 IsServable (RunOf tree script) before = AreDistinct × HasTree tree before × HasScript script before
 IsServable (CheckOf tree) before = HasTree tree before
 IsServable ShowAll before = AreDistinct × IsWhole side.Any before.streams
+IsServable (MakeOf rounds) before = AreDistinct
 
 -- a file that a command names, and the source where it reads that, met a fault
 abbrev pub FileRose : Asks → Outside → Outside → Type 0
@@ -72,10 +77,12 @@ FileRose (ServeOf tree by) before after = IsFileFault tree before.files after.fi
 FileRose (RunOf tree script) before after = IsFileFault tree before.files after.files ⊎ IsFileFault script before.files after.files
 FileRose (CheckOf tree) before after = IsFileFault tree before.files after.files
 FileRose ShowAll before after = ⊥
+FileRose (MakeOf rounds) before after = ⊥
 
 abbrev pub SourceRose : Asks → Outside → Outside → Type 0
 SourceRose (RunOf tree script) before after = ⊥
 SourceRose (CheckOf tree) before after = ⊥
+SourceRose (MakeOf rounds) before after = ⊥
 SourceRose asks before after = Rose before.streams.read_faults after.streams.read_faults
 
 -- no fault came from outside

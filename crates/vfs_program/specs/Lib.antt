@@ -13,6 +13,7 @@ pub mod Trees
 pub mod Scripts
 pub mod TreeSession
 pub mod Shown
+pub mod Workloads
 pub mod Texts
 pub mod Causes
 pub mod Answers

@@ -1,9 +1,10 @@
 -- The words that the program is called with.
-use Rattle.std.specs.Prelude.{◌≡◌, ℕ, List, [], ◌∷◌, codes}
+use Rattle.std.specs.Prelude.{◌≡◌, ◌≤◌, ℕ, List, [], ◌∷◌, codes, decimal}
 use Rattle.endpoint_link.specs.declared.kinds.Mode.{Mode}
 use Rattle.endpoint_link.specs.declared.kinds.Mode.TheVariants as mode
 use Rattle.vfs_program.specs.declared.words.Command.{Command}
-use Rattle.vfs_program.specs.declared.words.Command.TheVariants.{File, Serve, Run, Check, Show}
+use Rattle.vfs_program.specs.declared.words.Command.TheVariants.{File, Serve, Run, Check, Show, Make}
+use Rattle.workload.specs.declared.generating.TheConstants as workload
 
 -- what the words ask for
 pub data Asks : Type 0 where
@@ -17,6 +18,12 @@ pub data Asks : Type 0 where
   CheckOf : (tree : List ℕ) → Asks
   -- print each frame of the source as a line
   ShowAll : Asks
+  -- play a generated script of so many rounds, and tell how much comes back
+  MakeOf : (rounds : ℕ) → Asks
+
+-- so many rounds can be made
+abbrev pub IsRounds : ℕ → Type 0
+IsRounds rounds = (1 ≤ rounds) × (rounds ≤ workload.MAX_ROUNDS)
 
 -- the word of a mode
 abbrev pub mode_word : Mode → List ℕ
@@ -30,6 +37,7 @@ Means words (ServeOf tree by) = words ≡ codes "serve" ∷ tree ∷ mode_word b
 Means words (RunOf tree script) = words ≡ codes "run" ∷ tree ∷ script ∷ []
 Means words (CheckOf tree) = words ≡ codes "check" ∷ tree ∷ []
 Means words ShowAll = words ≡ codes "show" ∷ []
+Means words (MakeOf rounds) = (words ≡ codes "make" ∷ decimal rounds ∷ []) × IsRounds rounds
 
 -- the words have no command's shape
 abbrev pub MeanNothing : List (List ℕ) → Type 0
@@ -42,3 +50,4 @@ command_seen (Serve tree by) = ServeOf tree.now by
 command_seen (Run tree script) = RunOf tree.now script.now
 command_seen (Check tree) = CheckOf tree.now
 command_seen Show = ShowAll
+command_seen (Make rounds) = MakeOf rounds

@@ -1,16 +1,13 @@
-ghost use Rattle.std.specs.Prelude.{◌≡◌, ◌++◌, IfOk, OnOk, OnErr, decimal};
-ghost use Rattle.host_io.specs.Causes.{HasCause, Rose};
-ghost use Rattle.host_io.specs.Streams.{AppendsPart, IsFlushed};
-ghost use Rattle.std.specs.Io.KnownBytes.{Appends};
+ghost use Rattle.std.specs.Prelude.{◌≡◌, IfOk};
 ghost use Rattle.vfs_program.specs.Causes.{AfterTree};
 ghost use Rattle.vfs_program.specs.Outside.{files_told, sink_told};
 ghost use Rattle.vfs_program.specs.Texts.{WritesText};
 ghost use Rattle.vfs_program.specs.Trees.{line_of};
 
 use crate::statuses::Status;
+use crate::texts::{pass_on, put_number};
 use crate::trees::read_start;
-use host_io::{Failed, Files, Sink, write_whole};
-use itoa::Buffer;
+use host_io::{Failed, Files, Sink};
 use std::alloc::{AllocError, Global};
 use tree_file::Start;
 
@@ -44,29 +41,10 @@ fn line_of(alloc: Global, start: &Start) -> Result<Vec<u8>, AllocError>
     ensures { IfOk result (λ line. line.items ≡ line_of start.now) }
 {
     let mut line = Vec::new(alloc);
-    put_count(&mut line, "ok servers ", start.servers())?;
-    put_count(&mut line, " nodes ", start.nodes())?;
-    put_count(&mut line, " mounts ", start.mounts())?;
-    put_count(&mut line, " clients ", start.clients())?;
+    put_number(&mut line, "ok servers ", u128::from(start.servers()))?;
+    put_number(&mut line, " nodes ", u128::from(start.nodes()))?;
+    put_number(&mut line, " mounts ", u128::from(start.mounts()))?;
+    put_number(&mut line, " clients ", u128::from(start.clients()))?;
     line.push(b'\n')?;
     Ok(line)
-}
-
-/// Puts a text and a number behind what is there.
-fn put_count(line: &mut Vec<u8>, text: &str, count: u32) -> Result<(), AllocError>
-    ensures { OnOk result (line.new.items ≡ line.old.items ++ text.now ++ decimal count) }
-{
-    let mut digits = Buffer::new();
-    line.extend_from_slice(text.as_bytes())?;
-    line.extend_from_slice(digits.format(count).as_bytes())
-}
-
-/// Writes the bytes and passes them on.
-fn pass_on<K: Sink>(sink: &mut K, bytes: &[u8]) -> Result<(), Failed>
-    ensures whole { OnOk result (Appends (K.written sink.old) (K.written sink.new) bytes.now × IsFlushed (K.written sink.new) (K.flushed sink.new)) }
-    ensures part { OnErr result (AppendsPart (K.written sink.old) (K.written sink.new) bytes.now) }
-    ensures cause { HasCause (K.faults sink.old) (K.faults sink.new) result }
-{
-    write_whole(sink, bytes)?;
-    sink.flush()
 }

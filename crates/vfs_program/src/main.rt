@@ -6,6 +6,7 @@ mod checks;
 mod file_session;
 mod input;
 mod laws;
+mod makes;
 mod messages;
 mod notes;
 mod one_file;
@@ -18,6 +19,7 @@ mod show;
 mod statuses;
 #[cfg(test)]
 mod tests;
+mod texts;
 mod tree_session;
 mod trees;
 mod words;

@@ -79,6 +79,17 @@ a script of 1,048,577 bytes | run held input | whole tree | [23*1048577] | 100 |
 a transcript into a sink of 19 bytes | run held input | whole tree | 'auto;open 1 nope 0x2 2; | 100 | - | 19,100 | '2 message epitaph - | write failed | 4
 a transcript whose first write fails | run held input | whole tree | 'auto; | 100 | write 0 | 100000,100000 | - | write failed | 4
 run without a script | run held | whole tree | - | 100 | - | 100000,100000 | - | usage | 1
+# generated workloads
+one round | make 1 | - | - | 100 | - | 100000,100000 | 'frames in 5;frames out 4;bytes out 133;sha256 f98b487e3464889d172adffad867c99148a6e43e8ccc4c05df16925b4f0548b3; | - | 0
+ten rounds | make 10 | - | - | 100 | - | 100000,100000 | 'frames in 32;frames out 19;bytes out 664;sha256 547112316b8948adc08d592d37e3a76031ef0642c5d35a72824825167a6cfc34; | - | 0
+a thousand rounds, twice | make 1000 | - | - | 1,100 | - | 100000,100000 | 'frames in 3002;frames out 1653;bytes out 103961;sha256 15f027756d1b1a42d7c62cbcb11d4affa4c9f8fa06dba5207be5b35fb44262a8; | - | 0
+one round into a sink of 12 bytes | make 1 | - | - | 100 | - | 12,100 | 'frames in 5; | write failed | 4
+no rounds | make 0 | - | - | 100 | - | 100000,100000 | - | usage | 1
+a zero in front | make 01 | - | - | 100 | - | 100000,100000 | - | usage | 1
+a round too many | make 10001 | - | - | 100 | - | 100000,100000 | - | usage | 1
+rounds with a sign | make +1 | - | - | 100 | - | 100000,100000 | - | usage | 1
+rounds with a letter | make 1x | - | - | 100 | - | 100000,100000 | - | usage | 1
+rounds that no number holds | make 4294967297 | - | - | 100 | - | 100000,100000 | - | usage | 1
 # a full sink has the front of the output
 a sink of 20 bytes | file held | 'hello world | 01000000010000001800000001000000020000014c01b891c67ff2400500000000000000 | 100 | - | 20,100 | 0100000001000000380000000100000002000001 | write failed | 4
 # trees that are checked

@@ -9,6 +9,7 @@ ghost use Rattle.vfs_program.specs.declared.statuses.Status.TheVariants as statu
 
 use crate::checks::check_tree;
 use crate::file_session::serve_file;
+use crate::makes::make;
 use crate::notes::tell;
 use crate::scripts::run_script;
 use crate::show::show;
@@ -78,6 +79,7 @@ fn answer<F: Files, S: Source, K: Sink>(
         Some(Command::Run { tree, script }) => run_script(alloc, tree, script, files, sink),
         Some(Command::Check { tree }) => check_tree(alloc, tree, files, sink),
         Some(Command::Show) => show(alloc, source, sink),
+        Some(Command::Make { rounds }) => make(alloc, rounds, sink),
         None => Status::Usage,
     }
 }

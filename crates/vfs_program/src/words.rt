@@ -1,7 +1,9 @@
-ghost use Rattle.std.specs.Prelude.{◌≡◌, ◌∷◌, [], codes, map, string_bytes, IfSome, IsNone, IsTrue, ◌↔◌};
-ghost use Rattle.vfs_program.specs.Words.{Means, MeanNothing, command_seen};
+ghost use Rattle.std.specs.Prelude.{◌≡◌, ◌∷◌, [], ℕ, codes, decimal, map, string_bytes, IfSome, IsNone, IsTrue, ◌↔◌};
+ghost use Rattle.vfs_program.specs.Words.{IsRounds, Means, MeanNothing, command_seen};
 
 use endpoint_link::Mode;
+use itoa::Buffer;
+use workload::MAX_ROUNDS;
 
 /// What the words ask for.
 #[derive(Clone, Copy)]
@@ -11,6 +13,7 @@ pub enum Command<'a> {
     Run { tree: &'a str, script: &'a str },
     Check { tree: &'a str },
     Show,
+    Make { rounds: u32 },
 }
 
 /// Reads the words by their exact shape. `None` exactly where they have none.
@@ -42,6 +45,10 @@ pub fn command_of(words: &[String]) -> Option<Command<'_>>
             tree: tree.as_str(),
         }),
         [only] if is_word(only, "show") => Some(Command::Show),
+        [first, rounds] if is_word(first, "make") => {
+            let rounds = rounds_of(rounds)?;
+            Some(Command::Make { rounds })
+        }
         _ => None,
     }
 }
@@ -50,4 +57,19 @@ fn is_word(word: &String, text: &str) -> bool
     ensures { IsTrue result ↔ (string_bytes word.now ≡ text.now) }
 {
     word.as_str() == text
+}
+
+/// The number of rounds that a word says: 1 to 10,000, written as it is printed.
+fn rounds_of(word: &String) -> Option<u32>
+    ensures said { IfSome result (λ rounds. (string_bytes word.now ≡ decimal rounds) × IsRounds rounds) }
+    ensures none { IsNone result → (rounds : ℕ) → string_bytes word.now ≡ decimal rounds → IsRounds rounds → ⊥ }
+{
+    let rounds = word.as_str().parse::<u32>().ok()?;
+    let mut digits = Buffer::new();
+    let is_printed = is_word(word, digits.format(rounds));
+    if is_printed && rounds >= 1 && rounds <= MAX_ROUNDS {
+        Some(rounds)
+    } else {
+        None
+    }
 }

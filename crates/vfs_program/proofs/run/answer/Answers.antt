@@ -3,7 +3,7 @@ use Rattle.vfs_program.specs.Answers.{Answers}
 use Rattle.vfs_program.specs.Outside.{outside_told}
 use Rattle.vfs_program.specs.Words.{Asks, Means, command_seen}
 use Rattle.vfs_program.specs.declared.words.Command.{Command}
-use Rattle.vfs_program.proofs.OneMeaning.{runs_alone, serves_alone}
+use Rattle.vfs_program.proofs.OneMeaning.{makes_alone, runs_alone, serves_alone}
 use Rattle.vfs_program.proofs.run.answer.Goals as goal
 
 pub returns-in-Some-Serve-clause-answers : goal.returns-in-Some-Serve-clause-answers
@@ -27,3 +27,14 @@ returns-in-Some-Run-clause-answers g c = λ asks means.
     (sym (runs_alone _ c.in-Some-Run.tree.now c.in-Some-Run.script.now asks
     (subst (λ (k : Command). Means (map string_bytes c.args.words.now) (command_seen k)) c.in-Some-Run.field-0-is c.in-Some-Run.ensures.meant) means))
     (refl, c.run_script.ensures)
+
+pub returns-in-Some-Make-clause-answers : goal.returns-in-Some-Make-clause-answers
+returns-in-Some-Make-clause-answers g c = λ asks means.
+    subst
+    (λ (one : Asks). Answers one
+    (outside_told g.F.Files.told g.F.Files.faults g.F.Files.overlong g.S.Source.left g.S.Source.faults g.K.Sink.written g.K.Sink.flushed g.K.Sink.faults c.args.files.now c.args.source.now c.args.sink.now)
+    (outside_told g.F.Files.told g.F.Files.faults g.F.Files.overlong g.S.Source.left g.S.Source.faults g.K.Sink.written g.K.Sink.flushed g.K.Sink.faults c.args.files.now c.args.source.now c.make.new.sink)
+    (c.args.source.now ≡ c.args.source.now) (c.make.new.sink ≡ c.args.sink.now) c.make.result)
+    (sym (makes_alone _ c.in-Some-Make.rounds asks
+    (subst (λ (k : Command). Means (map string_bytes c.args.words.now) (command_seen k)) c.in-Some-Make.field-0-is c.in-Some-Make.ensures.meant) means))
+    (refl, refl, c.make.ensures)

@@ -1,0 +1,29 @@
+// Texts that a command writes as one.
+
+ghost use Rattle.std.specs.Io.KnownBytes.{Appends};
+ghost use Rattle.std.specs.Prelude.{◌≡◌, ◌++◌, OnOk, OnErr, decimal};
+ghost use Rattle.host_io.specs.Causes.{HasCause};
+ghost use Rattle.host_io.specs.Streams.{AppendsPart, IsFlushed};
+
+use host_io::{Failed, Sink, write_whole};
+use itoa::Buffer;
+use std::alloc::AllocError;
+
+/// Puts a text and a number behind what is there.
+pub fn put_number(line: &mut Vec<u8>, text: &str, number: u128) -> Result<(), AllocError>
+    ensures { OnOk result (line.new.items ≡ line.old.items ++ text.now ++ decimal number) }
+{
+    let mut digits = Buffer::new();
+    line.extend_from_slice(text.as_bytes())?;
+    line.extend_from_slice(digits.format(number).as_bytes())
+}
+
+/// Writes the bytes and passes them on.
+pub fn pass_on<K: Sink>(sink: &mut K, bytes: &[u8]) -> Result<(), Failed>
+    ensures whole { OnOk result (Appends (K.written sink.old) (K.written sink.new) bytes.now × IsFlushed (K.written sink.new) (K.flushed sink.new)) }
+    ensures part { OnErr result (AppendsPart (K.written sink.old) (K.written sink.new) bytes.now) }
+    ensures cause { HasCause (K.faults sink.old) (K.faults sink.new) result }
+{
+    write_whole(sink, bytes)?;
+    sink.flush()
+}
