@@ -20,7 +20,7 @@ use Rattle.vfs_script.specs.Scripts.{bad_line}
 use Rattle.vfs_program.specs.declared.statuses.Status.{Status}
 use Rattle.vfs_program.specs.declared.statuses.Status.TheVariants as status
 use Rattle.vfs_program.specs.Answers.{Answers, IsServable, NoFault, IsDoneOrNoMemory}
-use Rattle.vfs_program.specs.Causes.{After, AfterFile, AfterScript, AfterTree, Collides, HasNoFile, HasNoScript, HasNoStart}
+use Rattle.vfs_program.specs.Causes.{After, AfterFile, AfterReport, AfterScript, AfterTree, Collides, HasNoFile, HasNoScript, HasNoStart, IsStarved}
 use Rattle.vfs_program.specs.Files.{IsFileFault, IsWithin}
 use Rattle.vfs_program.specs.OneFile.{file_course}
 use Rattle.vfs_program.specs.Outside.{FilesTold, Outside, Streams, SinkTold, sink_of}
@@ -31,7 +31,7 @@ use Rattle.vfs_program.specs.Texts.{WritesPieces, WritesText}
 use Rattle.vfs_program.specs.Trees.{Stands, IsBroken, line_of}
 use Rattle.vfs_program.specs.TreeSession.{tree_course}
 use Rattle.vfs_program.specs.Words.{Asks, FileOf, ServeOf, RunOf, CheckOf, ShowAll, MakeOf}
-use Rattle.vfs_program.specs.Workloads.{report_of}
+use Rattle.vfs_program.specs.Workloads.{IsReport}
 
 -- what is left behind the bytes that were taken of a told input
 untaken : (input taken : List ℕ) (left : Option (List ℕ)) → Consumes (Some input) left taken
@@ -185,6 +185,21 @@ has_script script before after said e says good status.InputTooLong a = absurd a
 has_script script before after said e says good (status.Truncated at) a = absurd a
 has_script script before after said e says good (status.BadFrame at why) a = absurd a
 
+starved : (answer : Status) → IsStarved answer → IsDoneOrNoMemory answer
+starved status.NoMemory a = tt
+starved status.Done a = absurd a
+starved status.Usage a = absurd a
+starved (status.TreeRefused rule item) a = absurd a
+starved (status.ScriptRefused line) a = absurd a
+starved status.ReadFault a = absurd a
+starved status.WriteFault a = absurd a
+starved status.FileFault a = absurd a
+starved status.FileTooLarge a = absurd a
+starved status.InputTooLong a = absurd a
+starved (status.Collision first second) a = absurd a
+starved (status.BadFrame at why) a = absurd a
+starved (status.Truncated at) a = absurd a
+
 -- causes that don't hold, and a rest that is done
 after_done : {X : Type 0} (stops : Status → Type 0) (same : Type 0) (Found : X → Type 0) (rest : X → Status → Type 0) (answer : Status)
     → (stops answer → IsDoneOrNoMemory answer) → ((x : X) → Found x → rest x answer → IsDoneOrNoMemory answer)
@@ -228,6 +243,7 @@ complete ShowAll before after S K answer a s n =
     after_done Collides (S × K) (λ (none : Unit {0}). AreDistinct) (λ none. SessionAnswers Any lines_course before.streams after.streams K) answer (no_collision s.0 answer)
     (λ none distinct. session_done Any lines_course before.streams after.streams K s.1 n.source n.sink answer) a
 complete (MakeOf rounds) before after S K answer a s n =
-    after_done Collides K (λ (none : Unit {0}). AreDistinct) (λ none. WritesText (report_of rounds) K (sink_of before.streams) (sink_of after.streams)) answer
-    (no_collision s answer)
-    (λ none distinct. text_done (report_of rounds) K (sink_of before.streams) (sink_of after.streams) n.sink answer) a.2
+    let told : List ℕ → Status → Type 0 = λ report. WritesText report ⊥ (sink_of before.streams) (sink_of after.streams) in
+    after_done Collides K (λ (none : Unit {0}). AreDistinct) (λ none. AfterReport rounds K told) answer (no_collision s answer)
+    (λ none distinct. after_done IsStarved K (IsReport rounds) told answer (starved answer)
+    (λ report is. text_done report ⊥ (sink_of before.streams) (sink_of after.streams) n.sink answer)) a.2

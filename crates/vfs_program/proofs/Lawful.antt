@@ -6,11 +6,14 @@ use Rattle.host_io.specs.Streams.{AppendsPart}
 use Rattle.host_io.specs.Told.{Told}
 use Rattle.toml.specs.Data.{Data}
 use Rattle.tree_file.specs.Accepted.{AreAccepted}
+use Rattle.tree_file.specs.Generated.{generated_lists}
 use Rattle.tree_file.specs.Items.{Lists}
 use Rattle.tree_file.specs.Rules.{document_of, failure_of, first_broken, first_failure, lists_of, rules_on_lists, start_from}
 use Rattle.tree_file.proofs.Accepted.{accepted_of}
+use Rattle.tree_file.proofs.GeneratedRules.{generated_accepted}
 use Rattle.endpoint_link.specs.Frames.{Frame, IsFrame}
 use Rattle.endpoint_link.specs.declared.kinds.Mode.{Mode}
+use Rattle.endpoint_link.specs.declared.kinds.Mode.TheVariants.{Auto}
 use Rattle.endpoint_link.specs.declared.kinds.Side.TheVariants.{ToServers}
 use Rattle.vfs_journal.specs.Entries.{Journal}
 use Rattle.vfs_journal.specs.Lawful.{Lawful}
@@ -26,16 +29,18 @@ use Rattle.vfs_script.specs.Scripts.{calls_of, count_calls, frames_of, script_li
 use Rattle.transcripts.specs.Answering.{count_answers}
 use Rattle.script_session.specs.Playing.{play_all, transcript}
 use Rattle.script_session.proofs.Shown.{transcript_is}
+use Rattle.workload.specs.Workload.{workload}
 use Rattle.vfs_program.specs.Answers.{Answers}
-use Rattle.vfs_program.specs.Causes.{After, AfterScript, AfterTree, Collides, HasNoScript, HasNoStart}
-use Rattle.vfs_program.specs.Lawful.{IsLawfulPlaying, IsLawfulRun, IsLawfulServing, WroteNothing}
+use Rattle.vfs_program.specs.Causes.{After, AfterReport, AfterScript, AfterTree, Collides, HasNoScript, HasNoStart, IsStarved}
+use Rattle.vfs_program.specs.Lawful.{IsLawfulMaking, IsLawfulPlaying, IsLawfulRun, IsLawfulServing, WroteNothing}
 use Rattle.vfs_program.specs.Outside.{Outside, SinkTold, Streams, sink_of}
 use Rattle.vfs_program.specs.Scripts.{IsPlayable, Said}
 use Rattle.vfs_program.specs.Session.{EndsBehind, IsCutOff, IsFront, IsPartByEnd, IsPartSoFar, SessionAnswers, Wrote}
-use Rattle.vfs_program.specs.Texts.{WritesPieces}
+use Rattle.vfs_program.specs.Texts.{WritesPieces, WritesText}
 use Rattle.vfs_program.specs.Trees.{Stands}
 use Rattle.vfs_program.specs.TreeSession.{tree_course}
-use Rattle.vfs_program.specs.Words.{Asks, FileOf, ServeOf, RunOf, CheckOf, ShowAll}
+use Rattle.vfs_program.specs.Words.{Asks, FileOf, ServeOf, RunOf, CheckOf, ShowAll, MakeOf}
+use Rattle.vfs_program.specs.Workloads.{IsReport, report_of}
 
 -- ---- a tree that stands is accepted
 
@@ -146,26 +151,28 @@ serving_lawful apart told lists by before after same answer stands a =
 -- ---- scripts
 
 -- a text of which a front was written
-text_part : (text : List ℕ) (before after : SinkTold) (answer : Status) → WritesPieces text before after answer → AppendsPart before.written after.written text
-text_part text before after status.Done a = (text, [], sym (append-nil text), a.0)
-text_part text before after status.WriteFault a = a.0
-text_part text before after status.NoMemory a = a
-text_part text before after status.Usage a = absurd a
-text_part text before after (status.TreeRefused rule item) a = absurd a
-text_part text before after (status.ScriptRefused line) a = absurd a
-text_part text before after (status.Collision first second) a = absurd a
-text_part text before after status.FileFault a = absurd a
-text_part text before after status.FileTooLarge a = absurd a
-text_part text before after status.ReadFault a = absurd a
-text_part text before after status.InputTooLong a = absurd a
-text_part text before after (status.Truncated at) a = absurd a
-text_part text before after (status.BadFrame at why) a = absurd a
+text_part : (text : List ℕ) (starved : Type 0) (before after : SinkTold) (answer : Status) → (starved → AppendsPart before.written after.written text)
+    → WritesText text starved before after answer → AppendsPart before.written after.written text
+text_part text starved before after status.Done part a = (text, [], sym (append-nil text), a.0)
+text_part text starved before after status.WriteFault part a = a.0
+text_part text starved before after status.NoMemory part a = part a
+text_part text starved before after status.Usage part a = absurd a
+text_part text starved before after (status.TreeRefused rule item) part a = absurd a
+text_part text starved before after (status.ScriptRefused line) part a = absurd a
+text_part text starved before after (status.Collision first second) part a = absurd a
+text_part text starved before after status.FileFault part a = absurd a
+text_part text starved before after status.FileTooLarge part a = absurd a
+text_part text starved before after status.ReadFault part a = absurd a
+text_part text starved before after status.InputTooLong part a = absurd a
+text_part text starved before after (status.Truncated at) part a = absurd a
+text_part text starved before after (status.BadFrame at why) part a = absurd a
 
 played_lawful : (apart : AreDistinct) (told : Told) (lists : Lists) (said : Said) (before after : Streams) (answer : Status) → Stands told lists → All (IsFrame ToServers) (frames_of said.text)
     → WritesPieces (transcript (start_of lists) said.by said.text) (sink_of before) (sink_of after) answer → IsLawfulPlaying told before after
 played_lawful apart told lists said before after answer stands frames a =
     let start = start_of lists in
-    let part = text_part (transcript start said.by said.text) (sink_of before) (sink_of after) answer a in
+    let text = transcript start said.by said.text in
+    let part = text_part text (AppendsPart before.written after.written text) (sink_of before) (sink_of after) answer (λ part. part) a in
     let journal = ended start said.by (frames_of said.text) in
     record {
       lists = lists;
@@ -177,6 +184,24 @@ played_lawful apart told lists said before after answer stands frames a =
       bytes = part.0;
       wrote = part.3;
       front = (part.1, sym (transcript_is start said.by said.text) ∙ part.2);
+    }
+
+-- ---- workloads
+
+made_lawful : (apart : AreDistinct) (rounds : ℕ) (report : List ℕ) (before after : Streams) (answer : Status) → IsReport rounds report
+    → WritesText report ⊥ (sink_of before) (sink_of after) answer → IsLawfulMaking rounds before after
+unfolding report_of
+made_lawful apart rounds report before after answer is a =
+    let start = start_of generated_lists in
+    let frames = frames_of (workload rounds) in
+    let part = text_part report ⊥ (sink_of before) (sink_of after) answer (λ none. absurd none) a in
+    let journal = ended start Auto frames in
+    record {
+      journal = journal;
+      over = lawful_over apart generated_lists journal generated_accepted (sessions_are_lawful start Auto frames is.sent).1;
+      bytes = part.0;
+      wrote = part.3;
+      front = (part.1, sym is.is ∙ part.2);
     }
 
 pub lawful : (asks : Asks) (before after : Outside) (source_same sink_same : Type 0) (answer : Status) → (sink_same → WroteNothing before.streams after.streams)
@@ -202,3 +227,10 @@ lawful (RunOf tree script) before after S K answer none a =
     (λ said can h. inr (played_lawful apart (before.files.told tree) lists said before.streams after.streams answer stands can.frames h)))) a.1
 lawful (CheckOf tree) before after S K answer none a = tt
 lawful ShowAll before after S K answer none a = tt
+lawful (MakeOf rounds) before after S K answer none a =
+    let Goal : Type 0 = WroteNothing before.streams after.streams ⊎ IsLawfulMaking rounds before.streams after.streams in
+    let told : List ℕ → Status → Type 0 = λ report. WritesText report ⊥ (sink_of before.streams) (sink_of after.streams) in
+    let still : K → Goal = λ same. inl (none same) in
+    after_either Collides K (λ (alone : Unit {0}). AreDistinct) (λ alone. AfterReport rounds K told) answer Goal still
+    (λ alone apart. after_either IsStarved K (IsReport rounds) told answer Goal still
+    (λ report is h. inr (made_lawful apart rounds report before.streams after.streams answer is h))) a.2

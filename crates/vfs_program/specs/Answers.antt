@@ -10,7 +10,7 @@ use Rattle.vfs_journal.specs.Starts.{start_of}
 use Rattle.script_session.specs.Playing.{transcript}
 use Rattle.vfs_program.specs.declared.statuses.Status.{Status}
 use Rattle.vfs_program.specs.declared.statuses.Status.TheVariants as status
-use Rattle.vfs_program.specs.Causes.{AfterNames, AfterFile, AfterScript, AfterTree}
+use Rattle.vfs_program.specs.Causes.{AfterNames, AfterFile, AfterReport, AfterScript, AfterTree}
 use Rattle.vfs_program.specs.Files.{IsFileFault}
 use Rattle.vfs_program.specs.OneFile.{file_course}
 use Rattle.vfs_program.specs.Outside.{Outside, sink_of}
@@ -21,7 +21,6 @@ use Rattle.vfs_program.specs.Texts.{WritesPieces, WritesText}
 use Rattle.vfs_program.specs.TreeSession.{tree_course}
 use Rattle.vfs_program.specs.Trees.{Stands, line_of}
 use Rattle.vfs_program.specs.Words.{Asks, FileOf, ServeOf, RunOf, CheckOf, ShowAll, MakeOf}
-use Rattle.vfs_program.specs.Workloads.{report_of}
 
 -- what each command answers: its causes in their order, and then its work
 abbrev pub Answers : Asks → Outside → Outside → Type 0 → Type 0 → Status → Type 0
@@ -45,7 +44,8 @@ Answers ShowAll before after source_same sink_same =
     AfterNames (source_same × sink_same) (SessionAnswers side.Any lines_course before.streams after.streams sink_same)
 Answers (MakeOf rounds) before after source_same sink_same =
     λ status. source_same × (after.files ≡ before.files) × AfterNames sink_same
-    (WritesText (report_of rounds) sink_same (sink_of before.streams) (sink_of after.streams)) status
+    (AfterReport rounds sink_same
+    (λ report. WritesText report ⊥ (sink_of before.streams) (sink_of after.streams))) status
 
 -- the file is told, and within its limit
 abbrev pub HasFile : List ℕ → Outside → Type 0

@@ -9,6 +9,7 @@ use Rattle.vfs_program.specs.Outside.{FilesTold}
 use Rattle.vfs_program.specs.Files.{IsFileFault, IsFileTooLarge, IsWithin}
 use Rattle.vfs_program.specs.Scripts.{IsBadAt, IsPlayable, Said}
 use Rattle.vfs_program.specs.Trees.{IsBroken, Stands}
+use Rattle.vfs_program.specs.Workloads.{IsReport}
 
 -- a cause stops the command, which changed nothing by then; or something is found, and with that the rest of the command answers
 abbrev pub After : {X : Type 0} → (Status → Type 0) → Type 0 → (X → Type 0) → (X → Status → Type 0) → Status → Type 0
@@ -51,3 +52,12 @@ HasNoScript script before after status = HasNoFile limit.MAX_TEXT script before 
 -- or the script, none of whose lines is bad, so that it can be played
 abbrev pub AfterScript : List ℕ → FilesTold → FilesTold → Type 0 → (Said → Status → Type 0) → Status → Type 0
 AfterScript script before after same = After (HasNoScript script before after) same (IsPlayable (before.told script))
+
+-- memory is wanting
+abbrev pub IsStarved : Status → Type 0
+IsStarved status.NoMemory = Unit {0}
+IsStarved _ = ⊥
+
+-- or there is the report of a workload
+abbrev pub AfterReport : ℕ → Type 0 → (List ℕ → Status → Type 0) → Status → Type 0
+AfterReport rounds same = After IsStarved same (IsReport rounds)

@@ -1,9 +1,10 @@
 -- The report of a generated workload.
-use Rattle.std.specs.Prelude.{ℕ, List, ◌++◌, length, codes, decimal}
+use Rattle.std.specs.Prelude.{◌≡◌, ℕ, All, List, ◌++◌, length, codes, decimal}
 use Rattle.hex.specs.Hex.{encode_lower}
 use Rattle.sha2.specs.Sha256.{sha256}
-use Rattle.endpoint_link.specs.Frames.{Frame, spellings}
+use Rattle.endpoint_link.specs.Frames.{Frame, IsFrame, spellings}
 use Rattle.endpoint_link.specs.declared.kinds.Mode.TheVariants.{Auto}
+use Rattle.endpoint_link.specs.declared.kinds.Side.TheVariants.{ToServers}
 use Rattle.script_session.specs.Measured.{output_frames}
 use Rattle.tree_file.specs.Generated.{generated_lists}
 use Rattle.vfs_journal.specs.Starts.{start_of}
@@ -24,3 +25,8 @@ report_for sent written =
 -- of the workload of so many rounds, over the generated start
 unfoldable pub report_of : ℕ → List ℕ
 report_of rounds = report_for (frames_of (workload rounds)) (output_frames (start_of generated_lists) Auto (workload rounds))
+
+-- this is the report, and what it tells of are frames that may go to the servers
+pub record IsReport (rounds : ℕ) (report : List ℕ) : Type 0 where
+  pub sent : All (IsFrame ToServers) (frames_of (workload rounds))
+  pub is : report ≡ report_of rounds

@@ -2,17 +2,17 @@ ghost use Rattle.std.specs.Prelude.{◌≡◌, ◌≤◌, IfOk};
 ghost use Rattle.endpoint_link.specs.declared.kinds.Mode.TheVariants as mode;
 ghost use Rattle.script_session.specs.Steps.{IsScript};
 ghost use Rattle.workload.specs.Workload.{workload};
-ghost use Rattle.vfs_program.specs.Causes.{AfterNames};
+ghost use Rattle.vfs_program.specs.Causes.{AfterNames, AfterReport};
 ghost use Rattle.vfs_program.specs.Outside.{sink_told};
 ghost use Rattle.vfs_program.specs.Texts.{WritesText};
-ghost use Rattle.vfs_program.specs.Workloads.{report_of, report_with};
+ghost use Rattle.vfs_program.specs.Workloads.{IsReport, report_with};
 
 use crate::statuses::Status;
 use crate::texts::{pass_on, put_number};
 use fidl_names::NoMemory;
 use fidl_wire::{OrdinalFault, Ordinals};
 use host_io::{Failed, Sink};
-use script_session::{Measured, measure};
+use script_session::{Measured, measure, scripts_are_frames};
 use std::alloc::{AllocError, Global};
 use tree_file::generated_start;
 use vfs_script::{Script, ScriptFault, script_of};
@@ -22,8 +22,8 @@ use workload::{MAX_ROUNDS, generated};
 pub fn make<K: Sink>(alloc: Global, rounds: u32, sink: &mut K) -> Status
     requires some { 1 ≤ rounds }
     requires few { rounds ≤ MAX_ROUNDS }
-    ensures { AfterNames (sink.new ≡ sink.old) (WritesText (report_of rounds) (sink.new ≡ sink.old)
-        (sink_told K.written K.flushed K.faults sink.old) (sink_told K.written K.flushed K.faults sink.new)) result }
+    ensures { AfterNames (sink.new ≡ sink.old) (AfterReport rounds (sink.new ≡ sink.old) (λ report. WritesText report ⊥
+        (sink_told K.written K.flushed K.faults sink.old) (sink_told K.written K.flushed K.faults sink.new))) result }
 {
     let ordinals = match Ordinals::new() {
         Ok(ordinals) => ordinals,
@@ -42,10 +42,11 @@ pub fn make<K: Sink>(alloc: Global, rounds: u32, sink: &mut K) -> Status
 fn report_of(alloc: Global, ordinals: Ordinals, rounds: u32) -> Result<Vec<u8>, NoMemory>
     requires some { 1 ≤ rounds }
     requires few { rounds ≤ MAX_ROUNDS }
-    ensures { IfOk result (λ report. report.items ≡ report_of rounds) }
+    ensures { IfOk result (λ report. IsReport rounds report.items) }
 {
     let start = generated_start(alloc)?;
     let script = generated_script(alloc, &ordinals, rounds)?;
+    scripts_are_frames(&script);
     let measured = measure(alloc, ordinals, &start, &script)?;
     Ok(report_with(alloc, script.len(), &measured)?)
 }
