@@ -1,6 +1,5 @@
-use Rattle.std.proofs.Common.{◌≡◌, ◌≤◌, ◌^◌, ◌<◌, ℕ, decimal, string_bytes, IsTrue, Ok, true≢false, ap, sym, ◌∙◌, arith, inl, inr}
+use Rattle.std.proofs.Common.{◌≡◌, decimal, IsTrue, Ok, true≢false, ap, sym, ◌∙◌, arith, inl, inr}
 use Rattle.std.proofs.lemmas.Fmt.{parse-decimal}
-use Rattle.vfs_program.specs.Words.{IsRounds}
 use Rattle.vfs_program.proofs.words.rounds_of.Goals as goal
 
 pub returns-in_err-rounds-clause-none : goal.returns-in_err-rounds-clause-none
