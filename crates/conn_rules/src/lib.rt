@@ -17,5 +17,5 @@ pub use changes::{At, Changes};
 pub use faults::fault_status;
 pub use laws::kept_nodes_are_rows;
 pub use refusals::method_refusal;
-pub use rows::{fail, reply, serve_node};
+pub use rows::{fail, reply, reply_with, serve_node};
 pub use served::Served;

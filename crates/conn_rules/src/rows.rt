@@ -1,6 +1,6 @@
 //! What the connections of all nodes do alike.
 
-ghost use Rattle.std.specs.Prelude.{◌≡◌, ◌≢◌, ◌<◌, ◌≤◌, ℕ, true, Option, length};
+ghost use Rattle.std.specs.Prelude.{◌≡◌, ◌≢◌, ◌<◌, ◌≤◌, ℕ, true, Option, Some, length};
 ghost use Rattle.fidl_names.specs.declared.methods.Method.TheVariants as method;
 ghost use Rattle.fidl_wire.specs.Numbers.{padded};
 ghost use Rattle.fidl_wire.specs.Written.{Written};
@@ -10,7 +10,8 @@ ghost use Rattle.io_messages.specs.Replies.{answered, payload};
 ghost use Rattle.io_messages.specs.ReplyWriting.{PayloadFits};
 ghost use Rattle.io_messages.specs.ReplyWriting as writing;
 ghost use Rattle.io_messages.specs.Requests.{has_txid};
-ghost use Rattle.io_messages.specs.Shapes.{is_one_way};
+ghost use Rattle.io_messages.specs.Shapes.{is_one_way, shape_of};
+ghost use Rattle.io_messages.specs.declared.replies.Shape.TheVariants as shape;
 ghost use Rattle.node_graph.specs.Graph.{Kept, StandsFor};
 ghost use Rattle.node_graph.specs.Tree.{Tree};
 ghost use Rattle.conn_rules.specs.Acts.{clone_act, is_of_every_node, row_act};
@@ -26,7 +27,7 @@ use crate::node_attributes::attributes;
 use crate::served::Served;
 use fidl_names::{Method, Status};
 use fidl_wire::{Ordinals, Out};
-use io_messages::{Protocol, Reply, Request, write_reply};
+use io_messages::{Protocol, Reply, Request, write_bytes, write_reply};
 use node_graph::Graph;
 
 /// Replies, into an empty output.
@@ -40,6 +41,27 @@ pub fn reply(ordinals: &Ordinals, txid: u32, reply: Reply<'_>, out: &mut Out) ->
         IsAnswered (only connection.position (replies (answered reply.entry))) txid result out.new connection graph }
 {
     write_reply(ordinals, txid, reply, out);
+    Served::Reply
+}
+
+/// Replies to a Read or a ReadAt with these bytes, into an empty output.
+#[inline(always)]
+pub fn reply_with(
+    ordinals: &Ordinals,
+    txid: u32,
+    method: Method,
+    bytes: &[u8],
+    out: &mut Out,
+) -> Served
+    requires empty { HasNothing out.old }
+    requires txid { 0 < txid }
+    requires shape { shape_of method ≡ Some shape.Bytes }
+    requires fits { PayloadFits (payload method bytes.now) }
+    ensures kind { result ≡ Served.Reply }
+    ensures served { (connection : Connection) (graph : Kept) →
+        IsAnswered (only connection.position (replies (payload method bytes.now))) txid result out.new connection graph }
+{
+    write_bytes(ordinals, txid, method, bytes, out);
     Served::Reply
 }
 

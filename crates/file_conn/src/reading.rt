@@ -10,10 +10,9 @@ ghost use Rattle.conn_rules.specs.FileRows.{part_from, read_act, read_at_act};
 ghost use Rattle.conn_rules.specs.Served.{HasNothing, IsAnswered};
 
 use crate::connection::FileConn;
-use conn_rules::{Served, fail, reply};
+use conn_rules::{Served, fail, reply_with};
 use fidl_names::{MAX_CHUNK, Method, Status};
 use fidl_wire::{Ordinals, Out};
-use io_messages::Reply;
 use node_graph::Graph;
 
 impl FileConn {
@@ -40,7 +39,7 @@ impl FileConn {
         }
         let bytes = part_from(graph.bytes(self.birth.node), self.position, count);
         self.position += bytes.len() as u64;
-        reply(ordinals, txid, Reply::Payload(Method::Read, bytes), out)
+        reply_with(ordinals, txid, Method::Read, bytes, out)
     }
 
     /// Serves a ReadAt: at most so many bytes from an offset on.
@@ -65,7 +64,7 @@ impl FileConn {
             return fail(ordinals, txid, Method::ReadAt, Status::OutOfRange, out);
         }
         let bytes = part_from(graph.bytes(self.birth.node), offset, count);
-        reply(ordinals, txid, Reply::Payload(Method::ReadAt, bytes), out)
+        reply_with(ordinals, txid, Method::ReadAt, bytes, out)
     }
 }
 

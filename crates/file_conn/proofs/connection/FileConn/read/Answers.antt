@@ -10,10 +10,10 @@ returns-then-count-gt-MAX_CHUNK-clause-serves c room tree directory stands =
 pub returns-then-count-gt-MAX_CHUNK-clause-kind : goal.returns-then-count-gt-MAX_CHUNK-clause-kind
 returns-then-count-gt-MAX_CHUNK-clause-kind c = (c.fail.ensures.served c.args.self.now c.args.graph.now).answer.0
 
-pub reply-requires-clause-fits : goal.reply-requires-clause-fits
-reply-requires-clause-fits c = few_fit _ (omega (arith, c.part_from-bytes.ensures.short, c.if-count-gt-MAX_CHUNK.false))
+pub reply_with-requires-clause-fits : goal.reply_with-requires-clause-fits
+reply_with-requires-clause-fits c = few_fit _ (omega (arith, c.part_from-bytes.ensures.short, c.if-count-gt-MAX_CHUNK.false))
 
 pub returns-clause-serves : goal.returns-clause-serves
 returns-clause-serves c room tree directory stands =
-    read_served c.self.inside.birth c.self.inside.position c.args.self.now room tree directory c.args.graph.now c.args.count c.bytes.result.now c.part_from-bytes.result.now c.args.txid c.reply.result c.reply.new.out
-    c.self.view_is stands c.requires.named c.bytes.ensures (omega (arith, c.if-count-gt-MAX_CHUNK.false)) c.part_from-bytes.ensures.part c.reply.ensures.served
+    read_served c.self.inside.birth c.self.inside.position c.args.self.now room tree directory c.args.graph.now c.args.count c.bytes.result.now c.part_from-bytes.result.now c.args.txid c.reply_with.result c.reply_with.new.out
+    c.self.view_is stands c.requires.named c.bytes.ensures (omega (arith, c.if-count-gt-MAX_CHUNK.false)) c.part_from-bytes.ensures.part c.reply_with.ensures.served
