@@ -1,5 +1,5 @@
 -- What a session writes is read back as the frames that its journal has more.
-use Rattle.std.proofs.Common.{◌≡◌, ℕ, List, [], ◌++◌, length, drop, refl, sym, ap, ◌∙◌, subst, append_assoc, append-nil, Result, OnOk}
+use Rattle.std.proofs.Common.{◌≡◌, ℕ, List, [], ◌++◌, length, drop, sym, ap, ◌∙◌, subst, append-nil}
 use Rattle.std.specs.Prelude.{All}
 use Rattle.std.proofs.Math.Seq.{drop-append_seam}
 use Rattle.endpoint_link.specs.Frames.{Frame, IsFrame, spellings}
@@ -18,7 +18,6 @@ use Rattle.journal_laws.specs.Soundness.{IsStart}
 use Rattle.path_walk.proofs.PathLemmas.{path_complete, path_sound}
 use Rattle.vfs_journal.specs.Entries.{Journal}
 use Rattle.vfs_journal.specs.Lawful.{Lawful}
-use Rattle.vfs_journal.specs.Output.{output_of}
 use Rattle.vfs_journal.specs.Session.{arrives, drained, steps}
 use Rattle.vfs_journal.specs.Starts.{Start}
 use Rattle.vfs_script.specs.Scripts.{Spoken, frame_of}
@@ -91,17 +90,7 @@ line_back start by played said frame old new calls before after bytes is none sa
 
 -- ---- steps
 
--- one step after another
-pub leads_on : (start : Start) (first second third : Journal) (mid new : World) (a b c : List ℕ) → LeadsTo start second mid first a b → LeadsTo start third new second b c →
-    LeadsTo start third new first a c
-leads_on start first second third mid new a b c one two = record {
-  stands = two.stands;
-  part = one.part ++ two.part;
-  more = two.more ∙ ap (λ l. l ++ two.part) one.more ∙ append_assoc (output_of start first) one.part two.part;
-  written = two.written ∙ ap (λ l. l ++ two.part) one.written ∙ append_assoc a one.part two.part;
-}
-
 -- in mode auto a drain follows each frame
-pub steps_in_auto : {X E : Type 0} (start : Start) (by : Mode) → by ≡ mode.Auto → (journal : Journal) (frame : Frame) (r : Result X E) (new : World) (a c : List ℕ) →
-    OnOk r (LeadsTo start (drained start (arrives start journal frame)) new journal a c) → OnOk r (LeadsTo start (steps start by journal frame) new journal a c)
-steps_in_auto start by is journal frame r new a c h = subst (λ (m : Mode). OnOk r (LeadsTo start (steps start m journal frame) new journal a c)) (sym is) h
+pub steps_in_auto : (start : Start) (by : Mode) → by ≡ mode.Auto → (journal : Journal) (frame : Frame) (new : World) (a c : List ℕ) →
+    LeadsTo start (drained start (arrives start journal frame)) new journal a c → LeadsTo start (steps start by journal frame) new journal a c
+steps_in_auto start by is journal frame new a c h = subst (λ (m : Mode). LeadsTo start (steps start m journal frame) new journal a c) (sym is) h

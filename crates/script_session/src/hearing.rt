@@ -26,12 +26,19 @@ pub(crate) fn hear(
         OnOk result (LeadsTo start (steps start mode journal (frame_of frame.entry)) world.new journal outbox.old outbox.new) }
     ensures frames { OnOk result (world.new.frames ≡ world.old.frames + 1) }
 {
-    let Ok(()) = world.accept(frame, outbox) else {
-        return Err(NoMemory);
-    };
     match mode {
-        Mode::Auto => drain(world, outbox),
-        Mode::Given => Ok(()),
+        Mode::Auto => {
+            let Ok(()) = world.hear(frame, outbox) else {
+                return Err(NoMemory);
+            };
+            Ok(())
+        }
+        Mode::Given => {
+            let Ok(()) = world.accept(frame, outbox) else {
+                return Err(NoMemory);
+            };
+            Ok(())
+        }
     }
 }
 
