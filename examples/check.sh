@@ -49,11 +49,15 @@ declare -A bytes=(
 )
 usage='usage: vfs file NAME | serve TREE auto | serve TREE given | run TREE SCRIPT | check TREE | show | make N'
 
-# What `make N` writes for one round and for a hundred.
+# What `make N` writes for so many rounds.
 printf '%s\n' 'frames in 5' 'frames out 4' 'bytes out 133' \
     'sha256 f98b487e3464889d172adffad867c99148a6e43e8ccc4c05df16925b4f0548b3' > "$work/one"
 printf '%s\n' 'frames in 302' 'frames out 152' 'bytes out 8039' \
     'sha256 8d581ba451fabdf01a18dceac78371548c83f47325eb550e162482637365e670' > "$work/hundred"
+printf '%s\n' 'frames in 3002' 'frames out 1653' 'bytes out 103961' \
+    'sha256 15f027756d1b1a42d7c62cbcb11d4affa4c9f8fa06dba5207be5b35fb44262a8' > "$work/thousand"
+printf '%s\n' 'frames in 30002' 'frames out 15231' 'bytes out 1097225' \
+    'sha256 06bbdec49ed44359739c2e1f047956f578daec2d4584ae1ece7e4fd263ddfd6d' > "$work/all"
 
 # Files that the words name: @full and @over have as many bytes as a file may have and one more, and
 # @tree and @large so many as a tree file.
@@ -118,6 +122,9 @@ a script without a mode         | run examples/trees/small.toml @modeless | noth
 no script over a refused tree   | run @wrong @none                  | nothing     | nothing      | 2 | tree refused: rule 2 item 0
 one round                       | make 1                            | nothing     | @one         | 0 |
 a hundred rounds                | make 100                          | nothing     | @hundred     | 0 |
+a thousand rounds               | make 1000                         | nothing     | @thousand    | 0 |
+a thousand rounds once more     | make 1000                         | nothing     | @thousand    | 0 |
+all rounds that there are       | make 10000                        | nothing     | @all         | 0 |
 no round                        | make 0                            | nothing     | nothing      | 1 | $usage
 no word                         |                                   | read        | nothing      | 1 | $usage
 a word too many                 | file examples/hello more          | read        | nothing      | 1 | $usage
