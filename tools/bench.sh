@@ -169,7 +169,7 @@ echo "vfs file, $frames frames of a Read of 5 bytes, $((36 * frames)) bytes in"
 head -c 65536 /dev/zero > "$work/file"
 reads 01000000 "$work/frames"
 { time "$vfs" file "$work/file" < "$work/frames" > "$work/out"; } 2> "$work/spent"
-session "from a file to a file" "$work/spent"
+session "file to file (goal: 33 ns)" "$work/spent"
 cat "$work/frames" | { { time "$vfs" file "$work/file"; } 2> "$work/spent"; } | cat > /dev/null
 session "through pipes" "$work/spent"
 cat "$work/frames" | { { time dd bs=65536 iflag=fullblock status=none; } 2> "$work/spent"; } | cat > /dev/null
@@ -196,9 +196,11 @@ serving() { # NAME FRAMES FILE [MODE]: the time of one of so many frames
 echo "vfs serve over a directory of 4,001 names"
 tree > "$work/tree"
 : > "$work/none"
-serving "no frame: the tree is read" 1 "$work/none"
+serving "no frame: the tree is read (goal: 5.5 ms)" 1 "$work/none"
+{ time "$vfs" check "$work/tree" > "$work/checked"; } 2> "$work/spent"
+awk '{ printf "  check of that tree (goal: 5.5 ms) %15.1f ms\n", ($1 + $2) * 1e3 }' "$work/spent"
 { opens large 2 2; reads 02000000 "$work/reads"; cat "$work/reads"; } > "$work/frames"
-serving "Reads of 5 bytes" $((frames + 1)) "$work/frames"
+serving "Reads of 5 bytes (goal: 75 ns)" $((frames + 1)) "$work/frames"
 opens n2000 2 100001 close > "$work/frames"
 serving "Opens, and a Close frame behind each" 200000 "$work/frames"
 { opens n2000 2 4000; opens large 4001 4001; reads a10f0000 "$work/reads"; cat "$work/reads"; } > "$work/frames"
@@ -209,11 +211,11 @@ serving "Listings of all names, eight and a Rewind" 4500 "$work/frames"
     opens large 2 4001
     LC_ALL=C awk "$writing"'BEGIN { for (k = 1; k <= 200000; k++) read(2 + 7919 * k % 4000, 5) }'
 } > "$work/frames"
-serving "Reads on 4,000 connections in turn" 204000 "$work/frames"
+serving "Reads on 4,000 connections (goal: 120 ns)" 204000 "$work/frames"
 LC_ALL=C awk "$writing"'BEGIN {
     for (k = 1; k <= 200000; k++) { open_path(1, k + 1, sprintf("n%04d", 7919 * k % 4000), 2); hang_up(k + 1) }
 }' > "$work/frames"
-serving "Opens of 4,000 names, and Close frames" 400000 "$work/frames"
+serving "Opens of 4,000 names (goal: 320 ns)" 400000 "$work/frames"
 
 # Each round of these works on a new connection to another name: what a file is asked for, a Clone, a listing
 # behind it, and every eighth round the name is taken out.
@@ -233,7 +235,7 @@ mixed() { # ROUNDS
         }'
 }
 mixed 21240 > "$work/frames"
-serving "calls of most methods, mixed" 300015 "$work/frames"
+serving "calls of most methods (goal: 330 ns)" 300015 "$work/frames"
 
 # Mode given: 4,096 Reads on 64 endpoints in turn, and then as many Picks in turn, again and again.
 {
@@ -246,7 +248,7 @@ serving "calls of most methods, mixed" 300015 "$work/frames"
         }
     }'
 } > "$work/frames"
-serving "mode given, Reads and then Picks" 507969 "$work/frames" given
+serving "mode given, with Picks (goal: 110 ns)" 507969 "$work/frames" given
 
 echo "vfs run, show and make"
 # A script of a megabyte: Opens of one file, Reads on it, and Close frames.
@@ -261,7 +263,7 @@ awk 'BEGIN {
 lines=$(wc -l < "$work/script")
 { time "$vfs" run "$work/tree" "$work/script" > "$work/transcript"; } 2> "$work/spent"
 awk -v lines="$lines" -v bytes="$(wc -c < "$work/transcript")" '{
-    printf "  run: a script of %d lines %25.1f ms, %d bytes of transcript\n", lines, ($1 + $2) * 1e3, bytes }' "$work/spent"
+    printf "  run: a script of %d lines (goal: 25 ms) %10.1f ms, %d bytes of transcript\n", lines, ($1 + $2) * 1e3, bytes }' "$work/spent"
 # 200 megabytes of output frames: replies of 8,192 bytes each.
 {
     opens large 2 2
@@ -271,10 +273,10 @@ awk -v lines="$lines" -v bytes="$(wc -c < "$work/transcript")" '{
 { time "$vfs" show < "$work/out" > "$work/shown"; } 2> "$work/spent"
 awk -v bytes="$(wc -c < "$work/out")" '{
     spent = $1 + $2
-    printf "  show: %d bytes of frames %22.1f ms, %.2f GB/s\n", bytes, spent * 1e3, bytes / spent / 1e9 }' "$work/spent"
+    printf "  show: %d bytes of frames (goal: 106 ms) %6.1f ms, %.2f GB/s\n", bytes, spent * 1e3, bytes / spent / 1e9 }' "$work/spent"
 for rounds in 1000 10000; do
     { time "$vfs" make "$rounds" > "$work/made"; } 2> "$work/spent"
-    awk -v rounds="$rounds" '{ printf "  make %-5d %35.1f ms\n", rounds, ($1 + $2) * 1e3 }' "$work/spent"
+    awk -v rounds="$rounds" '{ printf "  make %-5d%s %*.1f ms\n", rounds, rounds == 10000 ? " (goal: 30 ms)" : "", rounds == 10000 ? 23 : 37, ($1 + $2) * 1e3 }' "$work/spent"
 done
 
 # A server with a file and so many directories in its root, and a client there.
