@@ -12,6 +12,9 @@ const ROWS: usize = 21;
 
 const EVENT_ROW: usize = 20;
 
+/// How many values the low byte of an ordinal has.
+const LOW_BYTES: usize = 256;
+
 /// Two names have equal ordinals.
 #[derive(Clone, Copy, Debug, PartialEq, Eq)]
 pub enum OrdinalFault {
@@ -24,6 +27,8 @@ pub enum OrdinalFault {
 #[derive(Clone, Copy, Debug)]
 pub struct Ordinals {
     numbers: [u64; ROWS],
+    /// For each low byte a row whose ordinal may have it: the one that is tried before all others.
+    hints: [u8; LOW_BYTES],
     ghost distinct: { AreDistinct },
     ghost size: { length numbers ≡ row_count },
     ghost named: { (row : ℕ) → row < row_count → slice_index numbers row ≡ ordinal_at row },
@@ -40,7 +45,10 @@ impl Ordinals {
             numbers[row] = ordinal(full_name(row));
         }
         match first_equal(&numbers) {
-            None => Ok(Ordinals { numbers }),
+            None => Ok(Ordinals {
+                numbers,
+                hints: hints_of(&numbers),
+            }),
             Some((i, j)) => Err(OrdinalFault::Collision(i as u32, j as u32)),
         }
     }
@@ -58,8 +66,23 @@ impl Ordinals {
         ensures only { (m : Method) → method_ordinal m ≡ ordinal → result ≡ Some m }
         ensures none { IsNone result → (m : Method) → method_ordinal m ≢ ordinal }
     {
-        let row = place_of(&self.numbers[..EVENT_ROW], ordinal)?;
+        let row = self.row_with(ordinal)?;
         Some(method_at(row))
+    }
+
+    /// The row of a method's ordinal. That of a method that shares its low byte with no other is found
+    /// at once.
+    #[inline]
+    fn row_with(&self, ordinal: u64) -> Option<usize>
+        ensures row { IfSome result (λ row. (row < event_row) × (ordinal_at row ≡ ordinal)) }
+        ensures none { IsNone result → (m : Method) → method_ordinal m ≢ ordinal }
+    {
+        let hint = self.hints[low_byte(ordinal)] as usize;
+        if hint < EVENT_ROW && self.numbers[hint] == ordinal {
+            return Some(hint);
+        }
+        let row = place_of(&self.numbers[..EVENT_ROW], ordinal)?;
+        Some(row)
     }
 
     /// The ordinal of a method.
@@ -76,6 +99,23 @@ impl Ordinals {
     {
         self.numbers[EVENT_ROW]
     }
+}
+
+/// The low byte of an ordinal.
+#[inline]
+fn low_byte(ordinal: u64) -> usize
+    ensures { result < LOW_BYTES }
+{
+    (ordinal % LOW_BYTES as u64) as usize
+}
+
+/// For each low byte the last row of a method whose ordinal has it, or 0.
+fn hints_of(numbers: &[u64; ROWS]) -> [u8; LOW_BYTES] {
+    let mut hints = [0; LOW_BYTES];
+    for row in 0..EVENT_ROW {
+        hints[low_byte(numbers[row])] = row as u8;
+    }
+    hints
 }
 
 /// The first place of a number.

@@ -19,7 +19,7 @@ use Rattle.watch_laws.proofs.Starting.{starts_have_names}
 use Rattle.frame_laws.proofs.Readings.{output_is_read_back}
 use Rattle.vfs_session.proofs.Grounds.{below}
 use Rattle.session_laws.specs.Laws.{IsLawfulOver, LawfulJournalsKeepLaws, WorldsKeepLaws}
-use Rattle.session_laws.proofs.Once.{events_once}
+use Rattle.watch_events.proofs.Once.{events_once}
 
 pub lawful_keep : AreDistinct → LawfulJournalsKeepLaws
 lawful_keep apart start journal s h =

@@ -1,4 +1,4 @@
-mod Once
+pub mod Once
 mod Registered
 mod Rowed
 mod Told
