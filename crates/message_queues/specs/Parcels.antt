@@ -6,6 +6,8 @@ use Rattle.vfs_journal.specs.Entries.{Sending, message, hang_up}
 use Rattle.vfs_journal.specs.Handles.{AreByNumber, numbers_of}
 use Rattle.message_queues.specs.declared.parcel.Content.{Content}
 use Rattle.message_queues.specs.declared.parcel.Content.TheVariants as content
+use Rattle.message_queues.specs.declared.lent.LentContent.{LentContent}
+use Rattle.message_queues.specs.declared.lent.LentContent.TheVariants as lent
 
 -- what is kept, with the handles as their numbers
 abbrev pub sending_of : Content → Sending
@@ -16,6 +18,15 @@ sending_of content.HangUp = hang_up
 abbrev pub IsSendable : Content → Type 0
 IsSendable (content.Message bytes handles) = AreByNumber handles.items × (length bytes.items ≤ limit.MAX_BYTES)
 IsSendable content.HangUp = Unit {0}
+
+-- the same of what is lent
+abbrev pub lent_sending : LentContent → Sending
+lent_sending (lent.Message bytes handles) = message bytes.now (numbers_of handles.now)
+lent_sending lent.HangUp = hang_up
+
+abbrev pub IsLendable : LentContent → Type 0
+IsLendable (lent.Message bytes handles) = AreByNumber handles.now × (length bytes.now ≤ limit.MAX_BYTES)
+IsLendable lent.HangUp = Unit {0}
 
 -- a message with these bytes and handles was sent
 abbrev pub IsMessage : Sending → List ℕ → List Handle → Type 0

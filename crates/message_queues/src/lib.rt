@@ -4,6 +4,7 @@
 mod dying;
 mod heads;
 mod laws;
+mod lent;
 mod mailbox;
 mod parcel;
 mod queues;
@@ -11,5 +12,6 @@ mod tokens;
 
 pub use dying::Buried;
 pub use laws::queues_count_their_list;
+pub use lent::{Lent, handles_in};
 pub use parcel::{Parcel, Sent};
 pub use queues::Queues;

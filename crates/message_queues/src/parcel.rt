@@ -1,14 +1,13 @@
 //! What was sent on endpoints, as it is kept while it waits.
 
-ghost use Rattle.std.specs.Prelude.{◌≡◌, ◌≤◌, ◌<◌, ℕ, List, [], ◌∷◌, map, take, length, IfOk, IfSome, IsNone};
+ghost use Rattle.std.specs.Prelude.{◌≡◌, ◌≤◌, [], ◌∷◌, length, IfOk};
 ghost use Rattle.endpoint_link.specs.Views.{handle_numbers};
 ghost use Rattle.fidl_names.specs.declared.limits.TheConstants as limit;
-ghost use Rattle.fidl_names.specs.HandleNumber.{handle_with};
 ghost use Rattle.vfs_journal.specs.Entries.{message, hang_up, handles_of};
 ghost use Rattle.vfs_journal.specs.Handles.{numbers_of};
-ghost use Rattle.message_queues.specs.Parcels.{IsMessage};
 
-use endpoint_link::{FrameView, HandleBytes};
+use crate::lent::handles_in;
+use endpoint_link::FrameView;
 use fidl_names::{Handle, NoMemory};
 use std::alloc::Global;
 use std::marker::Model;
@@ -25,7 +24,7 @@ pub(crate) enum Content {
 /// What was sent on an endpoint: a message with its bytes and handles, or that the client closed it.
 #[derive(Drop)]
 pub struct Parcel {
-    content: Content,
+    pub(crate) content: Content,
 }
 
 impl Model for Parcel {
@@ -70,7 +69,7 @@ impl Parcel {
     {
         room.clear();
         room.extend_from_slice(frame.bytes)?;
-        let handles = handles_of(alloc, frame.handles)?;
+        let handles = handles_in(alloc, frame.handles)?;
         Ok(Parcel {
             content: Content::Message {
                 bytes: room,
@@ -117,27 +116,4 @@ impl Parcel {
             Content::HangUp => &[],
         }
     }
-
-    /// The bytes and the handles of a message; `None` for a hang-up.
-    pub fn message(&self) -> Option<(&[u8], &[Handle])>
-        ensures parts { IfSome result (λ parts. IsMessage self.now parts.0.now parts.1.now) }
-        ensures short { IfSome result (λ parts. length parts.0.now ≤ limit.MAX_BYTES) }
-        ensures none { IsNone result → self.now ≡ hang_up }
-    {
-        match &self.content {
-            Content::Message { bytes, handles } => Some((bytes, handles)),
-            Content::HangUp => None,
-        }
-    }
-}
-
-/// The handles of a frame.
-fn handles_of(alloc: Global, numbers: HandleBytes<'_>) -> Result<Vec<Handle>, NoMemory>
-    ensures { IfOk result (λ handles. handles.items ≡ map handle_with (handle_numbers numbers.entry)) }
-{
-    let mut handles = Vec::with_capacity(alloc, numbers.len())?;
-    for place in 0..numbers.len() {
-        handles.push(Handle::with_number(numbers.at(place)))?;
-    }
-    Ok(handles)
 }

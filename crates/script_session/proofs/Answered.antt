@@ -1,5 +1,5 @@
 -- Answers that are Ok, or aren't.
-use Rattle.std.proofs.Common.{◌≡◌, ℕ, List, ◌++◌, Option, Result, Ok, Err, OnOk, OnErr, refl, sym, ap, ◌∙◌, subst}
+use Rattle.std.proofs.Common.{ℕ, List, Option, Result, Ok, Err, OnOk, OnErr, sym, subst}
 use Rattle.host_io.specs.Streams.{AppendsPart}
 use Rattle.transcripts.specs.Telling.{IsTold}
 use Rattle.transcripts.proofs.Lines.{front_told, part_longer}

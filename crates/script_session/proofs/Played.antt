@@ -1,12 +1,9 @@
 -- What happens where lines are played, one after the other.
-use Rattle.std.proofs.Common.{◌≡◌, ℕ, ◌+◌, List, [], ◌∷◌, ◌++◌, length, map, Bool, true, false, Option, Some, None, refl, sym, ap, ◌∙◌, subst, append_assoc, append-nil, arith, fold}
-use Rattle.std.specs.Prelude.{filter, is_some}
-use Rattle.std.proofs.lemmas.List.Concat.{flat_map-append}
+use Rattle.std.proofs.Common.{◌≡◌, ℕ, ◌+◌, List, [], ◌∷◌, ◌++◌, map, Option, Some, None, refl, sym, ap, ◌∙◌, subst, append_assoc, append-nil, arith, fold}
 use Rattle.std.specs.List.{flat_map}
 use Rattle.std.proofs.lemmas.List.Sums.{fold-append}
 use Rattle.endpoint_link.specs.Frames.{Frame}
 use Rattle.endpoint_link.specs.declared.kinds.Mode.{Mode}
-use Rattle.vfs_journal.specs.Entries.{Journal}
 use Rattle.vfs_journal.specs.Session.{drained, session, steps}
 use Rattle.vfs_journal.specs.Starts.{Start}
 use Rattle.vfs_script.specs.Scripts.{Spoken, call_in, count_calls, frame_of}
@@ -14,7 +11,7 @@ use Rattle.vfs_script.specs.Transcripts.{counts_line, frame_line}
 use Rattle.vfs_script.specs.declared.calls.Call.{Call}
 use Rattle.transcripts.specs.Answering.{Past, sends, gets, count_answers, count_calls as calls_made, one_of}
 use Rattle.transcripts.specs.Transcript.{lines_of, text_of, with_frames}
-use Rattle.script_session.specs.Playing.{Played, drain_played, frames_by, frames_since, not_yet, play_all, play_line, play_lines}
+use Rattle.script_session.specs.Playing.{Played, drain_played, frames_since, not_yet, play_all, play_line, play_lines}
 
 -- ---- lines
 

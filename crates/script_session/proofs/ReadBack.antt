@@ -5,7 +5,6 @@ use Rattle.std.proofs.Math.Seq.{drop-append_seam}
 use Rattle.endpoint_link.specs.Frames.{Frame, IsFrame, spellings}
 use Rattle.endpoint_link.specs.declared.kinds.Side.TheVariants as side
 use Rattle.endpoint_link.specs.declared.kinds.Mode.{Mode}
-use Rattle.endpoint_link.specs.declared.kinds.Mode.TheVariants as mode
 use Rattle.fidl_wire.proofs.Bodies.{read_spelled, spelled_read}
 use Rattle.fidl_wire.proofs.ReadHeaders.{header_again}
 use Rattle.fidl_wire.proofs.Spelled.{message_spelled}
@@ -18,7 +17,7 @@ use Rattle.journal_laws.specs.Soundness.{IsStart}
 use Rattle.path_walk.proofs.PathLemmas.{path_complete, path_sound}
 use Rattle.vfs_journal.specs.Entries.{Journal}
 use Rattle.vfs_journal.specs.Lawful.{Lawful}
-use Rattle.vfs_journal.specs.Session.{arrives, drained, steps}
+use Rattle.vfs_journal.specs.Session.{steps}
 use Rattle.vfs_journal.specs.Starts.{Start}
 use Rattle.vfs_script.specs.Scripts.{Spoken, frame_of}
 use Rattle.vfs_session.specs.World.{LeadsTo, StandsFor, World}
@@ -87,10 +86,3 @@ line_back start by played said frame old new calls before after bytes is none sa
     let led = subst (λ (f : Frame). LeadsTo start (steps start by played.journal f) new played.journal before after) (sym is) (heard played.journal plays.stands) in
     let back = came start played (steps start by played.journal (frame_of said)) old new calls before after bytes none same plays led in
     record { stands = led.stands; each = back.each; spelled = back.spelled }
-
--- ---- steps
-
--- in mode auto a drain follows each frame
-pub steps_in_auto : (start : Start) (by : Mode) → by ≡ mode.Auto → (journal : Journal) (frame : Frame) (new : World) (a c : List ℕ) →
-    LeadsTo start (drained start (arrives start journal frame)) new journal a c → LeadsTo start (steps start by journal frame) new journal a c
-steps_in_auto start by is journal frame new a c h = subst (λ (m : Mode). LeadsTo start (steps start m journal frame) new journal a c) (sym is) h

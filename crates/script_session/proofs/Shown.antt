@@ -1,19 +1,18 @@
 -- A transcript shows all that the session of its script writes.
-use Rattle.std.proofs.Common.{◌≡◌, ℕ, List, [], ◌∷◌, ◌++◌, length, drop, map, refl, sym, ap, ◌∙◌, append_assoc, append-nil, fold}
+use Rattle.std.proofs.Common.{◌≡◌, ℕ, List, [], ◌∷◌, ◌++◌, length, drop, map, refl, sym, ap, ◌∙◌, fold}
 use Rattle.std.proofs.Math.Seq.{drop-append_seam}
 use Rattle.std.proofs.lemmas.List.Concat.{flat_map-append}
 use Rattle.std.specs.List.{flat_map}
-use Rattle.endpoint_link.specs.Frames.{Frame}
 use Rattle.endpoint_link.specs.declared.kinds.Mode.{Mode}
 use Rattle.vfs_journal.specs.Entries.{Journal}
 use Rattle.vfs_journal.specs.Past.{history_of}
-use Rattle.vfs_journal.specs.Session.{drained, ended, session, steps}
+use Rattle.vfs_journal.specs.Session.{drained, ended, steps}
 use Rattle.vfs_journal.specs.Starts.{Start}
 use Rattle.vfs_script.specs.Scripts.{Spoken, call_in, calls_of, count_calls, frame_of, frames_of, script_lines}
 use Rattle.vfs_script.specs.Transcripts.{counts_line, frame_line}
 use Rattle.transcripts.specs.Answering.{Past, sends, count_answers, count_calls as calls_made}
-use Rattle.transcripts.specs.Transcript.{lines_of, text_of, with_frames}
-use Rattle.script_session.specs.Playing.{Played, drain_played, frames_by, frames_since, not_yet, play_all, play_line, play_lines, transcript}
+use Rattle.transcripts.specs.Transcript.{lines_of, with_frames}
+use Rattle.script_session.specs.Playing.{Played, frames_by, frames_since, not_yet, play_all, play_line, play_lines, transcript}
 use Rattle.script_session.proofs.Growth.{Begins, begins_drained, begins_stepped}
 use Rattle.script_session.proofs.Played.{calls_are_made, frames_grow, frames_make_none, journal_is}
 

@@ -1,8 +1,7 @@
 -- A whole transcript.
-use Rattle.std.proofs.Common.{◌≡◌, ◌+◌, ℕ, List, [], ◌++◌, Option, is_some, refl, sym, ap, ◌∙◌, subst, arith}
+use Rattle.std.proofs.Common.{◌≡◌, ℕ, List, [], Option, is_some, refl, sym, ap, ◌∙◌, subst, arith}
 use Rattle.std.specs.FinMap.{get-empty, len-empty}
 use Rattle.std.specs.FinSet.{contains-empty}
-use Rattle.std.specs.Io.KnownBytes.{Appends}
 use Rattle.std.specs.Ordering.{nat_cmp}
 use Rattle.std.proofs.KnownBytes.{Appends-nil}
 use Rattle.endpoint_link.specs.declared.kinds.Mode.{Mode}
@@ -10,7 +9,7 @@ use Rattle.fidl_names.specs.declared.methods.Method.{Method}
 use Rattle.fidl_wire.specs.Names.{AreDistinct}
 use Rattle.frame_laws.proofs.Begun.{starts_have_bytes}
 use Rattle.frame_laws.specs.Bytes.{HasFilesOfBytes}
-use Rattle.io_client.specs.Calls.{Calls, call_cmp, none_yet}
+use Rattle.io_client.specs.Calls.{call_cmp, none_yet}
 use Rattle.tree_file.specs.Accepted.{AreAccepted}
 use Rattle.tree_file.specs.Items.{Lists}
 use Rattle.vfs_journal.specs.Starts.{Start, start_of}

@@ -2,7 +2,6 @@
 //! measured.
 #![tactic(auto)]
 
-mod hearing;
 mod laws;
 mod measuring;
 mod meter;

@@ -14,7 +14,6 @@ ghost use Rattle.script_session.specs.Playing.{frames_by};
 ghost use Rattle.script_session.specs.Steps.{IsScript};
 ghost use Rattle.script_session.specs.Tallies.{Metered, Tallies};
 
-use crate::hearing::{drain, hear};
 use crate::measuring::Measured;
 use crate::tally::Tally;
 use endpoint_link::{FrameView, Mode, Outbox, Reading, Side, frame_at};
@@ -94,7 +93,7 @@ impl Meter {
         ensures small { OnOk result (self.new.tally.bytes ≤ self.old.tally.bytes + 2 ^ 63) }
     {
         self.outbox.clear();
-        hear(&mut self.world, self.mode, frame, &mut self.outbox)?;
+        self.world.hear(self.mode, frame, &mut self.outbox)?;
         self.tally.take(self.outbox.as_bytes());
         Ok(())
     }
@@ -107,7 +106,7 @@ impl Meter {
             IfOk result (Measures (frames_by start (drained start journal))) }
     {
         self.outbox.clear();
-        drain(&mut self.world, &mut self.outbox)?;
+        self.world.drain(&mut self.outbox)?;
         self.tally.take(self.outbox.as_bytes());
         Ok(self.tally.finish())
     }

@@ -18,7 +18,6 @@ ghost use Rattle.transcripts.specs.Transcript.{lines_of, text_of};
 ghost use Rattle.script_session.specs.Playing.{Played, drain_played, not_yet, play_line, play_lines, transcript};
 ghost use Rattle.script_session.specs.Steps.{IsScript, Plays};
 
-use crate::hearing::{drain, hear};
 use endpoint_link::{FrameView, Mode, Outbox, Reading, Side, frame_at};
 use fidl_names::NoMemory;
 use fidl_wire::Ordinals;
@@ -141,7 +140,9 @@ impl Player {
     {
         self.scribe.sends(script, i)?;
         self.outbox.clear();
-        hear(&mut self.world, self.mode, frame, &mut self.outbox)?;
+        let Ok(()) = self.world.hear(self.mode, frame, &mut self.outbox) else {
+            return Err(TranscriptFault::NoMemory);
+        };
         self.scribe.gets_all(self.outbox.as_bytes(), sink)
     }
 
@@ -158,7 +159,9 @@ impl Player {
         ensures cause { HasSinkCause (K.faults sink.old) (K.faults sink.new) result }
     {
         self.outbox.clear();
-        drain(&mut self.world, &mut self.outbox)?;
+        let Ok(()) = self.world.drain(&mut self.outbox) else {
+            return Err(TranscriptFault::NoMemory);
+        };
         self.scribe.gets_all(self.outbox.as_bytes(), sink)?;
         self.scribe.finish(calls, sink)
     }

@@ -1,11 +1,10 @@
 -- The world of a session over a tree, frame by frame.
-use Rattle.std.proofs.Common.{◌≡◌, List, [], ◌∷◌, ◌++◌, ℕ, IsTrue, Result, Ok, Err, OnOk, refl, sym, ap, ◌∙◌, subst, append_assoc}
+use Rattle.std.proofs.Common.{◌≡◌, List, [], ◌∷◌, ◌++◌, ℕ, IsTrue, refl, sym, ap, ◌∙◌, subst, append_assoc}
 use Rattle.endpoint_link.specs.Frames.{Frame}
 use Rattle.endpoint_link.specs.declared.kinds.Mode.{Mode}
-use Rattle.endpoint_link.specs.declared.kinds.Mode.TheVariants as mode
 use Rattle.vfs_journal.specs.Entries.{Journal}
 use Rattle.vfs_journal.specs.Output.{output_of}
-use Rattle.vfs_journal.specs.Session.{arrives, drained, session, steps}
+use Rattle.vfs_journal.specs.Session.{drained, session, steps}
 use Rattle.vfs_journal.specs.Starts.{Start}
 use Rattle.vfs_session.specs.World.{World, StandsFor, LeadsTo}
 use Rattle.vfs_program.specs.Serving.{HeardOne, HeardEnd}
@@ -22,31 +21,15 @@ pub may_starve : (start : Start) (by : Mode) → IsTrue (tree_course start by).s
 unfolding tree_course
 may_starve start by = refl
 
--- in mode given a frame arrives
-pub hears_given : (start : Start) (by : Mode) → by ≡ mode.Given → (old new : World) (before : List Frame) (frame : Frame) (held held' : List ℕ)
-    → ((journal : Journal) → StandsFor start old journal → LeadsTo start (arrives start journal frame) new journal held held')
+-- a frame is heard
+pub hears : (start : Start) (by : Mode) (old new : World) (before : List Frame) (frame : Frame) (held held' : List ℕ)
+    → ((journal : Journal) → StandsFor start old journal → LeadsTo start (steps start by journal frame) new journal held held')
     → StandsBehind start by old before → HeardOne (tree_course start by) (StandsBehind start by new) before frame held held'
 unfolding tree_course StandsBehind
-hears_given start by given old new before frame held held' arrive s =
-    let journal = session start by before in
-    let one = arrive journal s in
-    let is = session-append start by before (frame ∷ []) ∙ ap (λ (m : Mode). steps start m journal frame) given in
-    record {
-      stands = subst (StandsFor start new) (sym is) one.stands;
-      part = one.part;
-      more = ap (output_of start) is ∙ one.more;
-      appends = one.written;
-    }
-
--- in mode auto all that waits then is served
-pub hears_auto : (start : Start) (by : Mode) → by ≡ mode.Auto → (old new : World) (before : List Frame) (frame : Frame) (held held' : List ℕ)
-    → ((journal : Journal) → StandsFor start old journal → LeadsTo start (drained start (arrives start journal frame)) new journal held held')
-    → StandsBehind start by old before → HeardOne (tree_course start by) (StandsBehind start by new) before frame held held'
-unfolding tree_course StandsBehind
-hears_auto start by auto old new before frame held held' hear s =
+hears start by old new before frame held held' hear s =
     let journal = session start by before in
     let one = hear journal s in
-    let is = session-append start by before (frame ∷ []) ∙ ap (λ (m : Mode). steps start m journal frame) auto in
+    let is = session-append start by before (frame ∷ []) in
     record {
       stands = subst (StandsFor start new) (sym is) one.stands;
       part = one.part;
@@ -55,11 +38,10 @@ hears_auto start by auto old new before frame held held' hear s =
     }
 
 -- the last drain
-pub drains_last : {X E : Type 0} (answer : Result X E) (start : Start) (by : Mode) (old new : World) (before : List Frame) (held held' : List ℕ)
-    → ((journal : Journal) → StandsFor start old journal → OnOk answer (LeadsTo start (drained start journal) new journal held held'))
-    → StandsBehind start by old before → OnOk answer (HeardEnd (tree_course start by) before held held')
+pub drains_last : (start : Start) (by : Mode) (old new : World) (before : List Frame) (held held' : List ℕ)
+    → ((journal : Journal) → StandsFor start old journal → LeadsTo start (drained start journal) new journal held held')
+    → StandsBehind start by old before → HeardEnd (tree_course start by) before held held'
 unfolding tree_course StandsBehind
-drains_last (Ok x) start by old new before held held' drain s =
+drains_last start by old new before held held' drain s =
     let one = drain (session start by before) s in
     record { part = one.part; more = one.more; appends = one.written }
-drains_last (Err e) start by old new before held held' drain s = tt

@@ -2,10 +2,7 @@ ghost use Rattle.std.specs.Prelude.{◌≡◌, ◌<◌, ◌+◌, ◌^◌, List, 
 ghost use Rattle.endpoint_link.specs.Frames.{Frame, IsFrame};
 ghost use Rattle.endpoint_link.specs.Views.{frame_of};
 ghost use Rattle.endpoint_link.specs.declared.kinds.Side.TheVariants as side;
-ghost use Rattle.vfs_journal.specs.Entries.{Journal};
-ghost use Rattle.vfs_journal.specs.Session.{drained};
 ghost use Rattle.vfs_journal.specs.Starts.{Start as TheStart, start_of};
-ghost use Rattle.vfs_session.specs.World.{LeadsTo, StandsFor};
 ghost use Rattle.vfs_program.specs.Causes.{AfterNames, AfterTree};
 ghost use Rattle.vfs_program.specs.Outside.{files_told, streams_told};
 ghost use Rattle.vfs_program.specs.Serving.{HeardOne};
@@ -114,7 +111,8 @@ impl Session for TreeSession {
     }
 
     fn finish(&mut self) -> Result<(), NoMemory> {
-        drain(&mut self.world, &mut self.outbox)
+        self.world.drain(&mut self.outbox)?;
+        Ok(())
     }
 
     fn held(&self) -> &[u8] {
@@ -126,7 +124,7 @@ impl Session for TreeSession {
     }
 }
 
-/// Accepts one frame. In mode auto all that waits then is served.
+/// Hears one frame.
 fn hear(
     world: &mut World,
     mode: Mode,
@@ -139,30 +137,6 @@ fn hear(
         OnOk result (HeardOne (tree_course start mode) (StandsBehind start mode world.new) before (frame_of frame.entry) outbox.old outbox.new) }
     ensures frames { OnOk result (world.new.frames ≡ world.old.frames + 1) }
 {
-    match mode {
-        Mode::Auto => {
-            let Ok(()) = world.hear(frame, outbox) else {
-                return Err(NoMemory);
-            };
-            Ok(())
-        }
-        Mode::Given => {
-            let Ok(()) = world.accept(frame, outbox) else {
-                return Err(NoMemory);
-            };
-            Ok(())
-        }
-    }
-}
-
-/// Serves all that can be served.
-fn drain(world: &mut World, outbox: &mut Outbox) -> Result<(), NoMemory>
-    ensures drained { (start : TheStart) (journal : Journal) → StandsFor start world.old journal →
-        OnOk result (LeadsTo start (drained start journal) world.new journal outbox.old outbox.new) }
-    ensures frames { world.new.frames ≡ world.old.frames }
-{
-    let Ok(()) = world.drain(outbox) else {
-        return Err(NoMemory);
-    };
+    world.hear(mode, frame, outbox)?;
     Ok(())
 }

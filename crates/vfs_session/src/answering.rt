@@ -10,7 +10,7 @@ ghost use Rattle.vfs_session.specs.Steps.{Answers, Begins};
 use endpoint_link::Outbox;
 use fidl_names::NoMemory;
 use fidl_wire::{Ordinals, Out};
-use message_queues::Sent;
+use message_queues::Lent;
 use vfs_server::{Fate, Server};
 
 /// Answers an entry of an endpoint that is bound at this server. Where its client hung up the endpoint ends.
@@ -20,7 +20,7 @@ pub(crate) fn answer(
     server: u32,
     endpoint: u32,
     token: Option<u32>,
-    sent: &Sent,
+    sent: &Lent<'_>,
     out: &mut Out,
     outbox: &mut Outbox,
 ) -> Result<Fate, NoMemory>
@@ -30,7 +30,7 @@ pub(crate) fn answer(
     ensures answers { IfOk result (λ fate. Answers servers.old.items server endpoint token sent.now fate out.new servers.new.items outbox.old outbox.new) }
     ensures begins { Begins outbox.old outbox.new }
 {
-    let Some((bytes, handles)) = sent.parcel.message() else {
+    let Some((bytes, handles)) = sent.message() else {
         return Ok(Fate::Ends);
     };
     let one = &mut servers[server as usize];

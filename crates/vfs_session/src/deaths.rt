@@ -5,7 +5,7 @@ ghost use Rattle.vfs_journal.specs.Entries.{handles_of};
 ghost use Rattle.vfs_session.specs.Steps.{carried_but, end_told, first_told, is_it, settled_told};
 
 use fidl_names::{NoMemory, is_client};
-use message_queues::Sent;
+use message_queues::Lent;
 use std::alloc::Global;
 use vfs_server::Fate;
 
@@ -49,10 +49,10 @@ pub(crate) fn is_it(one: Option<u32>, number: u32) -> bool
 }
 
 /// Adds the endpoints that an entry carries, but one.
-fn add_carried(sent: &Sent, but: Option<u32>, dying: &mut Vec<u32>) -> Result<(), NoMemory>
+fn add_carried(sent: &Lent<'_>, but: Option<u32>, dying: &mut Vec<u32>) -> Result<(), NoMemory>
     ensures { OnOk result (dying.new.items ≡ dying.old.items ++ carried_but but sent.now) }
 {
-    for handle in sent.parcel.handles() {
+    for handle in sent.handles() {
         let number = handle.number();
         if is_client(number) && !is_it(but, number) {
             dying.push(number)?;
@@ -62,7 +62,11 @@ fn add_carried(sent: &Sent, but: Option<u32>, dying: &mut Vec<u32>) -> Result<()
 }
 
 /// The endpoint that ends, and those that the entry carries and nothing is done with.
-pub(crate) fn first_deaths(alloc: Global, sent: &Sent, fate: &Fate) -> Result<Vec<u32>, NoMemory>
+pub(crate) fn first_deaths(
+    alloc: Global,
+    sent: &Lent<'_>,
+    fate: &Fate,
+) -> Result<Vec<u32>, NoMemory>
     ensures { IfOk result (λ dying. dying.items ≡ first_told sent.now fate.now) }
 {
     let mut dying = Vec::new(alloc);
@@ -74,8 +78,8 @@ pub(crate) fn first_deaths(alloc: Global, sent: &Sent, fate: &Fate) -> Result<Ve
 }
 
 /// Whether a serving leaves all others as they are: the endpoint stays, and the entry carries nothing.
-pub(crate) fn is_quiet(sent: &Sent, fate: &Fate) -> bool
+pub(crate) fn is_quiet(sent: &Lent<'_>, fate: &Fate) -> bool
     ensures { result ≡ true → (fate.now ≡ Fate.Stays) × (handles_of sent.now.sending ≡ []) }
 {
-    matches!(fate, Fate::Stays) && sent.parcel.handles().is_empty()
+    matches!(fate, Fate::Stays) && sent.handles().is_empty()
 }

@@ -8,7 +8,7 @@ ghost use Rattle.vfs_session.specs.Steps.{CanGo, ForgetsAll, ForgetsEach, known_
 
 use endpoint_link::Endpoints;
 use fidl_names::{NoMemory, is_client};
-use message_queues::Sent;
+use message_queues::Lent;
 use vfs_server::{Fate, Server};
 
 /// Forgets a token at every server.
@@ -32,12 +32,12 @@ fn forget(servers: &mut Vec<Server>, endpoints: &mut Endpoints, token: u32)
 }
 
 /// Forgets the tokens that an entry carries.
-fn forget_carried(servers: &mut Vec<Server>, endpoints: &mut Endpoints, sent: &Sent)
+fn forget_carried(servers: &mut Vec<Server>, endpoints: &mut Endpoints, sent: &Lent<'_>)
     requires out { CanGo endpoints.old (tokens_in sent.now) }
     ensures forgets { ForgetsAll servers.old.items (tokens_in sent.now) servers.new.items }
     ensures known { endpoints.new ≡ fold gone endpoints.old (tokens_in sent.now) }
 {
-    for handle in sent.parcel.handles() {
+    for handle in sent.handles() {
         let number = handle.number();
         if !is_client(number) {
             forget(servers, endpoints, number);
@@ -61,7 +61,7 @@ fn forget_all(servers: &mut Vec<Server>, endpoints: &mut Endpoints, tokens: &[u3
 pub(crate) fn spend(
     servers: &mut Vec<Server>,
     endpoints: &mut Endpoints,
-    sent: &Sent,
+    sent: &Lent<'_>,
     dropped: &[u32],
 )
     requires out { CanGo endpoints.old (tokens_in sent.now ++ dropped.now) }

@@ -19,7 +19,7 @@ use crate::session::Session;
 use crate::settling::{bind, bury, send_on};
 use endpoint_link::Outbox;
 use fidl_names::{MAX_WAITING, NoMemory};
-use message_queues::Sent;
+use message_queues::{Lent, Sent};
 use vfs_server::Fate;
 
 impl Session {
@@ -32,7 +32,9 @@ impl Session {
         ensures begins { Begins outbox.old outbox.new }
     {
         let (server, sent) = self.queues.take(endpoint)?;
-        self.serve_taken(endpoint, server, sent, outbox)
+        self.serve_taken(endpoint, server, &sent.lend(), outbox)?;
+        self.keep_room(sent);
+        Ok(())
     }
 
     /// Serves what was taken from an endpoint that is bound at this server, and was the first that waited
@@ -41,19 +43,18 @@ impl Session {
         &mut self,
         endpoint: u32,
         server: u32,
-        sent: Sent,
+        sent: &Lent<'_>,
         outbox: &mut Outbox,
     ) -> Result<(), NoMemory>
-        requires taken { (before : World) × (IsRunning (2 ^ 61) before × Takes before endpoint server sent (whole self.old)) }
-        ensures served { (before : World) → IsRunning (2 ^ 61) before → Takes before endpoint server sent (whole self.old) →
+        requires taken { (before : World) × (IsRunning (2 ^ 61) before × Takes before endpoint server sent.now (whole self.old)) }
+        ensures served { (before : World) → IsRunning (2 ^ 61) before → Takes before endpoint server sent.now (whole self.old) →
             OnOk result (ServesOne (λ one. one ≡ endpoint) before (whole self.new) outbox.old outbox.new) }
-        ensures running { (most : ℕ) (before : World) → IsRunning (2 ^ 61) before → IsRunning most before → Takes before endpoint server sent (whole self.old) →
+        ensures running { (most : ℕ) (before : World) → IsRunning (2 ^ 61) before → IsRunning most before → Takes before endpoint server sent.now (whole self.old) →
             OnOk result (IsRunning most (whole self.new)) }
         ensures begins { Begins outbox.old outbox.new }
     {
-        let fate = self.answer_taken(endpoint, server, &sent, outbox)?;
-        self.settle_head(&sent, &fate, outbox)?;
-        self.keep_room(sent);
+        let fate = self.answer_taken(endpoint, server, sent, outbox)?;
+        self.settle_head(sent, &fate, outbox)?;
         Ok(())
     }
 
@@ -62,7 +63,7 @@ impl Session {
         &mut self,
         endpoint: u32,
         server: u32,
-        sent: &Sent,
+        sent: &Lent<'_>,
         outbox: &mut Outbox,
     ) -> Result<Fate, NoMemory>
         requires taken { (before : World) × (IsRunning (2 ^ 61) before × Takes before endpoint server sent.now (whole self.old)) }
@@ -88,7 +89,12 @@ impl Session {
 
     /// Lets whoever dies of a serving die, forgets the tokens that are spent, gives the one that is given, and
     /// sends on what goes on.
-    fn settle_head(&mut self, sent: &Sent, fate: &Fate, outbox: &mut Outbox) -> Result<(), NoMemory>
+    fn settle_head(
+        &mut self,
+        sent: &Lent<'_>,
+        fate: &Fate,
+        outbox: &mut Outbox,
+    ) -> Result<(), NoMemory>
         requires live { (dead : List ℕ) → AreDeaths self.old.queues (first_told sent.now fate.now) dead → All (λ endpoint. is_live (standing_of self.old.endpoints endpoint) ≡ true) dead }
         requires out { (dead : List ℕ) → AreDeaths self.old.queues (first_told sent.now fate.now) dead → CanGo self.old.endpoints (spent_told sent.now self.old.queues dead) }
         requires counted { count self.old.queues ≡ self.old.endpoints.waiting }
@@ -123,7 +129,7 @@ impl Session {
     /// Buries whoever dies of a serving, and closes them. Tells the tokens that what waited on them carried.
     fn let_die(
         &mut self,
-        sent: &Sent,
+        sent: &Lent<'_>,
         fate: &Fate,
         outbox: &mut Outbox,
     ) -> Result<Vec<u32>, NoMemory>

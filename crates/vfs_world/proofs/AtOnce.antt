@@ -1,5 +1,5 @@
 -- A message that is served at once is served as if it had waited: it is behind nothing, and is taken again at once.
-use Rattle.std.proofs.Common.{◌≡◌, ℕ, zero, suc, ◌+◌, ◌-◌, ◌<◌, ◌≤◌, ◌^◌, ◌==◌, Bool, true, false, cond, if◌then◌else◌, IsSome, List, [], ◌∷◌, ◌++◌, length, filter, drop, Option, Some, None, refl, sym, ap, ◌∙◌, subst, arith}
+use Rattle.std.proofs.Common.{◌≡◌, ℕ, zero, suc, ◌+◌, ◌≤◌, ◌==◌, Bool, true, false, cond, if◌then◌else◌, IsSome, List, [], ◌∷◌, ◌++◌, length, filter, drop, Option, Some, None, refl, sym, ap, ◌∙◌, subst, arith}
 use Rattle.std.specs.Prelude.{slice_get}
 use Rattle.std.specs.Cmp.{nat_cmp_total}
 use Rattle.std.specs.FinMap as finite
@@ -17,7 +17,6 @@ use Rattle.vfs_journal.specs.History.{waiting}
 use Rattle.vfs_journal.specs.Past.{history_of}
 use Rattle.vfs_journal.specs.Session.{arrives, drained}
 use Rattle.vfs_journal.specs.Starts.{Start}
-use Rattle.message_queues.specs.Oldest.{IsBound, IsOldest}
 use Rattle.message_queues.specs.Queues.{Mailbox, Queues, Requeues, count, head_of, queue_of, server_of}
 use Rattle.message_queues.proofs.Counting.{counts_its_list}
 use Rattle.vfs_session.specs.Heads.{Takes}
@@ -25,10 +24,10 @@ use Rattle.vfs_session.specs.Servings.{IsDrain, IsOldestOfAll, ServesOne, Serves
 use Rattle.vfs_session.specs.Steps.{IsRunning}
 use Rattle.vfs_session.specs.World.{LeadsTo, StandsFor, World}
 use Rattle.vfs_session.proofs.OneMore.{one_of_these}
-use Rattle.vfs_session.proofs.Serves.{drain_leads, drained_none}
+use Rattle.vfs_session.proofs.Serves.{drain_leads}
 use Rattle.vfs_session.proofs.Times.{goes_on}
 use Rattle.vfs_world.specs.Steps.{IsAdmitted, IsFree, Reaches, WaitsLast}
-use Rattle.vfs_world.proofs.Hearing.{message_lasts, message_leads}
+use Rattle.vfs_world.proofs.Hearing.{message_leads}
 
 -- ---- queues with one entry more
 

@@ -10,7 +10,7 @@ ghost use Rattle.vfs_journal.specs.Entries.{Journal, message};
 ghost use Rattle.vfs_journal.specs.History.{waiting};
 ghost use Rattle.vfs_journal.specs.Output.{refused_frame};
 ghost use Rattle.vfs_journal.specs.Past.{history_of};
-ghost use Rattle.vfs_journal.specs.Session.{arrives, drained};
+ghost use Rattle.vfs_journal.specs.Session.{arrives, drained, steps};
 ghost use Rattle.vfs_journal.specs.Starts.{Start};
 ghost use Rattle.vfs_session.specs.Running.{whole};
 ghost use Rattle.vfs_session.specs.Steps.{Begins, IsRunning};
@@ -18,18 +18,14 @@ ghost use Rattle.vfs_session.specs.World.{LeadsTo, StandsFor, World};
 ghost use Rattle.vfs_world.specs.Steps.{CanWait, Hears, IsAdmitted, IsFree, Reaches, WaitsLast};
 
 use byteorder::{ByteOrder, LittleEndian};
-use endpoint_link::{AdmitFault, FrameKind, FrameView, Outbox, Refusal, write_frame};
+use endpoint_link::{AdmitFault, FrameKind, FrameView, Mode, Outbox, Refusal, write_frame};
 use fidl_names::NoMemory;
-use message_queues::{Parcel, Sent};
+use message_queues::{Lent, Parcel, Sent, handles_in};
 use std::mem;
 use vfs_session::Session;
 
 /// Accepts a frame.
-pub(crate) fn arrive(
-    session: &mut Session,
-    frame: FrameView<'_>,
-    outbox: &mut Outbox,
-) -> Result<(), NoMemory>
+fn arrive(session: &mut Session, frame: FrameView<'_>, outbox: &mut Outbox) -> Result<(), NoMemory>
     requires frame { IsFrame side.ToServers (frame_of frame) }
     requires running { IsRunning (2 ^ 61) (whole session.old) }
     ensures arrived { (start : Start) (journal : Journal) → StandsFor start (whole session.old) journal →
@@ -44,8 +40,30 @@ pub(crate) fn arrive(
     }
 }
 
-/// Accepts a frame, and serves all that can be served then.
+/// Hears a frame: accepts it, and in mode auto serves all that can be served then.
 pub(crate) fn hear(
+    session: &mut Session,
+    mode: Mode,
+    frame: FrameView<'_>,
+    outbox: &mut Outbox,
+) -> Result<(), NoMemory>
+    requires frame { IsFrame side.ToServers (frame_of frame) }
+    requires running { IsRunning (2 ^ 61 - 4098) (whole session.old) }
+    ensures heard { (start : Start) (journal : Journal) → StandsFor start (whole session.old) journal →
+        OnOk result (LeadsTo start (steps start mode journal (frame_of frame.entry)) (whole session.new) journal outbox.old outbox.new) }
+    ensures none { mode ≡ Mode.Auto → (start : Start) (journal : Journal) → StandsFor start (whole session.old) journal →
+        OnOk result (waiting (history_of start (steps start mode journal (frame_of frame.entry))) ≡ []) }
+    ensures running { (most : ℕ) → IsRunning most (whole session.old) → OnOk result (IsRunning (most + 4098) (whole session.new)) }
+    ensures begins { Begins outbox.old outbox.new }
+{
+    match mode {
+        Mode::Auto => hear_out(session, frame, outbox),
+        Mode::Given => arrive(session, frame, outbox),
+    }
+}
+
+/// Accepts a frame, and serves all that can be served then.
+fn hear_out(
     session: &mut Session,
     frame: FrameView<'_>,
     outbox: &mut Outbox,
@@ -128,16 +146,10 @@ fn serve_admitted(
         OnOk result (IsRunning (most + 4098) (whole session.new)) }
     ensures begins { Begins outbox.old outbox.new }
 {
-    let room = mem::replace(&mut session.room, Vec::new(session.alloc));
-    let parcel = Parcel::of_message(session.alloc, room, frame)?;
-    let sent = Sent {
-        place: session.places,
-        endpoint: frame.endpoint,
-        parcel,
-        origin: None,
-    };
+    let handles = handles_in(session.alloc, frame.handles)?;
+    let sent = Lent::of_frame(session.places, frame, &handles);
     session.places += 1;
-    session.serve_taken(frame.endpoint, server, sent, outbox)
+    session.serve_taken(frame.endpoint, server, &sent, outbox)
 }
 
 /// Does what an admitted frame asks, behind its admission.

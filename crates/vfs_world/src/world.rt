@@ -5,16 +5,16 @@ ghost use Rattle.endpoint_link.specs.Views.{frame_of};
 ghost use Rattle.vfs_journal.specs.Entries.{Journal};
 ghost use Rattle.vfs_journal.specs.History.{waiting};
 ghost use Rattle.vfs_journal.specs.Past.{history_of};
-ghost use Rattle.vfs_journal.specs.Session.{arrives, drained, head, oldest, picked, turned};
+ghost use Rattle.vfs_journal.specs.Session.{arrives, drained, head, oldest, picked, steps, turned};
 ghost use Rattle.vfs_journal.specs.Starts.{Start, start_of};
 ghost use Rattle.journal_laws.specs.Viewing.{view_behind};
 ghost use Rattle.vfs_server.specs.KeptNodes.{kept_in};
 ghost use Rattle.vfs_session.specs.Servings.{served_in};
 ghost use Rattle.vfs_session.specs.World.{LeadsTo, StandsFor};
 
-use crate::arriving::{arrive, hear};
+use crate::arriving::hear;
 use crate::beginning::begin;
-use endpoint_link::{FrameView, Outbox};
+use endpoint_link::{FrameView, Mode, Outbox};
 use fidl_names::NoMemory;
 use fidl_wire::Ordinals;
 use std::alloc::Global;
@@ -28,6 +28,12 @@ pub enum WorldFault {
     NoMemory,
     /// Memory was wanting in an earlier call.
     Spent,
+}
+
+impl From<WorldFault> for NoMemory {
+    fn from(_fault: WorldFault) -> NoMemory {
+        NoMemory
+    }
 }
 
 /// Whether a Pick served an entry.
@@ -92,26 +98,23 @@ impl World {
         ensures only_spent { result ≡ Err WorldFault.Spent → self.old.spent ≡ true }
         ensures silent { OnErr result (outbox.new ≡ outbox.old) }
     {
-        if let Err(fault) = self.able() {
-            return Err(fault);
-        }
-        let begun = outbox.len();
-        if let Err(NoMemory) = arrive(&mut self.session, frame, outbox) {
-            return Err(take_back(begun, outbox, &mut self.spent));
-        }
-        self.frames += 1;
-        Ok(())
+        self.hear(Mode::Given, frame, outbox)
     }
 
-    /// Accepts a frame, and serves all that can be served then: what `accept` and then `drain` do. A message
-    /// that finds nothing waiting is served without waiting itself.
-    pub fn hear(&mut self, frame: FrameView<'_>, outbox: &mut Outbox) -> Result<(), WorldFault>
+    /// Hears a frame: accepts it, and in mode auto serves all that can be served then. A message that finds
+    /// nothing waiting there is served without waiting itself.
+    pub fn hear(
+        &mut self,
+        mode: Mode,
+        frame: FrameView<'_>,
+        outbox: &mut Outbox,
+    ) -> Result<(), WorldFault>
         requires frame { IsFrame side.ToServers (frame_of frame) }
         requires few { self.old.frames < 2 ^ 48 }
         ensures heard { (start : Start) (journal : Journal) → StandsFor start self.old journal →
-            OnOk result (LeadsTo start (drained start (arrives start journal (frame_of frame.entry))) self.new journal outbox.old outbox.new) }
-        ensures none { (start : Start) (journal : Journal) → StandsFor start self.old journal →
-            OnOk result (waiting (history_of start (drained start (arrives start journal (frame_of frame.entry)))) ≡ []) }
+            OnOk result (LeadsTo start (steps start mode journal (frame_of frame.entry)) self.new journal outbox.old outbox.new) }
+        ensures none { mode ≡ Mode.Auto → (start : Start) (journal : Journal) → StandsFor start self.old journal →
+            OnOk result (waiting (history_of start (steps start mode journal (frame_of frame.entry))) ≡ []) }
         ensures frames { self.new.frames ≡ (if is_ok result then self.old.frames + 1 else self.old.frames) }
         ensures able { OnOk result (self.new.spent ≡ false) }
         ensures memory { result ≡ Err WorldFault.NoMemory → (self.old.spent ≡ false) × (self.new.spent ≡ true) }
@@ -123,7 +126,7 @@ impl World {
             return Err(fault);
         }
         let begun = outbox.len();
-        if let Err(NoMemory) = hear(&mut self.session, frame, outbox) {
+        if let Err(NoMemory) = hear(&mut self.session, mode, frame, outbox) {
             return Err(take_back(begun, outbox, &mut self.spent));
         }
         self.frames += 1;

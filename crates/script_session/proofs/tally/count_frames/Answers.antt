@@ -1,6 +1,5 @@
-use Rattle.std.proofs.Common.{◌≡◌, ◌≤◌, ◌+◌, ℕ, List, length, ap, sym, subst, arith}
+use Rattle.std.proofs.Common.{◌+◌, length, ap, sym, subst, arith}
 use Rattle.std.specs.Prelude.{⊤}
-use Rattle.endpoint_link.specs.Frames.{Frame}
 use Rattle.endpoint_link.specs.Views.{frame_of}
 use Rattle.endpoint_link.specs.declared.kinds.Side.TheVariants as side
 use Rattle.script_session.proofs.Counting.{Read, all_counted, less_left, read_more}

@@ -1,8 +1,8 @@
-use Rattle.std.proofs.Common.{◌≡◌, ◌+◌, ◌-◌, ◌^◌, ℕ, None, refl, sym, ap, subst}
+use Rattle.std.proofs.Common.{◌≡◌, ◌+◌, ◌-◌, ◌^◌, ℕ, refl, sym, subst}
 use Rattle.endpoint_link.specs.Frames.{Frame, IsFrame}
 use Rattle.endpoint_link.specs.declared.kinds.Side.TheVariants.{ToServers}
 use Rattle.endpoint_link.specs.Views.{frame_of}
-use Rattle.vfs_journal.specs.Entries.{Sending, Sent, message}
+use Rattle.vfs_journal.specs.Entries.{Sent}
 use Rattle.vfs_session.specs.Heads.{Takes}
 use Rattle.vfs_session.specs.Running.{whole}
 use Rattle.vfs_session.specs.Steps.{IsRunning}
@@ -14,10 +14,10 @@ use Rattle.vfs_world.proofs.Hearing.{message_lasts}
 use Rattle.vfs_world.proofs.arriving.serve_admitted.Goals as goal
 
 -- behind its place it stands as what waited and was taken
-takes : (now : World) (frame : Frame) (server : ℕ) (sending : Sending) → Hears (2 ^ 61 - 4098) frame now → IsFree frame server now → sending ≡ message frame.bytes frame.handles →
-    Takes (waits_in now frame) frame.endpoint server (record { place = now.places; endpoint = frame.endpoint; sending = sending; origin = None }) (record now { places = now.places + 1 })
-takes now frame server sending heard free is =
-    subst (λ (s : Sending). Takes (waits_in now frame) frame.endpoint server (record { place = now.places; endpoint = frame.endpoint; sending = s; origin = None }) (record now { places = now.places + 1 })) (sym is)
+takes : (now : World) (frame : Frame) (server : ℕ) (sent : Sent) → Hears (2 ^ 61 - 4098) frame now → IsFree frame server now → sent ≡ sent_in now frame →
+    Takes (waits_in now frame) frame.endpoint server sent (record now { places = now.places + 1 })
+takes now frame server sent heard free is =
+    subst (λ (s : Sent). Takes (waits_in now frame) frame.endpoint server s (record now { places = now.places + 1 })) (sym is)
     (taken_again now.queues (sent_in now frame) (none_waits heard.before now (2 ^ 61 - 4098) heard.running heard.admitted.same free.none) server (record now { places = now.places + 1 }) free.bound refl)
 
 runs : (now : World) (frame : Frame) (server : ℕ) → Hears (2 ^ 61 - 4098) frame now → IsFrame ToServers frame → IsFree frame server now → IsRunning (2 ^ 61) (waits_in now frame)
@@ -29,7 +29,7 @@ serve_taken-requires c = record {
     waits_in (whole c.args.session.now) (frame_of c.args.frame),
     (
       runs (whole c.args.session.now) (frame_of c.args.frame) c.args.server c.requires.heard c.requires.frame c.requires.free,
-      takes (whole c.args.session.now) (frame_of c.args.frame) c.args.server c.in_ok-parcel.parcel c.requires.heard c.requires.free c.in_ok-parcel.ensures.message,
+      takes (whole c.args.session.now) (frame_of c.args.frame) c.args.server c.of_frame-sent.result c.requires.heard c.requires.free c.of_frame-sent.ensures,
     ),
   );
 }
@@ -44,7 +44,7 @@ returns-clause-reached c =
     (none_waits heard.before now (2 ^ 61 - 4098) heard.running heard.admitted.same c.requires.free.none))
     (c.serve_taken.ensures.served (waits_in now (frame_of c.args.frame))
     (runs now (frame_of c.args.frame) c.args.server heard c.requires.frame c.requires.free)
-    (takes now (frame_of c.args.frame) c.args.server c.in_ok-parcel.parcel heard c.requires.free c.in_ok-parcel.ensures.message))
+    (takes now (frame_of c.args.frame) c.args.server c.of_frame-sent.result heard c.requires.free c.of_frame-sent.ensures))
 
 pub returns-clause-running : goal.returns-clause-running
 returns-clause-running c =
@@ -53,4 +53,4 @@ returns-clause-running c =
     c.serve_taken.ensures.running (most + 4098) (waits_in now (frame_of c.args.frame))
     (runs now (frame_of c.args.frame) c.args.server c.requires.heard c.requires.frame c.requires.free)
     (message_lasts most before now (waits_in now (frame_of c.args.frame)) (frame_of c.args.frame) run c.requires.frame c.requires.free.message admitted (waits_last now (frame_of c.args.frame)))
-    (takes now (frame_of c.args.frame) c.args.server c.in_ok-parcel.parcel c.requires.heard c.requires.free c.in_ok-parcel.ensures.message)
+    (takes now (frame_of c.args.frame) c.args.server c.of_frame-sent.result c.requires.heard c.requires.free c.of_frame-sent.ensures)

@@ -1,9 +1,9 @@
-use Rattle.std.proofs.Common.{◌≡◌, ◌<◌, ◌≤◌, ◌+◌, ◌++◌, ◌*◌, ◌^◌, ◌∷◌, [], ℕ, List, length, drop, refl, sym, ap, ◌∙◌, subst, arith}
+use Rattle.std.proofs.Common.{◌<◌, ◌≤◌, ◌+◌, List, length, refl, sym, ap, ◌∙◌, subst, arith}
 use Rattle.endpoint_link.specs.Frames.{Frame}
 use Rattle.endpoint_link.specs.Views.{frame_of}
 use Rattle.endpoint_link.specs.declared.kinds.Mode.{Mode}
 use Rattle.endpoint_link.specs.declared.kinds.Side.TheVariants as side
-use Rattle.vfs_journal.specs.Session.{session, steps}
+use Rattle.vfs_journal.specs.Session.{steps}
 use Rattle.vfs_script.specs.Scripts.{frames_of}
 use Rattle.script_session.specs.Tallies.{Metered}
 use Rattle.script_session.proofs.Counting.{Read, all_hold, one_in_front, read_more}

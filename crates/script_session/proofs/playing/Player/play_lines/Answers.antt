@@ -1,9 +1,9 @@
-use Rattle.std.proofs.Common.{◌≡◌, ◌<◌, ◌≤◌, ◌∷◌, ◌+◌, ◌++◌, ℕ, List, Option, length, drop, refl, sym, ap, ◌∙◌, subst, arith}
+use Rattle.std.proofs.Common.{◌<◌, ◌≤◌, ◌+◌, List, length, drop, refl, sym, ap, ◌∙◌, subst, arith}
 use Rattle.std.specs.Prelude.{slice_get}
 use Rattle.endpoint_link.specs.Views.{frame_of}
 use Rattle.endpoint_link.specs.declared.kinds.Mode.{Mode}
 use Rattle.host_io.specs.Streams.{AppendsPart}
-use Rattle.vfs_script.specs.Scripts.{Spoken, call_in, count_calls, frame_of as spoken_frame, script_lines}
+use Rattle.vfs_script.specs.Scripts.{Spoken, call_in, count_calls, script_lines}
 use Rattle.transcripts.specs.Telling.{IsTold}
 use Rattle.transcripts.specs.Transcript.{lines_of}
 use Rattle.script_session.specs.Playing.{play_line, play_lines}

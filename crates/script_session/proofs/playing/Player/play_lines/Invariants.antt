@@ -1,4 +1,4 @@
-use Rattle.std.proofs.Common.{◌≡◌, ◌≤◌, ℕ, List, Option}
+use Rattle.std.proofs.Common.{◌≡◌, ◌≤◌, ℕ, List}
 use Rattle.vfs_script.specs.Scripts.{count_calls, script_lines}
 use Rattle.script_session.specs.Steps.{IsScript}
 use Rattle.script_session.proofs.Stages.{Behind, Stage}

@@ -1,4 +1,4 @@
-use Rattle.std.proofs.Common.{rules, sym, subst, IsTrue, OnOk}
+use Rattle.std.proofs.Common.{rules, sym, subst, IsTrue}
 use Rattle.vfs_program.specs.Serving.{HeardEnd}
 use Rattle.vfs_program.specs.Session.{Course}
 use Rattle.vfs_program.proofs.TreeLemmas.{drains_last, may_starve}
@@ -7,8 +7,8 @@ use Rattle.vfs_program.proofs.tree_session.TreeSessionSession.finish.Goals as go
 pub returns-clause-heard : goal.returns-clause-heard
 returns-clause-heard c = λ course frames behind.
     let by = c.args.self.now.mode in
-    subst (λ (k : Course). OnOk c.drain.result (HeardEnd k frames c.args.self.now.outbox c.drain.new.outbox)) (sym behind.1)
-    (drains_last c.drain.result behind.0 by c.args.self.now.world c.drain.new.world frames c.args.self.now.outbox c.drain.new.outbox (c.drain.ensures.drained behind.0) behind.2)
+    subst (λ (k : Course). HeardEnd k frames c.args.self.now.outbox c.drain.new.outbox) (sym behind.1)
+    (drains_last behind.0 by c.args.self.now.world c.drain.new.self frames c.args.self.now.outbox c.drain.new.outbox (c.in_ok-drain.ensures.drained behind.0) behind.2)
 
 pub returns-clause-memory : goal.returns-clause-memory
 returns-clause-memory c = λ course frames behind.

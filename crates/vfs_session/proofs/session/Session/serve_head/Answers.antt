@@ -1,22 +1,27 @@
-use Rattle.std.proofs.Common.{refl}
+use Rattle.std.proofs.Common.{◌≡◌, ◌∙◌, Some, ap, refl, subst, sym}
 use Rattle.vfs_session.specs.Running.{whole}
+use Rattle.vfs_session.specs.Servings.{ServesOne}
+use Rattle.vfs_session.specs.Steps.{IsRunning}
+use Rattle.vfs_session.specs.World.{World}
 use Rattle.vfs_session.proofs.session.Session.serve_head.Goals as goal
 
 pub serve_taken-requires : goal.serve_taken-requires
 serve_taken-requires c = record {
   taken = (
     whole c.args.self.now,
-    (c.requires.running, record { bound = c.in_ok-server.ensures.bound; first = c.in_ok-server.ensures.first; taken = c.in_ok-server.ensures.later; count = c.in_ok-server.ensures.len; same = refl }),
+    (c.requires.running, record { bound = c.in_ok-server.ensures.bound; first = c.in_ok-server.ensures.first ∙ ap Some (sym c.lend.ensures); taken = c.in_ok-server.ensures.later; count = c.in_ok-server.ensures.len; same = refl }),
   );
 }
 
 pub returns-clause-served : goal.returns-clause-served
 returns-clause-served c =
-    c.serve_taken.ensures.served (whole c.args.self.now) c.requires.running
-    (record { bound = c.in_ok-server.ensures.bound; first = c.in_ok-server.ensures.first; taken = c.in_ok-server.ensures.later; count = c.in_ok-server.ensures.len; same = refl })
+    subst (λ (new : World). ServesOne (λ one. one ≡ c.args.endpoint) (whole c.args.self.now) new c.args.outbox.now c.serve_taken.new.outbox) (sym c.keep_room.ensures)
+    (c.in_ok-serve_taken.ensures.served (whole c.args.self.now) c.requires.running
+    (record { bound = c.in_ok-server.ensures.bound; first = c.in_ok-server.ensures.first ∙ ap Some (sym c.lend.ensures); taken = c.in_ok-server.ensures.later; count = c.in_ok-server.ensures.len; same = refl }))
 
 pub returns-clause-running : goal.returns-clause-running
 returns-clause-running c =
     λ most run.
-    c.serve_taken.ensures.running most (whole c.args.self.now) c.requires.running run
-    (record { bound = c.in_ok-server.ensures.bound; first = c.in_ok-server.ensures.first; taken = c.in_ok-server.ensures.later; count = c.in_ok-server.ensures.len; same = refl })
+    subst (IsRunning most) (sym c.keep_room.ensures)
+    (c.in_ok-serve_taken.ensures.running most (whole c.args.self.now) c.requires.running run
+    (record { bound = c.in_ok-server.ensures.bound; first = c.in_ok-server.ensures.first ∙ ap Some (sym c.lend.ensures); taken = c.in_ok-server.ensures.later; count = c.in_ok-server.ensures.len; same = refl }))

@@ -16,15 +16,15 @@ returns-in_err-settle_head-clause-begins c = begins_on c.args.outbox.now c.answe
 pub returns-clause-served : goal.returns-clause-served
 returns-clause-served c =
     λ before run takes.
-    one_served before (whole c.answer_taken.new.self) (whole c.settle_head.new.self) (whole c.keep_room.new.self) run _ _ _ _ _ _ _ _ (c.in_ok-fate.ensures.taken before takes)
-    c.in_ok-settle_head.ensures.settled c.keep_room.ensures refl
+    one_served before (whole c.answer_taken.new.self) (whole c.settle_head.new.self) (whole c.settle_head.new.self) run _ _ _ _ _ _ _ _ (c.in_ok-fate.ensures.taken before takes)
+    c.in_ok-settle_head.ensures.settled refl refl
 
 pub returns-clause-running : goal.returns-clause-running
 returns-clause-running c =
     λ most before run few takes.
-    goes_on most before (whole c.keep_room.new.self) few c.args.endpoint _ _
-    (one_served before (whole c.answer_taken.new.self) (whole c.settle_head.new.self) (whole c.keep_room.new.self) run _ _ _ _ _ _ _ _ (c.in_ok-fate.ensures.taken before takes)
-    c.in_ok-settle_head.ensures.settled c.keep_room.ensures refl)
+    goes_on most before (whole c.settle_head.new.self) few c.args.endpoint _ _
+    (one_served before (whole c.answer_taken.new.self) (whole c.settle_head.new.self) (whole c.settle_head.new.self) run _ _ _ _ _ _ _ _ (c.in_ok-fate.ensures.taken before takes)
+    c.in_ok-settle_head.ensures.settled refl refl)
 
 pub returns-clause-begins : goal.returns-clause-begins
 returns-clause-begins c = begins_on c.args.outbox.now c.answer_taken.new.outbox c.settle_head.new.outbox c.answer_taken.ensures.begins c.settle_head.ensures.begins

@@ -1,5 +1,4 @@
-use Rattle.std.proofs.Common.{◌≡◌, ◌∙◌, ◌+◌, ◌-◌, ◌*◌, ◌^◌, ◌<◌, ◌≤◌, ap, arith}
-use Rattle.endpoint_link.specs.Views.{frame_of}
+use Rattle.std.proofs.Common.{◌≡◌, ◌∙◌, ◌+◌, ◌-◌, ◌*◌, ◌^◌, ◌<◌, ap, arith}
 use Rattle.vfs_session.specs.Running.{whole}
 use Rattle.vfs_session.specs.World.{World}
 use Rattle.vfs_session.proofs.Lasting.{lasts_more}
@@ -30,5 +29,5 @@ returns-clause-heard c =
 
 pub returns-clause-none : goal.returns-clause-none
 returns-clause-none c =
-    λ start journal stands.
-    c.in_default-hear.ensures.none start journal (stands_inside c.self.inside c.self.view_is start journal stands)
+    λ auto start journal stands.
+    c.in_default-hear.ensures.none auto start journal (stands_inside c.self.inside c.self.view_is start journal stands)

@@ -5,7 +5,7 @@ use Rattle.vfs_session.specs.Running.{whole}
 use Rattle.vfs_session.proofs.Halves.{begins_on}
 use Rattle.vfs_world.proofs.Answered.{on_ok}
 use Rattle.vfs_world.proofs.AtOnce.{drained_behind}
-use Rattle.vfs_world.proofs.arriving.hear.Goals as goal
+use Rattle.vfs_world.proofs.arriving.hear_out.Goals as goal
 
 pub drain-requires : goal.drain-requires
 drain-requires c = record { running = c.in_ok-reach.ensures.running (2 ^ 61 - 4098) c.requires.running }
