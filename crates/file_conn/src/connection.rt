@@ -62,6 +62,7 @@ impl FileConn {
     ///
     /// Want of memory is answered to Write, WriteAt and Resize alone, where nothing else refuses them;
     /// connection, graph and output are then as they were.
+    #[inline(always)]
     pub fn serve(
         &mut self,
         ordinals: &Ordinals,
@@ -92,6 +93,7 @@ impl FileConn {
     }
 
     /// Serves a request whose method is not refused.
+    #[inline(always)]
     fn serve_row(
         &mut self,
         ordinals: &Ordinals,

@@ -17,6 +17,7 @@ use node_graph::Graph;
 
 impl FileConn {
     /// Serves a Read: at most so many bytes from the position on, which goes behind them.
+    #[inline(always)]
     pub(crate) fn read(
         &mut self,
         ordinals: &Ordinals,
