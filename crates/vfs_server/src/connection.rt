@@ -69,6 +69,7 @@ impl Connection {
     /// endpoints and what watchers are to be told. An Open that goes on is left in the output.
     ///
     /// For want of memory no frame is written.
+    #[inline(always)]
     pub fn serve<'a>(
         &mut self,
         asking: &Asking<'_>,

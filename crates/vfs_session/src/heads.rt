@@ -39,6 +39,7 @@ impl Session {
 
     /// Serves what was taken from an endpoint that is bound at this server, and was the first that waited
     /// there.
+    #[inline(always)]
     pub fn serve_taken(
         &mut self,
         endpoint: u32,
