@@ -8,13 +8,14 @@ ghost use Rattle.vfs_program.specs.Session.{SessionAnswers};
 ghost use Rattle.endpoint_link.specs.declared.kinds.Side.TheVariants as side;
 
 use crate::input::Input;
+use crate::named_files::read_file;
 use crate::one_file::{Connection, MOST_ANSWER};
 use crate::sessions::{Session, run};
 use crate::statuses::Status;
 use endpoint_link::{FrameRoom, FrameView, Side};
 use fidl_names::{MAX_FILE, MAX_PIECE, NoMemory};
 use fidl_wire::{OrdinalFault, Ordinals};
-use host_io::{FileFault, Files, Sink, Source};
+use host_io::{Files, Sink, Source};
 use std::alloc::Global;
 
 /// The room in which output is gathered: a large piece, and one more answer.
@@ -40,11 +41,9 @@ pub fn serve_file<F: Files, S: Source, K: Sink>(
         Ok(ordinals) => ordinals,
         Err(OrdinalFault::Collision(first, second)) => return Status::Collision { first, second },
     };
-    let file = match files.read_all(alloc, name, MAX_FILE) {
+    let file = match read_file(alloc, name, MAX_FILE, files) {
         Ok(file) => file,
-        Err(FileFault::Failed) => return Status::FileFault,
-        Err(FileFault::TooLarge) => return Status::FileTooLarge,
-        Err(FileFault::NoMemory) => return Status::NoMemory,
+        Err(status) => return status,
     };
     let Ok(mut input) = Input::new(alloc) else {
         return Status::NoMemory;

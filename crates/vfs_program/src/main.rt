@@ -8,6 +8,7 @@ mod input;
 mod laws;
 mod makes;
 mod messages;
+mod named_files;
 mod notes;
 mod one_file;
 #[cfg(test)]

@@ -7,11 +7,12 @@ ghost use Rattle.vfs_program.specs.Outside.{files_told, sink_told};
 ghost use Rattle.vfs_program.specs.Scripts.{Says};
 ghost use Rattle.vfs_program.specs.Texts.{WritesPieces};
 
+use crate::named_files::read_file;
 use crate::statuses::Status;
 use crate::trees::read_start;
 use fidl_names::MAX_TEXT;
 use fidl_wire::{OrdinalFault, Ordinals};
-use host_io::{FileFault, Files, Sink};
+use host_io::{Files, Sink};
 use script_session::{play, scripts_are_frames};
 use std::alloc::Global;
 use transcripts::TranscriptFault;
@@ -65,12 +66,7 @@ fn read_script<F: Files>(
     ensures refused { IfErr result (HasNoScript name.now
         (files_told F.told F.faults F.overlong files.old) (files_told F.told F.faults F.overlong files.new)) }
 {
-    let text = match files.read_all(alloc, name, MAX_TEXT) {
-        Ok(text) => text,
-        Err(FileFault::Failed) => return Err(Status::FileFault),
-        Err(FileFault::TooLarge) => return Err(Status::FileTooLarge),
-        Err(FileFault::NoMemory) => return Err(Status::NoMemory),
-    };
+    let text = read_file(alloc, name, MAX_TEXT, files)?;
     match script_of(alloc, ordinals, &text) {
         Ok(script) => Ok(script),
         Err(ScriptFault::Line(line)) => Err(Status::ScriptRefused { line }),

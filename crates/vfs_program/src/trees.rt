@@ -4,9 +4,10 @@ ghost use Rattle.vfs_program.specs.Files.{StillTold};
 ghost use Rattle.vfs_program.specs.Outside.{files_told};
 ghost use Rattle.vfs_program.specs.Trees.{Stands};
 
+use crate::named_files::read_file;
 use crate::statuses::Status;
 use fidl_names::MAX_TEXT;
-use host_io::{FileFault, Files};
+use host_io::Files;
 use std::alloc::Global;
 use tree_file::{Start, TreeFault, start_of};
 
@@ -17,12 +18,7 @@ pub fn read_start<F: Files>(alloc: Global, name: &str, files: &mut F) -> Result<
         (files_told F.told F.faults F.overlong files.old) (files_told F.told F.faults F.overlong files.new)) }
     ensures files { StillTold (files_told F.told F.faults F.overlong files.old) (files_told F.told F.faults F.overlong files.new) }
 {
-    let text = match files.read_all(alloc, name, MAX_TEXT) {
-        Ok(text) => text,
-        Err(FileFault::Failed) => return Err(Status::FileFault),
-        Err(FileFault::TooLarge) => return Err(Status::FileTooLarge),
-        Err(FileFault::NoMemory) => return Err(Status::NoMemory),
-    };
+    let text = read_file(alloc, name, MAX_TEXT, files)?;
     match start_of(alloc, &text) {
         Ok(start) => Ok(start),
         Err(TreeFault::Rule { rule, item }) => Err(Status::TreeRefused { rule, item }),
