@@ -1,5 +1,5 @@
 -- Words as numbers.
-use Rattle.std.proofs.Common.{◌≡◌, ℕ, zero, suc, ◌+◌, ◌-◌, ◌<◌, ◌≤◌, ◌^◌, ◌==◌, nat_lt, nat_le, not, Bool, true, false, cond, ◌&&◌, ◌||◌, List, [], ◌∷◌, ◌++◌, length, map, get_or, take, drop, Option, Some, None, Result, Ok, Err, refl, sym, ap, ◌∙◌, subst, arith, inl, inr, append_assoc, append-nil}
+use Rattle.std.proofs.Common.{◌≡◌, ℕ, zero, suc, ◌+◌, ◌-◌, ◌*◌, ◌<◌, ◌≤◌, ◌^◌, ◌==◌, nat_lt, nat_le, not, Bool, true, false, cond, ◌&&◌, ◌||◌, List, [], ◌∷◌, ◌++◌, length, map, get_or, take, drop, Option, Some, None, Result, Ok, Err, refl, sym, ap, ◌∙◌, subst, arith, inl, inr, append_assoc, append-nil}
 use Rattle.std.specs.Prelude.{MatchResult, is_ok}
 use Rattle.std.specs.List.{list_all}
 use Rattle.std.specs.Char.{digit_value}
@@ -10,7 +10,9 @@ use Rattle.std.specs.Str.Parse.{AllDigits, IsNumeral, ParsesUnsigned, digits_val
 use Rattle.std.proofs.lemmas.Bool.{and_parts, cases_lt, false_from_ne_true, le-ltb, leb-true, lt-ltb, or_cases}
 use Rattle.std.proofs.lemmas.Str.{IsUtf8-from_ascii, IsUtf8-from_is_utf8, is_utf8-from_IsUtf8}
 use Rattle.std.proofs.lemmas.Str.Ascii.{IsAscii-nil, IsAscii-cons}
-use Rattle.std.proofs.lemmas.Str.Parse.{without_leading_plus_none}
+use Rattle.std.proofs.Math.Nat.{pow-le-pow_right}
+use Rattle.std.proofs.lemmas.Int.Digits.{digits_value-lt, digits_value_more}
+use Rattle.std.proofs.lemmas.Str.Parse.{digits_value-take-le, without_leading_plus_none}
 use Rattle.vfs_script.specs.Words.{◌>>=◌, all_given, comma, given, is_decimal, is_decimal_digit, is_digit, is_hexadecimal, is_led, number_in, numbers_of, pieces}
 
 -- a digit is of ASCII and no sign
@@ -47,6 +49,35 @@ pub numeral_parsed : {E : Type 0} (radix : ℕ) (word : List ℕ) (r : Result �
 numeral_parsed radix word r high h p =
     let e = without_leading_plus_none word (no_plus radix word high h) in
     parsed_value (digits_value radix word) r (IsNumeral radix word) h (rw e at p)
+
+-- ---- few decimal digits
+
+digit_at : (word : List ℕ) (i : ℕ) → AllDigits 10 word → i < length word → digit_value (get_or word i 0) < 10
+digit_at [] i all h = absurd (omega arith)
+digit_at (c ∷ word) zero all h = all.0
+digit_at (c ∷ word) (suc i) all h = digit_at word i all.1 (omega arith)
+
+decimal_code : (c : ℕ) → digit_value c < 10 → (48 ≤ c) × (digit_value c ≡ c - 48)
+decimal_code c h = grind arith
+
+few_fit : (word : List ℕ) (i : ℕ) → length word ≤ 19 → AllDigits 10 word → digits_value 10 (take i word) < 2 ^ 64
+few_fit word i few all =
+    let front = digits_value-take-le 10 word i (omega arith) in
+    let small = digits_value-lt 10 word all in
+    let bound : 10 ^ length word ≤ 10 ^ 19 = pow-le-pow_right (omega arith) few in
+    omega (arith, front, small, bound)
+
+-- one digit more
+pub decimal_step : (word : List ℕ) (i : ℕ) → length word ≤ 19 → AllDigits 10 word → i < length word →
+    (48 ≤ get_or word i 0)
+    × (digits_value 10 (take (i + 1) word) ≡ digits_value 10 (take i word) * 10 + (get_or word i 0 - 48))
+    × (digits_value 10 (take (i + 1) word) < 2 ^ 64)
+decimal_step word i few all within =
+    let code = decimal_code (get_or word i 0) (digit_at word i all within) in (
+      code.0,
+      digits_value_more 10 word i within ∙ ap (λ d. digits_value 10 (take i word) * 10 + d) code.1,
+      few_fit word (i + 1) few all,
+    )
 
 -- the tests of digits
 decimal_value : (c : ℕ) → is_decimal_digit c ≡ true → digit_value c < 10

@@ -1,11 +1,11 @@
 -- Bytes, handles and labels as text.
-use Rattle.std.proofs.Common.{◌≡◌, ℕ, zero, suc, ◌+◌, ◌<◌, ◌≤◌, ◌/◌, ◌%◌, ◌==◌, Bool, true, false, cond, List, [], ◌∷◌, ◌++◌, length, map, get_or, take, drop, Option, Some, None, refl, sym, ap, ◌∙◌, inl, inr, arith, append_assoc}
-use Rattle.std.specs.Prelude.{decimal, slice_index, slice_get}
+use Rattle.std.proofs.Common.{◌≡◌, ℕ, zero, suc, ◌+◌, ◌<◌, ◌≤◌, ◌==◌, Bool, true, false, cond, List, [], ◌∷◌, ◌++◌, length, map, get_or, take, drop, Option, Some, None, refl, sym, ap, ◌∙◌, inl, inr, arith, append_assoc}
+use Rattle.std.specs.Prelude.{decimal, slice_get}
 use Rattle.std.specs.List.{find, join_with_byte}
 use Rattle.std.proofs.lemmas.Bool.{cases_Bool, eq-eqb, eqb-true, ne_eqb}
-use Rattle.std.proofs.lemmas.List.{take_more, take-append-le, take_all, take-append-drop}
+use Rattle.std.proofs.lemmas.List.{take_more}
 use Rattle.std.proofs.lemmas.Option.{same_Some}
-use Rattle.hex.specs.Hex.{encode_lower, encode_with, lower_digits}
+use Rattle.hex.specs.Hex.{encode_lower}
 use Rattle.fidl_names.specs.declared.methods.Method.{Method}
 use Rattle.fidl_names.specs.declared.methods.Method.TheVariants as method
 use Rattle.fidl_wire.specs.Names.{event_ordinal, method_ordinal, row_of}
@@ -30,18 +30,6 @@ grown_by (x ∷ a) part = ap (λ t. x ∷ t) (grown_by a part)
 
 -- ---- bytes
 
-encode_with-append : (table a b : List ℕ) → encode_with table (a ++ b) ≡ encode_with table a ++ encode_with table b
-unfolding encode_with
-encode_with-append table [] b = refl
-encode_with-append table (byte ∷ a) b = ap (λ rest. slice_index table (byte / 16) ∷ slice_index table (byte % 16) ∷ rest) (encode_with-append table a b)
-
-pub encode_lower-append : (a b : List ℕ) → encode_lower (a ++ b) ≡ encode_lower a ++ encode_lower b
-encode_lower-append a b = encode_with-append lower_digits a b
-
--- the digits of a front and of the rest are those of the whole
-pub encode_cut : (n : ℕ) (bytes : List ℕ) → encode_lower (take n bytes) ++ encode_lower (drop n bytes) ≡ encode_lower bytes
-encode_cut n bytes = sym (encode_lower-append (take n bytes) (drop n bytes)) ∙ ap encode_lower (take-append-drop n bytes)
-
 pub bytes_text-some : (bytes : List ℕ) → 0 < length bytes → bytes_text bytes ≡ encode_lower bytes
 unfolding bytes_text
 bytes_text-some [] h = absurd (omega arith)
@@ -58,12 +46,6 @@ bytes_text-empty (first ∷ bytes) h = absurd (let none = eqb-true (length (firs
 pub bytes_text-other : (bytes : List ℕ) → (length bytes == 0) ≡ false → bytes_text bytes ≡ encode_lower bytes
 bytes_text-other [] h = cc
 bytes_text-other (first ∷ bytes) h = bytes_text-some (first ∷ bytes) (omega arith)
-
--- what was put of a front, and the digits of the rest
-pub bytes_step : (a to new bytes rest front behind : List ℕ) (n : ℕ) → to ++ encode_lower rest ≡ a ++ encode_lower bytes → front ≡ take n rest → behind ≡ drop n rest →
-    new ≡ to ++ encode_lower front → new ++ encode_lower behind ≡ a ++ encode_lower bytes
-bytes_step a to new bytes rest front behind n e f b put =
-    rw (put, f, b) (append_assoc to (encode_lower (take n rest)) (encode_lower (drop n rest)) ∙ ap (λ t. to ++ t) (encode_cut n rest) ∙ e)
 
 -- ---- handles
 

@@ -1,6 +1,6 @@
 // The words of a line: numbers, bytes as hexadecimal digits, handles.
 
-ghost use Rattle.std.specs.Prelude.{◌≡◌, ◌^◌, ◌≤◌, length, nat_lt, IfOk, IfSome, IsTrue};
+ghost use Rattle.std.specs.Prelude.{◌≡◌, ◌^◌, ◌<◌, ◌≤◌, length, nat_lt, IfOk, IfSome, IsTrue};
 ghost use Rattle.std.specs.List.{list_all};
 ghost use Rattle.std.specs.Option.{option_map};
 ghost use Rattle.std.specs.Str.{IsUtf8, is_utf8};
@@ -89,6 +89,31 @@ fn digits(word: &[u8], radix: u32) -> Option<u64>
     u64::from_str_radix(str::from_utf8(word).ok()?, radix).ok()
 }
 
+// The number that decimal digits write, if it fits 64 bits.
+fn decimal(word: &[u8]) -> Option<u64>
+    requires { IsNumeral 10 word.now }
+    ensures { result ≡ given (nat_lt (digits_value 10 word.now) (2 ^ 64)) (digits_value 10 word.now) }
+{
+    if word.len() > 19 {
+        return digits(word, 10);
+    }
+    Some(few_digits(word))
+}
+
+// The number that decimal digits write which are so few that it fits.
+fn few_digits(word: &[u8]) -> u64
+    requires few { length word.now ≤ 19 }
+    requires numeral { IsNumeral 10 word.now }
+    ensures value { result ≡ digits_value 10 word.now }
+    ensures fits { result < 2 ^ 64 }
+{
+    let mut number = 0;
+    for byte in word {
+        number = 10 * number + u64::from(*byte - b'0');
+    }
+    number
+}
+
 /// A number of 64 bits: decimal without leading zeros, or `0x` and 1 to 16 of the digits 0 to 9 and a to f.
 #[tactic(auto, unfolding(crate::specs::Words::number_in, crate::specs::Words::number_of))]
 pub(crate) fn long(word: &[u8]) -> Option<u64>
@@ -102,7 +127,7 @@ pub(crate) fn long(word: &[u8]) -> Option<u64>
             None
         }
     } else if is_decimal(word) {
-        digits(word, 10)
+        decimal(word)
     } else {
         None
     }
@@ -124,7 +149,7 @@ fn negative(digits: &[u8]) -> Option<i64>
     if !is_decimal(digits) {
         return None;
     }
-    let size = self::digits(digits, 10)?;
+    let size = decimal(digits)?;
     if size > 1 << 63 {
         return None;
     }

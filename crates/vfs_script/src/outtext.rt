@@ -1,6 +1,8 @@
-ghost use Rattle.std.specs.Prelude.{◌≡◌, ◌++◌, ◌↔◌, [], IsTrue, length, take, OnErr, OnOk};
+ghost use Rattle.std.specs.Prelude.{◌≡◌, ◌≤◌, ◌++◌, ◌↔◌, [], IsTrue, length, take, OnErr, OnOk};
+ghost use Rattle.hex.specs.Hex.{encode_lower};
 
-use fidl_names::NoMemory;
+use crate::digits::write_digits;
+use fidl_names::{MAX_BYTES, NoMemory};
 use std::alloc::Global;
 use std::marker::Model;
 
@@ -70,6 +72,19 @@ impl Outtext {
         ensures grows { take (length self.old) self.new ≡ self.old }
     {
         self.bytes.extend_from_slice(part)?;
+        Ok(())
+    }
+
+    /// Appends bytes as hexadecimal digits, or for want of memory nothing. They are written where they stay.
+    pub(crate) fn put_digits(&mut self, part: &[u8]) -> Result<(), NoMemory>
+        requires { length part.now ≤ MAX_BYTES }
+        ensures put { OnOk result (self.new ≡ self.old ++ encode_lower part.now) }
+        ensures no_memory { OnErr result (self.new ≡ self.old) }
+        ensures grows { take (length self.old) self.new ≡ self.old }
+    {
+        let len = self.bytes.len();
+        self.bytes.resize(len + 2 * part.len(), 0)?;
+        write_digits(part, &mut self.bytes[len..]);
         Ok(())
     }
 }

@@ -3,7 +3,6 @@
 ghost use Rattle.std.specs.Prelude.{◌≡◌, ◌++◌, ◌≤◌, codes, decimal, length, take, OnErr, OnOk};
 ghost use Rattle.std.specs.Fmt.{signed_decimal};
 ghost use Rattle.std.specs.Int.{w32, cast_signed};
-ghost use Rattle.hex.specs.Hex.{encode_lower};
 ghost use Rattle.endpoint_link.specs.declared.kinds.Side.TheVariants as side;
 ghost use Rattle.endpoint_link.specs.Frames.{HasShape, IsFrame};
 ghost use Rattle.endpoint_link.specs.Views.{frame_of, handle_numbers};
@@ -12,15 +11,12 @@ ghost use Rattle.vfs_script.specs.Transcripts.{bytes_text, counts_line, front_wo
 use crate::outtext::Outtext;
 use byteorder::{ByteOrder, LittleEndian};
 use endpoint_link::{FrameKind, FrameView, HandleBytes};
-use fidl_names::{Method, NoMemory};
+use fidl_names::{MAX_BYTES, Method, NoMemory};
 use fidl_wire::Ordinals;
 use itoa::Buffer;
 
 /// The ordinal of an epitaph.
 const EPITAPH: u64 = 0xffff_ffff_ffff_ffff;
-
-/// How many bytes are written as digits at once.
-const CHUNK: usize = 512;
 
 /// Appends the line of a frame, with its end; for want of memory nothing.
 ///
@@ -115,6 +111,7 @@ fn put_message(
     bytes: &[u8],
     to: &mut Outtext,
 ) -> Result<(), NoMemory>
+    requires { length bytes.now ≤ MAX_BYTES }
     ensures put { OnOk result (to.new ≡ to.old ++ told_of FrameKind.Message (handle_numbers handles.entry) bytes.now) }
     ensures grows { take (length to.old) to.new ≡ to.old }
 {
@@ -172,33 +169,14 @@ fn put_handles(handles: HandleBytes<'_>, to: &mut Outtext) -> Result<(), NoMemor
 
 // Bytes as hexadecimal digits; `-` for none.
 fn put_bytes(bytes: &[u8], to: &mut Outtext) -> Result<(), NoMemory>
+    requires { length bytes.now ≤ MAX_BYTES }
     ensures put { OnOk result (to.new ≡ to.old ++ bytes_text bytes.now) }
     ensures grows { take (length to.old) to.new ≡ to.old }
 {
     if bytes.is_empty() {
         return to.put(b"-");
     }
-    let mut rest = bytes;
-    while rest.len() > CHUNK {
-        let (chunk, behind) = rest.split_at(CHUNK);
-        put_chunk(chunk, to)?;
-        rest = behind;
-    }
-    put_chunk(rest, to)
-}
-
-// At most so many bytes as digits.
-fn put_chunk(chunk: &[u8], to: &mut Outtext) -> Result<(), NoMemory>
-    requires { length chunk.now ≤ CHUNK }
-    ensures put { OnOk result (to.new ≡ to.old ++ encode_lower chunk.now) }
-    ensures grows { take (length to.old) to.new ≡ to.old }
-{
-    let mut digits = [0; 2 * CHUNK];
-    let room = &mut digits[..2 * chunk.len()];
-    if hex::encode_to_slice(chunk, room).is_err() {
-        unreachable!();
-    }
-    to.put(&digits[..2 * chunk.len()])
+    to.put_digits(bytes)
 }
 
 // The label of a message.

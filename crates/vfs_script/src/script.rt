@@ -146,7 +146,13 @@ fn count_calls(calls: &[Option<Call>]) -> u32
     requires { length calls.now ≤ MAX_TEXT + 1 }
     ensures { result ≡ count_calls calls.now }
 {
-    calls.iter().filter(|call| call.is_some()).count() as u32
+    let mut count = 0;
+    for call in calls {
+        if call.is_some() {
+            count += 1;
+        }
+    }
+    count
 }
 
 /// The lines of a text that are left, each with its number.

@@ -1,7 +1,5 @@
-ghost use Rattle.std.specs.Prelude.{◌≡◌, ◌<◌, IfSome};
-ghost use Rattle.std.specs.List.{position};
-ghost use Rattle.std.specs.Str.{bytes_eq};
-ghost use Rattle.vfs_script.specs.Lines.{all_verbs, verb_of, word_of_verb};
+ghost use Rattle.std.specs.Prelude.{◌≡◌};
+ghost use Rattle.vfs_script.specs.Lines.{verb_of};
 
 /// What the first word of a line says.
 #[derive(Clone, Copy, Debug, PartialEq, Eq)]
@@ -32,78 +30,60 @@ pub(crate) enum Verb {
     Raw,
 }
 
-const VERBS: [Verb; 24] = [
-    Verb::Open,
-    Verb::Clone,
-    Verb::Close,
-    Verb::Query,
-    Verb::Sync,
-    Verb::Rewind,
-    Verb::Token,
-    Verb::Attributes,
-    Verb::List,
-    Verb::Rename,
-    Verb::Link,
-    Verb::Unlink,
-    Verb::Watch,
-    Verb::Read,
-    Verb::ReadAt,
-    Verb::Write,
-    Verb::WriteAt,
-    Verb::Seek,
-    Verb::Resize,
-    Verb::Echo,
-    Verb::HangUp,
-    Verb::Turn,
-    Verb::Pick,
-    Verb::Raw,
-];
-
-fn word_of_verb(verb: Verb) -> &'static [u8]
-    ensures { result.now ≡ word_of_verb verb }
-{
-    match verb {
-        Verb::Open => b"open",
-        Verb::Clone => b"clone",
-        Verb::Close => b"close",
-        Verb::Query => b"query",
-        Verb::Sync => b"sync",
-        Verb::Rewind => b"rewind",
-        Verb::Token => b"token",
-        Verb::Attributes => b"attributes",
-        Verb::List => b"list",
-        Verb::Rename => b"rename",
-        Verb::Link => b"link",
-        Verb::Unlink => b"unlink",
-        Verb::Watch => b"watch",
-        Verb::Read => b"read",
-        Verb::ReadAt => b"readat",
-        Verb::Write => b"write",
-        Verb::WriteAt => b"writeat",
-        Verb::Seek => b"seek",
-        Verb::Resize => b"resize",
-        Verb::Echo => b"echo",
-        Verb::HangUp => b"hangup",
-        Verb::Turn => b"turn",
-        Verb::Pick => b"pick",
-        Verb::Raw => b"raw",
-    }
-}
-
-// The place of the verb whose word this is.
-fn place_of(word: &[u8]) -> Option<usize>
-    ensures place { result ≡ position (λ verb. bytes_eq word.now (word_of_verb verb)) all_verbs }
-    ensures bound { IfSome result (λ place. place < 24) }
-{
-    VERBS.iter().position(|verb| word == word_of_verb(*verb))
-}
-
-/// The verb whose word this is.
+/// The verb whose word this is. Each word is compared as a constant, which costs no call.
+#[tactic(auto, unfolding(crate::specs::Lines::verb_of))]
 pub(crate) fn verb_of(word: &[u8]) -> Option<Verb>
     ensures { result ≡ verb_of word.now }
 {
-    match place_of(word) {
-        Some(place) => Some(VERBS[place]),
-        None => None,
+    if word == b"open".as_slice() {
+        Some(Verb::Open)
+    } else if word == b"clone".as_slice() {
+        Some(Verb::Clone)
+    } else if word == b"close".as_slice() {
+        Some(Verb::Close)
+    } else if word == b"query".as_slice() {
+        Some(Verb::Query)
+    } else if word == b"sync".as_slice() {
+        Some(Verb::Sync)
+    } else if word == b"rewind".as_slice() {
+        Some(Verb::Rewind)
+    } else if word == b"token".as_slice() {
+        Some(Verb::Token)
+    } else if word == b"attributes".as_slice() {
+        Some(Verb::Attributes)
+    } else if word == b"list".as_slice() {
+        Some(Verb::List)
+    } else if word == b"rename".as_slice() {
+        Some(Verb::Rename)
+    } else if word == b"link".as_slice() {
+        Some(Verb::Link)
+    } else if word == b"unlink".as_slice() {
+        Some(Verb::Unlink)
+    } else if word == b"watch".as_slice() {
+        Some(Verb::Watch)
+    } else if word == b"read".as_slice() {
+        Some(Verb::Read)
+    } else if word == b"readat".as_slice() {
+        Some(Verb::ReadAt)
+    } else if word == b"write".as_slice() {
+        Some(Verb::Write)
+    } else if word == b"writeat".as_slice() {
+        Some(Verb::WriteAt)
+    } else if word == b"seek".as_slice() {
+        Some(Verb::Seek)
+    } else if word == b"resize".as_slice() {
+        Some(Verb::Resize)
+    } else if word == b"echo".as_slice() {
+        Some(Verb::Echo)
+    } else if word == b"hangup".as_slice() {
+        Some(Verb::HangUp)
+    } else if word == b"turn".as_slice() {
+        Some(Verb::Turn)
+    } else if word == b"pick".as_slice() {
+        Some(Verb::Pick)
+    } else if word == b"raw".as_slice() {
+        Some(Verb::Raw)
+    } else {
+        None
     }
 }

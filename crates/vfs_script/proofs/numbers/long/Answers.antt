@@ -5,5 +5,5 @@ use Rattle.vfs_script.proofs.numbers.long.Goals as goal
 pub digits-requires-clause-numeral : goal.digits-requires-clause-numeral
 digits-requires-clause-numeral c = hexadecimal_numeral _ (sym c.is_hexadecimal.ensures ∙ c.if-is_hexadecimal.true)
 
-pub digits-requires-then-is_decimal-clause-numeral : goal.digits-requires-then-is_decimal-clause-numeral
-digits-requires-then-is_decimal-clause-numeral c = decimal_numeral _ (sym c.is_decimal.ensures ∙ c.if-is_decimal.true)
+pub decimal-requires : goal.decimal-requires
+decimal-requires c = decimal_numeral _ (sym c.is_decimal.ensures ∙ c.if-is_decimal.true)
