@@ -78,8 +78,11 @@ impl Parcel {
         })
     }
 
-    /// Takes it apart, and gives the room of its bytes to another.
-    pub fn into_room(self) -> Option<Vec<u8>> {
+    /// Takes it apart, and gives the bytes of a message, so that those of another may have their room; `None` for a hang-up.
+    pub fn into_room(self) -> Option<Vec<u8>>
+        ensures room { IfSome result (λ room. self ≡ message room.items (handles_of self)) }
+        ensures none { IsNone result → self ≡ hang_up }
+    {
         match self.content {
             Content::Message { bytes, .. } => Some(bytes),
             Content::HangUp => None,
