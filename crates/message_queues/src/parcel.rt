@@ -1,6 +1,6 @@
 //! What was sent on endpoints, as it is kept while it waits.
 
-ghost use Rattle.std.specs.Prelude.{◌≡◌, ◌≤◌, [], ◌∷◌, length, IfOk};
+ghost use Rattle.std.specs.Prelude.{◌≡◌, ◌≤◌, [], ◌∷◌, length, IfOk, IfSome, IsNone};
 ghost use Rattle.endpoint_link.specs.Views.{handle_numbers};
 ghost use Rattle.fidl_names.specs.declared.limits.TheConstants as limit;
 ghost use Rattle.vfs_journal.specs.Entries.{message, hang_up, handles_of};

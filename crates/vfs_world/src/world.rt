@@ -8,6 +8,7 @@ ghost use Rattle.vfs_journal.specs.Past.{history_of};
 ghost use Rattle.vfs_journal.specs.Session.{arrives, drained, head, oldest, picked, steps, turned};
 ghost use Rattle.vfs_journal.specs.Starts.{Start, start_of};
 ghost use Rattle.journal_laws.specs.Viewing.{view_behind};
+ghost use Rattle.message_queues.specs.Queues.{count};
 ghost use Rattle.vfs_server.specs.KeptNodes.{kept_in};
 ghost use Rattle.vfs_session.specs.Servings.{served_in};
 ghost use Rattle.vfs_session.specs.World.{LeadsTo, StandsFor};
@@ -243,6 +244,7 @@ impl World {
 
     /// How many entries wait.
     pub fn waiting(&self) -> u32
+        ensures count { result ≡ count self.now.queues }
         ensures waiting { (start : Start) (journal : Journal) → StandsFor start self.now journal → result ≡ length (waiting (history_of start journal)) }
     {
         self.session.queues.len()

@@ -5,4 +5,6 @@ use Rattle.vfs_world.proofs.Worlds.{as_many_wait}
 use Rattle.vfs_world.proofs.world.World.waiting.Goals as goal
 
 pub returns : goal.returns
-returns c = record { waiting = λ start journal stands. c.len.ensures.len ∙ ap (λ (w : World). count w.queues) c.self.view_is ∙ as_many_wait start c.args.self.now journal stands }
+returns c =
+    let same = c.len.ensures.len ∙ ap (λ (w : World). count w.queues) c.self.view_is in
+    record { count = same; waiting = λ start journal stands. same ∙ as_many_wait start c.args.self.now journal stands }
