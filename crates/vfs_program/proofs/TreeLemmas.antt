@@ -1,5 +1,5 @@
 -- The world of a session over a tree, frame by frame.
-use Rattle.std.proofs.Common.{◌≡◌, List, [], ◌∷◌, ◌++◌, ℕ, IsTrue, refl, sym, ap, ◌∙◌, subst, append_assoc}
+use Rattle.std.proofs.Common.{◌≡◌, List, [], ◌∷◌, ◌++◌, ℕ, IsTrue, Result, Ok, Err, OnErr, refl, sym, ap, ◌∙◌, subst, append_assoc}
 use Rattle.endpoint_link.specs.Frames.{Frame}
 use Rattle.endpoint_link.specs.declared.kinds.Mode.{Mode}
 use Rattle.vfs_journal.specs.Entries.{Journal}
@@ -45,3 +45,8 @@ unfolding tree_course StandsBehind
 drains_last start by old new before held held' drain s =
     let one = drain (session start by before) s in
     record { part = one.part; more = one.more; appends = one.written }
+
+-- what holds anyway holds where there is an error
+pub anyway_on_err : {X E : Type 0} (answer : Result X E) (P : Type 0) → P → OnErr answer P
+anyway_on_err (Ok x) P p = tt
+anyway_on_err (Err e) P p = p
