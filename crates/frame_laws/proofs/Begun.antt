@@ -88,19 +88,3 @@ module _ (lists : Lists) (accepted : AreAccepted lists) (files : All (λ (node :
 pub starts_have_bytes : StartsHaveBytes
 starts_have_bytes lists accepted files =
     All-map HasBytes (tree_of lists) (range_with_len 0 (length lists.servers)) (each_tree lists accepted files (range_with_len 0 (length lists.servers)))
-
--- ---- one node after the other
-
-found_at : (nodes : List NodeItem) (i : ℕ) (node : NodeItem) → slice_get nodes i ≡ Some node → (i < length nodes) × (get_or nodes i node ≡ node)
-found_at [] i node e = absurd (cc)
-found_at (x ∷ nodes) zero node e = (omega arith, cc)
-found_at (x ∷ nodes) (suc i) node e = let later = found_at nodes i node e in (omega (arith, later.0), later.1)
-
-pub one_more_node : (nodes : List NodeItem) (i : ℕ) (node : NodeItem) → slice_get nodes i ≡ Some node → AreBytes node.bytes → All (λ (one : NodeItem). AreBytes one.bytes) (take i nodes) →
-    All (λ (one : NodeItem). AreBytes one.bytes) (take (i + 1) nodes)
-one_more_node nodes i node e bytes before =
-    let at = found_at nodes i node e in
-    All-more (λ (one : NodeItem). AreBytes one.bytes) nodes i node at.0 before (subst (λ (one : NodeItem). AreBytes one.bytes) (sym at.1) bytes)
-
-pub all_nodes : (nodes : List NodeItem) (i : ℕ) → length nodes ≤ i → All (λ (one : NodeItem). AreBytes one.bytes) (take i nodes) → All (λ (one : NodeItem). AreBytes one.bytes) nodes
-all_nodes nodes i past h = subst (All (λ (one : NodeItem). AreBytes one.bytes)) (take_all i nodes past) h

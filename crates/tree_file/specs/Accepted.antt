@@ -66,6 +66,6 @@ abbrev pub HasFilesOfBytes : Lists → Type 0
 HasFilesOfBytes lists = All (λ node. AreBytes node.bytes) lists.nodes
 
 -- what every start keeps
-pub record IsStart (lists : Lists) : Type 0 where
+pub record KeptByStart (lists : Lists) : Type 0 where
   pub accepted : AreAccepted lists
   pub bytes : HasFilesOfBytes lists
