@@ -1,12 +1,10 @@
 -- That the start of an accepted tree has names of bytes.
-use Rattle.std.proofs.Common.{◌≡◌, ℕ, ◌+◌, ◌==◌, Bool, true, false, cond, List, [], ◌∷◌, length, map, filter, Some, None, All, refl, sym, subst, ◌∙◌, zero, suc, ◌<◌, ◌≤◌, take, get_or, arith}
+use Rattle.std.proofs.Common.{◌≡◌, ℕ, ◌+◌, ◌==◌, Bool, true, false, cond, List, [], ◌∷◌, length, map, filter, Some, None, All, refl, sym, subst, ◌∙◌}
 use Rattle.std.specs.FinMap as finite
 use Rattle.std.specs.FinMap.Entries as entry
-use Rattle.std.specs.Prelude.{slice_get}
-use Rattle.std.proofs.lemmas.List.{take_all}
 use Rattle.std.specs.List.{enumerate_from, range_with_len}
 use Rattle.std.specs.Ordering.{eq_by_cmp}
-use Rattle.std.proofs.lemmas.List.Elements.{All-more, All-nil, All-cons, All-head, All-tail, All-append, All-filter, All-map, All-weaker}
+use Rattle.std.proofs.lemmas.List.Elements.{All-nil, All-cons, All-head, All-tail, All-append, All-filter, All-map, All-weaker}
 use Rattle.fidl_names.specs.Numbers.{AreBytes}
 use Rattle.node_graph.specs.Tree.{EdgeKey, EdgeTo, NodeRow, edge_cmp}
 use Rattle.node_graph.specs.declared.nodes.NodeKind.TheVariants.{Directory}
