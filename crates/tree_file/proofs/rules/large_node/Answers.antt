@@ -14,11 +14,12 @@ returns-then-not-is_small-clause-first c =
     ∙ fail-stop bytes_fit c.args.nodes.now c.loop-item.item c.index-nodes-item.result c.loop-item-test.true c.index-nodes-item.is (sym c.is_small.ensures.small ∙ c.if-not-is_small.true))
 
 pub loop-item-preserved : goal.loop-item-preserved
-loop-item-preserved c =
-    (c.loop-item.invariant.0
-    ∙ fail-on bytes_fit c.args.nodes.now c.loop-item.item c.index-nodes-item.result c.loop-item-test.true c.index-nodes-item.is (sym c.is_small.ensures.small ∙ c.if-not-is_small.false),
-      All-more (λ (node : NodeItem). AreBytes node.bytes) c.args.nodes.now c.loop-item.item c.index-nodes-item.result c.loop-item-test.true c.loop-item.invariant.1
-      (subst (λ (node : NodeItem). AreBytes node.bytes) c.index-nodes-item.is c.is_small.ensures.bytes))
+loop-item-preserved c = (
+  c.loop-item.invariant.0
+      ∙ fail-on bytes_fit c.args.nodes.now c.loop-item.item c.index-nodes-item.result c.loop-item-test.true c.index-nodes-item.is (sym c.is_small.ensures.small ∙ c.if-not-is_small.false),
+  All-more (λ (node : NodeItem). AreBytes node.bytes) c.args.nodes.now c.loop-item.item c.index-nodes-item.result c.loop-item-test.true c.loop-item.invariant.1
+      (subst (λ (node : NodeItem). AreBytes node.bytes) c.index-nodes-item.is c.is_small.ensures.bytes),
+)
 
 pub returns-clause-first : goal.returns-clause-first
 returns-clause-first c = sym (c.loop-item.invariant.0 ∙ fail-end bytes_fit c.args.nodes.now c.loop-item.item (omega (arith, c.loop-item-test.false)))
