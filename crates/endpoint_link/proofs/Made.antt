@@ -8,7 +8,7 @@ use Rattle.endpoint_link.specs.declared.kinds.Standing.{Standing}
 use Rattle.endpoint_link.specs.declared.kinds.Standing.TheVariants as standing
 use Rattle.fidl_names.specs.HandleNumber.{is_client}
 use Rattle.endpoint_link.specs.Numbering.{among}
-use Rattle.endpoint_link.specs.Tables.{value_at, AreNew, Makes, TakesBack}
+use Rattle.endpoint_link.specs.Tables.{Table, value_at, AreNew, Makes, TakesBack}
 
 -- what is among the first so many is among all
 pub among-take : (q i : ℕ) (ns : List ℕ) → among q (take i ns) ≡ true → among q ns ≡ true
@@ -34,7 +34,7 @@ both true true h = (refl, refl)
 both true false h = cc
 both false b h = cc
 
-undone_by : (q i : ℕ) (ns : List ℕ) (old mid new : List (ℕ × Standing)) → AreNew old ns → Makes (take i ns) old mid → TakesBack (take i ns) mid new → (b : Bool) → is_client q && among q (take i ns) ≡ b → value_at new q ≡ value_at old q
+undone_by : (q i : ℕ) (ns : List ℕ) (old mid new : Table Standing) → AreNew old ns → Makes (take i ns) old mid → TakesBack (take i ns) mid new → (b : Bool) → is_client q && among q (take i ns) ≡ b → value_at new q ≡ value_at old q
 undone_by q i ns old mid new fresh makes back true e =
     let h = both (is_client q) (among q (take i ns)) e in
     let none = fresh.unused q h.0 (among-take q i ns h.1) in
@@ -43,6 +43,6 @@ undone_by q i ns old mid new fresh makes back false e =
     back q ∙ (ap (λ (b : Bool). cond b None (value_at mid q)) e ∙ (makes q ∙ ap (λ (b : Bool). cond b (Some standing.Live) (value_at old q)) e))
 
 -- what was made and taken back leaves all as it was
-pub undone : (i : ℕ) (ns : List ℕ) (old mid new : List (ℕ × Standing)) → AreNew old ns → Makes (take i ns) old mid → TakesBack (take i ns) mid new → (q : ℕ) → value_at new q ≡ value_at old q
+pub undone : (i : ℕ) (ns : List ℕ) (old mid new : Table Standing) → AreNew old ns → Makes (take i ns) old mid → TakesBack (take i ns) mid new → (q : ℕ) → value_at new q ≡ value_at old q
 undone i ns old mid new fresh makes back q =
     undone_by q i ns old mid new fresh makes back (is_client q && among q (take i ns)) refl

@@ -29,8 +29,6 @@ pub struct Endpoints {
 }
 
 impl Model for Endpoints {
-    ghost use Rattle.std.specs.Prelude.{length};
-    ghost use Rattle.std.specs.FinMap as map;
     ghost use Rattle.endpoint_link.specs.Standings.{Known, known_code};
     ghost use Rattle.endpoint_link.specs.Tables.{KeepsApart};
 
@@ -39,10 +37,10 @@ impl Model for Endpoints {
     ghost coded = { known_code };
 
     ghost view = { λ e. record {
-      standings = map.from_entries e.standings.entries;
+      standings = e.standings.entries;
       live = e.standings.live;
-      tokens = map.from_entries e.tokens.entries;
-      out = length e.tokens.entries;
+      tokens = e.tokens.entries;
+      out = e.tokens.out;
       next = e.tokens.next;
       waiting = e.waiting;
       servers = e.servers;

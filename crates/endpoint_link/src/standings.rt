@@ -9,24 +9,28 @@ use crate::frame::HandleBytes;
 use crate::kinds::Standing;
 use fidl_names::{FIRST_MOUNT_END, MAX_LIVE, NoMemory, is_client};
 use std::alloc::Global;
-use std::collections::BTreeMap;
+use std::collections::HashMap;
 use std::marker::Model;
+use std::mem;
 
 /// A table of standings, with the number of live endpoints.
 #[derive(Drop)]
 pub(crate) struct Standings {
-    table: BTreeMap<u32, Standing>,
+    table: HashMap<u32, Standing>,
     live: usize,
 }
 
 impl Model for Standings {
     ghost use Rattle.std.specs.Prelude.{◌≡◌, ◌≤◌};
+    ghost use Rattle.std.specs.FinMap as map;
     ghost use Rattle.fidl_names.specs.declared.limits.TheConstants as limit;
-    ghost use Rattle.endpoint_link.specs.Tables.{Counted, IsTable, live_in};
+    ghost use Rattle.endpoint_link.specs.Tables.{Counted, IsTable, counted_code, live_in};
 
     ghost Value = { Counted };
 
-    ghost view = { λ s. record { entries = s.table.entries; live = s.live } };
+    ghost coded = { counted_code };
+
+    ghost view = { λ s. record { entries = map.from_entries s.table.entries; live = s.live } };
 
     ghost invariant = { λ s. IsTable s.table.entries × (s.live ≡ live_in s.table.entries) × (s.live ≤ limit.MAX_LIVE) };
 }
@@ -43,11 +47,11 @@ impl Standings {
     ghost use Rattle.endpoint_link.specs.Tables.{AreNew, AreDistinct, Makes, TakesBack};
 
     pub(crate) fn new(alloc: Global) -> Standings
-        ensures entries { result.entries ≡ [] }
+        ensures unused { (q : ℕ) → value_at result.entries q ≡ None }
         ensures live { result.live ≡ 0 }
     {
         Standings {
-            table: BTreeMap::new(alloc),
+            table: HashMap::new(alloc),
             live: 0,
         }
     }
@@ -88,10 +92,10 @@ impl Standings {
         ensures live { self.new.live + weight (unwrap_or (value_at self.old.entries number) Standing.Unused)
             ≡ self.old.live + weight standing }
     {
-        let Ok(Some(was)) = self.table.insert(number, standing) else {
-            unreachable!();
-        };
-        self.live -= weight(was) - weight(standing);
+        if let Some(kept) = self.table.get_mut(&number) {
+            let was = mem::replace(kept, standing);
+            self.live -= weight(was) - weight(standing);
+        }
     }
 
     /// Forgets a number.
@@ -151,7 +155,7 @@ impl Standings {
 
     /// Makes live endpoints of these numbers.
     pub(crate) fn make_firsts(&mut self, firsts: &[u32]) -> Result<(), NoMemory>
-        requires unused { self.old.entries ≡ [] }
+        requires unused { (q : ℕ) → value_at self.old.entries q ≡ None }
         requires none { self.old.live ≡ 0 }
         requires distinct { AreDistinct firsts.now }
         requires few { length firsts.now ≤ MAX_LIVE }

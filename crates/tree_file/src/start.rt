@@ -47,14 +47,14 @@ pub struct Start {
 }
 
 impl Model for Start {
-    ghost use Rattle.tree_file.specs.Accepted.{KeptByStart};
+    ghost use Rattle.tree_file.specs.Accepted.{AreOfStart};
     ghost use Rattle.tree_file.specs.Items.{Lists};
 
     ghost Value = { Lists };
 
     ghost view = { λ start. start.parts };
 
-    ghost invariant = { λ start. KeptByStart start.parts };
+    ghost invariant = { λ start. AreOfStart start.parts };
 }
 
 impl Start {

@@ -4,7 +4,7 @@ use Rattle.endpoint_link.specs.declared.kinds.Standing.{Standing}
 use Rattle.endpoint_link.specs.declared.kinds.Standing.TheVariants as standing
 use Rattle.endpoint_link.specs.Standings.{Known, standing_of, is_live, ended}
 use Rattle.endpoint_link.specs.Tables.{value_at, weight}
-use Rattle.endpoint_link.proofs.Tabled.{standing-table, known_live, map-insert, same_known}
+use Rattle.endpoint_link.proofs.Tabled.{known_live, map-insert, same_known}
 use Rattle.endpoint_link.proofs.endpoints.Endpoints.ended.Goals as goal
 
 weight_live : (s : Standing) → is_live s ≡ true → weight s ≡ 1
@@ -15,16 +15,15 @@ weight_live standing.Dead h = cc
 
 pub change-requires-clause-known : goal.change-requires-clause-known
 change-requires-clause-known c =
-    let es = c.self.inside.standings.entries in
     let live = subst (λ (k : Known). is_live (standing_of k c.args.endpoint) ≡ true) (sym c.self.view_is) c.requires in
-    known_live (value_at es c.args.endpoint) (ap is_live (sym (standing-table es c.args.endpoint)) ∙ live)
+    known_live (value_at c.self.inside.standings.entries c.args.endpoint) live
 
 pub returns : goal.returns
 returns c =
     let n = c.args.endpoint in
     let old = c.self.inside.standings in
     let live = subst (λ (k : Known). is_live (standing_of k n) ≡ true) (sym c.self.view_is) c.requires in
-    let one = weight_live (unwrap_or (value_at old.entries n) standing.Unused) (ap is_live (sym (standing-table old.entries n)) ∙ live) in
+    let one = weight_live (unwrap_or (value_at old.entries n) standing.Unused) live in
     let standings = map-insert old.entries c.change.new.self.entries n standing.Dead c.change.ensures.changed in
     let less : c.change.new.self.live ≡ old.live - 1 = omega (arith, one, c.change.ensures.live) in
     let done = same_known _ _ _ _ _ _ _ _ _ _ _ _ _ standings refl less refl refl refl in

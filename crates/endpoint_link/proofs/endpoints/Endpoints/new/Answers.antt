@@ -1,7 +1,5 @@
-use Rattle.std.proofs.Common.{◌≡◌, ◌≤◌, ◌||◌, ℕ, Bool, true, false, cond, eqb, List, [], ◌∷◌, length, refl, sym, ap, ◌∙◌, arith}
+use Rattle.std.proofs.Common.{◌≡◌, ◌≤◌, ◌||◌, ℕ, Bool, true, false, cond, eqb, List, [], ◌∷◌, refl, sym, ap, ◌∙◌, arith}
 use Rattle.std.specs.Prelude.{Option, Some, None, All, unwrap_or}
-use Rattle.std.specs.FinMap as map
-use Rattle.std.specs.Ordering.{nat_cmp}
 use Rattle.std.proofs.lemmas.Bool.{eqb-true}
 use Rattle.std.proofs.lemmas.Bool.Decides.{nat_tests}
 use Rattle.std.proofs.lemmas.List.Elements.{All-head, All-tail}
@@ -9,7 +7,9 @@ use Rattle.endpoint_link.specs.declared.kinds.Standing.{Standing}
 use Rattle.endpoint_link.specs.declared.kinds.Standing.TheVariants as standing
 use Rattle.fidl_names.specs.HandleNumber.{is_client, is_mount_end}
 use Rattle.endpoint_link.specs.Numbering.{among}
-use Rattle.endpoint_link.proofs.Tabled.{standing-table}
+use Rattle.std.specs.FinMap as map
+use Rattle.std.specs.Ordering.{nat_cmp}
+use Rattle.endpoint_link.specs.Tables.{Table, value_at}
 use Rattle.endpoint_link.proofs.endpoints.Endpoints.new.Goals as goal
 
 -- no number that isn't a client's is among clients' numbers
@@ -35,20 +35,34 @@ either true false = refl
 either false true = refl
 either false false = refl
 
+never_unused : (a m : Bool) → cond m (Some standing.Live) (cond a (Some standing.Live) None) ≡ Some standing.Unused → ⊥
+never_unused true true h = cc
+never_unused true false h = cc
+never_unused false true h = cc
+never_unused false false h = cc
+
 pub make_mounts-requires-clause-unused : goal.make_mounts-requires-clause-unused
 make_mounts-requires-clause-unused c = λ q h.
     let none = not_among q c.args.firsts.now c.requires.clients (no_client q h) in
     c.in_ok-make_firsts.ensures.made q ∙ ap (λ (b : Bool). cond b (Some standing.Live) None) none
 
+pub invariant_of-result : goal.invariant_of-result
+invariant_of-result c = record {
+  known = λ q unused.
+      let made = c.in_ok-make_mounts.ensures.made q ∙ ap (cond (is_mount_end c.args.mounts q) (Some standing.Live)) (c.in_ok-make_firsts.ensures.made q) in
+      never_unused (among q c.args.firsts.now) (is_mount_end c.args.mounts q) (sym made ∙ unused);
+  apart = λ q client. ap (λ (t : Table Bool). value_at t q) c.new.ensures.entries ∙ map.get-empty nat_cmp q;
+  after = omega (arith, c.new.ensures.next);
+}
+
 pub returns : goal.returns
 returns c = record {
   standing = λ n.
-      standing-table c.make_mounts.new.self.entries n
-      ∙ (ap (λ (o : Option Standing). unwrap_or o standing.Unused) (c.in_ok-make_mounts.ensures.made n ∙ ap (cond (is_mount_end c.args.mounts n) (Some standing.Live)) (c.in_ok-make_firsts.ensures.made n))
-      ∙ either (among n c.args.firsts.now) (is_mount_end c.args.mounts n));
+      ap (λ (o : Option Standing). unwrap_or o standing.Unused) (c.in_ok-make_mounts.ensures.made n ∙ ap (cond (is_mount_end c.args.mounts n) (Some standing.Live)) (c.in_ok-make_firsts.ensures.made n))
+      ∙ either (among n c.args.firsts.now) (is_mount_end c.args.mounts n);
   live = omega (arith, c.in_ok-make_mounts.ensures.live, c.in_ok-make_firsts.ensures.live);
-  tokens = ap (λ (es : List (ℕ × Bool)). map.from_entries {R = nat_cmp} es) c.new.ensures.entries;
-  out = ap length c.new.ensures.entries;
+  tokens = c.new.ensures.entries;
+  out = c.new.ensures.out;
   next = c.new.ensures.next;
   waiting = refl;
   servers = refl;

@@ -1,4 +1,4 @@
-use Rattle.std.specs.Prelude.{◌≡◌, take, length}
+use Rattle.std.specs.Prelude.{◌≡◌, take}
 use Rattle.endpoint_link.specs.Views.{handle_numbers}
 use Rattle.endpoint_link.specs.Tables.{Travels}
 use Rattle.endpoint_link.proofs.tokens.Tokens.send_all.Given as goal
@@ -6,6 +6,6 @@ use Rattle.endpoint_link.proofs.tokens.Tokens.send_all.Given as goal
 abbrev pub invariant-loop-i : goal.invariant-loop-i
 invariant-loop-i l = record {
   changed : Travels (take l.i (handle_numbers l.handles)) l.fn.self.entries l.self.entries;
-  count : length l.self.entries ≡ length l.fn.self.entries;
+  count : l.self.out ≡ l.fn.self.out;
   next : l.self.next ≡ l.fn.self.next;
 }
