@@ -66,10 +66,6 @@ abbrev pub HasFilesOfBytes : Lists → Type 0
 HasFilesOfBytes lists = All (λ node. AreBytes node.bytes) lists.nodes
 
 -- what every start keeps
-<<<<<<< HEAD
 pub record AreOfStart (lists : Lists) : Type 0 where
-=======
-pub record AreOfStart (lists : Lists) : Type 0 where
->>>>>>> b007d85c48b015416d93793b9ec242b6e9fa5b4a
   pub accepted : AreAccepted lists
   pub bytes : HasFilesOfBytes lists
