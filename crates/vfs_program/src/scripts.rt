@@ -13,7 +13,7 @@ use crate::trees::read_start;
 use fidl_names::MAX_TEXT;
 use fidl_wire::{OrdinalFault, Ordinals};
 use host_io::{Files, Sink};
-use script_session::{play, scripts_are_frames};
+use script_session::play;
 use std::alloc::Global;
 use transcripts::TranscriptFault;
 use vfs_script::{Script, ScriptFault, script_of};
@@ -46,7 +46,6 @@ pub fn run_script<F: Files, K: Sink>(
         Ok(script) => script,
         Err(status) => return status,
     };
-    scripts_are_frames(&script);
     match play(alloc, ordinals, &start, &script, sink) {
         Ok(()) => Status::Done,
         Err(TranscriptFault::Failed) => Status::WriteFault,
