@@ -1,2 +1,3 @@
 mod Failing
+pub mod KeptRows
 pub mod Taking

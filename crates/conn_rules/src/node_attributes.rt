@@ -6,18 +6,16 @@ ghost use Rattle.node_graph.specs.Graph.{Names, StandsFor, number_of, kind_at, b
 ghost use Rattle.node_graph.specs.Tree.{Tree, link_count};
 ghost use Rattle.conn_rules.specs.Nodes.{attributes_of, protocols_of, abilities_of, is_file, where_asked};
 
-use crate::laws::kept_nodes_are_rows;
 use io_messages::Attributes;
 use node_graph::{Graph, NodeKind, NodeRef};
 
 /// The attributes of a node that a query asks for, by its bits from bit 0 on: the protocols, the
 /// operations that can be of use, a file's size, no storage size, the number of names, the id.
-#[tactic(auto, unfolding(crate::specs::Nodes::attributes_of))]
+#[tactic(auto, unfolding(crate::specs::Nodes::attributes_of), using(crate::proofs::KeptRows::kept_rows))]
 pub(crate) fn attributes(graph: &Graph, node: NodeRef, query: u64) -> Attributes
     requires kept { Names graph.now node }
     ensures value { (tree : Tree) → StandsFor graph.now tree → result ≡ attributes_of tree (number_of node) query }
 {
-    kept_nodes_are_rows();
     let kind = graph.kind(node);
     Attributes {
         protocols: where_asked(query, 0, protocols_of(kind)),

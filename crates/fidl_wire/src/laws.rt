@@ -1,6 +1,7 @@
 //! Laws of the format, for every header and every layout. They compute nothing: what they say is in
 //! their clauses.
 
+ghost use Rattle.fidl_wire.specs.Names.{AreDistinct, MethodsHaveTheirOwn, EventHasItsOwn};
 ghost use Rattle.fidl_wire.specs.Laws.{EpitaphsAreReadOnce, FaultsAreMeant, FaultsAreMeantOnce, HeadersAreRead, MeantFaultsAreAnswered, ReadsWhatIsSpelled, SpelledWhereRead, SpelledOnce, SpellingIsSpelled, SpellingIsRead, WrittenEpitaphsAreRead};
 
 /// A body is read as a value exactly where the message's bytes and handles spell that value, each
@@ -43,4 +44,10 @@ pub fn written_epitaph_is_read()
 /// Bytes are at most one epitaph.
 pub fn epitaph_is_read_once()
     ensures { EpitaphsAreReadOnce }
+{}
+
+/// Where no two names have equal ordinals, each method and the event have one of their own.
+pub fn names_have_their_own()
+    ensures methods { AreDistinct → MethodsHaveTheirOwn }
+    ensures event { AreDistinct → EventHasItsOwn }
 {}

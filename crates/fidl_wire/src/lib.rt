@@ -25,7 +25,7 @@ pub use headers::Header;
 pub use kinds::HandleKind;
 pub use laws::{
     body_fault_is_meant, body_is_read_where_spelled, body_is_spelled_once, epitaph_is_read_once,
-    spelling_is_read, written_epitaph_is_read, written_header_is_read,
+    names_have_their_own, spelling_is_read, written_epitaph_is_read, written_header_is_read,
 };
 pub use ordinals::{OrdinalFault, Ordinals};
 pub use output::{Out, long_array, word_array};

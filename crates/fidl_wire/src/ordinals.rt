@@ -1,6 +1,6 @@
 ghost use Rattle.std.specs.Prelude.{◌≡◌, ◌≢◌, ◌<◌, ◌≤◌, ℕ, length, slice_index, IfSome, IsNone, IfErr, OnOk, Some, MatchOption};
 ghost use Rattle.fidl_names.specs.declared.methods.Method.{Method};
-ghost use Rattle.fidl_wire.specs.Names.{row_of, name_at, ordinal_at, row_count, event_row, method_ordinal, event_ordinal, AreDistinct, MethodsHaveTheirOwn, EventHasItsOwn};
+ghost use Rattle.fidl_wire.specs.Names.{row_of, name_at, ordinal_at, row_count, event_row, method_ordinal, event_ordinal, AreDistinct};
 ghost use Rattle.fidl_wire.specs.Faults.{IsFirst};
 ghost use Rattle.fidl_wire.specs.Collisions.{IsFirstEqual, AreApart, IsEarlier};
 
@@ -52,13 +52,6 @@ impl Ordinals {
             Some((i, j)) => Err(OrdinalFault::Collision(i as u32, j as u32)),
         }
     }
-
-    /// What ordinals that were found show of the names. It computes nothing.
-    pub fn tell_names_apart(&self)
-        ensures names { AreDistinct }
-        ensures methods { MethodsHaveTheirOwn }
-        ensures event { EventHasItsOwn }
-    {}
 
     /// The method of an ordinal; `None` exactly where no method has it.
     pub fn method(&self, ordinal: u64) -> Option<Method>

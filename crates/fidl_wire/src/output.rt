@@ -104,7 +104,7 @@ impl Out {
     }
 
     /// Appends a header.
-    #[inline]
+    #[inline(always)]
     pub fn begin(&mut self, header: Header)
         requires { length self.old.bytes + 16 ≤ MAX_BYTES }
         ensures bytes { self.new.bytes ≡ self.old.bytes ++ header_bytes header }
@@ -145,7 +145,7 @@ impl Out {
     }
 
     /// Appends the bytes.
-    #[inline]
+    #[inline(always)]
     pub fn put_bytes(&mut self, v: &[u8])
         requires { length self.old.bytes + length v.now ≤ MAX_BYTES }
         ensures bytes { self.new.bytes ≡ self.old.bytes ++ v.now }

@@ -8,7 +8,7 @@ use crate::protocols::Protocol;
 use crate::replies::{Reply, shape_of};
 use crate::reply_fields::read_fields;
 use fidl_names::{Handle, Method};
-use fidl_wire::{Body, Header, Ordinals, WireFault, WireWhat, body_is_read_where_spelled};
+use fidl_wire::{Body, Header, Ordinals, WireFault, WireWhat};
 
 /// Where a header's ordinal stands.
 const ORDINAL_PLACE: usize = 8;
@@ -38,8 +38,6 @@ pub fn read_reply<'a>(
     // What the reply lends is where its payload stands.
     ensures parts { IfOk result (λ r. IsPayloadOf bytes.now (answered r.1)) }
 {
-    ordinals.tell_names_apart();
-    body_is_read_where_spelled();
     reply_in(ordinals, bytes, handles)
 }
 
@@ -112,7 +110,6 @@ pub fn read_event(ordinals: &Ordinals, bytes: &[u8]) -> Result<Protocol, WireFau
     // It is the event, or the first fault.
     ensures exact { result ≡ event_of bytes.now }
 {
-    body_is_read_where_spelled();
     event_in(ordinals, bytes)
 }
 

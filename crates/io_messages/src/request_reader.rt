@@ -9,7 +9,7 @@ use crate::replies::is_one_way;
 use crate::request_fields::read_fields;
 use crate::requests::{Request, RequestFault};
 use fidl_names::{Handle, Method};
-use fidl_wire::{Header, Ordinals, WireFault, WireWhat, body_is_read_where_spelled};
+use fidl_wire::{Header, Ordinals, WireFault, WireWhat};
 
 /// The request that bytes and handles are, and its transaction id.
 ///
@@ -31,8 +31,6 @@ pub fn read_request<'a>(
     // What the request lends is where its fields say.
     ensures parts { IfOk result (λ r. ArePartsOf bytes.now (asked r.1)) }
 {
-    ordinals.tell_names_apart();
-    body_is_read_where_spelled();
     request_in(ordinals, protocol, bytes, handles)
 }
 

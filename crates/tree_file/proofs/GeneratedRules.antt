@@ -2,6 +2,7 @@
 use Rattle.std.proofs.Common.{◌≡◌, ◌≢◌, ◌<◌, ◌≤◌, ℕ, zero, suc, List, [], ◌∷◌, All, AllPairs, None, codes, length, slice_index, ap, refl, arith, inr}
 use Rattle.std.specs.Str.{is_utf8, chars}
 use lib.Utf8.{encode}
+use Rattle.fidl_names.specs.Numbers.{AreBytes}
 use Rattle.fidl_names.specs.declared.limits.TheConstants as limit
 use Rattle.path_walk.specs.Names.{IsName, name_fault}
 use Rattle.path_walk.specs.Parts.{before_last_slash, parent_of}
@@ -80,3 +81,10 @@ pub same_accepted : (servers : List (List ℕ)) (nodes : List NodeItem) (mounts 
     → servers ≡ generated_lists.servers → nodes ≡ generated_lists.nodes → mounts ≡ generated_lists.mounts → clients ≡ generated_lists.clients
     → AreAccepted (record { servers = servers; nodes = nodes; mounts = mounts; clients = clients })
 same_accepted servers nodes mounts clients s n m c = rw s (rw n (rw m (rw c generated_accepted)))
+
+no_bytes : AreBytes []
+no_bytes k d within = absurd (omega (arith, within))
+
+-- nodes that are these have no bytes
+pub same_bytes : (nodes : List NodeItem) → nodes ≡ generated_lists.nodes → All (λ node. AreBytes node.bytes) nodes
+same_bytes nodes n = rw n (all_of_two (λ node. AreBytes node.bytes) (directory_of 0) (directory_of 1) no_bytes no_bytes)

@@ -1,6 +1,7 @@
 -- What the rules from the fourth on say of the lists of a tree: of each item by itself, and of where the items stand.
 use Rattle.std.specs.Prelude.{◌≡◌, ◌≢◌, ◌≤◌, ◌<◌, ◌⊎◌, ℕ, true, false, List, [], length, All, AllPairs, None}
 use Rattle.fidl_names.specs.HandleNumber.{is_client}
+use Rattle.fidl_names.specs.Numbers.{AreBytes}
 use Rattle.fidl_names.specs.declared.limits.TheConstants as limit
 use Rattle.path_walk.specs.Names.{IsName}
 use Rattle.path_walk.specs.Parts.{is_dot}
@@ -59,3 +60,12 @@ pub record AreItems (lists : Lists) : Type 0 where
 pub record AreAccepted (lists : Lists) : Type 0 where
   pub items : AreItems lists
   pub placed : first_broken 8 (rules_on_lists lists) ≡ None
+
+-- what a tree file says is in its files are bytes; its names are bytes wherever it is accepted
+abbrev pub HasFilesOfBytes : Lists → Type 0
+HasFilesOfBytes lists = All (λ node. AreBytes node.bytes) lists.nodes
+
+-- what every start keeps
+pub record AreOfStart (lists : Lists) : Type 0 where
+  pub accepted : AreAccepted lists
+  pub bytes : HasFilesOfBytes lists

@@ -1,4 +1,5 @@
-ghost use Rattle.std.specs.Prelude.{◌≡◌, ◌++◌, ◌&&◌, [], ◌∷◌, None, List, map, length, nat_le, OnOk, IfErr, ◌≤◌};
+ghost use Rattle.std.specs.Prelude.{◌≡◌, ◌++◌, ◌&&◌, [], ◌∷◌, None, List, map, length, nat_le, All, OnOk, IfErr, ◌≤◌};
+ghost use Rattle.fidl_names.specs.Numbers.{AreBytes};
 ghost use Rattle.tree_file.specs.Items.{NodeItem};
 ghost use Rattle.tree_file.specs.Rules.{Place, found_among, is_directory, is_directory_kind, fits_in, node_place, mount_place, first_failing, node_fits, mount_fits, client_fits, bytes_fit, names_held, connections_held, names_fit, connections_fit};
 ghost use Rattle.tree_file.specs.Kept.{Stands};
@@ -160,14 +161,17 @@ pub fn misplaced_client<'a>(places: &Places<'a>, clients: &'a [Client]) -> Optio
 }
 
 fn is_small(node: &Node) -> bool
-    ensures { result ≡ nat_le (length node.now.bytes) MAX_FILE }
+    ensures small { result ≡ nat_le (length node.now.bytes) MAX_FILE }
+    ensures bytes { AreBytes node.now.bytes }
 {
-    node.bytes.as_slice().len() <= MAX_FILE
+    let bytes = node.bytes.as_slice();
+    bytes.len() <= MAX_FILE
 }
 
-/// The first node with more bytes than a file may have.
+/// The first node with more bytes than a file may have. Where there is none, what is in all nodes are bytes.
 pub fn large_node(nodes: &[Node]) -> Option<usize>
-    ensures { result ≡ first_failing bytes_fit [] nodes.now }
+    ensures first { result ≡ first_failing bytes_fit [] nodes.now }
+    ensures bytes { result ≡ None → All (λ node. AreBytes node.bytes) nodes.now }
 {
     for (item, node) in nodes.iter().enumerate() {
         if !is_small(node) {

@@ -4,7 +4,7 @@ ghost use Rattle.toml.specs.Data.{get};
 ghost use Rattle.toml.specs.View.{view};
 ghost use Rattle.tree_file.specs.Fields.{is_table};
 ghost use Rattle.tree_file.specs.declared.faults.TreeFault.TheVariants.{Rule};
-ghost use Rattle.tree_file.specs.Accepted.{AreAccepted};
+ghost use Rattle.tree_file.specs.Accepted.{AreAccepted, HasFilesOfBytes};
 ghost use Rattle.tree_file.specs.Lent.{node_item, mount_item, client_item};
 ghost use Rattle.tree_file.specs.Rules.{document_of, broken_in, is_versioned, is_version_one, has_lists, has_all_tables, has_items, has_tables, items_at, read_servers, read_nodes, read_mounts, read_clients, servers_of, lists_of, rule_4, rule_5, rule_6, rule_7, rules_on_form, rules_on_lists, first_broken, first_failure, start_from};
 ghost use Rattle.tree_file.specs.Faults.{Breaks, IsFirst};
@@ -39,41 +39,39 @@ impl Model for Parts {
 }
 
 /// What a session starts with: servers, nodes, mounts and first connections, each in the order of the
-/// file. Contracts see it as these lists. They keep the rules of a tree (`keeps_rules`).
+/// file. Contracts see it as these lists. They keep the rules of a tree, and what is in their files are
+/// bytes: the counts of servers and nodes say so.
 #[derive(Drop)]
 pub struct Start {
     parts: Parts,
 }
 
 impl Model for Start {
-    ghost use Rattle.tree_file.specs.Accepted.{AreAccepted};
+    ghost use Rattle.tree_file.specs.Accepted.{AreOfStart};
     ghost use Rattle.tree_file.specs.Items.{Lists};
 
     ghost Value = { Lists };
 
     ghost view = { λ start. start.parts };
 
-    ghost invariant = { λ start. AreAccepted start.parts };
+    ghost invariant = { λ start. AreOfStart start.parts };
 }
 
 impl Start {
-    /// Every start keeps the rules of a tree. The call tells it to a proof, and does nothing.
-    pub fn keeps_rules(&self)
-        ensures { AreAccepted self.now }
-    {
-        let _ = &self.parts;
-    }
-
     /// How many servers there are.
     pub fn servers(&self) -> u32
-        ensures { result ≡ length self.now.servers }
+        ensures count { result ≡ length self.now.servers }
+        ensures accepted { AreAccepted self.now }
+        ensures bytes { HasFilesOfBytes self.now }
     {
         self.parts.servers.len() as u32
     }
 
     /// How many nodes all servers have, without their roots.
     pub fn nodes(&self) -> u32
-        ensures { result ≡ length self.now.nodes }
+        ensures count { result ≡ length self.now.nodes }
+        ensures accepted { AreAccepted self.now }
+        ensures bytes { HasFilesOfBytes self.now }
     {
         self.parts.nodes.len() as u32
     }
@@ -117,14 +115,15 @@ impl Start {
     }
 }
 
-// The start of lists that keep the rules.
+// The start of lists that keep the rules, with bytes in their files.
 pub(crate) fn start_with(
     servers: Vec<Bytes>,
     nodes: Vec<Node>,
     mounts: Vec<Mount>,
     clients: Vec<Client>,
 ) -> Start
-    requires { AreAccepted (record { servers = servers.items; nodes = nodes.items; mounts = mounts.items; clients = clients.items }) }
+    requires accepted { AreAccepted (record { servers = servers.items; nodes = nodes.items; mounts = mounts.items; clients = clients.items }) }
+    requires bytes { HasFilesOfBytes (record { servers = servers.items; nodes = nodes.items; mounts = mounts.items; clients = clients.items }) }
     ensures { result ≡ record { servers = servers.items; nodes = nodes.items; mounts = mounts.items; clients = clients.items } }
 {
     Start {
@@ -305,6 +304,7 @@ fn broken(rule: u32, item: usize) -> TreeFault
 // The rules on where the items stand and how many there are.
 fn check_lists(alloc: Global, parts: &Parts) -> Result<(), TreeFault>
     requires { length parts.now.servers ≤ MAX_SERVERS }
+    ensures bytes { OnOk result (HasFilesOfBytes parts.now) }
     ensures hold { OnOk result (first_broken 8 (rules_on_lists parts.now) ≡ None) }
     ensures refused { IfErr result (IsFirst (first_broken 8 (rules_on_lists parts.now))) }
 {

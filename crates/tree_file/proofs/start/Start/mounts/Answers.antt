@@ -5,6 +5,6 @@ use Rattle.tree_file.proofs.start.Start.mounts.Goals as goal
 
 pub overflow_cast-result : goal.overflow_cast-result
 overflow_cast-result c =
-    let few = (few_of c.self.inside.parts c.self.invariant).mounts in
+    let few = (few_of c.self.inside.parts c.self.invariant.accepted).mounts in
     let same = ap (λ (inside : Inside). length inside.parts.mounts) c.self-inside.view_is in
     omega (arith, few, same, c.len.ensures)
