@@ -6,8 +6,8 @@ mod watched;
 
 use crate::rows::{LISTINGS, NAMES, ROWS, WATCHERS, WHOLE_TREE};
 use crate::run::run_words;
-use crate::statuses::Status;
 use host_io::{MemFiles, MemSink, MemSource};
+use run_status::Status;
 use std::alloc::Global;
 use std::test::Fail;
 use test_rows::{Row, bytes, number, rows};

@@ -1,7 +1,7 @@
 // Sessions over the whole tree that are too long for a row: each is run whole and in single bytes.
 
 use super::run;
-use crate::statuses::Status;
+use run_status::Status;
 use std::alloc::Global;
 use std::test::Fail;
 use test_rows::{bytes, rows};

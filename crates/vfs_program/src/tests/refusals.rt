@@ -2,8 +2,8 @@
 
 use super::run;
 use crate::rows::REFUSALS;
-use crate::statuses::Status;
 use endpoint_link::{FrameKind, Reading, Side, frame_at};
+use run_status::Status;
 use std::alloc::{AllocError, Global};
 use std::test::Fail;
 use test_rows::{Row, rows};
