@@ -12,7 +12,7 @@ use fidl_names::NoMemory;
 use fidl_wire::{OrdinalFault, Ordinals};
 use host_io::{Failed, Sink};
 use run_status::{Status, pass_on, put_number};
-use script_session::{Measured, measure, scripts_are_frames};
+use script_session::{Measured, measure};
 use std::alloc::{AllocError, Global};
 use tree_file::generated_start;
 use vfs_script::{Script, ScriptFault, script_of};
@@ -46,7 +46,6 @@ fn report_of(alloc: Global, ordinals: Ordinals, rounds: u32) -> Result<Vec<u8>, 
 {
     let start = generated_start(alloc)?;
     let script = generated_script(alloc, &ordinals, rounds)?;
-    scripts_are_frames(&script);
     let measured = measure(alloc, ordinals, &start, &script)?;
     Ok(report_with(alloc, script.len(), &measured)?)
 }

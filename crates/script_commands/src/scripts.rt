@@ -14,7 +14,7 @@ use fidl_wire::{OrdinalFault, Ordinals};
 use host_io::{Files, Sink};
 use named_files::{read_file, read_start};
 use run_status::Status;
-use script_session::{play, scripts_are_frames};
+use script_session::play;
 use std::alloc::Global;
 use transcripts::TranscriptFault;
 use vfs_script::{Script, ScriptFault, script_of};
@@ -47,7 +47,6 @@ pub fn run_script<F: Files, K: Sink>(
         Ok(script) => script,
         Err(status) => return status,
     };
-    scripts_are_frames(&script);
     match play(alloc, ordinals, &start, &script, sink) {
         Ok(()) => Status::Done,
         Err(TranscriptFault::Failed) => Status::WriteFault,

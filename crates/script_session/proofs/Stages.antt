@@ -234,6 +234,10 @@ lines_many text script is = ap length is.calls ∙ length-map (script_lines text
 pub fits_bytes : (bytes : List ℕ) → ((i : ℕ) → Fits w8 (get_or bytes i 0)) → AreBytes bytes
 fits_bytes bytes fits = All-from_get_or (λ byte. byte < 256) bytes 0 (λ i more. omega (arith, fits i))
 
+-- what a script stands for may go to the servers, since what is kept of its frames are bytes
+pub may_go : (text : List ℕ) (script : ScriptValue) (bytes : List ℕ) → IsScript text script → bytes ≡ script.bytes → AreBytes bytes → All (IsFrame side.ToServers) (frames_of text)
+may_go text script bytes is same are = script_frames text (subst AreBytes (same ∙ is.bytes) are)
+
 -- what is left of a slice from a place on
 pub rest_is : (n : ℕ) (rest : List ℕ) → take (length rest - n) (drop n rest) ≡ drop n rest
 rest_is n rest = take_all (length rest - n) (drop n rest) (omega (arith, length-drop n rest))

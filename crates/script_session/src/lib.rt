@@ -6,10 +6,8 @@ mod laws;
 mod measuring;
 mod meter;
 mod playing;
-mod sending;
 mod tally;
 
 pub use laws::transcripts_show_the_output;
 pub use measuring::{Measured, measure};
 pub use playing::play;
-pub use sending::scripts_are_frames;

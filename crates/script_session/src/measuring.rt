@@ -1,7 +1,10 @@
 //! The output of a script, told by its size and its hash.
 
-ghost use Rattle.std.specs.Prelude.{◌≡◌, ℕ, List, IfOk};
+ghost use Rattle.std.specs.Prelude.{◌≡◌, ℕ, List, All, IfOk};
+ghost use Rattle.endpoint_link.specs.Frames.{IsFrame};
+ghost use Rattle.endpoint_link.specs.declared.kinds.Side.TheVariants as side;
 ghost use Rattle.vfs_journal.specs.Starts.{start_of};
+ghost use Rattle.vfs_script.specs.Scripts.{frames_of};
 ghost use Rattle.script_session.specs.Measured.{Measures, output_frames};
 ghost use Rattle.script_session.specs.Steps.{IsScript};
 
@@ -23,7 +26,7 @@ pub struct Measured {
 
 /// Plays a script over the tree of an accepted start, and measures its output. The output is hashed as the session goes on, and isn't kept.
 ///
-/// The script is one that `script_of` read from a text.
+/// The script is one that `script_of` read from a text. What it stands for are frames that may go to the servers.
 pub fn measure(
     alloc: Global,
     ordinals: Ordinals,
@@ -31,10 +34,12 @@ pub fn measure(
     script: &Script,
 ) -> Result<Measured, NoMemory>
     requires { (text : List ℕ) × IsScript text script.now }
-    ensures { (text : List ℕ) → IsScript text script.now →
+    ensures measured { (text : List ℕ) → IsScript text script.now →
         IfOk result (Measures (output_frames (start_of start.now) script.now.mode text)) }
+    ensures sent { (text : List ℕ) → IsScript text script.now → All (IsFrame side.ToServers) (frames_of text) }
 {
+    let bytes = script.frames();
     let mut meter = Meter::new(alloc, ordinals, start, script.mode())?;
-    meter.hear_all(script)?;
+    meter.hear_all(script, bytes)?;
     meter.end()
 }

@@ -60,8 +60,9 @@ impl Meter {
         })
     }
 
-    /// Hears each frame of a script.
-    pub(crate) fn hear_all(&mut self, script: &Script) -> Result<(), NoMemory>
+    /// Hears each frame of a script, where these bytes are its frames.
+    pub(crate) fn hear_all(&mut self, script: &Script, bytes: &[u8]) -> Result<(), NoMemory>
+        requires bytes { bytes.now ≡ script.now.bytes }
         requires script { (text : List ℕ) × IsScript text script.now }
         requires frames { self.old.world.frames ≡ 0 }
         requires few { self.old.tally.frames ≡ 0 }
@@ -71,7 +72,7 @@ impl Meter {
         ensures few { OnOk result (self.new.tally.frames < 2 ^ 126) }
         ensures small { OnOk result (self.new.tally.bytes < 2 ^ 126) }
     {
-        let mut rest = script.frames();
+        let mut rest = bytes;
         for _ in 0..script.len() {
             let Reading::Whole { frame, size } = frame_at(Side::ToServers, rest) else {
                 unreachable!();

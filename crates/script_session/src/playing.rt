@@ -1,6 +1,6 @@
 //! The frames of a script, heard one by one in a session over a tree.
 
-ghost use Rattle.std.specs.Prelude.{◌≡◌, ◌<◌, ◌+◌, ◌^◌, ℕ, List, Option, Some, [], IfOk, OnOk, OnErr, length, slice_get};
+ghost use Rattle.std.specs.Prelude.{◌≡◌, ◌<◌, ◌+◌, ◌^◌, ℕ, List, Option, Some, [], All, IfOk, OnOk, OnErr, length, slice_get};
 ghost use Rattle.std.specs.Io.KnownBytes.{Appends};
 ghost use Rattle.endpoint_link.specs.Frames.{IsFrame};
 ghost use Rattle.endpoint_link.specs.Views.{frame_of};
@@ -10,7 +10,7 @@ ghost use Rattle.io_client.specs.Calls.{none_yet};
 ghost use Rattle.tree_file.specs.Accepted.{AreAccepted, HasFilesOfBytes};
 ghost use Rattle.vfs_journal.specs.Starts.{Start as TheStart, start_of};
 ghost use Rattle.vfs_script.specs.Noting.{IsFree};
-ghost use Rattle.vfs_script.specs.Scripts.{Spoken, call_in, count_calls, frame_of as spoken_frame, script_lines};
+ghost use Rattle.vfs_script.specs.Scripts.{Spoken, call_in, count_calls, frame_of as spoken_frame, frames_of, script_lines};
 ghost use Rattle.vfs_script.specs.declared.calls.Call.{Call};
 ghost use Rattle.vfs_session.specs.World.{StandsFor};
 ghost use Rattle.transcripts.specs.Answering.{count_calls as calls_made, one_of};
@@ -32,7 +32,7 @@ use vfs_world::World;
 /// Plays a script over the tree of an accepted start, and writes its transcript. It is written as the session goes on, in pieces that don't
 /// grow with it.
 ///
-/// The script is one that `script_of` read from a text.
+/// The script is one that `script_of` read from a text. What it stands for are frames that may go to the servers.
 pub fn play<K: Sink>(
     alloc: Global,
     ordinals: Ordinals,
@@ -47,9 +47,11 @@ pub fn play<K: Sink>(
     ensures part { (text : List ℕ) → IsScript text script.now →
         OnErr result (AppendsPart (K.written sink.old) (K.written sink.new) (transcript (start_of start.now) script.now.mode text)) }
     ensures cause { HasSinkCause (K.faults sink.old) (K.faults sink.new) result }
+    ensures sent { (text : List ℕ) → IsScript text script.now → All (IsFrame side.ToServers) (frames_of text) }
 {
+    let bytes = script.frames();
     let mut player = Player::new(alloc, ordinals, start, script.mode())?;
-    player.play_lines(script, sink)?;
+    player.play_lines(script, bytes, sink)?;
     player.end(script.calls(), sink)
 }
 
@@ -82,8 +84,14 @@ impl Player {
         })
     }
 
-    /// Plays each line of a script.
-    fn play_lines<K: Sink>(&mut self, script: &Script, sink: &mut K) -> Result<(), TranscriptFault>
+    /// Plays each line of a script, where these bytes are its frames.
+    fn play_lines<K: Sink>(
+        &mut self,
+        script: &Script,
+        bytes: &[u8],
+        sink: &mut K,
+    ) -> Result<(), TranscriptFault>
+        requires bytes { bytes.now ≡ script.now.bytes }
         requires script { (text : List ℕ) × IsScript text script.now }
         requires frames { self.old.world.frames ≡ 0 }
         requires client { self.old.scribe.calls ≡ none_yet }
@@ -98,7 +106,7 @@ impl Player {
         ensures within { OnOk result ((low : ℕ) × IsWithin low (count_calls script.now.calls) self.new.scribe.calls) }
         ensures cause { HasSinkCause (K.faults sink.old) (K.faults sink.new) result }
     {
-        let mut rest = script.frames();
+        let mut rest = bytes;
         for i in 0..script.len() {
             let Reading::Whole { frame, size } = frame_at(Side::ToServers, rest) else {
                 unreachable!();

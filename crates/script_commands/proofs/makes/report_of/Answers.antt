@@ -6,9 +6,9 @@ pub returns : goal.returns
 returns c =
     let script = c.in_ok-script.ensures.script in
     record {
-      sent = c.scripts_are_frames.ensures (workload c.args.rounds) script;
+      sent = c.in_ok-measured.ensures.sent (workload c.args.rounds) script;
       is =
           is_report c.args.rounds c.len.result c.in_ok-start.start c.in_ok-script.script.mode c.in_ok-script.script.calls c.in_ok-measured.measured _
           c.in_ok-start.ensures.start c.in_ok-script.ensures.mode script.calls c.len.ensures
-          (c.in_ok-measured.ensures (workload c.args.rounds) script) c.in_ok-report_with.ensures;
+          (c.in_ok-measured.ensures.measured (workload c.args.rounds) script) c.in_ok-report_with.ensures;
     }

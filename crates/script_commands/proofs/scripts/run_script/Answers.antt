@@ -18,7 +18,7 @@ returns-in-Ok-play g c =
           _,
           record {
             says = still_says c.args.script.now _ _ (record { text = says.0; by = c.in-Ok-read_script.script.mode }) c.in-Ok-read_start.ensures.files says.2;
-            frames = c.scripts_are_frames.ensures says.0 says.1;
+            frames = c.in-Ok-play.ensures.sent says.0 says.1;
           },
           (c.in-Ok-play.ensures.whole says.0 says.1, c.in-Ok-play.ensures.flushed),
         ),
@@ -38,7 +38,7 @@ returns-in-Err-Failed g c =
           _,
           record {
             says = still_says c.args.script.now _ _ (record { text = says.0; by = c.in-Ok-read_script.script.mode }) c.in-Ok-read_start.ensures.files says.2;
-            frames = c.scripts_are_frames.ensures says.0 says.1;
+            frames = c.in-Err-Failed.ensures.sent says.0 says.1;
           },
           (
             c.in-Err-Failed.ensures.part says.0 says.1,
@@ -61,7 +61,7 @@ returns g c =
           _,
           record {
             says = still_says c.args.script.now _ _ (record { text = says.0; by = c.in-Ok-read_script.script.mode }) c.in-Ok-read_start.ensures.files says.2;
-            frames = c.scripts_are_frames.ensures says.0 says.1;
+            frames = c.in-Err-NoMemory.ensures.sent says.0 says.1;
           },
           c.in-Err-NoMemory.ensures.part says.0 says.1,
         ),

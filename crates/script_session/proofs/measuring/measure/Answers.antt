@@ -5,10 +5,11 @@ use Rattle.vfs_journal.specs.Starts.{start_of}
 use Rattle.vfs_script.specs.Scripts.{frames_of}
 use Rattle.script_session.specs.Measured.{Measures, output_frames}
 use Rattle.script_session.proofs.Metering.{if_ok, metered_first}
+use Rattle.script_session.proofs.Stages.{fits_bytes, may_go}
 use Rattle.script_session.proofs.measuring.measure.Goals as goal
 
-pub returns : goal.returns
-returns c = λ text is.
+pub returns-clause-measured : goal.returns-clause-measured
+returns-clause-measured c = λ text is.
     let lists = c.args.start.now in
     let start = start_of lists in
     let meter = c.in_ok-meter.meter in
@@ -17,3 +18,12 @@ returns c = λ text is.
     if_ok c.end.result (Measures (output_frames start meter.mode text)) (Measures (output_frames start c.args.script.now.mode text))
     (λ told are. subst (λ (by : Mode). Measures (output_frames start by text) told) (c.in_ok-meter.ensures.mode ∙ c.mode.ensures) are)
     (c.end.ensures start (session start meter.mode (frames_of text)) heard)
+
+pub returns-in_err-meter-clause-sent : goal.returns-in_err-meter-clause-sent
+returns-in_err-meter-clause-sent c = λ text is. may_go text c.args.script.now c.frames-bytes.result.now is c.frames-bytes.ensures (fits_bytes c.frames-bytes.result.now c.type_inv.bytes)
+
+pub returns-in_err-hear_all-clause-sent : goal.returns-in_err-hear_all-clause-sent
+returns-in_err-hear_all-clause-sent c = λ text is. may_go text c.args.script.now c.frames-bytes.result.now is c.frames-bytes.ensures (fits_bytes c.frames-bytes.result.now c.type_inv.bytes)
+
+pub returns-clause-sent : goal.returns-clause-sent
+returns-clause-sent c = λ text is. may_go text c.args.script.now c.frames-bytes.result.now is c.frames-bytes.ensures (fits_bytes c.frames-bytes.result.now c.type_inv.bytes)

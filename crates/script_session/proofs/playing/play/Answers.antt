@@ -7,6 +7,7 @@ use Rattle.transcripts.specs.Transcript.{lines_of, text_of}
 use Rattle.script_session.specs.Playing.{drain_played, play_lines, transcript}
 use Rattle.script_session.proofs.Answered.{any_err, on_err, on_ok, part_grows}
 use Rattle.script_session.proofs.Whole.{calls_counted, lines_begin, plays_first, text_is, told_first}
+use Rattle.script_session.proofs.Stages.{fits_bytes, may_go}
 use Rattle.script_session.proofs.playing.play.Goals as goal
 
 pub returns-in_err-play_lines-clause-part : goal.returns-in_err-play_lines-clause-part
@@ -51,3 +52,12 @@ returns-clause-part g c = λ text is.
     (λ part. subst (AppendsPart written now) (text_is start player.mode c.args.script.now.mode text (c.in_ok-player.ensures.mode ∙ c.mode.ensures)) part)
     (c.end.ensures.part start played written (c.in_ok-play_lines.ensures.plays start text is plays)
     (calls_counted start player.mode text c.args.script.now c.calls.result is c.calls.ensures) (c.in_ok-play_lines.ensures.told start text written is plays told))
+
+pub returns-in_err-player-clause-sent : goal.returns-in_err-player-clause-sent
+returns-in_err-player-clause-sent g c = λ text is. may_go text c.args.script.now c.frames-bytes.result.now is c.frames-bytes.ensures (fits_bytes c.frames-bytes.result.now c.type_inv.bytes)
+
+pub returns-in_err-play_lines-clause-sent : goal.returns-in_err-play_lines-clause-sent
+returns-in_err-play_lines-clause-sent g c = λ text is. may_go text c.args.script.now c.frames-bytes.result.now is c.frames-bytes.ensures (fits_bytes c.frames-bytes.result.now c.type_inv.bytes)
+
+pub returns-clause-sent : goal.returns-clause-sent
+returns-clause-sent g c = λ text is. may_go text c.args.script.now c.frames-bytes.result.now is c.frames-bytes.ensures (fits_bytes c.frames-bytes.result.now c.type_inv.bytes)

@@ -17,8 +17,8 @@ loop-init c =
     let few = c.requires.few in
     let small = c.requires.small in (
       λ text is.
-          script_begins text c.args.script.now c.frames-rest.result.now (Heard now.mode now.world now.tally now.world now.tally) is c.frames-rest.ensures
-          (fits_bytes c.frames-rest.result.now c.type_inv.rest) (none_heard now.mode now.world now.tally),
+          script_begins text c.args.script.now c.args.bytes.now (Heard now.mode now.world now.tally now.world now.tally) is c.requires.bytes
+          (fits_bytes c.args.bytes.now c.type_inv.bytes) (none_heard now.mode now.world now.tally),
       c.requires.frames,
       refl,
       omega (arith, few),

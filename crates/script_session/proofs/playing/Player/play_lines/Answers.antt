@@ -17,7 +17,7 @@ loop-i-init g c =
     let now = c.args.self.now in
     let written = g.K.Sink.written c.args.sink.now in (
       λ text is.
-          text_begins text c.args.script.now c.frames-rest.result.now now.scribe.calls is c.frames-rest.ensures (fits_bytes c.frames-rest.result.now c.type_inv.rest)
+          text_begins text c.args.script.now c.args.bytes.now now.scribe.calls is c.requires.bytes (fits_bytes c.args.bytes.now c.type_inv.bytes)
           c.requires.client
           (Behind now.mode now.world now.scribe.calls now.scribe.gathered written now.world now.scribe.calls now.scribe.gathered written)
           (at_first now.mode now.world now.scribe.calls now.scribe.gathered written),
