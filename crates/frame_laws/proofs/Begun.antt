@@ -1,12 +1,10 @@
 -- That the start of an accepted tree has names of bytes.
-use Rattle.std.proofs.Common.{◌≡◌, ℕ, ◌+◌, ◌==◌, Bool, true, false, cond, List, [], ◌∷◌, length, map, filter, Some, None, All, refl, sym, subst, ◌∙◌, zero, suc, ◌<◌, ◌≤◌, take, get_or, arith}
+use Rattle.std.proofs.Common.{◌≡◌, ℕ, ◌+◌, ◌==◌, Bool, true, false, cond, List, [], ◌∷◌, length, map, filter, Some, None, All, refl, sym, subst, ◌∙◌}
 use Rattle.std.specs.FinMap as finite
 use Rattle.std.specs.FinMap.Entries as entry
-use Rattle.std.specs.Prelude.{slice_get}
-use Rattle.std.proofs.lemmas.List.{take_all}
 use Rattle.std.specs.List.{enumerate_from, range_with_len}
 use Rattle.std.specs.Ordering.{eq_by_cmp}
-use Rattle.std.proofs.lemmas.List.Elements.{All-more, All-nil, All-cons, All-head, All-tail, All-append, All-filter, All-map, All-weaker}
+use Rattle.std.proofs.lemmas.List.Elements.{All-nil, All-cons, All-head, All-tail, All-append, All-filter, All-map, All-weaker}
 use Rattle.fidl_names.specs.Numbers.{AreBytes}
 use Rattle.node_graph.specs.Tree.{EdgeKey, EdgeTo, NodeRow, edge_cmp}
 use Rattle.node_graph.specs.declared.nodes.NodeKind.TheVariants.{Directory}
@@ -88,19 +86,3 @@ module _ (lists : Lists) (accepted : AreAccepted lists) (files : All (λ (node :
 pub starts_have_bytes : StartsHaveBytes
 starts_have_bytes lists accepted files =
     All-map HasBytes (tree_of lists) (range_with_len 0 (length lists.servers)) (each_tree lists accepted files (range_with_len 0 (length lists.servers)))
-
--- ---- one node after the other
-
-found_at : (nodes : List NodeItem) (i : ℕ) (node : NodeItem) → slice_get nodes i ≡ Some node → (i < length nodes) × (get_or nodes i node ≡ node)
-found_at [] i node e = absurd (cc)
-found_at (x ∷ nodes) zero node e = (omega arith, cc)
-found_at (x ∷ nodes) (suc i) node e = let later = found_at nodes i node e in (omega (arith, later.0), later.1)
-
-pub one_more_node : (nodes : List NodeItem) (i : ℕ) (node : NodeItem) → slice_get nodes i ≡ Some node → AreBytes node.bytes → All (λ (one : NodeItem). AreBytes one.bytes) (take i nodes) →
-    All (λ (one : NodeItem). AreBytes one.bytes) (take (i + 1) nodes)
-one_more_node nodes i node e bytes before =
-    let at = found_at nodes i node e in
-    All-more (λ (one : NodeItem). AreBytes one.bytes) nodes i node at.0 before (subst (λ (one : NodeItem). AreBytes one.bytes) (sym at.1) bytes)
-
-pub all_nodes : (nodes : List NodeItem) (i : ℕ) → length nodes ≤ i → All (λ (one : NodeItem). AreBytes one.bytes) (take i nodes) → All (λ (one : NodeItem). AreBytes one.bytes) nodes
-all_nodes nodes i past h = subst (All (λ (one : NodeItem). AreBytes one.bytes)) (take_all i nodes past) h

@@ -3,7 +3,6 @@ use Rattle.std.specs.Prelude.{◌≡◌, All, Some}
 use Rattle.std.specs.FinMap as finite
 use Rattle.fidl_names.specs.Numbers.{AreBytes}
 use Rattle.node_graph.specs.Tree.{EdgeKey, EdgeTo, Tree}
-use Rattle.tree_file.specs.Items.{Lists}
 use Rattle.vfs_journal.specs.Starts.{Start}
 
 -- the names of a tree and what is in its files
@@ -14,7 +13,3 @@ pub record HasBytes (tree : Tree) : Type 0 where
 -- so each tree that a session begins with
 abbrev pub BeginsWithBytes : Start → Type 0
 BeginsWithBytes start = All HasBytes start.trees
-
--- what a tree file says is in its files; its names are bytes wherever it is accepted
-abbrev pub HasFilesOfBytes : Lists → Type 0
-HasFilesOfBytes lists = All (λ node. AreBytes node.bytes) lists.nodes

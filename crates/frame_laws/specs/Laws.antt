@@ -4,7 +4,7 @@ use Rattle.endpoint_link.specs.Frames.{Bad, Frame, Frames, IsFrame}
 use Rattle.endpoint_link.specs.declared.kinds.FrameReason.{FrameReason}
 use Rattle.endpoint_link.specs.declared.kinds.Mode.{Mode}
 use Rattle.endpoint_link.specs.declared.kinds.Side.TheVariants.{Any, ToServers}
-use Rattle.tree_file.specs.Accepted.{AreAccepted}
+use Rattle.tree_file.specs.Accepted.{AreAccepted, HasFilesOfBytes}
 use Rattle.tree_file.specs.Items.{Lists}
 use Rattle.vfs_journal.specs.Entries.{Journal}
 use Rattle.vfs_journal.specs.Lawful.{Lawful}
@@ -13,7 +13,7 @@ use Rattle.vfs_journal.specs.Past.{history_of}
 use Rattle.vfs_journal.specs.Session.{ended, session}
 use Rattle.vfs_journal.specs.Starts.{Start, start_of}
 use Rattle.journal_laws.specs.Soundness.{IsStart}
-use Rattle.frame_laws.specs.Bytes.{BeginsWithBytes, HasFilesOfBytes}
+use Rattle.frame_laws.specs.Bytes.{BeginsWithBytes}
 
 -- each is a frame of the link; the bytes are these frames, with nothing behind them; whoever reads frames in them finds these, and no bad one
 pub record IsReadAs (bytes : List ℕ) (frames : List Frame) : Type 0 where

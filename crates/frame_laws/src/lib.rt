@@ -3,9 +3,7 @@
 #![tactic(auto)]
 
 mod frames;
-mod starts;
 
 pub use frames::{
     output_is_read_back, parts_are_read_back, sessions_are_read_back, starts_have_bytes,
 };
-pub use starts::files_are_bytes;

@@ -1,18 +1,19 @@
--- Finite maps of a tree's entries, by what is found in them.
-use Rattle.std.proofs.Common.{◌≡◌, List, [], ◌∷◌, true, false, cond, refl, sym, ap, ◌∙◌, T, subst}
-use Rattle.std.specs.Prelude.{Option, Some, None}
+-- Finite maps of the entries of trees and tables, by what is found in them.
+use Rattle.std.proofs.Common.{◌≡◌, ℕ, ◌+◌, Bool, List, [], ◌∷◌, true, false, cond, eqb, length, refl, sym, ap, ◌∙◌, arith}
+use Rattle.std.specs.Prelude.{Option, Some, None, sum_by}
 use Rattle.std.specs.BTreeMap.{BTreeMap, is_at, UpdatesBy}
 use Rattle.std.specs.Map.{lookup, keys_of, values_of}
 use Rattle.std.specs.declared.cmp.Ordering.{Ordering}
 use Rattle.std.specs.declared.cmp.Ordering.TheVariants.{Less, Equal, Greater}
-use Rattle.std.specs.Ordering.{is_eq, eq_by_cmp}
-use Rattle.std.specs.List.{AllByRecursion}
-use Rattle.std.specs.List.Sorted.{IsStrictlySortedBy}
+use Rattle.std.specs.Ordering.{is_eq, eq_by_cmp, nat_cmp}
+use Rattle.std.specs.List.{AllByRecursion, IsDistinct}
 use Rattle.std.specs.Cmp.{IsTotalOrder, eq_by_cmp_equiv}
 use Rattle.std.specs.FinMap as finite
 use Rattle.std.specs.FinMap.Entries as entry
-use Rattle.std.proofs.lemmas.Cmp.{tied_itself}
+use Rattle.std.proofs.lemmas.Cmp.{nat_cmp_total, tied_itself}
+use Rattle.std.proofs.lemmas.List.Sums.{sum_by-cons}
 use Rattle.std.proofs.lemmas.Map.Lookups.{CmpEqualImpliesEq}
+use Rattle.endpoint_link.proofs.Tabled.{get-table}
 
 -- one key is another, or not
 pub data Same {K : Type 0} (R : K → K → Ordering) (q k : K) : Type 0 where
@@ -58,25 +59,6 @@ module _ {K : Type 0} {R : K → K → Ordering} (o : IsTotalOrder R) (exact : C
     pub map_cut : (old new : BTreeMap K X) (key : K) → UpdatesBy R (R key) old new None → finite.from_entries {R = R} new.entries ≡ finite.remove (finite.from_entries old.entries) key
     map_cut old new key u = same_maps _ _ (λ q. get_updated old new key None u q ∙ sym (finite.get-remove o (finite.from_entries old.entries) key q))
 
-    below : (e : K) (es : List (K × X)) → AllByRecursion (λ y. R e y ≡ Less) (keys_of es) → entry.below_all R e es ≡ true
-    below e [] all = refl
-    below e (x ∷ es) all = rw (all.0, below e es all.1) refl
-
-    in_order : (es : List (K × X)) → IsStrictlySortedBy R (keys_of es) → finite.is_sorted R es ≡ true
-    unfolding IsStrictlySortedBy
-    in_order [] sorted = refl
-    in_order (e ∷ es) sorted = rw (below e.0 es sorted.0, in_order es sorted.1) refl
-
-    -- the map of entries in order has just these
-    pub entries-map : (es : List (K × X)) → IsStrictlySortedBy R (keys_of es) → finite.entries (finite.from_entries {R = R} es) ≡ es
-    entries-map es sorted =
-        let t : T (finite.is_sorted R es) = subst T (sym (in_order es sorted)) tt in
-        ap finite.entries (same_maps (finite.from_entries es) (finite.from_sorted es) (λ q. finite.get-from_entries o es q ∙ sym (finite.get-from_sorted R es q t)))
-        ∙ finite.entries-from_sorted R es t
-
-    pub values-map : (es : List (K × X)) → IsStrictlySortedBy R (keys_of es) → finite.values (finite.from_entries {R = R} es) ≡ values_of es
-    values-map es sorted = ap (λ (entries : List (K × X)). values_of entries) (entries-map es sorted)
-
     -- ---- one key put in or taken out
 
     pub get-put_here : (m : finite.FinMap R X) (key : K) (x : X) → finite.get (finite.insert m key x) key ≡ Some x
@@ -102,3 +84,41 @@ module _ {K : Type 0} {R : K → K → Ordering} (o : IsTotalOrder R) (exact : C
       | one_key e b ↦ absurd (apart e)
       | two_keys e b ↦ finite.get-remove o m key from ∙ ap (λ c. cond c None (finite.get m from)) b
     ]
+
+-- ---- sums over tables by number
+
+module _ {X : Type 0} (weigh : X → ℕ) where
+  sum-put_by : (key : ℕ) (x : X) (e : ℕ × X) (es : List (ℕ × X)) (o : Ordering) → cond (is_eq o) (Some e.1) (entry.find nat_cmp key es) ≡ None
+      → sum_by weigh (values_of (entry.put nat_cmp key x es)) ≡ weigh x + sum_by weigh (values_of es)
+      → sum_by weigh (values_of (entry.by_order o ((key, x) ∷ e ∷ es) ((e.0, x) ∷ es) (e ∷ entry.put nat_cmp key x es))) ≡ weigh x + sum_by weigh (values_of (e ∷ es))
+  sum-put_by key x e es Less none later = omega (arith, sum_by-cons weigh x (values_of (e ∷ es)))
+  sum-put_by key x e es Equal none later = absurd (cc)
+  sum-put_by key x e es Greater none later = omega (arith, later, sum_by-cons weigh e.1 (values_of es), sum_by-cons weigh e.1 (values_of (entry.put nat_cmp key x es)))
+
+  -- the sum with a new key put in
+  sum-put : (key : ℕ) (x : X) (es : List (ℕ × X)) → entry.find nat_cmp key es ≡ None → sum_by weigh (values_of (entry.put nat_cmp key x es)) ≡ weigh x + sum_by weigh (values_of es)
+  sum-put key x [] none = sum_by-cons weigh x []
+  sum-put key x (e ∷ es) none =
+      sum-put_by key x e es (nat_cmp key e.0) none (sum-put key x es (later_none (eq_by_cmp nat_cmp key e.0) e.1 (entry.find nat_cmp key es) none))
+    where
+      later_none : (b : Bool) (y : X) (o : Option X) → cond b (Some y) o ≡ None → o ≡ None
+      later_none true y o h = absurd (cc)
+      later_none false y o h = h
+
+  absent : (key : ℕ) (es : List (ℕ × X)) → AllByRecursion (λ y. eqb key y ≡ false) (keys_of es) → lookup (eqb key) es ≡ None
+  absent key [] none = refl
+  absent key (e ∷ es) none = ap (λ (b : Bool). cond b (Some e.1) (lookup (eqb key) es)) none.0 ∙ absent key es none.1
+
+  sum-none : (es : List (ℕ × X)) → length es ≡ 0 → sum_by weigh (values_of es) ≡ 0
+  sum-none [] none = refl
+  sum-none (e ∷ es) none = absurd (omega arith)
+
+  -- the sum over a table of entries in any order
+  pub sum-map : (es : List (ℕ × X)) → IsDistinct eqb (keys_of es) → sum_by weigh (finite.values (finite.from_entries {R = nat_cmp} es)) ≡ sum_by weigh (values_of es)
+  unfolding IsDistinct
+  sum-map [] distinct = let none = finite.empty {X = X} {R = nat_cmp} in sum-none (finite.entries none) (sym (finite.len-entries none) ∙ finite.len-empty nat_cmp X)
+  sum-map (e ∷ es) distinct =
+      let table = finite.from_entries {R = nat_cmp} es in
+      let none : entry.find nat_cmp e.0 (finite.entries table) ≡ None = sym (finite.get-entries table e.0) ∙ (get-table es e.0 ∙ absent e.0 es distinct.0) in
+      let put = ap (λ (entries : List (ℕ × X)). sum_by weigh (values_of entries)) (finite.entries-insert nat_cmp_total table e.0 e.1) ∙ sum-put e.0 e.1 (finite.entries table) none in
+      omega (arith, put, sum-map es distinct.1, sum_by-cons weigh e.1 (values_of es))

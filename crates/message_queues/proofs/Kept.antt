@@ -2,7 +2,7 @@
 use Rattle.std.proofs.Common.{◌≡◌, ℕ, ◌+◌, ◌-◌, ◌<◌, Bool, true, false, List, [], ◌∷◌, ◌++◌, map, refl, sym, ap, ◌∙◌, subst, arith, length}
 use Rattle.std.specs.Prelude.{◌||◌, ◌==◌, Option, Some, None, if◌then◌else◌, is_none, slice_get}
 use Rattle.std.specs.FinMap as finite
-use Rattle.std.specs.List.Sorted.{IsStrictlySortedBy}
+use Rattle.std.specs.List.{IsDistinct}
 use Rattle.std.specs.Ordering.{nat_cmp}
 use Rattle.std.proofs.lemmas.Cmp.{nat_cmp_total}
 use Rattle.std.proofs.lemmas.Map.Lookups.{exact_unsigned}
@@ -280,7 +280,7 @@ new_is servers = record {
 }
 
 pub sound_none : (servers : ℕ) → IsSound [] finite.empty 0 servers
-unfolding IsStrictlySortedBy
+unfolding IsDistinct
 sound_none servers = record {
   kept = record {
     turns = λ key endpoint. (
@@ -293,5 +293,5 @@ sound_none servers = record {
     counts = sym (count-entries [] servers tt);
     few = omega arith;
   };
-  ordered = tt;
+  distinct = tt;
 }

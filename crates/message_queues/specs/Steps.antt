@@ -1,8 +1,7 @@
 -- Words of the steps: which first entries are kept in order, and what every value keeps. No public clause cites them.
-use Rattle.std.specs.Prelude.{◌≡◌, ◌↔◌, ◌≤◌, ◌<◌, ◌^◌, ◌++◌, ◌||◌, ℕ, Bool, true, false, List, [], ◌∷◌, IsSome, drop, flat_map, is_none, length, map, nat_lt, slice_get, Option, Some, None, if◌then◌else◌}
+use Rattle.std.specs.Prelude.{◌≡◌, ◌↔◌, ◌≤◌, ◌<◌, ◌^◌, ◌++◌, ◌||◌, ℕ, Bool, true, false, List, [], ◌∷◌, IsSome, drop, flat_map, is_none, length, map, nat_eq, nat_lt, slice_get, Option, Some, None, if◌then◌else◌}
 use Rattle.std.specs.FinMap as finite
 use Rattle.std.specs.List.{IsDistinct, list_any}
-use Rattle.std.specs.List.Sorted.{IsStrictlySortedBy}
 use Rattle.std.specs.Map.{keys_of}
 use Rattle.std.specs.Ordering.{nat_cmp, ordering_then}
 use Rattle.std.specs.declared.cmp.Ordering.{Ordering}
@@ -53,13 +52,13 @@ pub record IsKept (queues : Queues) (heads : Heads) (counted : ℕ) : Type 0 whe
   pub counts : counted ≡ count queues
   pub few : counted ≤ limit.MAX_WAITING
 
--- the queues of a tree's entries, and what is kept of them
+-- the queues of a table's entries, and what is kept of them
 abbrev pub queues_with : List (ℕ × Mailbox) → ℕ → Queues
 queues_with entries servers = record { boxes = finite.from_entries entries; servers = servers }
 
 pub record IsSound (entries : List (ℕ × Mailbox)) (heads : Heads) (counted servers : ℕ) : Type 0 where
   pub kept : IsKept (queues_with entries servers) heads counted
-  pub ordered : IsStrictlySortedBy nat_cmp (keys_of entries)
+  pub distinct : IsDistinct nat_eq (keys_of entries)
 
 -- a list of 32-bit numbers, each once, and the set of them
 pub record IsListed (found keys : List ℕ) : Type 0 where

@@ -1,9 +1,9 @@
 //! What waits, over all endpoints.
 
-ghost use Rattle.std.specs.Prelude.{◌≡◌, ◌≢◌, AllPairs, ◌≤◌, ◌<◌, ◌+◌, ◌++◌, ◌∷◌, [], Some, None, IfOk, IsSome, OnOk, OnErr, MatchOption, drop, flat_map, length, slice_get, sum_by};
-ghost use Rattle.std.specs.BTreeMap.{IsOrdered, UpdatesBy, insert_entry};
+ghost use Rattle.std.specs.Prelude.{◌≡◌, ◌≢◌, AllPairs, ◌≤◌, ◌<◌, ◌+◌, ◌++◌, ◌∷◌, [], Some, None, IfOk, IsSome, OnOk, OnErr, MatchOption, drop, flat_map, length, nat_eq, slice_get, sum_by};
+ghost use Rattle.std.specs.HashMap.{IsUnique, Updates, get};
+ghost use Rattle.std.specs.List.Sorted.{IsPermutation};
 ghost use Rattle.std.specs.Option.{option_copied};
-ghost use Rattle.std.specs.Ordering.{nat_cmp};
 ghost use Rattle.vfs_journal.specs.Entries.{endpoints_in, tokens_in};
 ghost use Rattle.message_queues.specs.Queues.{Binds, IsAbove, IsNew, IsReady, Requeues, count, head_of, queue_of, server_of};
 ghost use Rattle.message_queues.specs.Oldest.{IsBound, IsBoundAt, IsOldest, NothingWaits};
@@ -16,14 +16,14 @@ use crate::mailbox::Mailbox;
 use crate::parcel::Sent;
 use fidl_names::{MAX_WAITING, NoMemory};
 use std::alloc::Global;
-use std::collections::BTreeMap;
+use std::collections::HashMap;
 use std::marker::Model;
 
 /// What waits on each endpoint, and at which server each endpoint is bound. At most 4,096 entries wait.
 #[derive(Drop)]
 pub struct Queues {
     alloc: Global,
-    boxes: BTreeMap<u32, Mailbox>,
+    boxes: HashMap<u32, Mailbox>,
     heads: Heads,
     count: u32,
     servers: u32,
@@ -49,7 +49,7 @@ impl Queues {
     {
         Queues {
             alloc,
-            boxes: BTreeMap::new(alloc),
+            boxes: HashMap::new(alloc),
             heads: Heads::new(alloc),
             count: 0,
             servers,
@@ -265,15 +265,16 @@ fn older(one: Option<(u64, u32)>, other: Option<(u64, u32)>) -> Option<(u64, u32
     }
 }
 
-/// Adds a mailbox.
+/// Adds a mailbox where there is none.
 fn add_box(
-    boxes: &mut BTreeMap<u32, Mailbox>,
+    boxes: &mut HashMap<u32, Mailbox>,
     endpoint: u32,
     mailbox: Mailbox,
 ) -> Result<(), NoMemory>
-    ensures updates { OnOk result (UpdatesBy nat_cmp (nat_cmp endpoint) boxes.old boxes.new (Some mailbox)) }
-    ensures entries { OnOk result (boxes.new.entries ≡ insert_entry nat_cmp boxes.old.entries endpoint mailbox) }
-    ensures ordered { IsOrdered nat_cmp boxes.new }
+    requires { get nat_eq boxes.old endpoint ≡ None }
+    ensures updates { OnOk result (Updates nat_eq boxes.old boxes.new endpoint (Some mailbox)) }
+    ensures entries { OnOk result (IsPermutation ((endpoint, mailbox) ∷ boxes.old.entries) boxes.new.entries) }
+    ensures unique { IsUnique nat_eq boxes.new }
     ensures err { OnErr result (boxes.new.entries ≡ boxes.old.entries) }
 {
     boxes.insert(endpoint, mailbox)?;

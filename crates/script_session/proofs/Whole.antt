@@ -8,9 +8,8 @@ use Rattle.endpoint_link.specs.declared.kinds.Mode.{Mode}
 use Rattle.fidl_names.specs.declared.methods.Method.{Method}
 use Rattle.fidl_wire.specs.Names.{AreDistinct}
 use Rattle.frame_laws.proofs.Begun.{starts_have_bytes}
-use Rattle.frame_laws.specs.Bytes.{HasFilesOfBytes}
 use Rattle.io_client.specs.Calls.{call_cmp, none_yet}
-use Rattle.tree_file.specs.Accepted.{AreAccepted}
+use Rattle.tree_file.specs.Accepted.{AreAccepted, HasFilesOfBytes}
 use Rattle.tree_file.specs.Items.{Lists}
 use Rattle.vfs_journal.specs.Starts.{Start, start_of}
 use Rattle.vfs_script.specs.Kept.{ScriptValue}

@@ -8,7 +8,6 @@ ghost use Rattle.script_session.specs.Steps.{IsScript};
 use crate::meter::Meter;
 use fidl_names::NoMemory;
 use fidl_wire::Ordinals;
-use frame_laws::files_are_bytes;
 use std::alloc::Global;
 use tree_file::Start;
 use vfs_script::Script;
@@ -35,8 +34,6 @@ pub fn measure(
     ensures { (text : List ℕ) → IsScript text script.now →
         IfOk result (Measures (output_frames (start_of start.now) script.now.mode text)) }
 {
-    start.keeps_rules();
-    files_are_bytes(start);
     let mut meter = Meter::new(alloc, ordinals, start, script.mode())?;
     meter.hear_all(script)?;
     meter.end()

@@ -4,6 +4,7 @@ ghost use Rattle.std.specs.Prelude.{◌≡◌, ◌<◌, ◌≤◌, ◌+◌, ◌*
 ghost use Rattle.endpoint_link.specs.Frames.{IsFrame};
 ghost use Rattle.endpoint_link.specs.Views.{frame_of};
 ghost use Rattle.endpoint_link.specs.declared.kinds.Side.TheVariants as side;
+ghost use Rattle.tree_file.specs.Accepted.{AreAccepted, HasFilesOfBytes};
 ghost use Rattle.vfs_journal.specs.Entries.{Journal};
 ghost use Rattle.vfs_journal.specs.Session.{drained, session, steps};
 ghost use Rattle.vfs_journal.specs.Starts.{Start as TheStart, start_of};
@@ -42,6 +43,8 @@ impl Meter {
         mode: Mode,
     ) -> Result<Meter, NoMemory>
         ensures mode { IfOk result (λ meter. meter.mode ≡ mode) }
+        ensures accepted { AreAccepted start.now }
+        ensures bytes { HasFilesOfBytes start.now }
         ensures stands { IfOk result (λ meter. StandsFor (start_of start.now) meter.world []) }
         ensures frames { IfOk result (λ meter. meter.world.frames ≡ 0) }
         ensures tally { IfOk result (λ meter. Tallies [] meter.tally) }

@@ -7,6 +7,7 @@ ghost use Rattle.endpoint_link.specs.Views.{frame_of};
 ghost use Rattle.endpoint_link.specs.declared.kinds.Side.TheVariants as side;
 ghost use Rattle.host_io.specs.Streams.{AppendsPart, IsFlushed};
 ghost use Rattle.io_client.specs.Calls.{none_yet};
+ghost use Rattle.tree_file.specs.Accepted.{AreAccepted, HasFilesOfBytes};
 ghost use Rattle.vfs_journal.specs.Starts.{Start as TheStart, start_of};
 ghost use Rattle.vfs_script.specs.Noting.{IsFree};
 ghost use Rattle.vfs_script.specs.Scripts.{Spoken, call_in, count_calls, frame_of as spoken_frame, script_lines};
@@ -21,7 +22,6 @@ ghost use Rattle.script_session.specs.Steps.{IsScript, Plays};
 use endpoint_link::{FrameView, Mode, Outbox, Reading, Side, frame_at};
 use fidl_names::NoMemory;
 use fidl_wire::Ordinals;
-use frame_laws::files_are_bytes;
 use host_io::Sink;
 use std::alloc::Global;
 use transcripts::{Scribe, TranscriptFault};
@@ -48,8 +48,6 @@ pub fn play<K: Sink>(
         OnErr result (AppendsPart (K.written sink.old) (K.written sink.new) (transcript (start_of start.now) script.now.mode text)) }
     ensures cause { HasSinkCause (K.faults sink.old) (K.faults sink.new) result }
 {
-    start.keeps_rules();
-    files_are_bytes(start);
     let mut player = Player::new(alloc, ordinals, start, script.mode())?;
     player.play_lines(script, sink)?;
     player.end(script.calls(), sink)
@@ -68,6 +66,8 @@ impl Player {
     /// Nothing was played yet.
     fn new(alloc: Global, ordinals: Ordinals, start: &Start, mode: Mode) -> Result<Player, NoMemory>
         ensures mode { IfOk result (λ player. player.mode ≡ mode) }
+        ensures accepted { AreAccepted start.now }
+        ensures bytes { HasFilesOfBytes start.now }
         ensures stands { IfOk result (λ player. StandsFor (start_of start.now) player.world []) }
         ensures frames { IfOk result (λ player. player.world.frames ≡ 0) }
         ensures scribe { IfOk result (λ player. player.scribe ≡ record { calls = none_yet; gathered = [] }) }

@@ -17,21 +17,23 @@ use Rattle.endpoint_link.proofs.Streams.{one_list, not_both}
 use Rattle.script_session.specs.Playing.{transcript}
 use Rattle.vfs_journal.specs.Starts.{start_of}
 use Rattle.vfs_script.specs.Scripts.{bad_line}
-use Rattle.vfs_program.specs.declared.statuses.Status.{Status}
-use Rattle.vfs_program.specs.declared.statuses.Status.TheVariants as status
+use Rattle.run_status.specs.declared.statuses.Status.{Status}
+use Rattle.run_status.specs.declared.statuses.Status.TheVariants as status
+use Rattle.run_status.specs.Causes.{After, Collides}
+use Rattle.run_status.specs.Outside.{FilesTold, Outside, Streams, SinkTold, sink_of}
+use Rattle.run_status.specs.Texts.{WritesPieces, WritesText}
+use Rattle.link_session.specs.Session.{Course, SessionAnswers, IsWhole, IsTooLong, IsTruncated, IsBad}
+use Rattle.named_files.specs.FileCauses.{AfterFile, AfterTree, HasNoFile, HasNoStart}
+use Rattle.named_files.specs.Files.{IsFileFault, IsWithin}
+use Rattle.named_files.specs.Trees.{Stands, IsBroken, line_of}
+use Rattle.file_session.specs.OneFile.{file_course}
+use Rattle.tree_session.specs.TreeSession.{tree_course}
+use Rattle.frame_printer.specs.Shown.{lines_course}
+use Rattle.script_commands.specs.ScriptCauses.{AfterReport, AfterScript, HasNoScript, IsStarved}
+use Rattle.script_commands.specs.Scripts.{IsBadAt, IsPlayable, Said, Says}
+use Rattle.script_commands.specs.Workloads.{IsReport}
 use Rattle.vfs_program.specs.Answers.{Answers, IsServable, NoFault, IsDoneOrNoMemory}
-use Rattle.vfs_program.specs.Causes.{After, AfterFile, AfterReport, AfterScript, AfterTree, Collides, HasNoFile, HasNoScript, HasNoStart, IsStarved}
-use Rattle.vfs_program.specs.Files.{IsFileFault, IsWithin}
-use Rattle.vfs_program.specs.OneFile.{file_course}
-use Rattle.vfs_program.specs.Outside.{FilesTold, Outside, Streams, SinkTold, sink_of}
-use Rattle.vfs_program.specs.Scripts.{IsBadAt, IsPlayable, Said, Says}
-use Rattle.vfs_program.specs.Session.{Course, SessionAnswers, IsWhole, IsTooLong, IsTruncated, IsBad}
-use Rattle.vfs_program.specs.Shown.{lines_course}
-use Rattle.vfs_program.specs.Texts.{WritesPieces, WritesText}
-use Rattle.vfs_program.specs.Trees.{Stands, IsBroken, line_of}
-use Rattle.vfs_program.specs.TreeSession.{tree_course}
 use Rattle.vfs_program.specs.Words.{Asks, FileOf, ServeOf, RunOf, CheckOf, ShowAll, MakeOf}
-use Rattle.vfs_program.specs.Workloads.{IsReport}
 
 -- what is left behind the bytes that were taken of a told input
 untaken : (input taken : List ℕ) (left : Option (List ℕ)) → Consumes (Some input) left taken

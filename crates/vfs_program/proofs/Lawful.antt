@@ -23,24 +23,26 @@ use Rattle.vfs_journal.specs.Starts.{start_of}
 use Rattle.journal_laws.proofs.Draining.{sessions_are_lawful}
 use Rattle.session_laws.specs.Laws.{IsLawfulOutput}
 use Rattle.session_laws.proofs.Keeping.{lawful_over}
-use Rattle.vfs_program.specs.declared.statuses.Status.{Status}
-use Rattle.vfs_program.specs.declared.statuses.Status.TheVariants as status
 use Rattle.vfs_script.specs.Scripts.{calls_of, count_calls, frames_of, script_lines}
 use Rattle.transcripts.specs.Answering.{count_answers}
 use Rattle.script_session.specs.Playing.{play_all, transcript}
 use Rattle.script_session.proofs.Shown.{transcript_is}
 use Rattle.workload.specs.Workload.{workload}
+use Rattle.run_status.specs.declared.statuses.Status.{Status}
+use Rattle.run_status.specs.declared.statuses.Status.TheVariants as status
+use Rattle.run_status.specs.Causes.{After, Collides}
+use Rattle.run_status.specs.Outside.{Outside, SinkTold, Streams, sink_of}
+use Rattle.run_status.specs.Texts.{WritesPieces, WritesText}
+use Rattle.link_session.specs.Session.{EndsBehind, IsCutOff, IsFront, IsPartByEnd, IsPartSoFar, SessionAnswers, Wrote}
+use Rattle.named_files.specs.FileCauses.{AfterTree, HasNoStart}
+use Rattle.named_files.specs.Trees.{Stands}
+use Rattle.tree_session.specs.TreeSession.{tree_course}
+use Rattle.script_commands.specs.ScriptCauses.{AfterReport, AfterScript, HasNoScript, IsStarved}
+use Rattle.script_commands.specs.Scripts.{IsPlayable, Said}
+use Rattle.script_commands.specs.Workloads.{IsReport, report_of}
 use Rattle.vfs_program.specs.Answers.{Answers}
-use Rattle.vfs_program.specs.Causes.{After, AfterReport, AfterScript, AfterTree, Collides, HasNoScript, HasNoStart, IsStarved}
 use Rattle.vfs_program.specs.Lawful.{IsLawfulMaking, IsLawfulPlaying, IsLawfulRun, IsLawfulServing, WroteNothing}
-use Rattle.vfs_program.specs.Outside.{Outside, SinkTold, Streams, sink_of}
-use Rattle.vfs_program.specs.Scripts.{IsPlayable, Said}
-use Rattle.vfs_program.specs.Session.{EndsBehind, IsCutOff, IsFront, IsPartByEnd, IsPartSoFar, SessionAnswers, Wrote}
-use Rattle.vfs_program.specs.Texts.{WritesPieces, WritesText}
-use Rattle.vfs_program.specs.Trees.{Stands}
-use Rattle.vfs_program.specs.TreeSession.{tree_course}
 use Rattle.vfs_program.specs.Words.{Asks, FileOf, ServeOf, RunOf, CheckOf, ShowAll, MakeOf}
-use Rattle.vfs_program.specs.Workloads.{IsReport, report_of}
 
 -- ---- a tree that stands is accepted
 

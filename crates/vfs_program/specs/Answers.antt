@@ -8,18 +8,20 @@ use Rattle.tree_file.specs.Items.{Lists}
 use Rattle.endpoint_link.specs.declared.kinds.Side.TheVariants as side
 use Rattle.vfs_journal.specs.Starts.{start_of}
 use Rattle.script_session.specs.Playing.{transcript}
-use Rattle.vfs_program.specs.declared.statuses.Status.{Status}
-use Rattle.vfs_program.specs.declared.statuses.Status.TheVariants as status
-use Rattle.vfs_program.specs.Causes.{AfterNames, AfterFile, AfterReport, AfterScript, AfterTree}
-use Rattle.vfs_program.specs.Files.{IsFileFault}
-use Rattle.vfs_program.specs.OneFile.{file_course}
-use Rattle.vfs_program.specs.Outside.{Outside, sink_of}
-use Rattle.vfs_program.specs.Scripts.{Said, Says}
-use Rattle.vfs_program.specs.Session.{SessionAnswers, IsWhole}
-use Rattle.vfs_program.specs.Shown.{lines_course}
-use Rattle.vfs_program.specs.Texts.{WritesPieces, WritesText}
-use Rattle.vfs_program.specs.TreeSession.{tree_course}
-use Rattle.vfs_program.specs.Trees.{Stands, line_of}
+use Rattle.run_status.specs.declared.statuses.Status.{Status}
+use Rattle.run_status.specs.declared.statuses.Status.TheVariants as status
+use Rattle.run_status.specs.Causes.{AfterNames}
+use Rattle.run_status.specs.Outside.{Outside, sink_of}
+use Rattle.run_status.specs.Texts.{WritesPieces, WritesText}
+use Rattle.link_session.specs.Session.{SessionAnswers, IsWhole}
+use Rattle.named_files.specs.FileCauses.{AfterFile, AfterTree}
+use Rattle.named_files.specs.Files.{IsFileFault}
+use Rattle.named_files.specs.Trees.{Stands, line_of}
+use Rattle.file_session.specs.OneFile.{file_course}
+use Rattle.tree_session.specs.TreeSession.{tree_course}
+use Rattle.frame_printer.specs.Shown.{lines_course}
+use Rattle.script_commands.specs.ScriptCauses.{AfterReport, AfterScript}
+use Rattle.script_commands.specs.Scripts.{Said, Says}
 use Rattle.vfs_program.specs.Words.{Asks, FileOf, ServeOf, RunOf, CheckOf, ShowAll, MakeOf}
 
 -- what each command answers: its causes in their order, and then its work

@@ -9,13 +9,13 @@ use Rattle.vfs_script.specs.Scripts.{frames_of}
 use Rattle.vfs_script.specs.Transcripts.{counts_line}
 use Rattle.session_laws.specs.Laws.{IsLawfulOutput, IsLawfulOver}
 use Rattle.workload.specs.Workload.{workload}
-use Rattle.vfs_program.specs.Outside.{Outside, Streams}
-use Rattle.vfs_program.specs.Session.{IsFront, Wrote}
-use Rattle.vfs_program.specs.Shown.{lines_of}
-use Rattle.vfs_program.specs.Trees.{Stands}
-use Rattle.vfs_program.specs.TreeSession.{frames_by}
+use Rattle.run_status.specs.Outside.{Outside, Streams}
+use Rattle.link_session.specs.Session.{IsFront, Wrote}
+use Rattle.named_files.specs.Trees.{Stands}
+use Rattle.tree_session.specs.TreeSession.{frames_by}
+use Rattle.frame_printer.specs.Shown.{lines_of}
+use Rattle.script_commands.specs.Workloads.{report_for}
 use Rattle.vfs_program.specs.Words.{Asks, FileOf, ServeOf, RunOf, CheckOf, ShowAll, MakeOf}
-use Rattle.vfs_program.specs.Workloads.{report_for}
 
 -- nothing was written
 abbrev pub WroteNothing : Streams → Streams → Type 0

@@ -2,9 +2,9 @@
 use Rattle.std.specs.Prelude.{◌≡◌, ◌≤◌, ℕ, List, [], ◌∷◌, codes, decimal}
 use Rattle.endpoint_link.specs.declared.kinds.Mode.{Mode}
 use Rattle.endpoint_link.specs.declared.kinds.Mode.TheVariants as mode
+use Rattle.workload.specs.declared.generating.TheConstants as workload
 use Rattle.vfs_program.specs.declared.words.Command.{Command}
 use Rattle.vfs_program.specs.declared.words.Command.TheVariants.{File, Serve, Run, Check, Show, Make}
-use Rattle.workload.specs.declared.generating.TheConstants as workload
 
 -- what the words ask for
 pub data Asks : Type 0 where

@@ -1,31 +1,15 @@
 // The program `vfs`: the words, the notes, the exit statuses, and what each command does.
 #![tactic(auto)]
 
-mod binding;
-mod checks;
-mod file_session;
-mod input;
-mod laws;
-mod makes;
-mod messages;
-mod named_files;
-mod notes;
-mod one_file;
 #[cfg(test)]
 mod rows;
 mod run;
-mod scripts;
-mod sessions;
-mod show;
-mod statuses;
 #[cfg(test)]
 mod tests;
-mod texts;
-mod tree_session;
-mod trees;
 mod words;
 
 use host_io::{DirFiles, StdSink, StdSource};
+use run_status::Status;
 use std::io::ErrorKind;
 use std::process::ExitCode;
 use std::rt::Env;
@@ -38,7 +22,7 @@ fn main(rt: HostRuntime) -> ExitCode {
     let words = match words_of(&rt) {
         Ok(words) => words,
         Err(error) if error.kind() == ErrorKind::OutOfMemory => {
-            return ExitCode::from(statuses::Status::NoMemory.exit_code());
+            return ExitCode::from(Status::NoMemory.exit_code());
         }
         Err(_) => return ExitCode::from(NO_WORDS),
     };

@@ -1,23 +1,21 @@
 ghost use Rattle.std.specs.Prelude.{◌≡◌, map, string_bytes};
+ghost use Rattle.run_status.specs.Notes.{note_of};
+ghost use Rattle.run_status.specs.Outside.{outside_told, sink_told};
+ghost use Rattle.run_status.specs.Texts.{Tells};
+ghost use Rattle.run_status.specs.declared.statuses.Status.TheVariants as status;
 ghost use Rattle.vfs_program.specs.Answers.{Answers, IsServable, NoFault, IsDoneOrNoMemory};
 ghost use Rattle.vfs_program.specs.Lawful.{IsLawfulRun};
-ghost use Rattle.vfs_program.specs.Notes.{note_of};
-ghost use Rattle.vfs_program.specs.Outside.{outside_told, sink_told};
-ghost use Rattle.vfs_program.specs.Texts.{Tells};
 ghost use Rattle.vfs_program.specs.Words.{Asks, Means, MeanNothing};
-ghost use Rattle.vfs_program.specs.declared.statuses.Status.TheVariants as status;
 
-use crate::checks::check_tree;
-use crate::file_session::serve_file;
-use crate::makes::make;
-use crate::notes::tell;
-use crate::scripts::run_script;
-use crate::show::show;
-use crate::statuses::Status;
-use crate::tree_session::serve_tree;
 use crate::words::{Command, command_of};
+use file_session::serve_file;
+use frame_printer::show;
 use host_io::{Files, Sink, Source};
+use named_files::check_tree;
+use run_status::{Status, tell};
+use script_commands::{make, run_script};
 use std::alloc::Global;
+use tree_session::serve_tree;
 
 /// Does what the words ask for, and tells the note of the status that it answers.
 ///

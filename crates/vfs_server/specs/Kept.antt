@@ -1,7 +1,7 @@
 -- How a server keeps what is connected, and what holds of every server. No public clause needs this.
-use Rattle.std.specs.Prelude.{◌≡◌, ℕ, ◌+◌, ◌≤◌, ◌==◌, All, length, filter_map, count_by, Option, Some, None, IsSome}
-use Rattle.std.specs.BTreeMap as tree
+use Rattle.std.specs.Prelude.{◌≡◌, ℕ, ◌+◌, ◌≤◌, ◌==◌, List, All, eqb, length, filter_map, count_by, Option, Some, None, IsSome}
 use Rattle.std.specs.FinMap as finite
+use Rattle.std.specs.Map.{lookup}
 use Rattle.std.specs.Option.{option_map}
 use Rattle.std.specs.Ordering.{nat_cmp}
 use Rattle.slab.specs.Slab as slab
@@ -22,13 +22,17 @@ abbrev pub entry_at : slab.Slab Connection → ℕ × ℕ → Option (ℕ × Con
 entry_at kept entry = option_map (λ connection. (entry.0, connection)) (slab.get kept entry.1)
 
 -- the connections by their endpoints
-unfoldable pub connections_of : slab.Slab Connection → tree.BTreeMap ℕ ℕ → Connections
-connections_of kept places = finite.from_entries (filter_map (entry_at kept) places.entries)
+unfoldable pub connections_of : slab.Slab Connection → List (ℕ × ℕ) → Connections
+connections_of kept places = finite.from_entries (filter_map (entry_at kept) places)
+
+-- the place of an endpoint
+abbrev pub place_at : List (ℕ × ℕ) → ℕ → Option ℕ
+place_at places endpoint = lookup (eqb endpoint) places
 
 -- each endpoint has a place of its own with a connection, and there are no others
-pub record AreJoined (kept : slab.Slab Connection) (places : tree.BTreeMap ℕ ℕ) : Type 0 where
-  pub there : (endpoint place : ℕ) → tree.get nat_cmp places endpoint ≡ Some place → IsSome (slab.get kept place)
-  pub apart : (one other place : ℕ) → tree.get nat_cmp places one ≡ Some place → tree.get nat_cmp places other ≡ Some place → one ≡ other
+pub record AreJoined (kept : slab.Slab Connection) (places : List (ℕ × ℕ)) : Type 0 where
+  pub there : (endpoint place : ℕ) → place_at places endpoint ≡ Some place → IsSome (slab.get kept place)
+  pub apart : (one other place : ℕ) → place_at places one ≡ Some place → place_at places other ≡ Some place → one ≡ other
   pub count : finite.len (connections_of kept places) ≡ slab.slab_len kept
 
 -- how many connections are to a node

@@ -23,7 +23,6 @@ pub(crate) fn begin(alloc: Global, start: &Start, index: u32) -> Result<Server, 
     ensures holds { IfOk result (HoldsAt (view_of (start_of start.now) [])) }
     ensures index { IfOk result (λ server. server.index ≡ index) }
 {
-    start.keeps_rules();
     let mut graph = Graph::new(alloc)?;
     let mut places: Places<'_> = BTreeMap::new(alloc);
     places.insert(ROOT, graph.root())?;

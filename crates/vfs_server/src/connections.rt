@@ -24,14 +24,14 @@ use fidl_wire::Out;
 use node_graph::Graph;
 use slab::Slab;
 use std::alloc::Global;
-use std::collections::BTreeMap;
+use std::collections::HashMap;
 use std::marker::Model;
 
 /// Connections, each at the place that an endpoint has.
 #[derive(Drop)]
 pub(crate) struct Connections {
     kept: Slab<Connection>,
-    places: BTreeMap<u32, usize>,
+    places: HashMap<u32, usize>,
 }
 
 impl Model for Connections {
@@ -45,9 +45,9 @@ impl Model for Connections {
 
     ghost coded = { connections_code };
 
-    ghost view = { λ connections. connections_of connections.kept connections.places };
+    ghost view = { λ connections. connections_of connections.kept connections.places.entries };
 
-    ghost invariant = { λ connections. AreJoined connections.kept connections.places };
+    ghost invariant = { λ connections. AreJoined connections.kept connections.places.entries };
 }
 
 impl Connections {
@@ -57,7 +57,7 @@ impl Connections {
     {
         Connections {
             kept: Slab::new(alloc),
-            places: BTreeMap::new(alloc),
+            places: HashMap::new(alloc),
         }
     }
 

@@ -161,17 +161,17 @@ fn add_mount<'a>(
     add(&node, graph, places)
 }
 
-/// Makes all nodes of a server of a start.
+/// Makes all nodes of a server of a start, which keeps the rules of a tree.
 pub(crate) fn add_nodes<'a>(
     start: &'a Start,
     server: u32,
     graph: &mut Graph,
     places: &mut Places<'a>,
 ) -> Result<(), NoMemory>
-    requires accepted { AreAccepted start.now }
     requires there { server < length start.now.servers }
     requires stand { Stands [] graph.old places.old }
-    ensures { OnOk result (Stands (nodes_among start.now server (length start.now.nodes)) graph.new places.new) }
+    ensures accepted { AreAccepted start.now }
+    ensures stand { OnOk result (Stands (nodes_among start.now server (length start.now.nodes)) graph.new places.new) }
 {
     for item in 0..start.nodes() {
         add_node(start, server, item, graph, places)?;

@@ -1,7 +1,7 @@
 //! What a session begins with: the servers of a start, and what is bound from the first on.
 
 ghost use Rattle.std.specs.Prelude.{◌≡◌, ◌++◌, [], IfOk, OnOk, map};
-ghost use Rattle.tree_file.specs.Accepted.{AreAccepted};
+ghost use Rattle.tree_file.specs.Accepted.{AreAccepted, HasFilesOfBytes};
 ghost use Rattle.vfs_journal.specs.Starts.{start_of};
 ghost use Rattle.vfs_journal.specs.View.{view_of};
 ghost use Rattle.journal_laws.specs.Knowing.{Knows};
@@ -19,9 +19,11 @@ use tree_file::Start;
 use vfs_server::Server;
 use vfs_session::Session;
 
-// The servers, by their indexes.
+// The servers, by their indexes, of a start that keeps the rules of a tree.
 fn begin_servers(alloc: Global, start: &Start) -> Result<Vec<Server>, NoMemory>
-    ensures { IfOk result (λ servers. HoldsEach (view_of (start_of start.now) []) servers.items) }
+    ensures accepted { AreAccepted start.now }
+    ensures bytes { HasFilesOfBytes start.now }
+    ensures holds { IfOk result (λ servers. HoldsEach (view_of (start_of start.now) []) servers.items) }
 {
     let mut servers = Vec::new(alloc);
     for index in 0..start.servers() {
@@ -91,9 +93,10 @@ fn known_endpoints(alloc: Global, start: &Start) -> Result<Endpoints, NoMemory>
 
 /// The session of an accepted start, before its first frame.
 pub(crate) fn begin(alloc: Global, ordinals: Ordinals, start: &Start) -> Result<Session, NoMemory>
-    ensures { IfOk result (λ session. StandsFor (start_of start.now) (whole session) []) }
+    ensures accepted { AreAccepted start.now }
+    ensures bytes { HasFilesOfBytes start.now }
+    ensures stands { IfOk result (λ session. StandsFor (start_of start.now) (whole session) []) }
 {
-    start.keeps_rules();
     let servers = begin_servers(alloc, start)?;
     let queues = begin_queues(alloc, start)?;
     let endpoints = known_endpoints(alloc, start)?;

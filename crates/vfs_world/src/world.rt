@@ -2,6 +2,7 @@ ghost use Rattle.std.specs.Prelude.{◌≡◌, ◌<◌, ◌+◌, ◌^◌, ℕ, t
 ghost use Rattle.endpoint_link.specs.Frames.{IsFrame};
 ghost use Rattle.endpoint_link.specs.declared.kinds.Side.TheVariants as side;
 ghost use Rattle.endpoint_link.specs.Views.{frame_of};
+ghost use Rattle.tree_file.specs.Accepted.{AreAccepted, HasFilesOfBytes};
 ghost use Rattle.vfs_journal.specs.Entries.{Journal};
 ghost use Rattle.vfs_journal.specs.History.{waiting};
 ghost use Rattle.vfs_journal.specs.Past.{history_of};
@@ -68,12 +69,14 @@ impl Model for World {
 }
 
 impl World {
-    /// The session of an accepted start, before its first frame.
+    /// The session of an accepted start, before its first frame. What is in the files of a start are bytes.
     pub fn new(
         alloc: Global,
         ordinals: Ordinals,
         start: &tree_file::Start,
     ) -> Result<World, NoMemory>
+        ensures accepted { AreAccepted start.now }
+        ensures bytes { HasFilesOfBytes start.now }
         ensures stands { IfOk result (λ world. StandsFor (start_of start.now) world []) }
         ensures frames { IfOk result (λ world. world.frames ≡ 0) }
     {

@@ -12,7 +12,7 @@ returns c = λ text is.
     let lists = c.args.start.now in
     let start = start_of lists in
     let meter = c.in_ok-meter.meter in
-    let first = metered_first lists meter.world meter.tally c.args.ordinals.distinct c.keeps_rules.ensures c.files_are_bytes.ensures c.in_ok-meter.ensures.stands c.in_ok-meter.ensures.tally in
+    let first = metered_first lists meter.world meter.tally c.args.ordinals.distinct c.in_ok-meter.ensures.accepted c.in_ok-meter.ensures.bytes c.in_ok-meter.ensures.stands c.in_ok-meter.ensures.tally in
     let heard = c.in_ok-hear_all.ensures.metered start text is first in
     if_ok c.end.result (Measures (output_frames start meter.mode text)) (Measures (output_frames start c.args.script.now.mode text))
     (λ told are. subst (λ (by : Mode). Measures (output_frames start by text) told) (c.in_ok-meter.ensures.mode ∙ c.mode.ensures) are)

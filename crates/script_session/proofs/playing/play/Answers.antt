@@ -16,7 +16,7 @@ returns-in_err-play_lines-clause-part g c = λ text is.
     let player = c.in_ok-player.player in
     let written = g.K.Sink.written c.args.sink.now in
     let now = g.K.Sink.written c.play_lines.new.sink in
-    let plays = plays_first lists player.world player.scribe c.args.ordinals.distinct c.keeps_rules.ensures c.files_are_bytes.ensures c.in_ok-player.ensures.stands c.in_ok-player.ensures.scribe in
+    let plays = plays_first lists player.world player.scribe c.args.ordinals.distinct c.in_ok-player.ensures.accepted c.in_ok-player.ensures.bytes c.in_ok-player.ensures.stands c.in_ok-player.ensures.scribe in
     any_err c.from_residual-in_err-play_lines.result (AppendsPart written now (transcript start c.args.script.now.mode text))
     (part_grows written now (lines_of (play_lines start player.mode (script_lines text)).past) (transcript start c.args.script.now.mode text)
     (lines_begin start player.mode c.args.script.now.mode text (c.in_ok-player.ensures.mode ∙ c.mode.ensures))
@@ -30,7 +30,7 @@ returns-clause-whole g c = λ text is.
     let written = g.K.Sink.written c.args.sink.now in
     let now = g.K.Sink.written c.end.new.sink in
     let played = play_lines start player.mode (script_lines text) in
-    let plays = plays_first lists player.world player.scribe c.args.ordinals.distinct c.keeps_rules.ensures c.files_are_bytes.ensures c.in_ok-player.ensures.stands c.in_ok-player.ensures.scribe in
+    let plays = plays_first lists player.world player.scribe c.args.ordinals.distinct c.in_ok-player.ensures.accepted c.in_ok-player.ensures.bytes c.in_ok-player.ensures.stands c.in_ok-player.ensures.scribe in
     let told = told_first written player.scribe c.in_ok-player.ensures.scribe in
     on_ok c.end.result (Appends written now (text_of (drain_played start played))) (Appends written now (transcript start c.args.script.now.mode text))
     (λ all. subst (Appends written now) (text_is start player.mode c.args.script.now.mode text (c.in_ok-player.ensures.mode ∙ c.mode.ensures)) all)
@@ -45,7 +45,7 @@ returns-clause-part g c = λ text is.
     let written = g.K.Sink.written c.args.sink.now in
     let now = g.K.Sink.written c.end.new.sink in
     let played = play_lines start player.mode (script_lines text) in
-    let plays = plays_first lists player.world player.scribe c.args.ordinals.distinct c.keeps_rules.ensures c.files_are_bytes.ensures c.in_ok-player.ensures.stands c.in_ok-player.ensures.scribe in
+    let plays = plays_first lists player.world player.scribe c.args.ordinals.distinct c.in_ok-player.ensures.accepted c.in_ok-player.ensures.bytes c.in_ok-player.ensures.stands c.in_ok-player.ensures.scribe in
     let told = told_first written player.scribe c.in_ok-player.ensures.scribe in
     on_err c.end.result (AppendsPart written now (text_of (drain_played start played))) (AppendsPart written now (transcript start c.args.script.now.mode text))
     (λ part. subst (AppendsPart written now) (text_is start player.mode c.args.script.now.mode text (c.in_ok-player.ensures.mode ∙ c.mode.ensures)) part)

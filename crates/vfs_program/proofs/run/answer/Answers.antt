@@ -1,6 +1,6 @@
 use Rattle.std.proofs.Common.{◌≡◌, map, string_bytes, refl, sym, subst}
+use Rattle.run_status.specs.Outside.{outside_told}
 use Rattle.vfs_program.specs.Answers.{Answers}
-use Rattle.vfs_program.specs.Outside.{outside_told}
 use Rattle.vfs_program.specs.Words.{Asks, Means, command_seen}
 use Rattle.vfs_program.specs.declared.words.Command.{Command}
 use Rattle.vfs_program.proofs.OneMeaning.{makes_alone, runs_alone, serves_alone}

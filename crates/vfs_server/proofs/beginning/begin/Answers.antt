@@ -13,4 +13,4 @@ bind_clients-requires-clause-holds c =
 
 pub returns-clause-holds : goal.returns-clause-holds
 returns-clause-holds c =
-    holds_start c.args.start.now c.keeps_rules.ensures c.args.index c.requires.within c.bind_ends.new.server c.add_mounts.new.places c.in_ok-bind_ends.ensures
+    holds_start c.args.start.now c.in_ok-add_nodes.ensures.accepted c.args.index c.requires.within c.bind_ends.new.server c.add_mounts.new.places c.in_ok-bind_ends.ensures

@@ -8,7 +8,7 @@ loop-index-preserved c =
     subst (AreBegun (start_of c.args.start.now) (c.loop-index.index + 1)) (sym c.in_ok-push.ensures.items)
     (one_begun (start_of c.args.start.now) c.loop-index.index c.loop-index.servers.items c.in_ok-server.server c.loop-index.invariant c.in_ok-server.ensures.index (c.in_ok-server.ensures.holds))
 
-pub returns : goal.returns
-returns c =
-    let end : c.loop-index.index ≡ length c.args.start.now.servers = omega (arith, c.loop-index-test.false, c.servers-index-end.ensures) in
+pub returns-clause-holds : goal.returns-clause-holds
+returns-clause-holds c =
+    let end : c.loop-index.index ≡ length c.args.start.now.servers = omega (arith, c.loop-index-test.false, c.servers-index-end.ensures.count) in
     all_begun c.args.start.now c.loop-index.servers.items (subst (λ (n : ℕ). AreBegun (start_of c.args.start.now) n c.loop-index.servers.items) end c.loop-index.invariant)

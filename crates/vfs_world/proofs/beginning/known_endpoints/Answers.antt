@@ -30,5 +30,5 @@ returns c =
     if_ok c.new.result (Starts c.deref.result.now c.mounts.result c.servers.result) _ (λ (known : Known) starts.
     knows lists c.requires.accepted known
     (subst (λ (m : ℕ). Starts (map (λ (bound : Bound). bound.endpoint) (start_of lists).firsts) m (length lists.servers) known) c.mounts.ensures
-    (subst (λ (n : ℕ). Starts (map (λ (bound : Bound). bound.endpoint) (start_of lists).firsts) c.mounts.result n known) c.servers.ensures
+    (subst (λ (n : ℕ). Starts (map (λ (bound : Bound). bound.endpoint) (start_of lists).firsts) c.mounts.result n known) c.servers.ensures.count
     (subst (λ (firsts : List ℕ). Starts firsts c.mounts.result c.servers.result known) (c.deref.ensures.value ∙ c.in_ok-firsts.ensures) starts)))) c.new.ensures

@@ -1,9 +1,10 @@
-use Rattle.std.proofs.Common.{◌≡◌, ◌∙◌, ◌<◌, sym, ap, subst, List, [], ℕ}
+use Rattle.std.proofs.Common.{◌≡◌, ◌∙◌, ◌<◌, ◌∷◌, eqb, sym, ap, subst, List, [], ℕ}
 use Rattle.std.specs.Prelude.{None, Some}
-use Rattle.std.specs.BTreeMap.{BTreeMap, UpdatesBy, insert_entry}
-use Rattle.std.specs.Ordering.{nat_cmp}
+use Rattle.std.specs.HashMap.{UpdatesBy}
+use Rattle.std.specs.List.Sorted.{IsPermutation}
 use Rattle.message_queues.specs.Queues.{Binds, Mailbox, Queues, count, server_of}
 use Rattle.message_queues.specs.Steps.{IsSound, queues_with}
+use Rattle.message_queues.proofs.Changed.{Boxes}
 use Rattle.message_queues.proofs.Sound.{bound_there, box_is, bound_new, sound_same, view_same, written_back}
 use Rattle.message_queues.proofs.queues.Queues.bind.Goals as goal
 
@@ -54,9 +55,9 @@ fresh c =
     let known : c.args.server < c.self.inside.servers = subst (λ (queues : Queues). c.args.server < queues.servers) (sym c.self.view_is) c.requires.one_of in
     bound_new c.self.inside.boxes c.add_box.new.boxes c.self.inside.heads c.self.inside.count c.self.inside.servers c.args.endpoint c.args.server c.new-mailbox.result c.self.invariant
     (sym c.in-None.ensures.value) known (box_is c.new-mailbox.result (Some c.args.server) [] c.new-mailbox.ensures.server c.new-mailbox.ensures.queue)
-    (subst (λ (boxes : BTreeMap ℕ Mailbox). UpdatesBy nat_cmp (nat_cmp c.args.endpoint) boxes c.add_box.new.boxes (Some c.new-mailbox.result)) c.get_mut.follows.holds-at-none c.in_ok-add_box-in-None.ensures.updates)
-    (c.in_ok-add_box-in-None.ensures.entries ∙ ap (λ (boxes : BTreeMap ℕ Mailbox). insert_entry nat_cmp boxes.entries c.args.endpoint c.new-mailbox.result) c.get_mut.follows.holds-at-none)
-    c.in_ok-add_box-in-None.ensures.ordered
+    (subst (λ (boxes : Boxes). UpdatesBy eqb (eqb c.args.endpoint) boxes c.add_box.new.boxes (Some c.new-mailbox.result)) c.get_mut.follows.holds-at-none c.in_ok-add_box-in-None.ensures.updates)
+    (subst (λ (boxes : Boxes). IsPermutation ((c.args.endpoint, c.new-mailbox.result) ∷ boxes.entries) c.add_box.new.boxes.entries) c.get_mut.follows.holds-at-none c.in_ok-add_box-in-None.ensures.entries)
+    c.in_ok-add_box-in-None.ensures.unique
 
 pub invariant_of-self-in-Continue-branch-2 : goal.invariant_of-self-in-Continue-branch-2
 invariant_of-self-in-Continue-branch-2 c = (fresh c).0

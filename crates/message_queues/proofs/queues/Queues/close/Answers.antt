@@ -22,7 +22,7 @@ closed : (c : goal.After-self-1)
     ≡ count (queues_with c.self.inside.boxes.entries c.self.inside.servers))
 closed c =
     let three = closed_there c.self.inside.boxes c.remove.new.self c.self.inside.heads c.discard.new.heads c.self.inside.count c.self.inside.servers c.args.endpoint c.in-Some.mailbox c.self.invariant
-    (sym c.in-Some.ensures.value) c.in-Some.ensures.updates c.in-Some.ensures.entries c.in-Some.ensures.ordered c.discard.ensures.dropped in
+    (sym c.in-Some.ensures.value) c.in-Some.ensures.updates c.in-Some.ensures.entries c.in-Some.ensures.unique c.discard.ensures.dropped in
     (subst (λ (n : ℕ). IsSound c.remove.new.self.entries c.discard.new.heads (c.self.inside.count - n) c.self.inside.servers) (sym c.discard.ensures.len) three.0, three.1, three.2)
 
 pub invariant_of-self-2 : goal.invariant_of-self-2

@@ -1,12 +1,13 @@
-use Rattle.std.proofs.Common.{◌≡◌, ◌∙◌, ◌<◌, ◌+◌, ◌++◌, ◌∷◌, [], List, sym, ap, subst, ℕ}
-use Rattle.std.specs.BTreeMap.{BTreeMap, UpdatesBy, insert_entry}
-use Rattle.std.specs.Ordering.{nat_cmp}
+use Rattle.std.proofs.Common.{◌≡◌, ◌∙◌, ◌<◌, ◌+◌, ◌++◌, ◌∷◌, [], List, eqb, sym, ap, subst, ℕ}
+use Rattle.std.specs.HashMap.{UpdatesBy}
+use Rattle.std.specs.List.Sorted.{IsPermutation}
 use Rattle.std.specs.Prelude.{None, Some}
 use Rattle.fidl_names.specs.declared.limits.TheConstants as limit
 use Rattle.vfs_journal.specs.Entries.{Sent}
 use Rattle.message_queues.specs.Queues.{IsAbove, Mailbox, Queues, Requeues, count, queue_of}
 use Rattle.message_queues.specs.Steps.{IsSound, first_pushed, put_turn, queues_with, turn_by}
 use Rattle.message_queues.specs.declared.queues.Queues.TheInside.{Inside}
+use Rattle.message_queues.proofs.Changed.{Boxes}
 use Rattle.message_queues.proofs.Sound.{pushed_there, pushed_new, box_is, sound_same, view_same, written_back}
 use Rattle.message_queues.proofs.queues.Queues.push.Goals as goal
 use Rattle.message_queues.proofs.queues.Queues.push.Goals.{in-Some+in_ok-push_into-in-Some, in-None+in_ok-add_box-in-None}
@@ -36,9 +37,9 @@ pushed c =
       | in-None+in_ok-add_box-in-None w ↦ subst (λ (inside : Inside). IsPushed old at c.args.sent inside) (sym w.self-inside-is)
           (pushed_new c.self.inside.boxes w.add_box.new.boxes c.self.inside.heads c.self.inside.count c.self.inside.servers at w.new-mailbox.result c.args.sent c.self.invariant
           (sym w.in-None.ensures.value) above room (box_is w.new-mailbox.result None (c.args.sent ∷ []) w.new-mailbox.ensures.server w.new-mailbox.ensures.queue)
-          (subst (λ (boxes : BTreeMap ℕ Mailbox). UpdatesBy nat_cmp (nat_cmp at) boxes w.add_box.new.boxes (Some w.new-mailbox.result)) c.get_mut.follows.holds-at-none w.in_ok-add_box-in-None.ensures.updates)
-          (w.in_ok-add_box-in-None.ensures.entries ∙ ap (λ (boxes : BTreeMap ℕ Mailbox). insert_entry nat_cmp boxes.entries at w.new-mailbox.result) c.get_mut.follows.holds-at-none)
-          w.in_ok-add_box-in-None.ensures.ordered)
+          (subst (λ (boxes : Boxes). UpdatesBy eqb (eqb at) boxes w.add_box.new.boxes (Some w.new-mailbox.result)) c.get_mut.follows.holds-at-none w.in_ok-add_box-in-None.ensures.updates)
+          (subst (λ (boxes : Boxes). IsPermutation ((at, w.new-mailbox.result) ∷ boxes.entries) w.add_box.new.boxes.entries) c.get_mut.follows.holds-at-none w.in_ok-add_box-in-None.ensures.entries)
+          w.in_ok-add_box-in-None.ensures.unique)
     ])
 
 pub invariant_of-self-2 : goal.invariant_of-self-2

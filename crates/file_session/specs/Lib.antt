@@ -1,0 +1,4 @@
+pub mod OneFile
+pub mod Meanings
+pub mod Bound
+pub mod Seen

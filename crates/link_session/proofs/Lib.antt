@@ -1,0 +1,4 @@
+pub mod Pieces
+pub mod ServingLemmas
+pub mod Progress
+pub mod SessionEnds

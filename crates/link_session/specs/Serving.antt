@@ -1,0 +1,91 @@
+-- Words of steps: what one piece of the input led to, in a session that heard some frames before.
+use Rattle.std.specs.Prelude.{◌≡◌, ℕ, ◌+◌, ◌≤◌, ◌-◌, ◌⊎◌, IsTrue, List, [], ◌∷◌, ◌++◌, length, drop, All, Option}
+use Rattle.std.specs.Io.KnownBytes.{Appends}
+use Rattle.host_io.specs.Streams.{AppendsPart, IsFlushed}
+use Rattle.endpoint_link.specs.Frames.{Frame, IsFrame, spellings, IsPartial, IsBadFront}
+use Rattle.endpoint_link.specs.declared.kinds.Side.{Side}
+use Rattle.run_status.specs.declared.statuses.Status.{Status}
+use Rattle.run_status.specs.declared.statuses.Status.TheVariants as status
+use Rattle.link_session.specs.declared.sessions.Served.{Served}
+use Rattle.link_session.specs.declared.sessions.Served.TheVariants as served
+use Rattle.link_session.specs.Session.{IsFront, Course}
+
+-- what is written never shrinks: more frames add to it, and so does the end
+pub record IsGrowing (course : Course) : Type 0 where
+  pub none : course.so_far [] ≡ []
+  pub more : (frames later : List Frame) → IsFront (course.so_far frames) (course.so_far (frames ++ later))
+  pub last : (frames : List Frame) → IsFront (course.so_far frames) (course.by_end frames)
+
+-- what was held back is written in front, and the rest is still held
+abbrev pub Passes : Option (List ℕ) → Option (List ℕ) → List ℕ → List ℕ → Type 0
+Passes written written' held held' = (part : List ℕ) × Appends written written' part × (part ++ held' ≡ held)
+
+-- one frame more: the session stands behind it, and what is written for it is held back
+pub record HeardOne (course : Course) (Stands : List Frame → Type 0) (before : List Frame) (frame : Frame) (held held' : List ℕ) : Type 0 where
+  pub stands : Stands (before ++ frame ∷ [])
+  pub part : List ℕ
+  pub more : course.so_far (before ++ frame ∷ []) ≡ course.so_far before ++ part
+  pub appends : held' ≡ held ++ part
+
+-- the end: what it adds is held back
+pub record HeardEnd (course : Course) (frames : List Frame) (held held' : List ℕ) : Type 0 where
+  pub part : List ℕ
+  pub more : course.by_end frames ≡ course.so_far frames ++ part
+  pub appends : held' ≡ held ++ part
+
+-- the first n bytes are whole frames; what is written for them went to the sink, but for what is held back
+pub record Heard (side : Side) (course : Course) (Stands : List Frame → Type 0) (before : List Frame) (bytes : List ℕ)
+    (written written' : Option (List ℕ)) (held : List ℕ) (n : ℕ) : Type 0 where
+  pub frames : List Frame
+  pub each : All (IsFrame side) frames
+  pub split : bytes ≡ spellings frames ++ drop n bytes
+  pub size : length (spellings frames) ≡ n
+  pub stands : Stands (before ++ frames)
+  pub owed : List ℕ
+  pub more : course.so_far (before ++ frames) ≡ course.so_far before ++ owed
+  pub passed : Passes written written' owed held
+
+-- some frames stand in front, and a part of what is written for them was written
+pub record HeardPart (side : Side) (course : Course) (before : List Frame) (bytes : List ℕ) (written written' : Option (List ℕ)) : Type 0 where
+  pub frames : List Frame
+  pub each : All (IsFrame side) frames
+  pub begins : IsFront (spellings frames) bytes
+  pub part : List ℕ
+  pub lawful : IsFront (course.so_far before ++ part) (course.so_far (before ++ frames))
+  pub got : Appends written written' part
+
+abbrev pub IsServing : Side → Course → (List Frame → Type 0) → List Frame → List ℕ → Option (List ℕ) → Option (List ℕ) → List ℕ → Served → Type 0
+IsServing side course Stands before bytes written written' held (served.Rest n) =
+    Heard side course Stands before bytes written written' held n × IsPartial side (drop n bytes)
+IsServing side course Stands before bytes written written' held (served.Bad n why) =
+    Heard side course Stands before bytes written written' held n × IsBadFront side (drop n bytes) why
+IsServing side course Stands before bytes written written' held served.Failed = HeardPart side course before bytes written written'
+
+-- what is left behind the frames that were heard, with the number of frames before and after
+abbrev pub Leaves : Side → List ℕ → ℕ → ℕ → Served → Type 0
+Leaves side bytes count count' (served.Rest n) = (n ≤ length bytes) × (count' ≤ count + n) × IsPartial side (drop n bytes)
+Leaves side bytes count count' (served.Bad n why) = n ≤ length bytes
+Leaves side bytes count count' served.Failed = Unit {0}
+
+-- it holds where a write failed
+abbrev pub FailsOnly : Served → Type 0 → Type 0
+FailsOnly served.Failed P = P
+FailsOnly _ P = Unit {0}
+
+-- what was held back is written, and all is flushed
+abbrev pub PassedOn : Option (List ℕ) → Option (List ℕ) → List ℕ → ℕ → Type 0
+PassedOn written written' held flushed = Appends written written' held × IsFlushed written' flushed
+
+-- the input ended: between frames, or inside the one that begins there
+abbrev pub end_of : List ℕ → ℕ → Status
+end_of [] taken = status.Done
+end_of (byte ∷ rest) taken = status.Truncated (taken - length (byte ∷ rest))
+
+-- the end behind some frames: what it adds is written behind what was held back, and all is flushed; else a part of that is written;
+-- or it can't be had for want of memory, and nothing is written
+abbrev pub Finishes : Course → List Frame → Status → List ℕ → Option (List ℕ) → Option (List ℕ) → ℕ → Type 0 → Status → Type 0
+Finishes course frames wanted held written written' flushed rose answer =
+    ((answer ≡ wanted) × ((last : List ℕ) × (course.by_end frames ≡ course.so_far frames ++ last) × PassedOn written written' (held ++ last) flushed))
+    ⊎ (((answer ≡ status.WriteFault) × rose
+    × ((last : List ℕ) × (course.by_end frames ≡ course.so_far frames ++ last) × AppendsPart written written' (held ++ last)))
+    ⊎ ((answer ≡ status.NoMemory) × IsTrue course.starves × (written' ≡ written)))

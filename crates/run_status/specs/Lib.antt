@@ -1,0 +1,4 @@
+pub mod Outside
+pub mod Notes
+pub mod Texts
+pub mod Causes

@@ -1,0 +1,28 @@
+-- How a command ends that writes one text, and how the note is told.
+use Rattle.std.specs.Prelude.{List, ℕ}
+use Rattle.std.specs.Io.KnownBytes.{Appends}
+use Rattle.host_io.specs.Causes.{Rose}
+use Rattle.host_io.specs.Streams.{AppendsPart, IsFlushed}
+use Rattle.run_status.specs.declared.statuses.Status.{Status}
+use Rattle.run_status.specs.declared.statuses.Status.TheVariants as status
+use Rattle.run_status.specs.Outside.{SinkTold}
+
+-- the sink got this text, and all that it got is flushed
+abbrev pub GotAll : SinkTold → SinkTold → List ℕ → Type 0
+GotAll before after text = Appends before.written after.written text × IsFlushed after.written after.flushed
+
+-- the text is written and flushed; or a front of it is, and the sink failed. What stands after want of memory is a parameter
+abbrev pub WritesText : List ℕ → Type 0 → SinkTold → SinkTold → Status → Type 0
+WritesText text starved before after status.Done = GotAll before after text
+WritesText text starved before after status.WriteFault = AppendsPart before.written after.written text × Rose before.faults after.faults
+WritesText text starved before after status.NoMemory = starved
+WritesText text starved before after _ = ⊥
+
+-- a text that is written piece by piece: where memory is wanting a front of it was written
+abbrev pub WritesPieces : List ℕ → SinkTold → SinkTold → Status → Type 0
+WritesPieces text before after = WritesText text (AppendsPart before.written after.written text) before after
+
+-- the note is all that is told, and it is passed on, where telling it met no fault; where it met one, a front of it is all
+pub record Tells (note : List ℕ) (before after : SinkTold) : Type 0 where
+  pub whole : (Rose before.faults after.faults → ⊥) → GotAll before after note
+  pub part : AppendsPart before.written after.written note

@@ -1,0 +1,10 @@
+//! How a run ends: its status with its exit number, the note that is told of it, and a text that a command writes as one.
+#![tactic(auto)]
+
+mod notes;
+mod statuses;
+mod texts;
+
+pub use notes::tell;
+pub use statuses::Status;
+pub use texts::{pass_on, put_number};

@@ -1,0 +1,157 @@
+ghost use Rattle.std.specs.Prelude.{◌≡◌, ◌++◌, OnOk, OnErr, codes, decimal};
+ghost use Rattle.std.specs.List.{flat_map};
+ghost use Rattle.host_io.specs.Causes.{HasCause};
+ghost use Rattle.host_io.specs.Streams.{AppendsPart};
+ghost use Rattle.run_status.specs.Notes.{note_of, word_of};
+ghost use Rattle.run_status.specs.Outside.{sink_told};
+ghost use Rattle.run_status.specs.Texts.{GotAll, Tells};
+
+use crate::statuses::Status;
+use endpoint_link::FrameReason;
+use host_io::{Failed, Sink, write_whole};
+use itoa::Buffer;
+
+/// Tells the note of a status, and passes it on. Where that fails nothing else changes.
+pub fn tell<N: Sink>(notes: &mut N, status: Status)
+    ensures { Tells (note_of status) (sink_told N.written N.flushed N.faults notes.old) (sink_told N.written N.flushed N.faults notes.new) }
+{
+    let _ = write_note(notes, status);
+}
+
+fn write_note<N: Sink>(notes: &mut N, status: Status) -> Result<(), Failed>
+    ensures whole { OnOk result (GotAll (sink_told N.written N.flushed N.faults notes.old) (sink_told N.written N.flushed N.faults notes.new)
+        (note_of status)) }
+    ensures part { OnErr result (AppendsPart (N.written notes.old) (N.written notes.new) (note_of status)) }
+    ensures cause { HasCause (N.faults notes.old) (N.faults notes.new) result }
+{
+    match status {
+        Status::Done => write_line(notes, ""),
+        Status::Usage => write_line(notes, USAGE),
+        Status::TreeRefused { rule, item } => {
+            write_two_numbers(
+                notes,
+                "tree refused: rule ",
+                u64::from(rule),
+                " item ",
+                item,
+            )
+        }
+        Status::ScriptRefused { line } => write_number(notes, "script refused: line ", line),
+        Status::ReadFault => write_line(notes, "read failed\n"),
+        Status::WriteFault => write_line(notes, "write failed\n"),
+        Status::FileFault => write_line(notes, "file failed\n"),
+        Status::FileTooLarge => write_line(notes, "file too large\n"),
+        Status::InputTooLong => write_line(notes, "input too long\n"),
+        Status::Collision { first, second } => {
+            write_two_numbers(
+                notes,
+                "ordinals collide: ",
+                u64::from(first),
+                " ",
+                u64::from(second),
+            )
+        }
+        Status::NoMemory => write_line(notes, "no memory\n"),
+        Status::BadFrame { at, reason } => write_reason(notes, at, reason),
+        Status::Truncated { at } => write_number(notes, "input ends inside the frame at ", at),
+    }
+}
+
+const USAGE: &str =
+    "usage: vfs file NAME | serve TREE auto | serve TREE given | run TREE SCRIPT | check TREE | show | make N\n";
+
+/// Writes a line, and passes it on.
+fn write_line<N: Sink>(notes: &mut N, text: &str) -> Result<(), Failed>
+    ensures whole { OnOk result (GotAll (sink_told N.written N.flushed N.faults notes.old) (sink_told N.written N.flushed N.faults notes.new)
+        (text.now)) }
+    ensures part { OnErr result (AppendsPart (N.written notes.old) (N.written notes.new) (text.now)) }
+    ensures cause { HasCause (N.faults notes.old) (N.faults notes.new) result }
+{
+    write_whole(notes, text.as_bytes())?;
+    notes.flush()
+}
+
+/// Writes a line of a text and a number.
+fn write_number<N: Sink>(notes: &mut N, text: &str, number: u64) -> Result<(), Failed>
+    ensures whole { OnOk result (GotAll (sink_told N.written N.flushed N.faults notes.old) (sink_told N.written N.flushed N.faults notes.new)
+        (text.now ++ decimal number ++ codes "\n")) }
+    ensures part { OnErr result (AppendsPart (N.written notes.old) (N.written notes.new) (text.now ++ decimal number ++ codes "\n")) }
+    ensures cause { HasCause (N.faults notes.old) (N.faults notes.new) result }
+{
+    let mut digits = Buffer::new();
+    write_parts(notes, &[text, digits.format(number), "\n"])
+}
+
+/// Writes a line of a text, a number, a text and a number.
+fn write_two_numbers<N: Sink>(
+    notes: &mut N,
+    text: &str,
+    number: u64,
+    between: &str,
+    second: u64,
+) -> Result<(), Failed>
+    ensures whole { OnOk result (GotAll (sink_told N.written N.flushed N.faults notes.old) (sink_told N.written N.flushed N.faults notes.new)
+        (text.now ++ decimal number ++ between.now ++ decimal second ++ codes "\n")) }
+    ensures part { OnErr result (AppendsPart (N.written notes.old) (N.written notes.new) (text.now ++ decimal number ++ between.now ++ decimal second ++ codes "\n")) }
+    ensures cause { HasCause (N.faults notes.old) (N.faults notes.new) result }
+{
+    let (mut first, mut other) = (Buffer::new(), Buffer::new());
+    write_parts(
+        notes,
+        &[
+            text,
+            first.format(number),
+            between,
+            other.format(second),
+            "\n",
+        ],
+    )
+}
+
+/// Writes the line of a bad frame.
+fn write_reason<N: Sink>(notes: &mut N, at: u64, reason: FrameReason) -> Result<(), Failed>
+    ensures whole { OnOk result (GotAll (sink_told N.written N.flushed N.faults notes.old) (sink_told N.written N.flushed N.faults notes.new)
+        (codes "bad frame at " ++ decimal at ++ codes ": " ++ word_of reason ++ codes "\n")) }
+    ensures part { OnErr result (AppendsPart (N.written notes.old) (N.written notes.new) (codes "bad frame at " ++ decimal at ++ codes ": " ++ word_of reason ++ codes "\n")) }
+    ensures cause { HasCause (N.faults notes.old) (N.faults notes.new) result }
+{
+    let mut digits = Buffer::new();
+    write_parts(
+        notes,
+        &[
+            "bad frame at ",
+            digits.format(at),
+            ": ",
+            word_of(reason),
+            "\n",
+        ],
+    )
+}
+
+/// Writes the parts of a line, and passes them on.
+fn write_parts<N: Sink>(notes: &mut N, parts: &[&str]) -> Result<(), Failed>
+    ensures whole { OnOk result (GotAll (sink_told N.written N.flushed N.faults notes.old) (sink_told N.written N.flushed N.faults notes.new)
+        (flat_map (λ part. part.now) parts.now)) }
+    ensures part { OnErr result (AppendsPart (N.written notes.old) (N.written notes.new) (flat_map (λ part. part.now) parts.now)) }
+    ensures cause { HasCause (N.faults notes.old) (N.faults notes.new) result }
+{
+    for part in parts {
+        if let Err(Failed) = write_whole(notes, part.as_bytes()) {
+            return Err(Failed);
+        }
+    }
+    notes.flush()
+}
+
+/// The word of a reason.
+fn word_of(reason: FrameReason) -> &'static str
+    ensures { result.now ≡ word_of reason }
+{
+    match reason {
+        FrameReason::Kind => "kind",
+        FrameReason::Zero => "zero",
+        FrameReason::Handles => "handles",
+        FrameReason::Bytes => "bytes",
+        FrameReason::Shape => "shape",
+    }
+}

@@ -1,0 +1,44 @@
+-- The report of a workload, from what is counted.
+use Rattle.std.proofs.Common.{◌≡◌, ◌≤◌, ℕ, List, Option, length, sym, ap, ◌∙◌, subst}
+use Rattle.std.proofs.lemmas.List.{length-map}
+use Rattle.endpoint_link.specs.declared.kinds.Mode.{Mode}
+use Rattle.endpoint_link.specs.declared.kinds.Mode.TheVariants.{Auto}
+use Rattle.endpoint_link.specs.Frames.{Frame, spellings}
+use Rattle.sha2.specs.Sha256.{sha256}
+use Rattle.vfs_script.specs.Scripts.{call_in, calls_of, frame_of, frames_of, script_lines}
+use Rattle.vfs_script.specs.declared.calls.Call.{Call}
+use Rattle.script_session.specs.Measured.{Measures, output_frames}
+use Rattle.script_session.specs.declared.measuring.Measured.{Measured}
+use Rattle.tree_file.specs.Generated.{generated_lists}
+use Rattle.tree_file.specs.Items.{Lists}
+use Rattle.vfs_journal.specs.Starts.{start_of}
+use Rattle.workload.specs.Laws.{IsGoodScript}
+use Rattle.workload.specs.Workload.{workload}
+use Rattle.workload.proofs.Whole.{workloads}
+use Rattle.script_commands.specs.Workloads.{report_of, report_with}
+
+-- so many rounds are a script
+pub is_good : (rounds : ℕ) → 1 ≤ rounds → rounds ≤ 10000 → IsGoodScript rounds
+is_good = workloads
+
+-- a script has as many frames as places for calls
+frames_beside_calls : (text : List ℕ) → length (calls_of text) ≡ length (frames_of text)
+frames_beside_calls text = length-map (script_lines text) call_in ∙ sym (length-map (script_lines text) frame_of)
+
+pub is_report : (rounds sent : ℕ) (start : Lists) (by : Mode) (calls : List (Option Call)) (out : Measured) (report : List ℕ)
+    → start ≡ generated_lists → by ≡ Auto → calls ≡ calls_of (workload rounds) → sent ≡ length calls
+    → Measures (output_frames (start_of start) by (workload rounds)) out → report ≡ report_with sent out.frames out.bytes out.hash
+    → report ≡ report_of rounds
+unfolding report_of
+is_report rounds sent start by calls out report from auto beside count measures is =
+    let text : List ℕ = workload rounds in
+    let written : List Frame = output_frames (start_of generated_lists) Auto text in
+    let all : Measures written out =
+    subst (λ (lists : Lists). Measures (output_frames (start_of lists) Auto text) out) from
+    (subst (λ (mode : Mode). Measures (output_frames (start_of start) mode text) out) auto measures)
+    in
+    let frames : ℕ = length (frames_of text) in
+    is ∙ ap (λ n. report_with n out.frames out.bytes out.hash) (count ∙ ap length beside ∙ frames_beside_calls text)
+    ∙ ap (λ n. report_with frames n out.bytes out.hash) all.frames
+    ∙ ap (λ n. report_with frames (length written) n out.hash) all.bytes
+    ∙ ap (report_with frames (length written) (length (spellings written))) all.hash

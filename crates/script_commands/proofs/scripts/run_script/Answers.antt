@@ -1,0 +1,69 @@
+use Rattle.std.proofs.Common.{Err, subst, inr}
+use Rattle.host_io.specs.Causes.{Rose}
+use Rattle.transcripts.specs.declared.faults.TranscriptFault.{TranscriptFault}
+use Rattle.transcripts.specs.Telling.{FailedOnly}
+use Rattle.script_commands.proofs.ScriptLemmas.{still_says}
+use Rattle.script_commands.proofs.scripts.run_script.Goals as goal
+
+pub returns-in-Ok-play : goal.returns-in-Ok-play
+returns-in-Ok-play g c =
+    let says = c.in-Ok-read_script.ensures.says in
+    inr (
+      tt,
+      c.in-Ok.ensures.distinct,
+      inr (
+        c.in-Ok-read_start.start,
+        c.in-Ok-read_start.ensures.stands,
+        inr (
+          _,
+          record {
+            says = still_says c.args.script.now _ _ (record { text = says.0; by = c.in-Ok-read_script.script.mode }) c.in-Ok-read_start.ensures.files says.2;
+            frames = c.scripts_are_frames.ensures says.0 says.1;
+          },
+          (c.in-Ok-play.ensures.whole says.0 says.1, c.in-Ok-play.ensures.flushed),
+        ),
+      ),
+    )
+
+pub returns-in-Err-Failed : goal.returns-in-Err-Failed
+returns-in-Err-Failed g c =
+    let says = c.in-Ok-read_script.ensures.says in
+    inr (
+      tt,
+      c.in-Ok.ensures.distinct,
+      inr (
+        c.in-Ok-read_start.start,
+        c.in-Ok-read_start.ensures.stands,
+        inr (
+          _,
+          record {
+            says = still_says c.args.script.now _ _ (record { text = says.0; by = c.in-Ok-read_script.script.mode }) c.in-Ok-read_start.ensures.files says.2;
+            frames = c.scripts_are_frames.ensures says.0 says.1;
+          },
+          (
+            c.in-Err-Failed.ensures.part says.0 says.1,
+            subst (λ (fault : TranscriptFault). FailedOnly (Err fault) (Rose (g.K.Sink.faults c.args.sink.now) (g.K.Sink.faults c.play.new.sink))) c.in-Err-Failed.field-0-is c.in-Err-Failed.ensures.cause.failed,
+          ),
+        ),
+      ),
+    )
+
+pub returns : goal.returns
+returns g c =
+    let says = c.in-Ok-read_script.ensures.says in
+    inr (
+      tt,
+      c.in-Ok.ensures.distinct,
+      inr (
+        c.in-Ok-read_start.start,
+        c.in-Ok-read_start.ensures.stands,
+        inr (
+          _,
+          record {
+            says = still_says c.args.script.now _ _ (record { text = says.0; by = c.in-Ok-read_script.script.mode }) c.in-Ok-read_start.ensures.files says.2;
+            frames = c.scripts_are_frames.ensures says.0 says.1;
+          },
+          c.in-Err-NoMemory.ensures.part says.0 says.1,
+        ),
+      ),
+    )

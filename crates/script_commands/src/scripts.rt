@@ -1,0 +1,76 @@
+ghost use Rattle.std.specs.Prelude.{◌≡◌, List, ℕ, IfOk, IfErr};
+ghost use Rattle.script_session.specs.Playing.{transcript};
+ghost use Rattle.script_session.specs.Steps.{IsScript};
+ghost use Rattle.vfs_journal.specs.Starts.{start_of};
+ghost use Rattle.run_status.specs.Causes.{AfterNames};
+ghost use Rattle.run_status.specs.Outside.{files_told, sink_told};
+ghost use Rattle.run_status.specs.Texts.{WritesPieces};
+ghost use Rattle.named_files.specs.FileCauses.{AfterTree};
+ghost use Rattle.script_commands.specs.ScriptCauses.{AfterScript, HasNoScript};
+ghost use Rattle.script_commands.specs.Scripts.{Says};
+
+use fidl_names::MAX_TEXT;
+use fidl_wire::{OrdinalFault, Ordinals};
+use host_io::{Files, Sink};
+use named_files::{read_file, read_start};
+use run_status::Status;
+use script_session::{play, scripts_are_frames};
+use std::alloc::Global;
+use transcripts::TranscriptFault;
+use vfs_script::{Script, ScriptFault, script_of};
+
+/// Plays the script of this name over the tree of that one, and writes its transcript.
+pub fn run_script<F: Files, K: Sink>(
+    alloc: Global,
+    tree: &str,
+    script: &str,
+    files: &mut F,
+    sink: &mut K,
+) -> Status
+    ensures { AfterNames (sink.new ≡ sink.old)
+        (AfterTree tree.now (files_told F.told F.faults F.overlong files.old) (files_told F.told F.faults F.overlong files.new)
+        (sink.new ≡ sink.old)
+        (λ lists. AfterScript script.now (files_told F.told F.faults F.overlong files.old) (files_told F.told F.faults F.overlong files.new)
+        (sink.new ≡ sink.old)
+        (λ said. WritesPieces (transcript (start_of lists) said.by said.text)
+        (sink_told K.written K.flushed K.faults sink.old) (sink_told K.written K.flushed K.faults sink.new)))) result }
+{
+    let ordinals = match Ordinals::new() {
+        Ok(ordinals) => ordinals,
+        Err(OrdinalFault::Collision(first, second)) => return Status::Collision { first, second },
+    };
+    let start = match read_start(alloc, tree, files) {
+        Ok(start) => start,
+        Err(status) => return status,
+    };
+    let script = match read_script(alloc, &ordinals, script, files) {
+        Ok(script) => script,
+        Err(status) => return status,
+    };
+    scripts_are_frames(&script);
+    match play(alloc, ordinals, &start, &script, sink) {
+        Ok(()) => Status::Done,
+        Err(TranscriptFault::Failed) => Status::WriteFault,
+        Err(TranscriptFault::NoMemory) => Status::NoMemory,
+    }
+}
+
+/// The script that the file of this name is.
+fn read_script<F: Files>(
+    alloc: Global,
+    ordinals: &Ordinals,
+    name: &str,
+    files: &mut F,
+) -> Result<Script, Status>
+    ensures says { IfOk result (λ script. (text : List ℕ) × IsScript text script
+        × Says (F.told files.old name.now) (record { text = text; by = script.mode })) }
+    ensures refused { IfErr result (HasNoScript name.now
+        (files_told F.told F.faults F.overlong files.old) (files_told F.told F.faults F.overlong files.new)) }
+{
+    let text = read_file(alloc, name, MAX_TEXT, files)?;
+    match script_of(alloc, ordinals, &text) {
+        Ok(script) => Ok(script),
+        Err(ScriptFault::Line(line)) => Err(Status::ScriptRefused { line }),
+        Err(ScriptFault::NoMemory) => Err(Status::NoMemory),
+    }
+}

@@ -1,0 +1,22 @@
+use Rattle.std.proofs.Common.{[], sym, ap, subst, inr}
+use Rattle.endpoint_link.specs.declared.kinds.Mode.{Mode}
+use Rattle.vfs_journal.specs.Starts.{start_of}
+use Rattle.tree_session.specs.TreeSession.{tree_course, StandsBehind}
+use Rattle.tree_session.proofs.Outputs.{tree_grows}
+use Rattle.tree_session.proofs.serving.serve_tree.Goals as goal
+
+pub returns : goal.returns
+returns g c =
+    let start = start_of c.in-Ok-read_start.start in
+    let by = c.args.mode in
+    let session = c.in-Ok-new-2.session in
+    inr (
+      tt,
+      c.in-Ok.ensures.distinct,
+      inr (
+        c.in-Ok-read_start.start,
+        c.in-Ok-read_start.ensures.stands,
+        c.run.ensures (tree_course start by) (tree_grows start by)
+            (start, ap (tree_course start) (sym c.in-Ok-new-2.ensures.mode), subst (λ (m : Mode). StandsBehind start m session.world []) (sym c.in-Ok-new-2.ensures.mode) c.in-Ok-new-2.ensures.stands),
+      ),
+    )

@@ -1,0 +1,27 @@
+-- The session over a tree: what is written for its frames, and which world stands behind them.
+use Rattle.std.specs.Prelude.{List, true}
+use Rattle.endpoint_link.specs.Frames.{Frame, spellings}
+use Rattle.endpoint_link.specs.declared.kinds.Mode.{Mode}
+use Rattle.vfs_journal.specs.Entries.{Journal}
+use Rattle.vfs_journal.specs.Output.{frames_of}
+use Rattle.vfs_journal.specs.Past.{history_of}
+use Rattle.vfs_journal.specs.Session.{session, ended}
+use Rattle.vfs_journal.specs.Starts.{Start}
+use Rattle.vfs_session.specs.World.{World, StandsFor}
+use Rattle.link_session.specs.Session.{Course}
+
+-- the frames that a journal stands for
+abbrev pub frames_by : Start → Journal → List Frame
+frames_by start journal = frames_of start (history_of start journal)
+
+-- what is written for the frames of a session so far, and with the last drain; memory may be wanting for it
+unfoldable pub tree_course : Start → Mode → Course
+tree_course start by = record {
+  so_far = λ frames. spellings (frames_by start (session start by frames));
+  by_end = λ frames. spellings (frames_by start (ended start by frames));
+  starves = true;
+}
+
+-- the world stands for the session of these frames
+unfoldable pub StandsBehind : Start → Mode → World → List Frame → Type 0
+StandsBehind start by world frames = StandsFor start world (session start by frames)

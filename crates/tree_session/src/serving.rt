@@ -1,0 +1,142 @@
+ghost use Rattle.std.specs.Prelude.{◌≡◌, ◌<◌, ◌+◌, ◌^◌, List, [], IfOk, OnOk};
+ghost use Rattle.endpoint_link.specs.Frames.{Frame, IsFrame};
+ghost use Rattle.endpoint_link.specs.Views.{frame_of};
+ghost use Rattle.endpoint_link.specs.declared.kinds.Side.TheVariants as side;
+ghost use Rattle.vfs_journal.specs.Starts.{Start as TheStart, start_of};
+ghost use Rattle.run_status.specs.Causes.{AfterNames};
+ghost use Rattle.run_status.specs.Outside.{files_told, streams_told};
+ghost use Rattle.link_session.specs.Serving.{HeardOne};
+ghost use Rattle.link_session.specs.Session.{SessionAnswers};
+ghost use Rattle.named_files.specs.FileCauses.{AfterTree};
+ghost use Rattle.tree_session.specs.TreeSession.{tree_course, StandsBehind};
+
+use endpoint_link::{FrameView, Mode, Outbox, Side};
+use fidl_names::NoMemory;
+use fidl_wire::{OrdinalFault, Ordinals};
+use host_io::{Files, Sink, Source};
+use link_session::{Input, Session, run};
+use named_files::read_start;
+use run_status::Status;
+use std::alloc::Global;
+use tree_file::Start;
+use vfs_world::World;
+
+/// Serves the tree of this name over source and sink, in this mode.
+pub fn serve_tree<F: Files, S: Source, K: Sink>(
+    alloc: Global,
+    tree: &str,
+    mode: Mode,
+    files: &mut F,
+    source: &mut S,
+    sink: &mut K,
+) -> Status
+    ensures { AfterNames ((source.new ≡ source.old) × (sink.new ≡ sink.old))
+        (AfterTree tree.now (files_told F.told F.faults F.overlong files.old) (files_told F.told F.faults F.overlong files.new)
+        ((source.new ≡ source.old) × (sink.new ≡ sink.old))
+        (λ lists. SessionAnswers side.ToServers (tree_course (start_of lists) mode)
+        (streams_told S.left S.faults K.written K.flushed K.faults source.old sink.old)
+        (streams_told S.left S.faults K.written K.flushed K.faults source.new sink.new)
+        (sink.new ≡ sink.old))) result }
+{
+    let ordinals = match Ordinals::new() {
+        Ok(ordinals) => ordinals,
+        Err(OrdinalFault::Collision(first, second)) => return Status::Collision { first, second },
+    };
+    let start = match read_start(alloc, tree, files) {
+        Ok(start) => start,
+        Err(status) => return status,
+    };
+    let Ok(mut input) = Input::new(alloc) else {
+        return Status::NoMemory;
+    };
+    let Ok(mut session) = TreeSession::new(alloc, ordinals, &start, mode) else {
+        return Status::NoMemory;
+    };
+    run(&mut session, &mut input, source, sink)
+}
+
+/// The session over a tree: its world, its mode, and the frames that are to be written.
+#[derive(Drop)]
+struct TreeSession {
+    world: World,
+    mode: Mode,
+    outbox: Outbox,
+}
+
+impl TreeSession {
+    /// The session of an accepted start, before its first frame.
+    fn new(
+        alloc: Global,
+        ordinals: Ordinals,
+        start: &Start,
+        mode: Mode,
+    ) -> Result<TreeSession, NoMemory>
+        ensures mode { IfOk result (λ s. s.mode ≡ mode) }
+        ensures stands { IfOk result (λ s. StandsBehind (start_of start.now) mode s.world []) }
+        ensures empty { IfOk result (λ s. s.outbox ≡ []) }
+        ensures frames { IfOk result (λ s. s.world.frames ≡ 0) }
+    {
+        let world = World::new(alloc, ordinals, start)?;
+        Ok(TreeSession {
+            world,
+            mode,
+            outbox: Outbox::new(alloc),
+        })
+    }
+}
+
+impl Session for TreeSession {
+    ghost use Rattle.std.specs.Prelude.{◌≡◌};
+    ghost use Rattle.endpoint_link.specs.declared.kinds.Side.TheVariants as side;
+    ghost use Rattle.vfs_journal.specs.Starts.{Start as TheStart};
+    ghost use Rattle.tree_session.specs.TreeSession.{tree_course, StandsBehind};
+
+    ghost side = { side.ToServers };
+
+    ghost stands = { λ s course frames.
+        (start : TheStart) × (course ≡ tree_course start s.mode) × StandsBehind start s.mode s.world frames };
+
+    ghost holds = { λ s. s.outbox };
+
+    ghost heard = { λ s. s.world.frames };
+
+    ghost ready = { λ s. Unit {0} };
+
+    fn side(&self) -> Side {
+        Side::ToServers
+    }
+
+    fn hear(&mut self, frame: FrameView<'_>) -> Result<(), NoMemory> {
+        hear(&mut self.world, self.mode, frame, &mut self.outbox)
+    }
+
+    fn finish(&mut self) -> Result<(), NoMemory> {
+        self.world.drain(&mut self.outbox)?;
+        Ok(())
+    }
+
+    fn held(&self) -> &[u8] {
+        self.outbox.as_bytes()
+    }
+
+    fn clear(&mut self) {
+        self.outbox.clear();
+    }
+}
+
+/// Hears one frame.
+fn hear(
+    world: &mut World,
+    mode: Mode,
+    frame: FrameView<'_>,
+    outbox: &mut Outbox,
+) -> Result<(), NoMemory>
+    requires frame { IsFrame side.ToServers (frame_of frame) }
+    requires few { world.old.frames < 2 ^ 48 }
+    ensures heard { (start : TheStart) (before : List Frame) → StandsBehind start mode world.old before →
+        OnOk result (HeardOne (tree_course start mode) (StandsBehind start mode world.new) before (frame_of frame.entry) outbox.old outbox.new) }
+    ensures frames { OnOk result (world.new.frames ≡ world.old.frames + 1) }
+{
+    world.hear(mode, frame, outbox)?;
+    Ok(())
+}
