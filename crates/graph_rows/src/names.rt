@@ -9,7 +9,7 @@ use node_graph::{Graph, GraphFault, Moved, NodeKind, NodeRef};
 use std::alloc::Global;
 use std::process::Abort;
 use std::test::Fail;
-use test_rows::rows;
+use test_rows::{Row, rows};
 
 // The directory that a name in a directory leads to.
 fn child(rt: &impl Abort, graph: &Graph, dir: NodeRef, name: &str) -> NodeRef
@@ -124,21 +124,42 @@ fn rename(
 
 // Directory 2 is `d`, in it directory 3 `e`, in it file 4 `f`. Directory 5 is `x`, without names. File 6
 // is `f` and `d/g`, 7 is the mount `m`, 8 the service `s`.
+fn plant(rt: &impl Abort, graph: &mut Graph) -> Result<(), GraphFault>
+    ensures holds { SameHolds graph.old graph.new }
+{
+    make(rt, graph, ".", "d", NodeKind::Directory)?;
+    make(rt, graph, "d", "e", NodeKind::Directory)?;
+    make(rt, graph, "d/e", "f", NodeKind::File)?;
+    make(rt, graph, ".", "x", NodeKind::Directory)?;
+    make(rt, graph, ".", "f", NodeKind::File)?;
+    make(rt, graph, ".", "m", NodeKind::Mount(0))?;
+    make(rt, graph, ".", "s", NodeKind::Service)?;
+    let root = graph.root();
+    let dir = directory(rt, graph, "d");
+    graph.link(root, b"f", dir, b"g")
+}
+
+// A graph with these nodes, none of which is held. It is planted behind a borrow, since each early
+// return that drops a graph makes the proof longer.
 fn tree(rt: &impl Abort, alloc: Global) -> Result<Graph, GraphFault>
     ensures { IfOk result (λ graph. (number : ℕ) → holds_at graph number ≡ 0) }
 {
     let mut graph = Graph::new(alloc)?;
-    make(rt, &mut graph, ".", "d", NodeKind::Directory)?;
-    make(rt, &mut graph, "d", "e", NodeKind::Directory)?;
-    make(rt, &mut graph, "d/e", "f", NodeKind::File)?;
-    make(rt, &mut graph, ".", "x", NodeKind::Directory)?;
-    make(rt, &mut graph, ".", "f", NodeKind::File)?;
-    make(rt, &mut graph, ".", "m", NodeKind::Mount(0))?;
-    make(rt, &mut graph, ".", "s", NodeKind::Service)?;
-    let root = graph.root();
-    let dir = directory(rt, &graph, "d");
-    graph.link(root, b"f", dir, b"g")?;
+    plant(rt, &mut graph)?;
     Ok(graph)
+}
+
+// Compares how many names and nodes there are with a row's cell.
+fn compare_counts(
+    rt: &impl Abort,
+    alloc: Global,
+    graph: &Graph,
+    row: &Row<'_>,
+    at: usize,
+) -> Result<(), Fail> {
+    let counts = format!(in alloc; "{} {}", graph.names(), graph.kept())?;
+    assert_eq!(rt; counts.as_str(), row.cell(at)?, "{}", row.name());
+    Ok(())
 }
 
 // What is done | where | to which name | has it to be a directory | the answer | names and nodes then
@@ -159,18 +180,16 @@ a file with one name       | d/e | f    | any | Ok(None)         | 7 7
 a file with two names      | .   | f    | any | Ok(None)         | 7 8
 ";
 
-#[test]
-fn names_are_taken_out(rt: HostRuntime) -> Result<(), Fail> {
-    let alloc = rt.alloc();
-    for row in &rows(alloc, UNLINKS)? {
-        let mut graph = tree(&rt, alloc)?;
-        let must_be_dir = row.cell(3)? == "dir";
-        let answer = unlink(&rt, &mut graph, row.cell(1)?, row.cell(2)?, must_be_dir);
-        assert!(rt; row.says(alloc, 4, &answer), "{}", row.name());
-        let counts = format!(in alloc; "{} {}", graph.names(), graph.kept())?;
-        assert_eq!(rt; counts.as_str(), row.cell(5)?, "{}", row.name());
-    }
-    Ok(())
+fn try_unlink(
+    rt: &impl Abort,
+    alloc: Global,
+    graph: &mut Graph,
+    row: &Row<'_>,
+) -> Result<(), Fail> {
+    let must_be_dir = row.cell(3)? == "dir";
+    let answer = unlink(rt, graph, row.cell(1)?, row.cell(2)?, must_be_dir);
+    assert!(rt; row.says(alloc, 4, &answer), "{}", row.name());
+    compare_counts(rt, alloc, graph, row, 5)
 }
 
 // What is done | from where | from which name | to where | to which name | the answer | names and nodes then
@@ -189,18 +208,13 @@ a file                     | . | f    | x    | n | Ok(())           | 9 8
 a service                  | . | s    | d/e  | s | Ok(())           | 9 8
 ";
 
-#[test]
-fn names_are_added(rt: HostRuntime) -> Result<(), Fail> {
-    let alloc = rt.alloc();
-    for row in &rows(alloc, LINKS)? {
-        let mut graph = tree(&rt, alloc)?;
-        let from = (row.cell(1)?, row.cell(2)?);
-        let answer = link(&rt, &mut graph, from, (row.cell(3)?, row.cell(4)?));
-        assert!(rt; row.says(alloc, 5, &answer), "{}", row.name());
-        let counts = format!(in alloc; "{} {}", graph.names(), graph.kept())?;
-        assert_eq!(rt; counts.as_str(), row.cell(6)?, "{}", row.name());
-    }
-    Ok(())
+fn try_link(rt: &impl Abort, alloc: Global, graph: &mut Graph, row: &Row<'_>) -> Result<(), Fail>
+    requires { (number : ℕ) → holds_at graph.old number ≡ 0 }
+{
+    let from = (row.cell(1)?, row.cell(2)?);
+    let answer = link(rt, graph, from, (row.cell(3)?, row.cell(4)?));
+    assert!(rt; row.says(alloc, 5, &answer), "{}", row.name());
+    compare_counts(rt, alloc, graph, row, 6)
 }
 
 // What is done | from where | from which name | to where | to which name | the answer | names and nodes then
@@ -232,16 +246,58 @@ a file to its own name        | .   | f    | .    | f | Ok(Moved { changed: fals
 a directory to its own name   | .   | d    | .    | d | Ok(Moved { changed: false, replaced: None }) | 8 8
 ";
 
-#[test]
-fn names_are_moved(rt: HostRuntime) -> Result<(), Fail> {
-    let alloc = rt.alloc();
-    for row in &rows(alloc, RENAMES)? {
-        let mut graph = tree(&rt, alloc)?;
-        let from = (row.cell(1)?, row.cell(2)?);
-        let answer = rename(&rt, &mut graph, from, (row.cell(3)?, row.cell(4)?));
-        assert!(rt; row.says(alloc, 5, &answer), "{}", row.name());
-        let counts = format!(in alloc; "{} {}", graph.names(), graph.kept())?;
-        assert_eq!(rt; counts.as_str(), row.cell(6)?, "{}", row.name());
+fn try_rename(rt: &impl Abort, alloc: Global, graph: &mut Graph, row: &Row<'_>) -> Result<(), Fail>
+    requires { (number : ℕ) → holds_at graph.old number ≡ 0 }
+{
+    let from = (row.cell(1)?, row.cell(2)?);
+    let answer = rename(rt, graph, from, (row.cell(3)?, row.cell(4)?));
+    assert!(rt; row.says(alloc, 5, &answer), "{}", row.name());
+    compare_counts(rt, alloc, graph, row, 6)
+}
+
+// What the rows of a text do.
+#[derive(Clone, Copy)]
+enum Deed {
+    TakesOut,
+    Adds,
+    Moves,
+}
+
+fn try_row(
+    rt: &impl Abort,
+    alloc: Global,
+    graph: &mut Graph,
+    deed: Deed,
+    row: &Row<'_>,
+) -> Result<(), Fail>
+    requires { (number : ℕ) → holds_at graph.old number ≡ 0 }
+{
+    match deed {
+        Deed::TakesOut => try_unlink(rt, alloc, graph, row),
+        Deed::Adds => try_link(rt, alloc, graph, row),
+        Deed::Moves => try_rename(rt, alloc, graph, row),
+    }
+}
+
+// Each row is tried on a tree of its own.
+fn try_rows(rt: &impl Abort, alloc: Global, deed: Deed, text: &str) -> Result<(), Fail> {
+    for row in &rows(alloc, text)? {
+        try_row(rt, alloc, &mut tree(rt, alloc)?, deed, row)?;
     }
     Ok(())
+}
+
+#[test]
+fn names_are_taken_out(rt: HostRuntime) -> Result<(), Fail> {
+    try_rows(&rt, rt.alloc(), Deed::TakesOut, UNLINKS)
+}
+
+#[test]
+fn names_are_added(rt: HostRuntime) -> Result<(), Fail> {
+    try_rows(&rt, rt.alloc(), Deed::Adds, LINKS)
+}
+
+#[test]
+fn names_are_moved(rt: HostRuntime) -> Result<(), Fail> {
+    try_rows(&rt, rt.alloc(), Deed::Moves, RENAMES)
 }
