@@ -1,4 +1,4 @@
-use Rattle.std.proofs.Common.{◌∙◌, subst}
+use Rattle.std.proofs.Common.{rules, ◌∙◌, subst}
 use Rattle.endpoint_link.specs.declared.kinds.Mode.{Mode}
 use Rattle.vfs_journal.specs.Session.{session}
 use Rattle.vfs_journal.specs.Starts.{start_of}
@@ -20,10 +20,10 @@ returns-clause-measured c = λ text is.
     (c.end.ensures start (session start meter.mode (frames_of text)) heard)
 
 pub returns-in_err-meter-clause-sent : goal.returns-in_err-meter-clause-sent
-returns-in_err-meter-clause-sent c = λ text is. may_go text c.args.script.now c.frames-bytes.result.now is c.frames-bytes.ensures (fits_bytes c.frames-bytes.result.now c.type_inv.bytes)
+returns-in_err-meter-clause-sent c = λ text is. may_go text c.args.script.now c.frames-bytes.result.now is c.frames-bytes.ensures (fits_bytes c.frames-bytes.result.now (search rules))
 
 pub returns-in_err-hear_all-clause-sent : goal.returns-in_err-hear_all-clause-sent
-returns-in_err-hear_all-clause-sent c = λ text is. may_go text c.args.script.now c.frames-bytes.result.now is c.frames-bytes.ensures (fits_bytes c.frames-bytes.result.now c.type_inv.bytes)
+returns-in_err-hear_all-clause-sent c = λ text is. may_go text c.args.script.now c.frames-bytes.result.now is c.frames-bytes.ensures (fits_bytes c.frames-bytes.result.now (search rules))
 
 pub returns-clause-sent : goal.returns-clause-sent
-returns-clause-sent c = λ text is. may_go text c.args.script.now c.frames-bytes.result.now is c.frames-bytes.ensures (fits_bytes c.frames-bytes.result.now c.type_inv.bytes)
+returns-clause-sent c = λ text is. may_go text c.args.script.now c.frames-bytes.result.now is c.frames-bytes.ensures (fits_bytes c.frames-bytes.result.now (search rules))

@@ -1,4 +1,4 @@
-use Rattle.std.proofs.Common.{◌∙◌, subst}
+use Rattle.std.proofs.Common.{rules, ◌∙◌, subst}
 use Rattle.std.specs.Io.KnownBytes.{Appends}
 use Rattle.host_io.specs.Streams.{AppendsPart}
 use Rattle.vfs_journal.specs.Starts.{start_of}
@@ -54,10 +54,10 @@ returns-clause-part g c = λ text is.
     (calls_counted start player.mode text c.args.script.now c.calls.result is c.calls.ensures) (c.in_ok-play_lines.ensures.told start text written is plays told))
 
 pub returns-in_err-player-clause-sent : goal.returns-in_err-player-clause-sent
-returns-in_err-player-clause-sent g c = λ text is. may_go text c.args.script.now c.frames-bytes.result.now is c.frames-bytes.ensures (fits_bytes c.frames-bytes.result.now c.type_inv.bytes)
+returns-in_err-player-clause-sent g c = λ text is. may_go text c.args.script.now c.frames-bytes.result.now is c.frames-bytes.ensures (fits_bytes c.frames-bytes.result.now (search rules))
 
 pub returns-in_err-play_lines-clause-sent : goal.returns-in_err-play_lines-clause-sent
-returns-in_err-play_lines-clause-sent g c = λ text is. may_go text c.args.script.now c.frames-bytes.result.now is c.frames-bytes.ensures (fits_bytes c.frames-bytes.result.now c.type_inv.bytes)
+returns-in_err-play_lines-clause-sent g c = λ text is. may_go text c.args.script.now c.frames-bytes.result.now is c.frames-bytes.ensures (fits_bytes c.frames-bytes.result.now (search rules))
 
 pub returns-clause-sent : goal.returns-clause-sent
-returns-clause-sent g c = λ text is. may_go text c.args.script.now c.frames-bytes.result.now is c.frames-bytes.ensures (fits_bytes c.frames-bytes.result.now c.type_inv.bytes)
+returns-clause-sent g c = λ text is. may_go text c.args.script.now c.frames-bytes.result.now is c.frames-bytes.ensures (fits_bytes c.frames-bytes.result.now (search rules))
