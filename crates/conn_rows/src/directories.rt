@@ -5,15 +5,17 @@ ghost use Rattle.node_graph.specs.declared.nodes.NodeKind.TheVariants.{Directory
 ghost use Rattle.node_graph.specs.Graph.{Names, kind_at, number_of};
 ghost use Rattle.conn_rules.specs.Shared.{CanBeBound};
 
+use crate::requests::{request_of, word};
+use crate::writer::Writer;
 use conn_rules::{Birth, Changes, Room};
 use dir_conn::{DirConn, DirServed};
-use fidl_names::Status;
-use fidl_wire::{Ordinals, Out};
-use io_messages::{Protocol, Request};
+use io_messages::{Protocol, Request, has_method, is_one_way};
 use io_rights::Rights;
 use node_graph::{Graph, GraphFault, NodeKind, NodeRef};
+use std::alloc::Global;
 use std::process::Abort;
 use std::test::Fail;
+use test_rows::{Row, rows};
 
 pub(crate) const ROOM: Room = Room {
     connections: 1,
@@ -40,20 +42,20 @@ fn add(
     graph.create(directory, name, kind, mask)
 }
 
-// The directory `d` with the file `f` in it, the file `ro`, the service `echo`, and the mount `m`. Both files have bytes.
-fn small_tree(rt: &impl Abort, mut graph: Graph) -> Result<Graph, GraphFault> {
+// Makes the directory `d` with the file `f` in it, the file `ro`, the service `echo`, and the mount `m`. Both files have bytes.
+fn plant(rt: &impl Abort, graph: &mut Graph) -> Result<(), GraphFault> {
     let root = graph.root();
-    let directory = add(rt, &mut graph, root, b"d", NodeKind::Directory, 0x1ff)?;
-    let file = add(rt, &mut graph, directory, b"f", NodeKind::File, 0x1ff)?;
+    let directory = add(rt, graph, root, b"d", NodeKind::Directory, 0x1ff)?;
+    let file = add(rt, graph, directory, b"f", NodeKind::File, 0x1ff)?;
     graph.write_at(file, 0, b"hello world")?;
     let root = graph.root();
-    let file = add(rt, &mut graph, root, b"ro", NodeKind::File, 0x12)?;
+    let file = add(rt, graph, root, b"ro", NodeKind::File, 0x12)?;
     graph.write_at(file, 0, b"read only")?;
     let root = graph.root();
-    add(rt, &mut graph, root, b"echo", NodeKind::Service, 0x1ff)?;
+    add(rt, graph, root, b"echo", NodeKind::Service, 0x1ff)?;
     let root = graph.root();
-    add(rt, &mut graph, root, b"m", NodeKind::Mount(7), 0x82)?;
-    Ok(graph)
+    add(rt, graph, root, b"m", NodeKind::Mount(7), 0x82)?;
+    Ok(())
 }
 
 // A connection to a directory, with these rights.
@@ -98,50 +100,29 @@ fn root_conn(graph: &Graph) -> DirConn
     conn_to(graph, graph.root())
 }
 
-// What the root answers to an Open.
-fn open<'a>(
+// What the root answers to a request.
+fn ask<'a>(
     rt: &impl Abort,
-    ordinals: &Ordinals,
     graph: &mut Graph,
+    writer: &mut Writer,
     room: Room,
-    out: &mut Out,
-    path: &'a [u8],
-    flags: u64,
+    request: Request<'a>,
 ) -> DirServed<'a> {
-    out.clear();
+    let method = request.method();
+    assert!(rt; has_method(Protocol::Directory, method));
     assert!(rt; graph.made() < 1 << 63);
+    let txid = if is_one_way(method) { 0 } else { 2 };
     let mut conn = root_conn(graph);
-    let request = Request::OpenPath {
-        path,
-        flags,
-        attributes: None,
-        object: 2,
-    };
-    let served = conn.serve(ordinals, graph, room, None, 0, request, out);
-    assert!(rt; out.as_bytes().is_empty());
-    served
-}
-
-// What is told of an Unlink in the root.
-fn unlink<'a>(
-    rt: &impl Abort,
-    ordinals: &Ordinals,
-    graph: &mut Graph,
-    out: &mut Out,
-    name: &'a [u8],
-    flags: u64,
-) -> Changes<'a> {
-    out.clear();
-    assert!(rt; graph.made() < 1 << 63);
-    let mut conn = root_conn(graph);
-    let request = Request::Unlink { name, flags };
-    match conn.serve(ordinals, graph, ROOM, None, 2, request, out) {
-        DirServed::Reply(changes) => changes,
-        _ => {
-            assert!(rt; false, "{flags} has a reply");
-            Changes::none()
-        }
-    }
+    writer.out.clear();
+    conn.serve(
+        &writer.ordinals,
+        graph,
+        room,
+        None,
+        txid,
+        request,
+        &mut writer.out,
+    )
 }
 
 // How many bytes the file `d/f` has.
@@ -155,266 +136,273 @@ fn length_of_file(rt: &impl Abort, graph: &Graph) -> usize {
     graph.bytes(found.node).len()
 }
 
-#[test]
-fn opens_are_refused_with_their_status(rt: HostRuntime) -> Result<(), Fail> {
-    let mut graph = small_tree(&rt, Graph::new(rt.alloc())?)?;
-    let ordinals = Ordinals::new().expect(&rt, "no two are equal");
-    let mut out = Out::new(rt.alloc())?;
-    let rows: [(&[u8], u64, Status); 19] = [
-        (b"nope", 0x2, Status::NotFound),
-        (b"ro", 0x6, Status::AccessDenied),
-        (b"echo", 0x2, Status::AccessDenied),
-        (b"echo", 0x1_0000_0000, Status::AccessDenied),
-        (b"d/f", 0x2000_0000_0002, Status::InvalidArgs),
-        (b"ro", 0x2000_0000_0004, Status::AccessDenied),
-        (b"d", 0x2000_0000_0004, Status::NotFile),
-        (b"d", 0x200, Status::InvalidArgs),
-        (b"/", 0x10_0000_0000, Status::NotSupported),
-        (b"d//f", 0x2, Status::InvalidArgs),
-        (b"nope/f", 0x2, Status::NotFound),
-        (b"nope/f", 0x104_0000_0080, Status::NotFound),
-        (b"d", 0x204_0000_0080, Status::AlreadyExists),
-        (b"ro/f", 0x2, Status::NotDir),
-        (b"m/f", 0x4, Status::AccessDenied),
-        (b"m", 0x10, Status::AccessDenied),
-        (b"d/f", 0x4_0000_0000, Status::NotDir),
-        (b"d", 0x8_0000_0000, Status::NotFile),
-        (b"d", 0x1_0000_0000, Status::WrongType),
-    ];
-    for (path, flags, status) in rows {
-        match open(&rt, &ordinals, &mut graph, ROOM, &mut out, path, flags) {
-            DirServed::Refused(found) => assert_eq!(rt; found, status),
-            _ => assert!(rt; false, "{flags} is refused"),
+// Whether a cell is the name that is new, or `-` where nothing is told.
+fn is_told(row: &Row<'_>, at: usize, changes: &Changes<'_>) -> bool {
+    if changes.removed.is_some() || changes.deleted.is_some() {
+        return false;
+    }
+    match (row.cell(at), changes.added) {
+        (Ok(cell), Some(added)) => cell.as_bytes() == added.name,
+        (Ok(cell), None) => cell == "-",
+        (Err(_), _) => false,
+    }
+}
+
+// Whether an Open is answered as a row's cells 4 to 6 say: by what, with which values, and the name that is new.
+fn is_answer(alloc: Global, row: &Row<'_>, served: &DirServed<'_>) -> bool {
+    let Ok(answer) = row.cell(4) else {
+        return false;
+    };
+    match served {
+        DirServed::Refused(status) => answer == "Refused" && row.says(alloc, 5, status),
+        DirServed::Bind(birth, changes) => {
+            let rights = birth.rights.bits();
+            let values = (rights, birth.protocol, birth.append, birth.announce);
+            answer == "Bind" && row.says(alloc, 5, &values) && is_told(row, 6, changes)
         }
+        DirServed::Forward { mount, flags, rest } => {
+            let values = (*mount, flags.word(), rest.as_bytes());
+            answer == "Forward" && row.says(alloc, 5, &values)
+        }
+        _ => false,
+    }
+}
+
+// An Open of the row's path with its flags, at a server with so many connections.
+fn try_open(
+    rt: &impl Abort,
+    alloc: Global,
+    graph: &mut Graph,
+    writer: &mut Writer,
+    row: &Row<'_>,
+) -> Result<(), Fail> {
+    let request = Request::OpenPath {
+        path: row.cell(1)?.as_bytes(),
+        flags: row.number(2)?,
+        attributes: None,
+        object: 2,
+    };
+    let room = Room {
+        connections: word(row, 3)?,
+        ..ROOM
+    };
+    let served = ask(rt, graph, writer, room, request);
+    assert!(rt; is_answer(alloc, row, &served), "{}", row.name());
+    assert!(rt; writer.out.as_bytes().is_empty(), "{}", row.name());
+    let counts = (length_of_file(rt, graph), graph.made());
+    assert!(rt; row.says(alloc, 7, &counts), "{}", row.name());
+    Ok(())
+}
+
+// The Opens of a text, one after the other on one tree.
+fn try_opens_on(
+    rt: &impl Abort,
+    alloc: Global,
+    graph: &mut Graph,
+    writer: &mut Writer,
+    text: &str,
+) -> Result<(), Fail> {
+    plant(rt, graph)?;
+    for row in &rows(alloc, text)? {
+        try_open(rt, alloc, graph, writer, row)?;
     }
     Ok(())
 }
+
+fn try_opens(rt: &impl Abort, alloc: Global, text: &str) -> Result<(), Fail> {
+    let mut writer = Writer::new(alloc)?;
+    try_opens_on(rt, alloc, &mut Graph::new(alloc)?, &mut writer, text)
+}
+
+// What is opened | the path | the flags | the server's connections | the answer | its values: a status, or rights, protocol and whether it appends and announces, or the mount, the flags and the names that go on | the name that is new | the bytes of `d/f` and the nodes made till then
+const REFUSED: &str = "
+no such name                                | nope   | 0x2            | 1 | Refused | NotFound      | - | (11, 6)
+a right that the mask lacks                 | ro     | 0x6            | 1 | Refused | AccessDenied  | - | (11, 6)
+a service, to read                          | echo   | 0x2            | 1 | Refused | AccessDenied  | - | (11, 6)
+a service, without a right                  | echo   | 0x100000000    | 1 | Refused | AccessDenied  | - | (11, 6)
+a cut without the right to write            | d/f    | 0x200000000002 | 1 | Refused | InvalidArgs   | - | (11, 6)
+a cut where the mask lacks the right        | ro     | 0x200000000004 | 1 | Refused | AccessDenied  | - | (11, 6)
+a cut of a directory                        | d      | 0x200000000004 | 1 | Refused | NotFile       | - | (11, 6)
+a bit that is no flag                       | d      | 0x200          | 1 | Refused | InvalidArgs   | - | (11, 6)
+a protocol that is not served               | /      | 0x1000000000   | 1 | Refused | NotSupported  | - | (11, 6)
+an empty name                               | d//f   | 0x2            | 1 | Refused | InvalidArgs   | - | (11, 6)
+a name in no such directory                 | nope/f | 0x2            | 1 | Refused | NotFound      | - | (11, 6)
+a new name in no such directory             | nope/f | 0x10400000080  | 1 | Refused | NotFound      | - | (11, 6)
+a directory that has to be new              | d      | 0x20400000080  | 1 | Refused | AlreadyExists | - | (11, 6)
+a name in a file                            | ro/f   | 0x2            | 1 | Refused | NotDir        | - | (11, 6)
+a name behind a mount whose mask lacks that | m/f    | 0x4            | 1 | Refused | AccessDenied  | - | (11, 6)
+a mount whose mask lacks the right          | m      | 0x10           | 1 | Refused | AccessDenied  | - | (11, 6)
+a file as a directory                       | d/f    | 0x400000000    | 1 | Refused | NotDir        | - | (11, 6)
+a directory as a file                       | d      | 0x800000000    | 1 | Refused | NotFile       | - | (11, 6)
+a directory as a service                    | d      | 0x100000000    | 1 | Refused | WrongType     | - | (11, 6)
+";
+
+#[test]
+fn opens_are_refused_with_their_status(rt: HostRuntime) -> Result<(), Fail> {
+    try_opens(&rt, rt.alloc(), REFUSED)
+}
+
+const BOUND: &str = "
+a file to write                        | d/f  | 0x4             | 1 | Bind | (4, File, false, false)        | - | (11, 6)
+a service                              | echo | 0x1             | 1 | Bind | (1, Echo, false, false)        | - | (11, 6)
+a service as one                       | echo | 0x100000003     | 1 | Bind | (3, Echo, false, false)        | - | (11, 6)
+a file that may be written by its mask | ro   | 0x2002          | 1 | Bind | (2, File, false, false)        | - | (11, 6)
+a file that is announced               | d/f  | 0x1000000000012 | 1 | Bind | (18, File, false, true)        | - | (11, 6)
+a directory with what it may inherit   | d    | 0x2180          | 1 | Bind | (420, Directory, false, false) | - | (11, 6)
+the directory itself                   | .    | 0x400004000     | 1 | Bind | (8, Directory, false, false)   | - | (11, 6)
+";
 
 #[test]
 fn opens_bind_with_their_rights(rt: HostRuntime) -> Result<(), Fail> {
-    let mut graph = small_tree(&rt, Graph::new(rt.alloc())?)?;
-    let ordinals = Ordinals::new().expect(&rt, "no two are equal");
-    let mut out = Out::new(rt.alloc())?;
-    let rows: [(&[u8], u64, u16, Protocol, bool); 7] = [
-        (b"d/f", 0x4, 0x4, Protocol::File, false),
-        (b"echo", 0x1, 0x1, Protocol::Echo, false),
-        (b"echo", 0x1_0000_0003, 0x3, Protocol::Echo, false),
-        (b"ro", 0x2002, 0x2, Protocol::File, false),
-        (b"d/f", 0x1_0000_0000_0012, 0x12, Protocol::File, true),
-        (b"d", 0x2180, 0x1a4, Protocol::Directory, false),
-        (b".", 0x4_0000_4000, 0x8, Protocol::Directory, false),
-    ];
-    for (path, flags, rights, protocol, announce) in rows {
-        match open(&rt, &ordinals, &mut graph, ROOM, &mut out, path, flags) {
-            DirServed::Bind(found, _) => {
-                assert_eq!(rt; (found.rights.bits(), found.protocol), (rights, protocol));
-                assert_eq!(rt; (found.append, found.announce), (false, announce));
-            }
-            _ => assert!(rt; false, "{flags} is bound"),
-        }
-    }
-    Ok(())
+    try_opens(&rt, rt.alloc(), BOUND)
 }
+
+const REFERENCES: &str = "
+to a directory            | d    | 0x200000010 | 1 | Bind | (16, Node, false, false) | - | (11, 6)
+to a file                 | d/f  | 0x200006016 | 1 | Bind | (16, Node, false, false) | - | (11, 6)
+to a file, to read        | ro   | 0x200000002 | 1 | Bind | (0, Node, false, false)  | - | (11, 6)
+to a service              | echo | 0x200000000 | 1 | Bind | (0, Node, false, false)  | - | (11, 6)
+to the directory itself   | .    | 0x200000090 | 1 | Bind | (16, Node, false, false) | - | (11, 6)
+";
 
 #[test]
 fn references_are_left_with_get_attributes_alone(rt: HostRuntime) -> Result<(), Fail> {
-    let mut graph = small_tree(&rt, Graph::new(rt.alloc())?)?;
-    let ordinals = Ordinals::new().expect(&rt, "no two are equal");
-    let mut out = Out::new(rt.alloc())?;
-    let rows: [(&[u8], u64, u16); 5] = [
-        (b"d", 0x2_0000_0010, 0x10),
-        (b"d/f", 0x2_0000_6016, 0x10),
-        (b"ro", 0x2_0000_0002, 0x0),
-        (b"echo", 0x2_0000_0000, 0x0),
-        (b".", 0x2_0000_0090, 0x10),
-    ];
-    for (path, flags, rights) in rows {
-        match open(&rt, &ordinals, &mut graph, ROOM, &mut out, path, flags) {
-            DirServed::Bind(found, _) => {
-                assert_eq!(rt;
-                    (found.rights.bits(), found.protocol),
-                    (rights, Protocol::Node)
-                );
-            }
-            _ => assert!(rt; false, "{flags} is bound"),
-        }
-    }
-    Ok(())
+    try_opens(&rt, rt.alloc(), REFERENCES)
 }
+
+const APPENDED_AND_CUT: &str = "
+a cut at a full server      | d/f | 0x200000000004 | 4096 | Refused | NoResources             | - | (11, 6)
+neither                     | d/f | 0x4            | 1    | Bind    | (4, File, false, false) | - | (11, 6)
+one that appends            | d/f | 0x100000000004 | 1    | Bind    | (4, File, true, false)  | - | (11, 6)
+one that appends and is cut | d/f | 0x300800000006 | 1    | Bind    | (6, File, true, false)  | - | (0, 6)
+one that is cut             | d/f | 0x200000000004 | 1    | Bind    | (4, File, false, false) | - | (0, 6)
+";
 
 #[test]
 fn opens_append_and_truncate(rt: HostRuntime) -> Result<(), Fail> {
-    let mut graph = small_tree(&rt, Graph::new(rt.alloc())?)?;
-    let ordinals = Ordinals::new().expect(&rt, "no two are equal");
-    let mut out = Out::new(rt.alloc())?;
-    let full = Room {
-        connections: 4096,
-        ..ROOM
-    };
-    let served = open(
-        &rt,
-        &ordinals,
-        &mut graph,
-        full,
-        &mut out,
-        b"d/f",
-        0x2000_0000_0004,
-    );
-    assert!(rt; matches!(served, DirServed::Refused(Status::NoResources)));
-    let rows: [(u64, bool, usize); 4] = [
-        (0x4, false, 11),
-        (0x1000_0000_0004, true, 11),
-        (0x3008_0000_0006, true, 0),
-        (0x2000_0000_0004, false, 0),
-    ];
-    for (flags, append, length) in rows {
-        match open(&rt, &ordinals, &mut graph, ROOM, &mut out, b"d/f", flags) {
-            DirServed::Bind(found, _) => assert_eq!(rt;
-                (found.append, found.protocol),
-                (append, Protocol::File)
-            ),
-            _ => assert!(rt; false, "{flags} is bound"),
-        }
-        assert_eq!(rt; length_of_file(&rt, &graph), length);
-    }
-    Ok(())
+    try_opens(&rt, rt.alloc(), APPENDED_AND_CUT)
 }
+
+const GOES_ON: &str = "
+behind the mount        | m/d/f | 0x2002      | 1 | Forward | (7, 2, 'd/f')         | - | (11, 6)
+the mount               | m     | 0x2         | 1 | Forward | (7, 2, '.')           | - | (11, 6)
+a directory behind it   | m/x   | 0x400000080 | 1 | Forward | (7, 17179869312, 'x') | - | (11, 6)
+";
 
 #[test]
 fn opens_go_on_behind_a_mount(rt: HostRuntime) -> Result<(), Fail> {
-    let mut graph = small_tree(&rt, Graph::new(rt.alloc())?)?;
-    let ordinals = Ordinals::new().expect(&rt, "no two are equal");
-    let mut out = Out::new(rt.alloc())?;
-    let rows: [(&[u8], u64, u64, &[u8]); 3] = [
-        (b"m/d/f", 0x2002, 0x2, b"d/f"),
-        (b"m", 0x2, 0x2, b"."),
-        (b"m/x", 0x4_0000_0080, 0x4_0000_0080, b"x"),
-    ];
-    for (path, flags, onward, names) in rows {
-        match open(&rt, &ordinals, &mut graph, ROOM, &mut out, path, flags) {
-            DirServed::Forward { mount, flags, rest } => {
-                assert_eq!(rt; (mount, flags.word()), (7, onward));
-                assert!(rt; rest.as_bytes() == names);
-            }
-            _ => assert!(rt; false, "{flags} goes on"),
-        }
+    try_opens(&rt, rt.alloc(), GOES_ON)
+}
+
+const MADE: &str = "
+a directory at a full server | d/n   | 0x10400000080  | 4096 | Refused | NoResources                    | - | (11, 6)
+a directory                  | d/n   | 0x10400000080  | 1    | Bind    | (128, Directory, false, false) | n | (11, 7)
+a file in it                 | d/n/f | 0x20800000006  | 1    | Bind    | (6, File, false, false)        | f | (11, 8)
+a file that appends          | g     | 0x110800000004 | 1    | Bind    | (4, File, true, false)         | g | (11, 9)
+";
+
+#[test]
+fn opens_make_what_is_missing(rt: HostRuntime) -> Result<(), Fail> {
+    try_opens(&rt, rt.alloc(), MADE)
+}
+
+// What is asked | the method | its number | - | - | the reply
+const REPLIES: &str = "
+a sync                      | Sync        | -    | - | - | 020000000200000149dcb50aca275c2c01000000000000000000000000000100
+the name                    | Query       | -    | - | - | 020000000200000106fcec9deeed58261400000000000000ffffffffffffffff667563687369612e696f2f4469726563746f727900000000
+more names than may be      | ReadDirents | 8193 | - | - | 020000000200000114916b2a59ccb005f6ffffff000000000000000000000000ffffffffffffffff
+as many names as have room  | ReadDirents | 22   | - | - | 020000000200000114916b2a59ccb00500000000000000001600000000000000ffffffffffffffff010000000000000001042e02000000000000000104640000
+";
+
+// Each row is asked on a connection of its own.
+fn try_request(
+    rt: &impl Abort,
+    alloc: Global,
+    graph: &mut Graph,
+    writer: &mut Writer,
+    row: &Row<'_>,
+) -> Result<(), Fail> {
+    let request = request_of(row, b"")?;
+    let served = ask(rt, graph, writer, ROOM, request);
+    assert!(rt; matches!(served, DirServed::Reply(_)), "{}", row.name());
+    let wanted = row.bytes(alloc, 5)?;
+    assert!(rt;
+        writer.out.as_bytes() == wanted.as_slice(),
+        "{}",
+        row.name()
+    );
+    Ok(())
+}
+
+fn try_requests(
+    rt: &impl Abort,
+    alloc: Global,
+    graph: &mut Graph,
+    writer: &mut Writer,
+) -> Result<(), Fail> {
+    plant(rt, graph)?;
+    for row in &rows(alloc, REPLIES)? {
+        try_request(rt, alloc, graph, writer, row)?;
     }
     Ok(())
 }
 
 #[test]
 fn requests_get_their_replies(rt: HostRuntime) -> Result<(), Fail> {
-    let mut graph = small_tree(&rt, Graph::new(rt.alloc())?)?;
-    let ordinals = Ordinals::new().expect(&rt, "no two are equal");
-    let mut out = Out::new(rt.alloc())?;
-    let rows: [(Request<'_>, &[u8]); 4] = [
-        (
-            Request::Sync,
-            b"\x02\x00\x00\x00\x02\x00\x00\x01\x49\xdc\xb5\x0a\xca\x27\x5c\x2c\
-                \x01\x00\x00\x00\x00\x00\x00\x00\x00\x00\x00\x00\x00\x00\x01\x00",
-        ),
-        (
-            Request::Query,
-            b"\x02\x00\x00\x00\x02\x00\x00\x01\x06\xfc\xec\x9d\xee\xed\x58\x26\
-                \x14\x00\x00\x00\x00\x00\x00\x00\xff\xff\xff\xff\xff\xff\xff\xff\
-                fuchsia.io/Directory\x00\x00\x00\x00",
-        ),
-        (
-            Request::ReadDirents { max_bytes: 8193 },
-            b"\x02\x00\x00\x00\x02\x00\x00\x01\x14\x91\x6b\x2a\x59\xcc\xb0\x05\
-                \xf6\xff\xff\xff\x00\x00\x00\x00\x00\x00\x00\x00\x00\x00\x00\x00\
-                \xff\xff\xff\xff\xff\xff\xff\xff",
-        ),
-        (
-            Request::ReadDirents { max_bytes: 22 },
-            b"\x02\x00\x00\x00\x02\x00\x00\x01\x14\x91\x6b\x2a\x59\xcc\xb0\x05\
-                \x00\x00\x00\x00\x00\x00\x00\x00\x16\x00\x00\x00\x00\x00\x00\x00\
-                \xff\xff\xff\xff\xff\xff\xff\xff\
-                \x01\x00\x00\x00\x00\x00\x00\x00\x01\x04.\
-                \x02\x00\x00\x00\x00\x00\x00\x00\x01\x04d\x00\x00",
-        ),
-    ];
-    for (request, bytes) in rows {
-        out.clear();
-        assert!(rt;
-            matches!(
-                request,
-                Request::Sync | Request::Query | Request::ReadDirents { .. }
-            )
-        );
-        assert!(rt; graph.made() < 1 << 63);
-        let mut conn = root_conn(&graph);
-        let served = conn.serve(&ordinals, &mut graph, ROOM, None, 2, request, &mut out);
-        assert!(rt; matches!(served, DirServed::Reply(_)));
-        assert!(rt; out.as_bytes() == bytes);
-    }
+    let mut writer = Writer::new(rt.alloc())?;
+    try_requests(&rt, rt.alloc(), &mut Graph::new(rt.alloc())?, &mut writer)
+}
+
+// What is taken out | its name | the flags | the names and the directory that are gone, where names are gone
+const UNLINKED: &str = "
+no such name                       | nope  | 0 | false None
+a flag that is none                | ro    | 2 | false None
+no name                            | ..    | 0 | false None
+a path                             | d/f   | 0 | false None
+a mount                            | m     | 0 | false None
+a file that has to be a directory  | ro    | 1 | false None
+a directory with names             | d     | 1 | false None
+a file                             | ro    | 0 | true None
+a directory without names          | empty | 1 | true Some(7)
+";
+
+fn try_unlink(
+    rt: &impl Abort,
+    alloc: Global,
+    graph: &mut Graph,
+    writer: &mut Writer,
+    row: &Row<'_>,
+) -> Result<(), Fail> {
+    let request = Request::Unlink {
+        name: row.cell(1)?.as_bytes(),
+        flags: row.number(2)?,
+    };
+    let DirServed::Reply(changes) = ask(rt, graph, writer, ROOM, request) else {
+        panic!(rt; "an Unlink has a reply");
+    };
+    let told = format!(in alloc; "{} {:?}", changes.removed.is_some(), changes.deleted)?;
+    assert_eq!(rt; told.as_str(), row.cell(3)?, "{}", row.name());
+    assert!(rt; changes.added.is_none(), "{}", row.name());
     Ok(())
 }
 
-#[test]
-fn opens_make_what_is_missing(rt: HostRuntime) -> Result<(), Fail> {
-    let mut graph = small_tree(&rt, Graph::new(rt.alloc())?)?;
-    let ordinals = Ordinals::new().expect(&rt, "no two are equal");
-    let mut out = Out::new(rt.alloc())?;
-    let full = Room {
-        connections: 4096,
-        ..ROOM
-    };
-    let made = graph.made();
-    let served = open(
-        &rt,
-        &ordinals,
-        &mut graph,
-        full,
-        &mut out,
-        b"d/n",
-        0x104_0000_0080,
-    );
-    assert!(rt; matches!(served, DirServed::Refused(Status::NoResources)));
-    assert_eq!(rt; graph.made(), made);
-    let rows: [(&[u8], &[u8], u64, u16, Protocol); 3] = [
-        (b"d/n", b"n", 0x104_0000_0080, 0x80, Protocol::Directory),
-        (b"d/n/f", b"f", 0x208_0000_0006, 0x6, Protocol::File),
-        (b"g", b"g", 0x1108_0000_0004, 0x4, Protocol::File),
-    ];
-    for (path, name, flags, rights, protocol) in rows {
-        match open(&rt, &ordinals, &mut graph, ROOM, &mut out, path, flags) {
-            DirServed::Bind(found, changes) => {
-                assert_eq!(rt; (found.rights.bits(), found.protocol), (rights, protocol));
-                assert!(rt; changes.removed.is_none() && changes.deleted.is_none());
-                assert_eq!(rt; changes.added.map(|at| at.name), Some(name));
-            }
-            _ => assert!(rt; false, "{flags} is bound"),
-        }
+fn try_unlinks(
+    rt: &impl Abort,
+    alloc: Global,
+    graph: &mut Graph,
+    writer: &mut Writer,
+) -> Result<(), Fail> {
+    plant(rt, graph)?;
+    let root = graph.root();
+    add(rt, graph, root, b"empty", NodeKind::Directory, 0x1ff)?;
+    for row in &rows(alloc, UNLINKED)? {
+        try_unlink(rt, alloc, graph, writer, row)?;
     }
-    assert_eq!(rt; graph.made(), made + 3);
     Ok(())
 }
 
 #[test]
 fn names_are_unlinked(rt: HostRuntime) -> Result<(), Fail> {
-    let mut graph = small_tree(&rt, Graph::new(rt.alloc())?)?;
-    let root = graph.root();
-    add(&rt, &mut graph, root, b"empty", NodeKind::Directory, 0x1ff)?;
-    let number = graph.made();
-    let ordinals = Ordinals::new().expect(&rt, "no two are equal");
-    let mut out = Out::new(rt.alloc())?;
-    let rows: [(&[u8], u64, bool, Option<u64>); 9] = [
-        (b"nope", 0, false, None),
-        (b"ro", 2, false, None),
-        (b"..", 0, false, None),
-        (b"d/f", 0, false, None),
-        (b"m", 0, false, None),
-        (b"ro", 1, false, None),
-        (b"d", 1, false, None),
-        (b"ro", 0, true, None),
-        (b"empty", 1, true, Some(number)),
-    ];
-    for (name, flags, is_gone, deleted) in rows {
-        let changes = unlink(&rt, &ordinals, &mut graph, &mut out, name, flags);
-        assert_eq!(rt; changes.deleted, deleted);
-        assert_eq!(rt; changes.removed.is_some(), is_gone);
-        assert!(rt; changes.added.is_none());
-    }
-    Ok(())
+    let mut writer = Writer::new(rt.alloc())?;
+    try_unlinks(&rt, rt.alloc(), &mut Graph::new(rt.alloc())?, &mut writer)
 }

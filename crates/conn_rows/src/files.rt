@@ -5,8 +5,9 @@ ghost use Rattle.std.specs.Prelude.{◌≡◌, Some, IfSome};
 ghost use Rattle.node_graph.specs.Graph.{Names, kind_at, number_of};
 ghost use Rattle.io_messages.specs.declared.protocols.Protocol.TheVariants as protocol;
 
+use crate::requests::request_of;
+use crate::writer::Writer;
 use conn_rules::{Birth, Room, Served};
-use fidl_wire::{Ordinals, Out};
 use file_conn::FileConn;
 use io_messages::{Protocol, Request, has_method, is_one_way};
 use io_rights::{Operation, Rights};
@@ -123,8 +124,7 @@ write | Write | - | - | 78 | Reply | 030000000200000185013bc62805904901000000000
 /// A client of the file `f`.
 #[derive(Drop)]
 struct Client {
-    ordinals: Ordinals,
-    out: Out,
+    writer: Writer,
     graph: Graph,
     conn: FileConn,
     ghost file: { conn.birth.protocol ≡ protocol.File },
@@ -163,16 +163,16 @@ impl Client {
         if self.conn.node() != node {
             return None;
         }
-        self.out.clear();
+        self.writer.out.clear();
         let txid = if is_one_way(method) { 0 } else { 3 };
         Some(
             self.conn.serve(
-                &self.ordinals,
+                &self.writer.ordinals,
                 &mut self.graph,
                 ROOM,
                 txid,
                 request,
-                &mut self.out,
+                &mut self.writer.out,
             ),
         )
     }
@@ -191,56 +191,6 @@ impl Client {
     }
 }
 
-/// The request of a row.
-fn request_of<'a, 'b>(row: &Row<'a>, bytes: &'b [u8]) -> Result<Request<'b>, BadCell<'a>> {
-    match row.cell(1)? {
-        "Clone" => Ok(Request::Clone {
-            request: word(row)?,
-        }),
-        "Close" => Ok(Request::Close),
-        "Query" => Ok(Request::Query),
-        "GetAttributes" => Ok(Request::GetAttributes {
-            query: row.number(2)?,
-        }),
-        "Read" => Ok(Request::Read {
-            count: row.number(2)?,
-        }),
-        "ReadAt" => Ok(Request::ReadAt {
-            count: row.number(2)?,
-            offset: row.number(3)?,
-        }),
-        "Write" => Ok(Request::Write { bytes }),
-        "WriteAt" => Ok(Request::WriteAt {
-            bytes,
-            offset: row.number(3)?,
-        }),
-        "Seek" => Ok(Request::Seek {
-            origin: word(row)?,
-            offset: step(row)?,
-        }),
-        "Resize" => Ok(Request::Resize {
-            length: row.number(2)?,
-        }),
-        _ => Err(row.bad(1)),
-    }
-}
-
-/// The first number of a row, where it is one of 32 bits.
-fn word<'a>(row: &Row<'a>) -> Result<u32, BadCell<'a>> {
-    match u32::try_from(row.number(2)?) {
-        Ok(word) => Ok(word),
-        Err(_) => Err(row.bad(2)),
-    }
-}
-
-/// The offset of a seek.
-fn step<'a>(row: &Row<'a>) -> Result<i64, BadCell<'a>> {
-    match row.cell(3)?.parse::<i64>() {
-        Ok(step) => Ok(step),
-        Err(_) => Err(row.bad(3)),
-    }
-}
-
 impl Table for Client {
     fn holds<'a>(&mut self, alloc: Global, row: &Row<'a>) -> Result<bool, BadCell<'a>> {
         let answer = row.cell(5)?;
@@ -250,19 +200,14 @@ impl Table for Client {
         let Some(served) = self.ask(request) else {
             return Ok(false);
         };
-        let written = self.out.as_bytes() == wanted.as_slice();
+        let written = self.writer.out.as_bytes() == wanted.as_slice();
         Ok(written && self.is_answer(served, answer))
     }
 }
 
-/// Tries the rows of a table on a new connection to a new file.
-fn try_rows(
-    rt: &impl Abort,
-    alloc: Global,
-    rights: Rights,
-    append: bool,
-    table: &str,
-) -> Result<(), Fail> {
+/// A new connection to a new file.
+fn connect(rt: &impl Abort, alloc: Global, rights: Rights, append: bool) -> Result<Client, Fail> {
+    let writer = Writer::new(alloc)?;
     let mut graph = Graph::new(alloc)?;
     plant(rt, &mut graph)?;
     let node = file(&graph).expect(rt, "planted above");
@@ -273,13 +218,22 @@ fn try_rows(
         append,
         announce: false,
     });
-    let mut client = Client {
-        ordinals: Ordinals::new()?,
-        out: Out::new(alloc)?,
+    Ok(Client {
+        writer,
         graph,
         conn,
-    };
-    all_hold(alloc, table, &mut client)
+    })
+}
+
+/// Tries the rows of a table on a new connection to a new file.
+fn try_rows(
+    rt: &impl Abort,
+    alloc: Global,
+    rights: Rights,
+    append: bool,
+    table: &str,
+) -> Result<(), Fail> {
+    all_hold(alloc, table, &mut connect(rt, alloc, rights, append)?)
 }
 
 /// The rights to read and to write.

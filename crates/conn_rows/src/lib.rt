@@ -11,4 +11,8 @@ mod names;
 #[cfg(test)]
 mod references;
 #[cfg(test)]
+mod requests;
+#[cfg(test)]
 mod watching;
+#[cfg(test)]
+mod writer;

@@ -5,24 +5,18 @@ ghost use Rattle.node_graph.specs.declared.nodes.NodeKind.TheVariants.{Directory
 ghost use Rattle.node_graph.specs.Graph.{Names, SameHolds, holds_at, kind_at, number_of};
 
 use crate::directories::{ROOM, conn_to};
+use crate::requests::word;
+use crate::writer::Writer;
 use conn_rules::{At, Changes, Room};
 use dir_conn::DirServed;
-use fidl_names::{Handle, MAX_NAME};
-use fidl_wire::{Ordinals, Out};
+use fidl_names::MAX_NAME;
 use io_messages::{Request, read_reply};
 use io_rights::Rights;
 use node_graph::{Graph, GraphFault, NodeKind, NodeRef};
-use std::alloc::{AllocError, Global};
+use std::alloc::Global;
 use std::process::Abort;
 use std::test::Fail;
-use test_rows::{Row, rows};
-
-// Where replies are written, and the ordinals that they have.
-#[derive(Drop)]
-struct Writer {
-    ordinals: Ordinals,
-    out: Out,
-}
+use test_rows::{BadCell, Row, rows};
 
 // The directory that a name in a directory leads to.
 fn child(rt: &impl Abort, graph: &Graph, dir: NodeRef, name: &str) -> NodeRef
@@ -70,17 +64,25 @@ fn make(
 
 // Directory 2 is `d`, in it directory 3 `c` and file 4 `f`. Directory 5 is `e`, without names. File 6 is
 // `g`, 7 the service `s`, 8 the mount `m`.
+fn plant(rt: &impl Abort, graph: &mut Graph) -> Result<(), GraphFault>
+    ensures holds { SameHolds graph.old graph.new }
+{
+    make(rt, graph, ".", b"d", NodeKind::Directory)?;
+    make(rt, graph, "d", b"c", NodeKind::Directory)?;
+    make(rt, graph, "d", b"f", NodeKind::File)?;
+    make(rt, graph, ".", b"e", NodeKind::Directory)?;
+    make(rt, graph, ".", b"g", NodeKind::File)?;
+    make(rt, graph, ".", b"s", NodeKind::Service)?;
+    make(rt, graph, ".", b"m", NodeKind::Mount(7))
+}
+
+// A graph with these nodes, none of which is held. It is planted behind a borrow, since each early
+// return that drops a graph makes the proof longer.
 fn tree(rt: &impl Abort, alloc: Global) -> Result<Graph, GraphFault>
     ensures { IfOk result (λ graph. (number : ℕ) → holds_at graph number ≡ 0) }
 {
     let mut graph = Graph::new(alloc)?;
-    make(rt, &mut graph, ".", b"d", NodeKind::Directory)?;
-    make(rt, &mut graph, "d", b"c", NodeKind::Directory)?;
-    make(rt, &mut graph, "d", b"f", NodeKind::File)?;
-    make(rt, &mut graph, ".", b"e", NodeKind::Directory)?;
-    make(rt, &mut graph, ".", b"g", NodeKind::File)?;
-    make(rt, &mut graph, ".", b"s", NodeKind::Service)?;
-    make(rt, &mut graph, ".", b"m", NodeKind::Mount(7))?;
+    plant(rt, &mut graph)?;
     Ok(graph)
 }
 
@@ -144,19 +146,45 @@ fn ask<'a>(
     }
 }
 
-// A name as rows have it: its directory's number, and its text.
-fn place(alloc: Global, at: Option<At<'_>>) -> Result<String, AllocError> {
-    match at {
-        Some(at) => match std::str::from_utf8(at.name) {
-            Ok(name) => format!(in alloc; "{} {name}", at.dir),
-            Err(_) => format!(in alloc; "{} ?", at.dir),
-        },
-        None => format!(in alloc; "-"),
-    }
+// Compares a name with a row's cell: its directory's number and its text, or `-`.
+fn compare_place(
+    rt: &impl Abort,
+    alloc: Global,
+    row: &Row<'_>,
+    at: usize,
+    place: Option<At<'_>>,
+) -> Result<(), Fail> {
+    let Some(place) = place else {
+        assert_eq!(rt; row.cell(at)?, "-", "{}", row.name());
+        return Ok(());
+    };
+    let name = str::from_utf8(place.name).unwrap_or("?");
+    let said = format!(in alloc; "{} {name}", place.dir)?;
+    assert_eq!(rt; said.as_str(), row.cell(at)?, "{}", row.name());
+    Ok(())
 }
 
-// Compares the reply and what is told with four cells from this one on: the reply, the name that is
-// gone, the name that is new, and the directory that is gone.
+// Compares what is told with three cells from this one on: the name that is gone, the name that is new,
+// and the directory that is gone.
+fn compare_told(
+    rt: &impl Abort,
+    alloc: Global,
+    row: &Row<'_>,
+    at: usize,
+    changes: Changes<'_>,
+) -> Result<(), Fail>
+    requires { at < 100 }
+{
+    compare_place(rt, alloc, row, at, changes.removed)?;
+    compare_place(rt, alloc, row, at + 1, changes.added)?;
+    match changes.deleted {
+        Some(number) => assert!(rt; row.says(alloc, at + 2, &number), "{}", row.name()),
+        None => assert_eq!(rt; row.cell(at + 2)?, "-", "{}", row.name()),
+    }
+    Ok(())
+}
+
+// Compares the reply with a cell, and what is told with the three behind it.
 fn compare(
     rt: &impl Abort,
     alloc: Global,
@@ -165,7 +193,7 @@ fn compare(
     changes: Changes<'_>,
     writer: &Writer,
 ) -> Result<(), Fail>
-    requires { at < 100 }
+    requires { at < 99 }
 {
     let (_, reply) = read_reply(
         &writer.ordinals,
@@ -174,16 +202,7 @@ fn compare(
     )
     .expect(rt, "a reply");
     assert!(rt; row.says(alloc, at, &reply), "{}", row.name());
-    let removed = place(alloc, changes.removed)?;
-    assert_eq!(rt; removed.as_str(), row.cell(at + 1)?, "{}", row.name());
-    let added = place(alloc, changes.added)?;
-    assert_eq!(rt; added.as_str(), row.cell(at + 2)?, "{}", row.name());
-    let deleted = match changes.deleted {
-        Some(number) => format!(in alloc; "{number}")?,
-        None => format!(in alloc; "-")?,
-    };
-    assert_eq!(rt; deleted.as_str(), row.cell(at + 3)?, "{}", row.name());
-    Ok(())
+    compare_told(rt, alloc, row, at + 1, changes)
 }
 
 // What is done | the name in the root | the token's directory | the new name | the reply | the name that is gone | the name that is new | the directory that is gone
@@ -218,27 +237,6 @@ a file over a mount            | g    | .    | m  | Fails(Rename, NotSupported) 
 a directory over a mount       | e    | .    | m  | Fails(Rename, NotSupported) | -   | -   | -
 ";
 
-#[test]
-fn names_are_moved(rt: HostRuntime) -> Result<(), Fail> {
-    let alloc = rt.alloc();
-    let mut writer = Writer {
-        ordinals: Ordinals::new()?,
-        out: Out::new(alloc)?,
-    };
-    for row in &rows(alloc, RENAMES)? {
-        let mut graph = tree(&rt, alloc)?;
-        let into = target(&rt, &mut graph, row.cell(2)?)?;
-        let request = Request::Rename {
-            src: row.cell(1)?.as_bytes(),
-            token: 0x8000_0000,
-            dst: row.cell(3)?.as_bytes(),
-        };
-        let changes = ask(&rt, &mut graph, into, request, &mut writer);
-        compare(&rt, alloc, row, 4, changes, &writer)?;
-    }
-    Ok(())
-}
-
 // What is done | the name in the root | the token's directory | the new name | the reply | the name that is gone | the name that is new | the directory that is gone
 const LINKS: &str = "
 a file in its directory      | g    | .    | h  | Settled(Link)             | - | 1 h | -
@@ -259,27 +257,6 @@ a mount into a removed one   | m    | gone | m  | Fails(Link, NotSupported) | - 
 a file onto a mount          | g    | .    | m  | Fails(Link, AlreadyExists) | - | -   | -
 ";
 
-#[test]
-fn names_are_added(rt: HostRuntime) -> Result<(), Fail> {
-    let alloc = rt.alloc();
-    let mut writer = Writer {
-        ordinals: Ordinals::new()?,
-        out: Out::new(alloc)?,
-    };
-    for row in &rows(alloc, LINKS)? {
-        let mut graph = tree(&rt, alloc)?;
-        let into = target(&rt, &mut graph, row.cell(2)?)?;
-        let request = Request::Link {
-            src: row.cell(1)?.as_bytes(),
-            token: 0x8000_0000,
-            dst: row.cell(3)?.as_bytes(),
-        };
-        let changes = ask(&rt, &mut graph, into, request, &mut writer);
-        compare(&rt, alloc, row, 4, changes, &writer)?;
-    }
-    Ok(())
-}
-
 // What is taken out | its name | the flags | the reply | the name that is gone | the name that is new | the directory that is gone
 const UNLINKS: &str = "
 a file             | g | 0 | Done(Unlink)                | 1 g | - | -
@@ -290,23 +267,93 @@ a mount            | m | 0 | Fails(Unlink, NotSupported) | -   | - | -
 one as directory   | m | 1 | Fails(Unlink, NotSupported) | -   | - | -
 ";
 
-#[test]
-fn names_are_taken_out(rt: HostRuntime) -> Result<(), Fail> {
-    let alloc = rt.alloc();
-    let mut writer = Writer {
-        ordinals: Ordinals::new()?,
-        out: Out::new(alloc)?,
-    };
-    for row in &rows(alloc, UNLINKS)? {
-        let mut graph = tree(&rt, alloc)?;
-        let request = Request::Unlink {
-            name: row.cell(1)?.as_bytes(),
-            flags: row.number(2)?,
-        };
-        let changes = ask(&rt, &mut graph, None, request, &mut writer);
-        compare(&rt, alloc, row, 3, changes, &writer)?;
+// What the rows of a text ask for.
+#[derive(Clone, Copy)]
+enum Asked {
+    Rename,
+    Link,
+    Unlink,
+}
+
+// The request of a row, whose token is another argument of the connection.
+fn request_of<'a>(row: &Row<'a>, asked: Asked) -> Result<Request<'a>, BadCell<'a>> {
+    let name = row.cell(1)?.as_bytes();
+    let token = 0x8000_0000;
+    if matches!(asked, Asked::Unlink) {
+        let flags = row.number(2)?;
+        return Ok(Request::Unlink { name, flags });
+    }
+    let (src, dst) = (name, row.cell(3)?.as_bytes());
+    if matches!(asked, Asked::Link) {
+        return Ok(Request::Link { src, token, dst });
+    }
+    Ok(Request::Rename { src, token, dst })
+}
+
+// A request without a token, and how it is answered.
+fn try_unlink(
+    rt: &impl Abort,
+    alloc: Global,
+    graph: &mut Graph,
+    writer: &mut Writer,
+    row: &Row<'_>,
+) -> Result<(), Fail> {
+    let request = request_of(row, Asked::Unlink)?;
+    let changes = ask(rt, graph, None, request, writer);
+    compare(rt, alloc, row, 3, changes, writer)
+}
+
+// A request with the token of a directory, and how it is answered.
+fn try_row(
+    rt: &impl Abort,
+    alloc: Global,
+    graph: &mut Graph,
+    writer: &mut Writer,
+    asked: Asked,
+    row: &Row<'_>,
+) -> Result<(), Fail>
+    requires { (number : ℕ) → holds_at graph.old number ≡ 0 }
+{
+    if matches!(asked, Asked::Unlink) {
+        return try_unlink(rt, alloc, graph, writer, row);
+    }
+    let request = request_of(row, asked)?;
+    let into = target(rt, graph, row.cell(2)?)?;
+    let changes = ask(rt, graph, into, request, writer);
+    compare(rt, alloc, row, 4, changes, writer)
+}
+
+// Each row is asked of a tree of its own.
+fn try_rows_on(
+    rt: &impl Abort,
+    alloc: Global,
+    writer: &mut Writer,
+    asked: Asked,
+    text: &str,
+) -> Result<(), Fail> {
+    for row in &rows(alloc, text)? {
+        try_row(rt, alloc, &mut tree(rt, alloc)?, writer, asked, row)?;
     }
     Ok(())
+}
+
+fn try_rows(rt: &impl Abort, alloc: Global, asked: Asked, text: &str) -> Result<(), Fail> {
+    try_rows_on(rt, alloc, &mut Writer::new(alloc)?, asked, text)
+}
+
+#[test]
+fn names_are_moved(rt: HostRuntime) -> Result<(), Fail> {
+    try_rows(&rt, rt.alloc(), Asked::Rename, RENAMES)
+}
+
+#[test]
+fn names_are_added(rt: HostRuntime) -> Result<(), Fail> {
+    try_rows(&rt, rt.alloc(), Asked::Link, LINKS)
+}
+
+#[test]
+fn names_are_taken_out(rt: HostRuntime) -> Result<(), Fail> {
+    try_rows(&rt, rt.alloc(), Asked::Unlink, UNLINKS)
 }
 
 // What a directory answers to a GetToken, by the next token's number.
@@ -336,28 +383,47 @@ fn get_token(
     assert!(rt; matches!(served, DirServed::Reply(_)));
 }
 
-#[test]
-fn a_removed_directory_gives_its_token(rt: HostRuntime) -> Result<(), Fail> {
-    let mut writer = Writer {
-        ordinals: Ordinals::new()?,
-        out: Out::new(rt.alloc())?,
+// The next token's number, or `-` where none is left | the token that the reply has | the reply
+const TOKENS: &str = "
+the first | 2147483648 | Some(Token(2147483648)) | 02000000020000010bea77552dcc1d2c00000000ffffffff
+the last  | 2147487743 | Some(Token(2147487743)) | 02000000020000010bea77552dcc1d2c00000000ffffffff
+none      | -          | None                    | 02000000020000010bea77552dcc1d2cfdffffff00000000
+";
+
+fn try_token(
+    rt: &impl Abort,
+    alloc: Global,
+    graph: &mut Graph,
+    writer: &mut Writer,
+    row: &Row<'_>,
+) -> Result<(), Fail>
+    requires { (number : ℕ) → holds_at graph.old number ≡ 0 }
+{
+    let token = match row.cell(1)? {
+        "-" => None,
+        _ => Some(word(row, 1)?),
     };
-    let given: &[u8] = b"\x02\x00\x00\x00\x02\x00\x00\x01\x0b\xea\x77\x55\x2d\xcc\x1d\x2c\
-        \x00\x00\x00\x00\xff\xff\xff\xff";
-    let wanting: &[u8] = b"\x02\x00\x00\x00\x02\x00\x00\x01\x0b\xea\x77\x55\x2d\xcc\x1d\x2c\
-        \xfd\xff\xff\xff\x00\x00\x00\x00";
-    let rows: [(Option<u32>, &[u8]); 3] = [
-        (Some(0x8000_0000), given),
-        (Some(0x8000_0fff), given),
-        (None, wanting),
-    ];
-    for (token, bytes) in rows {
-        let mut graph = tree(&rt, rt.alloc())?;
-        let gone = removed(&rt, &mut graph)?;
-        get_token(&rt, &mut graph, gone, token, &mut writer);
-        assert_eq!(rt; writer.out.as_bytes(), bytes);
-        let handle = writer.out.handles().first().copied();
-        assert_eq!(rt; handle, token.map(Handle::Token));
+    let gone = removed(rt, graph)?;
+    get_token(rt, graph, gone, token, writer);
+    let wanted = row.bytes(alloc, 3)?;
+    assert!(rt;
+        writer.out.as_bytes() == wanted.as_slice(),
+        "{}",
+        row.name()
+    );
+    let handle = writer.out.handles().first();
+    assert!(rt; row.says(alloc, 2, &handle), "{}", row.name());
+    Ok(())
+}
+
+fn try_tokens(rt: &impl Abort, alloc: Global, writer: &mut Writer) -> Result<(), Fail> {
+    for row in &rows(alloc, TOKENS)? {
+        try_token(rt, alloc, &mut tree(rt, alloc)?, writer, row)?;
     }
     Ok(())
+}
+
+#[test]
+fn a_removed_directory_gives_its_token(rt: HostRuntime) -> Result<(), Fail> {
+    try_tokens(&rt, rt.alloc(), &mut Writer::new(rt.alloc())?)
 }

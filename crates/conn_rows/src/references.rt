@@ -4,31 +4,23 @@
 ghost use Rattle.std.specs.Prelude.{◌≡◌};
 ghost use Rattle.conn_rules.specs.Shared.{CanBeBound};
 
+use crate::requests::request_of;
+use crate::writer::Writer;
 use conn_rules::{Birth, Room, Served};
-use fidl_names::Status;
-use fidl_wire::{Ordinals, Out};
 use io_messages::{Protocol, Request, has_method, is_one_way};
 use io_rights::{Operation, Rights};
 use node_conn::{NodeConn, echo};
 use node_graph::{Graph, GraphFault, NodeKind};
+use std::alloc::Global;
 use std::process::Abort;
 use std::test::Fail;
+use test_rows::{Row, rows};
 
 const ROOM: Room = Room {
     connections: 1,
     watchers: 0,
     token: Some(1),
 };
-
-/// The nodes of the tree, by their names.
-const NAMES: [&[u8]; 3] = [b"d", b"f", b"s"];
-
-/// Where replies are written, and the ordinals that they have.
-#[derive(Drop)]
-struct Writer {
-    ordinals: Ordinals,
-    out: Out,
-}
 
 /// Makes the directory `d`, the file `f` and the service `s`.
 fn plant(rt: &impl Abort, graph: &mut Graph) -> Result<(), GraphFault> {
@@ -83,263 +75,154 @@ fn ask(
     )
 }
 
-#[test]
-fn a_reference_has_no_method_of_directories_or_files(rt: HostRuntime) -> Result<(), Fail> {
-    let mut writer = Writer {
-        ordinals: Ordinals::new()?,
-        out: Out::new(rt.alloc())?,
-    };
-    let mut graph = Graph::new(rt.alloc())?;
-    plant(&rt, &mut graph)?;
-    let rows: [(Request<'_>, &[u8]); 13] = [
-        (
-            Request::ReadDirents { max_bytes: 100 },
-            b"\x07\x00\x00\x00\x02\x00\x00\x01\x14\x91\x6b\x2a\x59\xcc\xb0\x05\xf5\xff\xff\xff\x00\x00\x00\x00\x00\x00\x00\x00\x00\x00\x00\x00\xff\xff\xff\xff\xff\xff\xff\xff",
-        ),
-        (
-            Request::Rewind,
-            b"\x07\x00\x00\x00\x02\x00\x00\x01\x59\x47\x05\xf8\x15\xb1\xc7\x7d\xf5\xff\xff\xff\x00\x00\x00\x00",
-        ),
-        (
-            Request::GetToken,
-            b"\x07\x00\x00\x00\x02\x00\x00\x01\x0b\xea\x77\x55\x2d\xcc\x1d\x2c\xf5\xff\xff\xff\x00\x00\x00\x00",
-        ),
-        (
-            Request::Rename {
-                src: b"a",
-                token: 0x8000_0000,
-                dst: b"b",
-            },
-            b"\x07\x00\x00\x00\x02\x00\x00\x01\xde\x28\x99\x3b\x72\xe7\x60\x70\x02\x00\x00\x00\x00\x00\x00\x00\xf5\xff\xff\xff\x00\x00\x01\x00",
-        ),
-        (
-            Request::Link {
-                src: b"a",
-                token: 0x8000_0000,
-                dst: b"b",
-            },
-            b"\x07\x00\x00\x00\x02\x00\x00\x01\x46\x81\xa6\x98\x45\xb4\xaa\x03\xf5\xff\xff\xff\x00\x00\x00\x00",
-        ),
-        (
-            Request::Unlink {
-                name: b"a",
-                flags: 0,
-            },
-            b"\x07\x00\x00\x00\x02\x00\x00\x01\xed\x7b\x8d\xa7\x26\x03\x0a\x75\x02\x00\x00\x00\x00\x00\x00\x00\xf5\xff\xff\xff\x00\x00\x01\x00",
-        ),
-        (
-            Request::Watch {
-                mask: 7,
-                options: 0,
-                watcher: 9,
-            },
-            b"\x07\x00\x00\x00\x02\x00\x00\x01\x79\xd8\x51\xa5\xb9\x30\xd3\x72\xf5\xff\xff\xff\x00\x00\x00\x00",
-        ),
-        (
-            Request::Read { count: 5 },
-            b"\x07\x00\x00\x00\x02\x00\x00\x01\x4c\x01\xb8\x91\xc6\x7f\xf2\x40\x02\x00\x00\x00\x00\x00\x00\x00\xf5\xff\xff\xff\x00\x00\x01\x00",
-        ),
-        (
-            Request::ReadAt {
-                count: 5,
-                offset: 0,
-            },
-            b"\x07\x00\x00\x00\x02\x00\x00\x01\x3e\x72\x0d\xa6\x93\xa2\x07\x16\x02\x00\x00\x00\x00\x00\x00\x00\xf5\xff\xff\xff\x00\x00\x01\x00",
-        ),
-        (
-            Request::Write { bytes: b"x" },
-            b"\x07\x00\x00\x00\x02\x00\x00\x01\x85\x01\x3b\xc6\x28\x05\x90\x49\x02\x00\x00\x00\x00\x00\x00\x00\xf5\xff\xff\xff\x00\x00\x01\x00",
-        ),
-        (
-            Request::WriteAt {
-                bytes: b"x",
-                offset: 0,
-            },
-            b"\x07\x00\x00\x00\x02\x00\x00\x01\x2b\x79\x5e\x04\xc0\xef\x3e\x79\x02\x00\x00\x00\x00\x00\x00\x00\xf5\xff\xff\xff\x00\x00\x01\x00",
-        ),
-        (
-            Request::Seek {
-                origin: 0,
-                offset: 0,
-            },
-            b"\x07\x00\x00\x00\x02\x00\x00\x01\x07\x52\x2c\x16\x68\x91\x07\x78\x02\x00\x00\x00\x00\x00\x00\x00\xf5\xff\xff\xff\x00\x00\x01\x00",
-        ),
-        (
-            Request::Resize { length: 0 },
-            b"\x07\x00\x00\x00\x02\x00\x00\x01\x3a\x74\x35\x05\x5f\x82\x80\x2b\x02\x00\x00\x00\x00\x00\x00\x00\xf5\xff\xff\xff\x00\x00\x01\x00",
-        ),
-    ];
-    for (request, bytes) in rows {
-        for name in NAMES {
-            let served = ask(&rt, &mut graph, name, &mut writer, request);
-            assert_eq!(rt; served, Served::Reply);
-            assert_eq!(rt; writer.out.as_bytes(), bytes);
-            assert!(rt; writer.out.handles().is_empty());
+/// Whether this is the answer that a row's cell 6 says. What is bound is said by its protocol, and whether it appends and announces.
+fn is_answer(alloc: Global, row: &Row<'_>, served: &Served) -> bool {
+    match served {
+        Served::Bind(birth) => {
+            let attributes = birth.rights == Rights::of(Operation::GetAttributes);
+            attributes && row.says(alloc, 6, &(birth.protocol, birth.append, birth.announce))
+        }
+        _ => row.says(alloc, 6, served),
+    }
+}
+
+/// The request of a row, to the node with this name.
+fn try_node(
+    rt: &impl Abort,
+    alloc: Global,
+    graph: &mut Graph,
+    writer: &mut Writer,
+    row: &Row<'_>,
+    name: &str,
+) -> Result<(), Fail> {
+    let bytes = row.bytes(alloc, 4)?;
+    let request = request_of(row, &bytes)?;
+    let served = ask(rt, graph, name.as_bytes(), writer, request);
+    assert!(rt; is_answer(alloc, row, &served), "{} of {name}", row.name());
+    assert!(rt; is_written(alloc, row, writer), "{} of {name}", row.name());
+    Ok(())
+}
+
+/// Whether the reply is the one of a row, without handles.
+fn is_written(alloc: Global, row: &Row<'_>, writer: &Writer) -> bool {
+    match row.bytes(alloc, 7) {
+        Ok(wanted) => {
+            writer.out.as_bytes() == wanted.as_slice() && writer.out.handles().is_empty()
+        }
+        Err(_) => false,
+    }
+}
+
+/// The rows of a text, one after the other on one tree.
+fn try_rows_on(
+    rt: &impl Abort,
+    alloc: Global,
+    graph: &mut Graph,
+    writer: &mut Writer,
+    text: &str,
+) -> Result<(), Fail> {
+    plant(rt, graph)?;
+    for row in &rows(alloc, text)? {
+        for name in row.cell(5)?.split(' ') {
+            try_node(rt, alloc, graph, writer, row, name)?;
         }
     }
     Ok(())
 }
+
+fn try_rows(rt: &impl Abort, alloc: Global, text: &str) -> Result<(), Fail> {
+    let mut writer = Writer::new(alloc)?;
+    try_rows_on(rt, alloc, &mut Graph::new(alloc)?, &mut writer, text)
+}
+
+// What is asked | the method | first number | second number | bytes | of which nodes | the answer | the reply
+const OF_OTHERS: &str = "
+names      | ReadDirents | 100 | - | -  | d f s | Reply | 070000000200000114916b2a59ccb005f5ffffff000000000000000000000000ffffffffffffffff
+a rewind   | Rewind      | -   | - | -  | d f s | Reply | 0700000002000001594705f815b1c77df5ffffff00000000
+a token    | GetToken    | -   | - | -  | d f s | Reply | 07000000020000010bea77552dcc1d2cf5ffffff00000000
+a rename   | Rename      | -   | - | 61 | d f s | Reply | 0700000002000001de28993b72e760700200000000000000f5ffffff00000100
+a link     | Link        | -   | - | 61 | d f s | Reply | 07000000020000014681a69845b4aa03f5ffffff00000000
+an unlink  | Unlink      | 0   | - | 61 | d f s | Reply | 0700000002000001ed7b8da726030a750200000000000000f5ffffff00000100
+a watch    | Watch       | 7   | 0 | -  | d f s | Reply | 070000000200000179d851a5b930d372f5ffffff00000000
+bytes      | Read        | 5   | - | -  | d f s | Reply | 07000000020000014c01b891c67ff2400200000000000000f5ffffff00000100
+bytes at 0 | ReadAt      | 5   | 0 | -  | d f s | Reply | 07000000020000013e720da693a207160200000000000000f5ffffff00000100
+a write    | Write       | -   | - | 78 | d f s | Reply | 070000000200000185013bc6280590490200000000000000f5ffffff00000100
+one at 0   | WriteAt     | -   | 0 | 78 | d f s | Reply | 07000000020000012b795e04c0ef3e790200000000000000f5ffffff00000100
+a seek     | Seek        | 0   | 0 | -  | d f s | Reply | 070000000200000107522c16689107780200000000000000f5ffffff00000100
+a resize   | Resize      | 0   | - | -  | d f s | Reply | 07000000020000013a7435055f82802b0200000000000000f5ffffff00000100
+";
+
+#[test]
+fn a_reference_has_no_method_of_directories_or_files(rt: HostRuntime) -> Result<(), Fail> {
+    try_rows(&rt, rt.alloc(), OF_OTHERS)
+}
+
+const WATCHES: &str = "
+no event              | Watch | 0          | 0 | - | d f s | Reply | 070000000200000179d851a5b930d372f5ffffff00000000
+one event             | Watch | 1          | 0 | - | d f s | Reply | 070000000200000179d851a5b930d372f5ffffff00000000
+every event           | Watch | 31         | 0 | - | d f s | Reply | 070000000200000179d851a5b930d372f5ffffff00000000
+an event that is none | Watch | 32         | 0 | - | d f s | Reply | 070000000200000179d851a5b930d372f5ffffff00000000
+a high bit            | Watch | 0x20000000 | 0 | - | d f s | Reply | 070000000200000179d851a5b930d372f5ffffff00000000
+an option             | Watch | 1          | 1 | - | d f s | Reply | 070000000200000179d851a5b930d372f5ffffff00000000
+";
 
 #[test]
 fn a_reference_watches_nothing(rt: HostRuntime) -> Result<(), Fail> {
-    let mut writer = Writer {
-        ordinals: Ordinals::new()?,
-        out: Out::new(rt.alloc())?,
-    };
-    let mut graph = Graph::new(rt.alloc())?;
-    plant(&rt, &mut graph)?;
-    let refused: &[u8] =
-        b"\x07\x00\x00\x00\x02\x00\x00\x01\x79\xd8\x51\xa5\xb9\x30\xd3\x72\xf5\xff\xff\xff\x00\x00\x00\x00";
-    let rows: [(u32, u32); 6] = [(0, 0), (1, 0), (31, 0), (32, 0), (0x2000_0000, 0), (1, 1)];
-    for (mask, options) in rows {
-        for name in NAMES {
-            let watch = Request::Watch {
-                mask,
-                options,
-                watcher: 9,
-            };
-            let served = ask(&rt, &mut graph, name, &mut writer, watch);
-            assert_eq!(rt; served, Served::Reply);
-            assert_eq!(rt; writer.out.as_bytes(), refused);
-        }
-    }
-    Ok(())
+    try_rows(&rt, rt.alloc(), WATCHES)
 }
+
+const OPENS: &str = "
+an open | OpenPath | 2 | - | 66 | d f s | Refused(BadHandle) | -
+";
 
 #[test]
 fn a_reference_opens_nothing(rt: HostRuntime) -> Result<(), Fail> {
-    let mut writer = Writer {
-        ordinals: Ordinals::new()?,
-        out: Out::new(rt.alloc())?,
-    };
-    let mut graph = Graph::new(rt.alloc())?;
-    plant(&rt, &mut graph)?;
-    for name in NAMES {
-        let open = Request::OpenPath {
-            path: b"f",
-            flags: 2,
-            attributes: None,
-            object: 9,
-        };
-        let served = ask(&rt, &mut graph, name, &mut writer, open);
-        assert_eq!(rt; served, Served::Refused(Status::BadHandle));
-        assert!(rt; writer.out.as_bytes().is_empty());
-    }
-    Ok(())
+    try_rows(&rt, rt.alloc(), OPENS)
 }
+
+const OF_EVERY_NODE: &str = "
+the end  | Close | - | - | - | d f s | ReplyEnd | 070000000200000158b49c8443d2f57401000000000000000000000000000100
+the name | Query | - | - | - | d f s | Reply    | 070000000200000106fcec9deeed58260f00000000000000ffffffffffffffff667563687369612e696f2f4e6f646500
+a sync   | Sync  | - | - | - | d f s | Reply    | 070000000200000149dcb50aca275c2c01000000000000000000000000000100
+";
 
 #[test]
 fn a_reference_has_the_methods_of_every_node(rt: HostRuntime) -> Result<(), Fail> {
-    let mut writer = Writer {
-        ordinals: Ordinals::new()?,
-        out: Out::new(rt.alloc())?,
-    };
-    let mut graph = Graph::new(rt.alloc())?;
-    plant(&rt, &mut graph)?;
-    let rows: [(Request<'_>, Served, &[u8]); 3] = [
-        (
-            Request::Close,
-            Served::ReplyEnd,
-            b"\x07\x00\x00\x00\x02\x00\x00\x01\x58\xb4\x9c\x84\x43\xd2\xf5\x74\x01\x00\x00\x00\x00\x00\x00\x00\x00\x00\x00\x00\x00\x00\x01\x00",
-        ),
-        (
-            Request::Query,
-            Served::Reply,
-            b"\x07\x00\x00\x00\x02\x00\x00\x01\x06\xfc\xec\x9d\xee\xed\x58\x26\x0f\x00\x00\x00\x00\x00\x00\x00\xff\xff\xff\xff\xff\xff\xff\xfffuchsia.io/Node\x00",
-        ),
-        (
-            Request::Sync,
-            Served::Reply,
-            b"\x07\x00\x00\x00\x02\x00\x00\x01\x49\xdc\xb5\x0a\xca\x27\x5c\x2c\x01\x00\x00\x00\x00\x00\x00\x00\x00\x00\x00\x00\x00\x00\x01\x00",
-        ),
-    ];
-    for (request, answer, bytes) in rows {
-        for name in NAMES {
-            let served = ask(&rt, &mut graph, name, &mut writer, request);
-            assert_eq!(rt; served, answer);
-            assert_eq!(rt; writer.out.as_bytes(), bytes);
-        }
-    }
-    Ok(())
+    try_rows(&rt, rt.alloc(), OF_EVERY_NODE)
 }
+
+const CLONES: &str = "
+a clone | Clone | 9 | - | - | d f s | (Node, false, false) | -
+";
 
 #[test]
 fn a_clone_of_a_reference_is_one(rt: HostRuntime) -> Result<(), Fail> {
-    let mut writer = Writer {
-        ordinals: Ordinals::new()?,
-        out: Out::new(rt.alloc())?,
-    };
-    let mut graph = Graph::new(rt.alloc())?;
-    plant(&rt, &mut graph)?;
-    for name in NAMES {
-        let served = ask(
-            &rt,
-            &mut graph,
-            name,
-            &mut writer,
-            Request::Clone { request: 9 },
-        );
-        let Served::Bind(birth) = served else {
-            panic!(&rt; "a clone is bound");
-        };
-        assert_eq!(rt;
-            (birth.protocol, birth.append, birth.announce),
-            (Protocol::Node, false, false)
-        );
-        assert!(rt; birth.rights == Rights::of(Operation::GetAttributes));
-        assert!(rt; writer.out.as_bytes().is_empty());
-    }
-    Ok(())
+    try_rows(&rt, rt.alloc(), CLONES)
 }
+
+const ATTRIBUTES: &str = "
+a directory | GetAttributes | 3 | - | - | d | Reply | 07000000020000013b05ea38a696433d010000000000000040000000000000000000000000000000ffffffffffffffff0200000000000000ffffffffffffffff080000000000000008000000000000000200000000000000d001000000000000
+a file      | GetAttributes | 3 | - | - | f | Reply | 07000000020000013b05ea38a696433d010000000000000040000000000000000000000000000000ffffffffffffffff0200000000000000ffffffffffffffff0800000000000000080000000000000004000000000000001600000000000000
+a service   | GetAttributes | 3 | - | - | s | Reply | 07000000020000013b05ea38a696433d010000000000000040000000000000000000000000000000ffffffffffffffff0200000000000000ffffffffffffffff0800000000000000080000000000000001000000000000001100000000000000
+";
 
 #[test]
 fn a_reference_tells_what_its_node_is(rt: HostRuntime) -> Result<(), Fail> {
-    let mut writer = Writer {
-        ordinals: Ordinals::new()?,
-        out: Out::new(rt.alloc())?,
-    };
-    let mut graph = Graph::new(rt.alloc())?;
-    plant(&rt, &mut graph)?;
-    let rows: [(&[u8], &[u8]); 3] = [
-        (
-            b"d",
-            b"\x07\x00\x00\x00\x02\x00\x00\x01\x3b\x05\xea\x38\xa6\x96\x43\x3d\x01\x00\x00\x00\x00\x00\x00\x00\x40\x00\x00\x00\x00\x00\x00\x00\x00\x00\x00\x00\x00\x00\x00\x00\xff\xff\xff\xff\xff\xff\xff\xff\x02\x00\x00\x00\x00\x00\x00\x00\xff\xff\xff\xff\xff\xff\xff\xff\x08\x00\x00\x00\x00\x00\x00\x00\x08\x00\x00\x00\x00\x00\x00\x00\x02\x00\x00\x00\x00\x00\x00\x00\xd0\x01\x00\x00\x00\x00\x00\x00",
-        ),
-        (
-            b"f",
-            b"\x07\x00\x00\x00\x02\x00\x00\x01\x3b\x05\xea\x38\xa6\x96\x43\x3d\x01\x00\x00\x00\x00\x00\x00\x00\x40\x00\x00\x00\x00\x00\x00\x00\x00\x00\x00\x00\x00\x00\x00\x00\xff\xff\xff\xff\xff\xff\xff\xff\x02\x00\x00\x00\x00\x00\x00\x00\xff\xff\xff\xff\xff\xff\xff\xff\x08\x00\x00\x00\x00\x00\x00\x00\x08\x00\x00\x00\x00\x00\x00\x00\x04\x00\x00\x00\x00\x00\x00\x00\x16\x00\x00\x00\x00\x00\x00\x00",
-        ),
-        (
-            b"s",
-            b"\x07\x00\x00\x00\x02\x00\x00\x01\x3b\x05\xea\x38\xa6\x96\x43\x3d\x01\x00\x00\x00\x00\x00\x00\x00\x40\x00\x00\x00\x00\x00\x00\x00\x00\x00\x00\x00\x00\x00\x00\x00\xff\xff\xff\xff\xff\xff\xff\xff\x02\x00\x00\x00\x00\x00\x00\x00\xff\xff\xff\xff\xff\xff\xff\xff\x08\x00\x00\x00\x00\x00\x00\x00\x08\x00\x00\x00\x00\x00\x00\x00\x01\x00\x00\x00\x00\x00\x00\x00\x11\x00\x00\x00\x00\x00\x00\x00",
-        ),
-    ];
-    for (name, bytes) in rows {
-        let served = ask(
-            &rt,
-            &mut graph,
-            name,
-            &mut writer,
-            Request::GetAttributes { query: 0x3 },
-        );
-        assert_eq!(rt; served, Served::Reply);
-        assert_eq!(rt; writer.out.as_bytes(), bytes);
-    }
-    Ok(())
+    try_rows(&rt, rt.alloc(), ATTRIBUTES)
 }
 
 #[test]
 #[tactic(auto, unfolding(fidl_wire::specs::Numbers::padding_after))]
 fn a_text_is_echoed(rt: HostRuntime) -> Result<(), Fail> {
-    let ordinals = Ordinals::new()?;
-    let mut out = Out::new(rt.alloc())?;
+    let mut writer = Writer::new(rt.alloc())?;
+    writer.out.clear();
     let request = Request::EchoString {
         value: "hello".as_bytes(),
     };
-    let served = echo(&ordinals, 7, request, &mut out);
+    let served = echo(&writer.ordinals, 7, request, &mut writer.out);
     assert_eq!(rt; served, Served::Reply);
     let bytes: &[u8] =
         b"\x07\x00\x00\x00\x02\x00\x00\x01\x16\xa6\xd9\x52\x4e\x27\xb8\x75\x05\x00\x00\x00\x00\x00\x00\x00\xff\xff\xff\xff\xff\xff\xff\xffhello\x00\x00\x00";
-    assert_eq!(rt; out.as_bytes(), bytes);
+    assert_eq!(rt; writer.out.as_bytes(), bytes);
     Ok(())
 }

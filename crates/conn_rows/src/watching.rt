@@ -1,9 +1,10 @@
 //! What a directory answers to a Watch, by the bytes of its replies.
 
 use crate::directories::root_with;
+use crate::requests::word;
+use crate::writer::Writer;
 use conn_rules::Room;
 use dir_conn::DirServed;
-use fidl_wire::{Ordinals, Out};
 use io_messages::Request;
 use io_rights::{Rights, read_rights};
 use node_graph::Graph;
@@ -44,17 +45,8 @@ no right, and no place                               | -        | 31         | 0
 /// A root that rows ask to watch.
 #[derive(Drop)]
 struct Watched {
-    ordinals: Ordinals,
+    writer: Writer,
     graph: Graph,
-    out: Out,
-}
-
-/// A cell's number, where it is one of 32 bits.
-fn word<'a>(row: &Row<'a>, at: usize) -> Result<u32, BadCell<'a>> {
-    match u32::try_from(row.number(at)?) {
-        Ok(word) => Ok(word),
-        Err(_) => Err(row.bad(at)),
-    }
 }
 
 fn rights<'a>(row: &Row<'a>) -> Result<Rights, BadCell<'a>> {
@@ -95,27 +87,24 @@ impl Table for Watched {
         if self.graph.made() >= 1 << 63 {
             return Ok(false);
         }
-        self.out.clear();
+        self.writer.out.clear();
         let served = conn.serve(
-            &self.ordinals,
+            &self.writer.ordinals,
             &mut self.graph,
             room,
             None,
             2,
             request,
-            &mut self.out,
+            &mut self.writer.out,
         );
-        Ok(is_answer(served, answer, mask) && self.out.as_bytes() == wanted.as_slice())
+        Ok(is_answer(served, answer, mask) && self.writer.out.as_bytes() == wanted.as_slice())
     }
 }
 
 #[test]
 fn a_watch_is_taken_or_refused(rt: HostRuntime) -> Result<(), Fail> {
     let alloc = rt.alloc();
-    let mut watched = Watched {
-        ordinals: Ordinals::new()?,
-        graph: Graph::new(alloc)?,
-        out: Out::new(alloc)?,
-    };
-    all_hold(alloc, WATCHES, &mut watched)
+    let writer = Writer::new(alloc)?;
+    let graph = Graph::new(alloc)?;
+    all_hold(alloc, WATCHES, &mut Watched { writer, graph })
 }
