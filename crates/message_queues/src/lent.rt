@@ -103,6 +103,7 @@ impl<'a> Lent<'a> {
 }
 
 /// The handles of a frame.
+#[inline(always)]
 pub fn handles_in(alloc: Global, numbers: HandleBytes<'_>) -> Result<Vec<Handle>, NoMemory>
     ensures numbers { IfOk result (λ handles. numbers_of handles.items ≡ handle_numbers numbers.entry) }
     ensures by_number { IfOk result (λ handles. AreByNumber handles.items) }

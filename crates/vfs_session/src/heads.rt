@@ -90,6 +90,7 @@ impl Session {
 
     /// Lets whoever dies of a serving die, forgets the tokens that are spent, gives the one that is given, and
     /// sends on what goes on.
+    #[inline(always)]
     fn settle_head(
         &mut self,
         sent: &Lent<'_>,

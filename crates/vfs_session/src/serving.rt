@@ -51,6 +51,7 @@ impl Session {
 
     /// Serves the oldest entries of all, until nothing is left that can be served. Memory is wanting only
     /// where something can be served.
+    #[inline(always)]
     pub fn drain(&mut self, outbox: &mut Outbox) -> Result<(), NoMemory>
         requires running { IsRunning (2 ^ 61) (whole self.old) }
         ensures drained { OnOk result (IsDrain (whole self.old) (whole self.new) outbox.old outbox.new) }
