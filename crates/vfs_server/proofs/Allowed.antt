@@ -41,21 +41,21 @@ token_of_directory p room tree change asker silent found h is = absurd (no_token
 
 pub bound_has_room : (p : Protocol) (room : Room) (tree : Tree) (change : Change) (answer : Answer) (txid : ℕ) (what : Given) (out : Written) (birth : code.Birth) → IsGiven answer txid what out → CanAnswer p room tree change answer →
     BindsBy birth what → is_full room ≡ false
-bound_has_room p room tree change (replies a) txid what out birth h can e = let wrong = sym h.0.1 ∙ e.1 in search rules
-bound_has_room p room tree change closes txid what out birth h can e = let wrong = sym h.0 ∙ e.1 in search rules
+bound_has_room p room tree change (replies a) txid what out birth h can e = let wrong = sym h.0 ∙ e in search rules
+bound_has_room p room tree change closes txid what out birth h can e = let wrong = sym h.0 ∙ e in search rules
 bound_has_room p room tree change (binds b announced) txid what out birth h can e = can
-bound_has_room p room tree change (watches mask) txid what out birth h can e = let wrong = sym h.0 ∙ e.1 in search rules
-bound_has_room p room tree change (forwards mount flags rest) txid what out birth h can e = let wrong = sym h.0 ∙ e.1 in search rules
-bound_has_room p room tree change (refuses status) txid what out birth h can e = let wrong = sym h.0 ∙ e.1 in search rules
-bound_has_room p room tree change (ends status) txid what out birth h can e = let wrong = sym h.0 ∙ e.1 in search rules
+bound_has_room p room tree change (watches mask) txid what out birth h can e = let wrong = sym h.0 ∙ e in search rules
+bound_has_room p room tree change (forwards mount flags rest) txid what out birth h can e = let wrong = sym h.0 ∙ e in search rules
+bound_has_room p room tree change (refuses status) txid what out birth h can e = let wrong = sym h.0 ∙ e in search rules
+bound_has_room p room tree change (ends status) txid what out birth h can e = let wrong = sym h.0 ∙ e in search rules
 bound_has_room p room tree change hangs_up txid what out birth h can e = absurd h
 bound_has_room p room tree change silent txid what out birth h can e = absurd h
 
 pub onward_is_mounted : (p : Protocol) (room : Room) (tree : Tree) (change : Change) (answer : Answer) (txid : ℕ) (what : Given) (out : Written) (mount : ℕ) → IsGiven answer txid what out → CanAnswer p room tree change answer →
     GoesOnBehind mount what → HasMount tree mount
-onward_is_mounted p room tree change (replies a) txid what out mount h can on = absurd (subst (GoesOnBehind mount) h.0.1 on)
+onward_is_mounted p room tree change (replies a) txid what out mount h can on = absurd (subst (GoesOnBehind mount) h.0 on)
 onward_is_mounted p room tree change closes txid what out mount h can on = absurd (subst (GoesOnBehind mount) h.0 on)
-onward_is_mounted p room tree change (binds b announced) txid what out mount h can on = absurd (subst (GoesOnBehind mount) h.0.1.1 on)
+onward_is_mounted p room tree change (binds b announced) txid what out mount h can on = absurd (subst (GoesOnBehind mount) h.0.1 on)
 onward_is_mounted p room tree change (watches mask) txid what out mount h can on = absurd (subst (GoesOnBehind mount) h.0 on)
 onward_is_mounted p room tree change (forwards index flags rest) txid what out mount h can on = subst (HasMount tree) (subst (GoesOnBehind mount) h.0 on) can
 onward_is_mounted p room tree change (refuses status) txid what out mount h can on = absurd (subst (GoesOnBehind mount) h.0 on)
@@ -66,9 +66,9 @@ onward_is_mounted p room tree change silent txid what out mount h can on = absur
 -- a directory that is to be watched can be
 pub watch_has_room : (p : Protocol) (room : Room) (tree : Tree) (change : Change) (answer : Answer) (txid : ℕ) (what : Given) (out : Written) (mask : ℕ) → IsGiven answer txid what out → CanAnswer p room tree change answer →
     what ≡ given.WatchBy mask → CanBeWatched p room change
-watch_has_room p room tree change (replies a) txid what out mask h can e = let wrong = sym h.0.1 ∙ e in search rules
+watch_has_room p room tree change (replies a) txid what out mask h can e = let wrong = sym h.0 ∙ e in search rules
 watch_has_room p room tree change closes txid what out mask h can e = let wrong = sym h.0 ∙ e in search rules
-watch_has_room p room tree change (binds b announced) txid what out mask h can e = let wrong = sym h.0.1.1 ∙ e in search rules
+watch_has_room p room tree change (binds b announced) txid what out mask h can e = let wrong = sym h.0.1 ∙ e in search rules
 watch_has_room p room tree change (watches of) txid what out mask h can e = can
 watch_has_room p room tree change (forwards mount flags rest) txid what out mask h can e = let wrong = sym h.0 ∙ e in search rules
 watch_has_room p room tree change (refuses status) txid what out mask h can e = let wrong = sym h.0 ∙ e in search rules

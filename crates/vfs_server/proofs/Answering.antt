@@ -16,16 +16,14 @@ use Rattle.node_graph.specs.Graph.{Kept, StandsFor, number_of}
 use Rattle.node_graph.specs.Tree.{Tree}
 use Rattle.conn_rules.specs.Acts.{act_of}
 use Rattle.conn_rules.specs.declared.births.Room.{Room}
-use Rattle.conn_rules.specs.Answers.{Act, Answer, nothing_told, replies, closes, binds, watches, forwards, refuses, ends, hangs_up, silent}
+use Rattle.conn_rules.specs.Answers.{Act, Answer, Happening, nothing_told, replies, closes, binds, watches, forwards, refuses, ends, hangs_up, silent}
 use Rattle.conn_rules.specs.Births.{Connection}
 use Rattle.conn_rules.specs.Contexts.{context_of}
-use Rattle.conn_rules.specs.Served.{told_by}
 use Rattle.conn_rules.specs.Shared.{CanBeBound, is_spoken_at}
 use Rattle.vfs_journal.specs.Outcomes as outcomes
 use Rattle.vfs_journal.specs.Outcomes.{Asker, frames_of}
 use Rattle.vfs_journal.specs.Serving.{Moment, fault_answer, fault_txid, object_of, outcome_of_read}
 use Rattle.vfs_server.specs.declared.asking.Asking.{Asking}
-use Rattle.vfs_server.specs.declared.done.Done.{Done}
 use Rattle.vfs_server.specs.declared.fate.Fate.{Fate}
 use Rattle.vfs_server.specs.declared.fate.Fate.TheVariants as fates
 use Rattle.vfs_server.specs.declared.given.Given.{Given}
@@ -33,7 +31,7 @@ use Rattle.vfs_server.specs.declared.given.Given.TheVariants as given
 use Rattle.vfs_server.specs.Effects.{Effects, effects_told, no_effects}
 use Rattle.vfs_server.specs.Kept.{HasTree, Tokens}
 use Rattle.vfs_server.specs.Servers.{bound_with}
-use Rattle.vfs_server.specs.Steps.{Acts, Answers, BindsConnection, CanTell, DoesFault, DoesGiven, IsAskedAt, IsGiven, IsOnDirectory, MayWatch, NamesAsThere, asker_with, effects_by, effects_given, frames_given, names_in, room_for, token_given, told_given}
+use Rattle.vfs_server.specs.Steps.{Acts, Answers, Done, BindsConnection, CanTell, DoesFault, DoesGiven, IsAskedAt, IsGiven, IsOnDirectory, MayWatch, NamesAsThere, asker_with, effects_by, effects_given, frames_given, names_in, room_for, token_given}
 use Rattle.vfs_server.specs.Watched.{IsShort}
 use Rattle.vfs_server.proofs.Made.{named_kind}
 use Rattle.vfs_server.proofs.Carried.{looked_up}
@@ -45,9 +43,9 @@ use Rattle.vfs_server.proofs.Allowed.{bound_has_room, onward_is_mounted, token_o
 
 frames_are : (endpoint server node txid object : ℕ) (answer : Answer) (what : Given) (out : Written) → IsGiven answer txid what out →
     frames_of (asker_with endpoint server node txid object) answer ≡ frames_given endpoint object what out
-frames_are endpoint server node txid object (replies a) what out h = rw (h.0.1, h.1.bytes, h.1.handles) refl
+frames_are endpoint server node txid object (replies a) what out h = rw (h.0, h.1.bytes, h.1.handles) refl
 frames_are endpoint server node txid object closes what out h = rw (h.0, h.1.bytes, h.1.handles) refl
-frames_are endpoint server node txid object (binds birth announced) what out h = rw (h.0.1.1, ← h.0.2.same, ← h.0.2.told) refl
+frames_are endpoint server node txid object (binds birth announced) what out h = rw (h.0.1, ← h.0.2.same, ← h.0.2.told) refl
 frames_are endpoint server node txid object (watches mask) what out h = rw (h.0, h.1.bytes, h.1.handles) refl
 frames_are endpoint server node txid object (forwards mount flags rest) what out h = rw h.0 refl
 frames_are endpoint server node txid object (refuses status) what out h = rw h.0 refl
@@ -60,9 +58,9 @@ effects_are : (endpoint server node txid object : ℕ) (answer : Answer) (what :
     effects_by (asker_with endpoint server node txid object) answer ≡ effects_given endpoint server node object what out.handles
 effects_are endpoint server node txid object (replies a) what out h =
     ap (λ (given : Option outcomes.Given). record no_effects { token = given }) (token_is endpoint server node txid object a ∙ ap (token_given endpoint server node) (sym h.1.handles))
-    ∙ ap (λ (one : Given). effects_given endpoint server node object one out.handles) (sym h.0.1)
+    ∙ ap (λ (one : Given). effects_given endpoint server node object one out.handles) (sym h.0)
 effects_are endpoint server node txid object closes what out h = rw h.0 refl
-effects_are endpoint server node txid object (binds birth announced) what out h = rw (h.0.1.1, ← h.0.2.same) refl
+effects_are endpoint server node txid object (binds birth announced) what out h = rw (h.0.1, ← h.0.2.same) refl
 effects_are endpoint server node txid object (watches mask) what out h = rw h.0 refl
 effects_are endpoint server node txid object (forwards mount flags rest) what out h = rw h.0 refl
 effects_are endpoint server node txid object (refuses status) what out h = rw h.0 refl
@@ -81,21 +79,21 @@ no_watcher p kind spoken e = unspoken kind (rw e at spoken)
 
 -- where memory was wanting there is nothing to bind
 unless_wanting : (what : Given) → (what ≢ given.NoMemory → BindsConnection what) → BindsConnection what
-unless_wanting (given.Reply changes) h = tt
+unless_wanting given.Reply h = tt
 unless_wanting given.ReplyEnd h = tt
-unless_wanting (given.Bind birth changes) h = h (λ e. search rules)
+unless_wanting (given.Bind birth) h = h (λ e. search rules)
 unless_wanting (given.WatchBy mask) h = tt
 unless_wanting (given.Forward mount flags rest) h = tt
 unless_wanting (given.Refused status) h = tt
 unless_wanting (given.End status) h = tt
 unless_wanting given.NoMemory h = tt
 
-binds_by : (graph changed : Kept) (act : Act) (txid : ℕ) (what : Given) (out : Written) (new : Connection) → Acts act txid what out new graph changed → BindsConnection what
-binds_by graph changed act txid what out new acts = by_given what refl where
+binds_by : (graph changed : Kept) (act : Act) (txid : ℕ) (what : Given) (told : List Happening) (out : Written) (new : Connection) → Acts act txid what told out new graph changed → BindsConnection what
+binds_by graph changed act txid what told out new acts = by_given what refl where
   by_given : (one : Given) → one ≡ what → BindsConnection one
-  by_given (given.Reply changes) is = tt
+  by_given given.Reply is = tt
   by_given given.ReplyEnd is = tt
-  by_given (given.Bind birth changes) is = let bindable = acts.bound birth changes (sym is) in no_watcher birth.protocol _ bindable.spoken
+  by_given (given.Bind birth) is = let bindable = acts.bound birth (sym is) in no_watcher birth.protocol _ bindable.spoken
   by_given (given.WatchBy mask) is = tt
   by_given (given.Forward mount flags rest) is = tt
   by_given (given.Refused status) is = tt
@@ -105,22 +103,22 @@ binds_by graph changed act txid what out new acts = by_given what refl where
 -- ---- a request over whatever tree the graph stands for
 
 module _ (graph : Kept) (tokens : Tokens) (connection : Connection) (can : CanBeBound graph connection.birth) (there : HasTree graph) (room : Room) (request : Asked)
-    (known : has_method connection.birth.protocol (method_of request) ≡ true) (txid : ℕ) (what : Given) (out : Written) (new : Connection) (changed : Kept)
+    (known : has_method connection.birth.protocol (method_of request) ≡ true) (txid : ℕ) (what : Given) (told : List Happening) (out : Written) (new : Connection) (changed : Kept)
     (acts : (tree : Tree) (directory : ℕ → Option ℕ) → StandsFor graph tree → NamesAsThere tokens directory request → what ≢ given.NoMemory →
-    Acts (act_of (context_of connection room tree directory) request) txid what out new graph changed) where
-  here : what ≢ given.NoMemory → Acts (act_of (context_of connection room there.0 (names_in tokens)) request) txid what out new graph changed
+    Acts (act_of (context_of connection room tree directory) request) txid what told out new graph changed) where
+  here : what ≢ given.NoMemory → Acts (act_of (context_of connection room there.0 (names_in tokens)) request) txid what told out new graph changed
   here some = acts there.0 (names_in tokens) there.1 (looked_up tokens request) some
 
   pub binds_connection : BindsConnection what
-  binds_connection = unless_wanting what (λ some. binds_by graph changed _ txid what out new (here some))
+  binds_connection = unless_wanting what (λ some. binds_by graph changed _ txid what told out new (here some))
 
   can_here : CanAct connection.birth.protocol room there.0 (act_of (context_of connection room there.0 (names_in tokens)) request)
   can_here = conn_acts graph there.0 connection room (names_in tokens) request can known (sym (named_kind graph there.0 connection.birth.node there.1 can.named))
 
   -- watchers can be told of it
   pub can_tell : new.birth ≡ connection.birth → (endpoint object : ℕ) (done : Done) (left : Written) (before after : List ℕ) →
-      told_by done.changes ≡ told_given what → DoesGiven endpoint object connection.birth.node what out done.fate left before after → CanTell done new before after
-  can_tell kept endpoint object done left before after told does =
+      done.told ≡ told → DoesGiven endpoint object connection.birth.node what out done.fate left before after → CanTell done new before after
+  can_tell kept endpoint object done left before after same does =
       let act = here does.some in
       record {
         front = (spellings (frames_given endpoint object what out), does.frames);
@@ -131,7 +129,7 @@ module _ (graph : Kept) (tokens : Tokens) (connection : Connection) (can : CanBe
               node = ap (λ (birth : code.Birth). birth.node) kept ∙ watch.same;
               protocol = ap (λ (birth : code.Birth). birth.protocol) kept ∙ watched.directory;
             };
-        short = subst (All IsShort) (act.told ∙ sym told) can_here.told;
+        short = subst (All IsShort) (act.tells ∙ sym same) can_here.told;
       }
 
 -- ---- a moment by its parts
@@ -152,9 +150,9 @@ is_sight server asking graph connection moment asked = λ i. record {
 -- ---- what a request is answered
 
 module _ (server : ℕ) (asking : Asking) (graph changed : Kept) (connection : Connection) (can : CanBeBound graph connection.birth) (moment : Moment) (asks : IsAskedAt server asking graph connection moment)
-    (txid : ℕ) (request : Asked) (known : has_method connection.birth.protocol (method_of request) ≡ true) (what : Given) (left : Written) (new : Connection) (kept : new.birth ≡ connection.birth)
-    (acts : Acts (act_of (context_of connection (room_for asking (number_of connection.birth.node)) moment.tree moment.directory) request) txid what left new graph changed)
-    (done : Done) (told : told_by done.changes ≡ told_given what) (out : Written) (before after : List ℕ)
+    (txid : ℕ) (request : Asked) (known : has_method connection.birth.protocol (method_of request) ≡ true) (what : Given) (told : List Happening) (left : Written) (new : Connection) (kept : new.birth ≡ connection.birth)
+    (acts : Acts (act_of (context_of connection (room_for asking (number_of connection.birth.node)) moment.tree moment.directory) request) txid what told left new graph changed)
+    (done : Done) (same : done.told ≡ told) (out : Written) (before after : List ℕ)
     (does : DoesGiven asking.endpoint (object_of request) connection.birth.node what left done.fate out before after) where
   abbrev room : Room
   room = room_for asking (number_of connection.birth.node)
@@ -200,10 +198,10 @@ module _ (server : ℕ) (asking : Asking) (graph changed : Kept) (connection : C
   answered = record {
     frames = does.frames ∙ ap (λ (frames : List Frame). before ++ spellings frames) (sym (frames_are asking.endpoint server (number_of connection.birth.node) txid (object_of request) act.answer what left acts.answer));
     effects = effects;
-    told = acts.told ∙ sym told;
+    told = acts.tells ∙ sym same;
     position = acts.position;
     change = acts.change;
-    bound = λ object birth is. let binds = does.bound object birth is in acts.bound birth binds.0 binds.1;
+    bound = λ object birth is. acts.bound birth (does.bound object birth is);
     room = λ object birth is. bound_has_room connection.birth.protocol room moment.tree act.change act.answer txid what left birth acts.answer can_now.answer (does.bound object birth is);
     watched = may_watch;
     given = on_directory;
@@ -215,7 +213,7 @@ module _ (server : ℕ) (asking : Asking) (graph changed : Kept) (connection : C
 
 -- and a message that is none
 module _ (server : ℕ) (asking : Asking) (graph : Kept) (connection : Connection) (moment : Moment) (asks : IsAskedAt server asking graph connection moment)
-    (fault : RequestFault) (done : Done) (told : told_by done.changes ≡ nothing_told) (out : Written) (before after : List ℕ) (does : DoesFault asking.endpoint fault done.fate out before after) where
+    (fault : RequestFault) (done : Done) (told : done.told ≡ nothing_told) (out : Written) (before after : List ℕ) (does : DoesFault asking.endpoint fault done.fate out before after) where
   pub fault_answers : Answers moment (outcome_of_read moment (Err fault)) done out connection graph graph before after
   fault_answers = subst (λ m. Answers m (outcome_of_read m (Err fault)) done out connection graph graph before after) (is_sight server asking graph connection moment asks) (record {
     frames = does.frames server (number_of connection.birth.node);
@@ -230,7 +228,7 @@ module _ (server : ℕ) (asking : Asking) (graph : Kept) (connection : Connectio
     mounted = λ mount object is. absurd (does.onward mount object is);
   })
 
-module _ (server : ℕ) (asking : Asking) (connection : Connection) (fault : RequestFault) (done : Done) (told : told_by done.changes ≡ nothing_told) (out : Written) (before after : List ℕ)
+module _ (server : ℕ) (asking : Asking) (connection : Connection) (fault : RequestFault) (done : Done) (told : done.told ≡ nothing_told) (out : Written) (before after : List ℕ)
     (does : DoesFault asking.endpoint fault done.fate out before after) where
   pub fault_tells : CanTell done connection before after
   fault_tells = record {
@@ -242,3 +240,7 @@ module _ (server : ℕ) (asking : Asking) (connection : Connection) (fault : Req
 pub ok_map : {X E : Type 0} (P Q : X → Type 0) (r : Result X E) → ((x : X) → P x → Q x) → IfOk r P → IfOk r Q
 ok_map P Q (Ok x) f h = f x h
 ok_map P Q (Err e) f h = tt
+
+pub ok_both : {X E : Type 0} (P Q : X → Type 0) (r : Result X E) → IfOk r P → IfOk r Q → IfOk r (λ x. P x × Q x)
+ok_both P Q (Ok x) p q = (p, q)
+ok_both P Q (Err e) p q = tt

@@ -31,7 +31,6 @@ use Rattle.vfs_journal.specs.Starts.{Bound}
 use Rattle.vfs_journal.specs.View.{moved}
 use Rattle.vfs_journal.specs.Watching.{first_frames, told_frames}
 use Rattle.vfs_server.specs.declared.asking.Asking.{Asking}
-use Rattle.vfs_server.specs.declared.done.Done.{Done}
 use Rattle.vfs_server.specs.declared.fate.Fate.{Fate}
 use Rattle.vfs_server.specs.declared.fate.Fate.TheVariants as fates
 use Rattle.vfs_server.specs.declared.watching.Seat.{Seat}
@@ -40,7 +39,7 @@ use Rattle.vfs_server.specs.Effects.{effects_told}
 use Rattle.vfs_server.specs.Kept.{Connections, HasTree, IsSound, Tokens}
 use Rattle.vfs_server.specs.Servers.{bound_with, connected, in_use, seen_as}
 use Rattle.vfs_server.specs.Serving.{IsMomentOf, Serves, frames_here, room_at}
-use Rattle.vfs_server.specs.Steps.{Answers, AreNamed, CanBeTold, CanTell, IsAskedAt, IsPassedOver, room_for}
+use Rattle.vfs_server.specs.Steps.{Answers, AreNamed, CanBeTold, CanTell, Done, IsAskedAt, IsPassedOver, room_for}
 use Rattle.vfs_server.specs.Watched.{Extends, IsShort, Seats, bound_at, bounds_at, first_of, is_at, seat_at, told_of}
 use Rattle.vfs_server.proofs.Answering.{no_watcher, ok_map}
 use Rattle.vfs_server.proofs.Binding.{in_use_is, seen_watching, server_of}
@@ -168,19 +167,19 @@ module _ (index : ℕ) (graph : Kept) (connections : Connections) (seats : Seats
 
   module _ (changed : Kept) (new : Connection) (outcome : Outcome) (done : Done) (out : Written) (before between behind : List ℕ)
       (answers : Answers moment outcome done out new graph changed before between) (keeps : KeepsHolds old new graph changed) (can_still : CanBeBound changed new.birth)
-      (telling : behind ≡ between ++ spellings (first_of changed.edges done.fate ++ told_of seats (told_by done.changes))) where
+      (telling : behind ≡ between ++ spellings (first_of changed.edges done.fate ++ told_of seats done.told)) where
     firsts_are : option_map_or (λ bound. first_frames moment.tree bound) outcome.bound [] ≡ first_of changed.edges done.fate
     firsts_are =
         first_is moment.tree changed outcome.change moment.bound.endpoint moment.bound.server done.fate out outcome.bound (answers.change moment.tree asked.tree)
         (λ object mask directory is. let watched = answers.watched object mask directory is in watched.still) (ap (λ e. e.bound) answers.effects)
 
-    told_are : told_frames (bounds_at index seats) moment.bound.server outcome.told ≡ told_of seats (told_by done.changes)
+    told_are : told_frames (bounds_at index seats) moment.bound.server outcome.told ≡ told_of seats done.told
     told_are = ap (λ (bound : Bound). told_frames (bounds_at index seats) bound.server outcome.told) bound_is ∙ told_is index seats outcome.told ∙ ap (told_of seats) answers.told
 
-    frames_are : frames_here moment (bounds_at index seats) outcome ≡ outcome.frames ++ (first_of changed.edges done.fate ++ told_of seats (told_by done.changes))
+    frames_are : frames_here moment (bounds_at index seats) outcome ≡ outcome.frames ++ (first_of changed.edges done.fate ++ told_of seats done.told)
     frames_are =
         (λ i. outcome.frames ++ firsts_are i ++ told_are i)
-        ∙ append_assoc outcome.frames (first_of changed.edges done.fate) (told_of seats (told_by done.changes))
+        ∙ append_assoc outcome.frames (first_of changed.edges done.fate) (told_of seats done.told)
 
     endpoint_is : moment.bound.endpoint ≡ asking.endpoint
     endpoint_is = ap (λ (bound : Bound). bound.endpoint) bound_is
@@ -243,7 +242,7 @@ module _ (index : ℕ) (graph : Kept) (connections : Connections) (seats : Seats
   pub serves_message : (changed : Kept) (new : Connection) (bytes : List ℕ) (sent : List Handle) (done : Done) (out : Written) (before between behind : List ℕ) →
       numbers_of sent ≡ handles → AreByNumber sent → CanBeBound graph old.birth → KeepsHolds old new graph changed → CanBeBound changed new.birth →
       Answers moment (outcome_of_read moment (request_of old.birth.protocol bytes sent)) done out new graph changed before between →
-      behind ≡ between ++ spellings (first_of changed.edges done.fate ++ told_of seats (told_by done.changes)) →
+      behind ≡ between ++ spellings (first_of changed.edges done.fate ++ told_of seats done.told) →
       Serves moment (outcome_of_sending moment (message bytes handles)) done.fate out
       (server_of index graph connections seats tokens) (server_of index changed (finite.insert connections asking.endpoint new) seats tokens) before behind
   serves_message changed new bytes sent done out before between behind same_handles numbered can keeps can_still answers telling =
@@ -285,7 +284,7 @@ module _ (index : ℕ) (graph : Kept) (connections : Connections) (seats : Seats
           ∙ ap (λ t. Some (if t then (moment.bound, moment.position) else (moment.bound, moment.position))) (eq-eqb moment.bound.endpoint moment.bound.endpoint refl))
 
   pub passes_over : (bytes : List ℕ) (done : Done) (out : Written) (before between behind : List ℕ) → IsPassedOver done → between ≡ before →
-      behind ≡ between ++ spellings (first_of graph.edges done.fate ++ told_of seats (told_by done.changes)) →
+      behind ≡ between ++ spellings (first_of graph.edges done.fate ++ told_of seats done.told) →
       Serves moment (outcome_of_sending moment (message bytes handles)) done.fate out (server_of index graph connections seats tokens) (server_of index graph connections seats tokens) before behind
   passes_over bytes done out before between behind passed kept telling =
       subst (λ outcome. Serves moment outcome done.fate out (server_of index graph connections seats tokens) (server_of index graph connections seats tokens) before behind)
@@ -330,13 +329,14 @@ front_of (Err e) new before after tells none = ([], none ∙ sym (append-nil bef
 
 -- on a connection that is sound behind its serving
 pub can_of : {E : Type 0} (graph changed : Kept) (connections : Connections) (seats : Seats) (tokens : Tokens) (endpoint : ℕ) → IsSound graph connections seats tokens → HasTree changed → (old new : Connection) →
-    finite.get connections endpoint ≡ Some old → KeepsHolds old new graph changed → (result : Result Done E) (before after : List ℕ) → IfOk result (λ done. CanTell done new before after) → IfOk result (CanBeTold changed)
-can_of graph changed connections seats tokens endpoint sound tree old new there keeps result before after tells =
+    finite.get connections endpoint ≡ Some old → KeepsHolds old new graph changed → (done_of : Fate → Done) (result : Result Fate E) (before after : List ℕ) → IfOk result (λ fate. CanTell (done_of fate) new before after) →
+    IfOk result (λ fate. CanBeTold changed (done_of fate))
+can_of graph changed connections seats tokens endpoint sound tree old new there keeps done_of result before after tells =
     let behind = sound_served graph changed connections seats tokens endpoint old new sound there keeps tree in
-    ok_map _ _ result (λ done told. can_be_told changed new done before after (behind.each endpoint new (get_put connections endpoint new)) told) tells
+    ok_map _ _ result (λ fate told. can_be_told changed new (done_of fate) before after (behind.each endpoint new (get_put connections endpoint new)) told) tells
 
-pub none_of : {E : Type 0} (changed : Kept) (result : Result Done E) → IfOk result IsPassedOver → IfOk result (CanBeTold changed)
-none_of changed result passed = ok_map _ _ result (λ done over. nothing_told_of changed done over) passed
+pub none_of : {E : Type 0} (changed : Kept) (done_of : Fate → Done) (result : Result Fate E) → IfOk result (λ fate. IsPassedOver (done_of fate)) → IfOk result (λ fate. CanBeTold changed (done_of fate))
+none_of changed done_of result passed = ok_map _ _ result (λ fate over. nothing_told_of changed (done_of fate) over) passed
 
 pub ok_at : {X E : Type 0} (P : X → Type 0) (r : Result X E) (x : X) → r ≡ Ok x → IfOk r P → P x
 ok_at P r x is holds = subst (λ one. IfOk one P) is holds

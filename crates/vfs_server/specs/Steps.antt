@@ -1,10 +1,9 @@
 -- Words of the steps of a serving: who asks, what a connection gives, and what is done with it. No public clause needs these.
-use Rattle.std.specs.Prelude.{◌≡◌, ◌≢◌, ◌<◌, ℕ, true, false, nat_le, All, List, [], ◌∷◌, ◌++◌, length, filter, Option, Some, None, Result, Ok}
+use Rattle.std.specs.Prelude.{◌≡◌, ◌≢◌, ◌<◌, ℕ, true, false, nat_le, All, List, [], ◌∷◌, ◌++◌, length, filter, Option, Some, None}
 use Rattle.std.specs.FinMap as finite
 use Rattle.std.specs.Option.{option_map}
 use Rattle.std.specs.Str.{IsUtf8}
 use Rattle.fidl_names.specs.declared.limits.TheConstants as limit
-use Rattle.fidl_names.specs.declared.memory.NoMemory.{NoMemory}
 use Rattle.fidl_names.specs.declared.methods.Handle.{Handle}
 use Rattle.fidl_names.specs.declared.methods.Handle.TheVariants.{Token}
 use Rattle.fidl_names.specs.declared.methods.Method.TheVariants as method
@@ -46,7 +45,6 @@ use Rattle.vfs_journal.specs.Serving.{Moment, fault_answer, fault_txid}
 use Rattle.vfs_server.specs.declared.asking.Asking.{Asking}
 use Rattle.vfs_server.specs.declared.conn.Conn.{Conn}
 use Rattle.vfs_server.specs.declared.conn.Conn.TheVariants as conn
-use Rattle.vfs_server.specs.declared.done.Done.{Done}
 use Rattle.vfs_server.specs.declared.fate.Fate.{Fate}
 use Rattle.vfs_server.specs.declared.fate.Fate.TheVariants as fates
 use Rattle.vfs_server.specs.declared.given.Given.{Given}
@@ -78,35 +76,29 @@ IsOfItsKind (conn.Echo birth) = birth.protocol ≡ protocol.Echo
 
 -- what a directory's connection gives
 abbrev pub of_directory : DirServed → Given
-of_directory (dir.Reply changes) = given.Reply changes
+of_directory (dir.Reply changes) = given.Reply
 of_directory dir.ReplyEnd = given.ReplyEnd
-of_directory (dir.Bind birth changes) = given.Bind birth changes
+of_directory (dir.Bind birth changes) = given.Bind birth
 of_directory (dir.WatchBy mask) = given.WatchBy mask
 of_directory (dir.Forward mount flags rest) = given.Forward mount flags rest
 of_directory (dir.Refused status) = given.Refused status
 of_directory dir.NoMemory = given.NoMemory
 
--- what any other connection gives, at which no name comes or goes
-abbrev pub IsOf : Served → Given → Type 0
-IsOf served.Reply what = (changes : Changes) × (what ≡ given.Reply changes) × (told_by changes ≡ nothing_told)
-IsOf served.ReplyEnd what = what ≡ given.ReplyEnd
-IsOf (served.Bind birth) what = (changes : Changes) × (what ≡ given.Bind birth changes) × (told_by changes ≡ nothing_told)
-IsOf (served.Refused status) what = what ≡ given.Refused status
-IsOf (served.End status) what = what ≡ given.End status
-IsOf served.NoMemory what = what ≡ given.NoMemory
-
--- what a connection tells for watchers
-abbrev pub told_given : Given → List Happening
-told_given (given.Reply changes) = told_by changes
-told_given (given.Bind birth changes) = told_by changes
-told_given _ = nothing_told
+-- what any other connection gives
+abbrev pub of_other : Served → Given
+of_other served.Reply = given.Reply
+of_other served.ReplyEnd = given.ReplyEnd
+of_other (served.Bind birth) = given.Bind birth
+of_other (served.Refused status) = given.Refused status
+of_other (served.End status) = given.End status
+of_other served.NoMemory = given.NoMemory
 
 -- a connection gives this answer to a request with this transaction id
 abbrev pub IsGiven : Answer → ℕ → Given → Written → Type 0
-IsGiven (replies a) txid what out = ((changes : Changes) × (what ≡ given.Reply changes)) × HasReply txid a out
+IsGiven (replies a) txid what out = (what ≡ given.Reply) × HasReply txid a out
 IsGiven closes txid what out = (what ≡ given.ReplyEnd) × HasReply txid (done method.Close) out
 IsGiven (binds birth announced) txid what out =
-    ((found : code.Birth) × ((changes : Changes) × (what ≡ given.Bind found changes)) × IsBirth birth announced found) × HasNothing out
+    ((found : code.Birth) × (what ≡ given.Bind found) × IsBirth birth announced found) × HasNothing out
 IsGiven (watches mask) txid what out = (what ≡ given.WatchBy mask) × HasReply txid (settled method.Watch) out
 IsGiven (forwards mount flags rest) txid what out = (what ≡ given.Forward mount flags rest) × HasNothing out
 IsGiven (refuses status) txid what out = (what ≡ given.Refused status) × HasNothing out
@@ -118,12 +110,12 @@ abbrev pub CanEcho : Protocol → Asked → Type 0
 CanEcho p request = p ≡ protocol.Echo → IsUtf8 (text_of request) × PayloadFits (payload method.EchoString (text_of request))
 
 -- a connection did what an act says, but for its frames
-pub record Acts (act : Act) (txid : ℕ) (what : Given) (out : Written) (new : Connection) (graph changed : Kept) : Type 0 where
+pub record Acts (act : Act) (txid : ℕ) (what : Given) (told : List Happening) (out : Written) (new : Connection) (graph changed : Kept) : Type 0 where
   pub answer : IsGiven act.answer txid what out
-  pub told : act.told ≡ told_given what
+  pub tells : act.told ≡ told
   pub position : new.position ≡ act.position
   pub change : Leads graph changed act.change
-  pub bound : (found : code.Birth) (changes : Changes) → what ≡ given.Bind found changes → CanBeBound changed found
+  pub bound : (found : code.Birth) → what ≡ given.Bind found → CanBeBound changed found
 
 -- ---- frames
 
@@ -139,9 +131,9 @@ last_frames endpoint out = message_frame endpoint out ∷ close_frame endpoint �
 
 -- the frames that are written where a connection to `endpoint` gave this to a request with `object`, and left this output
 abbrev pub frames_given : ℕ → ℕ → Given → Written → List Frame
-frames_given endpoint object (given.Reply changes) out = message_frame endpoint out ∷ []
+frames_given endpoint object given.Reply out = message_frame endpoint out ∷ []
 frames_given endpoint object given.ReplyEnd out = last_frames endpoint out
-frames_given endpoint object (given.Bind birth changes) out = announcement object birth.protocol birth.announce
+frames_given endpoint object (given.Bind birth) out = announcement object birth.protocol birth.announce
 frames_given endpoint object (given.WatchBy mask) out = message_frame endpoint out ∷ []
 frames_given endpoint object (given.Forward mount flags rest) out = []
 frames_given endpoint object (given.Refused status) out = ending object status
@@ -160,9 +152,9 @@ fate_by node _ = fates.Stays
 
 -- what becomes of endpoints and tokens then, at this server, where the output has these handles
 abbrev pub effects_given : ℕ → ℕ → ℕ → ℕ → Given → List Handle → Effects
-effects_given endpoint server node object (given.Reply changes) handles = record no_effects { token = token_given endpoint server node handles }
+effects_given endpoint server node object given.Reply handles = record no_effects { token = token_given endpoint server node handles }
 effects_given endpoint server node object given.ReplyEnd handles = record no_effects { ends = endpoint ∷ [] }
-effects_given endpoint server node object (given.Bind birth changes) handles =
+effects_given endpoint server node object (given.Bind birth) handles =
     record no_effects { bound = Some (record { endpoint = object; server = server; birth = born birth; mask = 0 }) }
 effects_given endpoint server node object (given.WatchBy mask) handles = record no_effects { bound = Some (watcher_with server object node mask) }
 effects_given endpoint server node object (given.Forward mount flags rest) handles =
@@ -178,7 +170,7 @@ HasTxid _ = Unit {0}
 
 -- what is bound by a birth is a connection
 abbrev pub BindsConnection : Given → Type 0
-BindsConnection (given.Bind birth changes) = birth.protocol ≢ protocol.Watcher
+BindsConnection (given.Bind birth) = birth.protocol ≢ protocol.Watcher
 BindsConnection _ = Unit {0}
 
 -- whom an answer goes to, by its parts
@@ -192,7 +184,7 @@ effects_by asker answer =
 
 -- an endpoint is bound with this birth
 abbrev pub BindsBy : code.Birth → Given → Type 0
-BindsBy birth what = (changes : Changes) × (what ≡ given.Bind birth changes)
+BindsBy birth what = what ≡ given.Bind birth
 
 -- an Open goes on behind this mount
 abbrev pub GoesOnBehind : ℕ → Given → Type 0
@@ -274,11 +266,19 @@ pub record MayWatch (in_use : Room) (change : Change) (directory : NodeRef) (con
   pub room : is_full in_use ≡ false
   pub still : change ≡ stay
 
+-- what was done with a message: what becomes of endpoints, and what watchers are to be told of it
+pub record Done : Type 0 where
+  pub fate : Fate
+  pub told : List Happening
+
+abbrev pub done_with : Fate → Changes → Done
+done_with fate changes = record { fate = fate; told = told_by changes }
+
 -- a connection does what an outcome says, and changes the graph as it says; watchers aren't told yet
 pub record Answers (moment : Moment) (outcome : Outcome) (done : Done) (out : Written) (new : Connection) (graph changed : Kept) (before after : List ℕ) : Type 0 where
   pub frames : after ≡ before ++ spellings outcome.frames
   pub effects : effects_of outcome ≡ effects_told moment.bound.endpoint moment.bound.server done.fate out
-  pub told : outcome.told ≡ told_by done.changes
+  pub told : outcome.told ≡ done.told
   pub position : new.position ≡ outcome.position
   pub change : Leads graph changed outcome.change
   pub bound : (object : ℕ) (birth : code.Birth) → done.fate ≡ fates.Binds object birth → CanBeBound changed birth
@@ -291,23 +291,20 @@ pub record Answers (moment : Moment) (outcome : Outcome) (done : Done) (out : Wr
 pub record CanTell (done : Done) (connection : Connection) (before after : List ℕ) : Type 0 where
   pub front : Extends before after
   pub directory : (object mask : ℕ) (directory : NodeRef) → done.fate ≡ fates.Watches object directory mask → IsOnDirectory directory connection
-  pub short : All IsShort (told_by done.changes)
+  pub short : All IsShort done.told
 
 -- nothing was done
 pub record IsPassedOver (done : Done) : Type 0 where
   pub fate : done.fate ≡ fates.Stays
-  pub told : told_by done.changes ≡ nothing_told
+  pub told : done.told ≡ nothing_told
 
 -- ---- what watchers are told
 
 -- a new watcher is at a directory that the graph keeps, and what is told are names
 pub record CanBeTold (graph : Kept) (done : Done) : Type 0 where
   pub directory : (object mask : ℕ) (directory : NodeRef) → done.fate ≡ fates.Watches object directory mask → IsDirectory graph directory
-  pub short : All IsShort (told_by done.changes)
+  pub short : All IsShort done.told
 
 -- these watchers were told of what was done, over this graph
-pub record IsTold (seats : Seats) (graph : Kept) (result : Result Done NoMemory) (fate : Fate) (before after : List ℕ) : Type 0 where
-  pub done : Done
-  pub some : result ≡ Ok done
-  pub same : fate ≡ done.fate
-  pub frames : after ≡ before ++ spellings (first_of graph.edges done.fate ++ told_of seats (told_by done.changes))
+abbrev pub IsTold : Seats → Kept → Done → List ℕ → List ℕ → Type 0
+IsTold seats graph what before after = after ≡ before ++ spellings (first_of graph.edges what.fate ++ told_of seats what.told)

@@ -46,7 +46,7 @@ pub(crate) fn answer(
 {
     let endpoint = asking.endpoint;
     match given {
-        Given::Reply(_) => {
+        Given::Reply => {
             put_message(endpoint, out, outbox)?;
             Ok(replied(node, out))
         }
@@ -54,7 +54,7 @@ pub(crate) fn answer(
             put_last(endpoint, out, outbox)?;
             Ok(Fate::Ends)
         }
-        Given::Bind(birth, _) => bind(asking.ordinals, object, birth, out, outbox),
+        Given::Bind(birth) => bind(asking.ordinals, object, birth, out, outbox),
         Given::WatchBy(mask) => {
             put_message(endpoint, out, outbox)?;
             Ok(Fate::Watches {

@@ -8,16 +8,17 @@ ghost use Rattle.io_messages.specs.Shapes.{is_one_way};
 ghost use Rattle.node_graph.specs.Graph.{StandsFor};
 ghost use Rattle.node_graph.specs.Tree.{Tree};
 ghost use Rattle.conn_rules.specs.Acts.{act_of};
+ghost use Rattle.conn_rules.specs.Answers.{nothing_told};
 ghost use Rattle.conn_rules.specs.Births.{fresh};
 ghost use Rattle.conn_rules.specs.Contexts.{context_of};
-ghost use Rattle.conn_rules.specs.Served.{HasNothing, KeepsHolds};
+ghost use Rattle.conn_rules.specs.Served.{HasNothing, KeepsHolds, told_by};
 ghost use Rattle.conn_rules.specs.Shared.{CanBeBound};
 ghost use Rattle.vfs_server.specs.Kept.{HasTree, NameDirectories};
 ghost use Rattle.vfs_server.specs.Steps.{Acts, CanEcho, IsOfItsKind, NamesAsThere, connection_of};
 
 use crate::given::Given;
 use crate::tokens::Tokens;
-use conn_rules::{Birth, Room};
+use conn_rules::{Birth, Changes, Room};
 use dir_conn::DirConn;
 use fidl_wire::{Ordinals, Out};
 use file_conn::FileConn;
@@ -76,7 +77,8 @@ impl Conn {
         }
     }
 
-    /// Serves a request. A directory that its token names is looked up among the server's tokens.
+    /// Serves a request. A directory that its token names is looked up among the server's tokens. What
+    /// watchers are to be told is put into the changes.
     pub fn serve<'a>(
         &mut self,
         ordinals: &Ordinals,
@@ -86,6 +88,7 @@ impl Conn {
         txid: u32,
         request: Request<'a>,
         out: &mut Out,
+        changes: &mut Changes<'a>,
     ) -> Given<'a>
         requires kind { IsOfItsKind self.old }
         requires tree { HasTree graph.old }
@@ -96,9 +99,10 @@ impl Conn {
         requires txid { has_txid (is_one_way (method_of (asked request))) txid ≡ true }
         requires echo { CanEcho (connection_of self.old).birth.protocol (asked request) }
         requires empty { HasNothing out.old }
+        requires none { told_by changes.old ≡ nothing_told }
         ensures acts { (tree : Tree) (directory : ℕ → Option ℕ) → StandsFor graph.old tree →
             NamesAsThere tokens.now directory (asked request.entry) → result ≢ Given.NoMemory →
-            Acts (act_of (context_of (connection_of self.old) room tree directory) (asked request.entry)) txid result out.new (connection_of self.new) graph.old graph.new }
+            Acts (act_of (context_of (connection_of self.old) room tree directory) (asked request.entry)) txid result (told_by changes.new) out.new (connection_of self.new) graph.old graph.new }
         ensures holds { KeepsHolds (connection_of self.old) (connection_of self.new) graph.old graph.new }
         ensures tree { HasTree graph.new }
         ensures kind { IsOfItsKind self.new }
@@ -106,7 +110,8 @@ impl Conn {
         match self {
             Conn::Directory(conn) => {
                 let target = tokens.target(&request);
-                Given::of_directory(conn.serve(ordinals, graph, room, target, txid, request, out))
+                let served = conn.serve(ordinals, graph, room, target, txid, request, out);
+                Given::of_directory(served, changes)
             }
             Conn::File(conn) => Given::of(conn.serve(ordinals, graph, room, txid, request, out)),
             Conn::Node(conn) => Given::of(conn.serve(ordinals, graph, room, txid, request, out)),

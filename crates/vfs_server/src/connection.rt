@@ -6,18 +6,19 @@ ghost use Rattle.io_messages.specs.Asked.{asked, method_of};
 ghost use Rattle.io_messages.specs.Protocols.{has_method};
 ghost use Rattle.io_messages.specs.Requests.{has_txid, request_of};
 ghost use Rattle.io_messages.specs.Shapes.{is_one_way};
+ghost use Rattle.conn_rules.specs.Answers.{nothing_told};
 ghost use Rattle.conn_rules.specs.Births.{fresh};
-ghost use Rattle.conn_rules.specs.Served.{HasNothing, KeepsHolds};
+ghost use Rattle.conn_rules.specs.Served.{HasNothing, KeepsHolds, told_by};
 ghost use Rattle.conn_rules.specs.Shared.{CanBeBound};
 ghost use Rattle.vfs_journal.specs.Handles.{numbers_of};
 ghost use Rattle.vfs_journal.specs.Serving.{Moment, outcome_of_read};
 ghost use Rattle.vfs_server.specs.Kept.{HasTree, NameDirectories};
-ghost use Rattle.vfs_server.specs.Steps.{Answers, AreNamed, CanEcho, CanTell, IsAskedAt, NamesAsThere};
+ghost use Rattle.vfs_server.specs.Steps.{Answers, AreNamed, CanEcho, CanTell, IsAskedAt, NamesAsThere, done_with};
 
 use crate::answers::{answer, answer_fault, object_of};
 use crate::asking::Asking;
 use crate::conn::Conn;
-use crate::done::Done;
+use crate::fate::Fate;
 use crate::tokens::Tokens;
 use conn_rules::{Birth, Changes};
 use endpoint_link::Outbox;
@@ -66,7 +67,8 @@ impl Connection {
     }
 
     /// Serves a message: the frames of the answer are written, and the call tells what becomes of
-    /// endpoints and what watchers are to be told. An Open that goes on is left in the output.
+    /// endpoints. What watchers are to be told is put into the changes. An Open that goes on is left in
+    /// the output.
     ///
     /// For want of memory no frame is written.
     #[inline(always)]
@@ -79,16 +81,18 @@ impl Connection {
         handles: &[Handle],
         out: &mut Out,
         outbox: &mut Outbox,
-    ) -> Result<Done<'a>, NoMemory>
+        changes: &mut Changes<'a>,
+    ) -> Result<Fate, NoMemory>
         requires tree { HasTree graph.old }
         requires made { graph.old.made < 2 ^ 63 }
         requires node { CanBeBound graph.old self.old.birth }
         requires directories { NameDirectories graph.old tokens.now }
         requires short { length bytes.now ≤ limit.MAX_BYTES }
+        requires none { told_by changes.old ≡ nothing_told }
         ensures answers { (server : ℕ) (moment : Moment) → IsAskedAt server asking.now graph.old self.old moment →
             AreNamed tokens.now (numbers_of handles.now) moment.directory →
-            IfOk result (λ done. Answers moment (outcome_of_read moment (request_of self.old.birth.protocol bytes.now handles.now)) done out.new self.new graph.old graph.new outbox.old outbox.new) }
-        ensures tells { IfOk result (λ done. CanTell done self.new outbox.old outbox.new) }
+            IfOk result (λ fate. Answers moment (outcome_of_read moment (request_of self.old.birth.protocol bytes.now handles.now)) (done_with fate changes.new) out.new self.new graph.old graph.new outbox.old outbox.new) }
+        ensures tells { IfOk result (λ fate. CanTell (done_with fate changes.new) self.new outbox.old outbox.new) }
         ensures holds { KeepsHolds self.old self.new graph.old graph.new }
         ensures tree { HasTree graph.new }
         ensures no_memory { OnErr result (outbox.new ≡ outbox.old) }
@@ -96,12 +100,9 @@ impl Connection {
         out.clear();
         match read_request(asking.ordinals, self.conn.protocol(), bytes, handles) {
             Ok((txid, request)) => self.serve_request(
-                asking, graph, tokens, txid, request, out, outbox,
+                asking, graph, tokens, txid, request, out, outbox, changes,
             ),
-            Err(fault) => Ok(Done {
-                fate: answer_fault(asking, fault, out, outbox)?,
-                changes: Changes::none(),
-            }),
+            Err(fault) => answer_fault(asking, fault, out, outbox),
         }
     }
 
@@ -115,7 +116,8 @@ impl Connection {
         request: Request<'a>,
         out: &mut Out,
         outbox: &mut Outbox,
-    ) -> Result<Done<'a>, NoMemory>
+        changes: &mut Changes<'a>,
+    ) -> Result<Fate, NoMemory>
         requires tree { HasTree graph.old }
         requires made { graph.old.made < 2 ^ 63 }
         requires node { CanBeBound graph.old self.old.birth }
@@ -124,21 +126,27 @@ impl Connection {
         requires txid { has_txid (is_one_way (method_of (asked request))) txid ≡ true }
         requires echo { CanEcho self.old.birth.protocol (asked request) }
         requires empty { HasNothing out.old }
+        requires none { told_by changes.old ≡ nothing_told }
         ensures answers { (server : ℕ) (moment : Moment) → IsAskedAt server asking.now graph.old self.old moment →
             NamesAsThere tokens.now moment.directory (asked request.entry) →
-            IfOk result (λ done. Answers moment (outcome_of_read moment (Ok (txid, asked request.entry))) done out.new self.new graph.old graph.new outbox.old outbox.new) }
-        ensures tells { IfOk result (λ done. CanTell done self.new outbox.old outbox.new) }
+            IfOk result (λ fate. Answers moment (outcome_of_read moment (Ok (txid, asked request.entry))) (done_with fate changes.new) out.new self.new graph.old graph.new outbox.old outbox.new) }
+        ensures tells { IfOk result (λ fate. CanTell (done_with fate changes.new) self.new outbox.old outbox.new) }
         ensures holds { KeepsHolds self.old self.new graph.old graph.new }
         ensures tree { HasTree graph.new }
         ensures no_memory { OnErr result (outbox.new ≡ outbox.old) }
     {
         let object = object_of(&request);
         let room = asking.room(graph.number(self.conn.node()), &request);
-        let given = self
-            .conn
-            .serve(asking.ordinals, room, graph, tokens, txid, request, out);
-        let changes = given.changes();
-        let fate = answer(asking, self.conn.node(), object, given, out, outbox)?;
-        Ok(Done { fate, changes })
+        let given = self.conn.serve(
+            asking.ordinals,
+            room,
+            graph,
+            tokens,
+            txid,
+            request,
+            out,
+            changes,
+        );
+        answer(asking, self.conn.node(), object, given, out, outbox)
     }
 }

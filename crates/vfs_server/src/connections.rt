@@ -4,17 +4,17 @@ ghost use Rattle.std.specs.Prelude.{◌≡◌, ◌≤◌, ◌<◌, ◌^◌, ℕ,
 ghost use Rattle.fidl_names.specs.declared.limits.TheConstants as limit;
 ghost use Rattle.std.specs.FinMap as finite;
 ghost use Rattle.conn_rules.specs.Births as births;
-ghost use Rattle.conn_rules.specs.Served.{KeepsHolds};
+ghost use Rattle.conn_rules.specs.Answers.{nothing_told};
+ghost use Rattle.conn_rules.specs.Served.{KeepsHolds, told_by};
 ghost use Rattle.conn_rules.specs.Shared.{CanBeBound};
 ghost use Rattle.vfs_server.specs.Kept.{HasTree, NameDirectories};
 ghost use Rattle.io_messages.specs.Requests.{request_of};
 ghost use Rattle.vfs_journal.specs.Handles.{numbers_of};
 ghost use Rattle.vfs_journal.specs.Serving.{Moment, outcome_of_read};
-ghost use Rattle.vfs_server.specs.Steps.{Answers, AreNamed, CanTell, IsAskedAt, IsPassedOver};
+ghost use Rattle.vfs_server.specs.Steps.{Answers, AreNamed, CanTell, IsAskedAt, IsPassedOver, done_with};
 
 use crate::asking::Asking;
 use crate::connection::Connection;
-use crate::done::Done;
 use crate::fate::Fate;
 use crate::tokens::Tokens;
 use conn_rules::Changes;
@@ -100,8 +100,8 @@ impl Connections {
         }
     }
 
-    /// Serves a message on the one of the endpoint that is asked. No other changes. Where it has none, the
-    /// message is passed over.
+    /// Serves a message on the one of the endpoint that is asked. No other changes. What watchers are to be
+    /// told is put into the changes. Where it has none, the message is passed over.
     pub fn serve<'a>(
         &mut self,
         asking: &Asking<'_>,
@@ -111,19 +111,21 @@ impl Connections {
         handles: &[Handle],
         out: &mut Out,
         outbox: &mut Outbox,
-    ) -> Result<Done<'a>, NoMemory>
+        changes: &mut Changes<'a>,
+    ) -> Result<Fate, NoMemory>
         requires short { length bytes.now ≤ limit.MAX_BYTES }
         requires tree { HasTree graph.old }
         requires made { graph.old.made < 2 ^ 63 }
         requires directories { NameDirectories graph.old tokens.now }
+        requires none { told_by changes.old ≡ nothing_told }
         requires node { (connection : births.Connection) → finite.get self.old asking.now.endpoint ≡ Some connection → CanBeBound graph.old connection.birth }
         ensures served { (old : births.Connection) → finite.get self.old asking.now.endpoint ≡ Some old →
             (new : births.Connection) × KeepsHolds old new graph.old graph.new × (self.new ≡ finite.insert self.old asking.now.endpoint new)
-            × IfOk result (λ done. CanTell done new outbox.old outbox.new)
+            × IfOk result (λ fate. CanTell (done_with fate changes.new) new outbox.old outbox.new)
             × ((server : ℕ) (moment : Moment) → IsAskedAt server asking.now graph.old old moment →
             AreNamed tokens.now (numbers_of handles.now) moment.directory →
-            IfOk result (λ done. Answers moment (outcome_of_read moment (request_of old.birth.protocol bytes.now handles.now)) done out.new new graph.old graph.new outbox.old outbox.new)) }
-        ensures passed_over { finite.get self.old asking.now.endpoint ≡ None → IfOk result IsPassedOver }
+            IfOk result (λ fate. Answers moment (outcome_of_read moment (request_of old.birth.protocol bytes.now handles.now)) (done_with fate changes.new) out.new new graph.old graph.new outbox.old outbox.new)) }
+        ensures passed_over { finite.get self.old asking.now.endpoint ≡ None → IfOk result (λ fate. IsPassedOver (done_with fate changes.new)) }
         ensures unchanged { finite.get self.old asking.now.endpoint ≡ None → (self.new ≡ self.old) × (graph.new ≡ graph.old) × (outbox.new ≡ outbox.old) }
         ensures tree { HasTree graph.new }
         ensures no_memory { OnErr result (outbox.new ≡ outbox.old) }
@@ -131,12 +133,9 @@ impl Connections {
         match self.places.get(&asking.endpoint) {
             Some(place) => {
                 let connection = &mut self.kept[*place];
-                connection.serve(asking, graph, tokens, bytes, handles, out, outbox)
+                connection.serve(asking, graph, tokens, bytes, handles, out, outbox, changes)
             }
-            None => Ok(Done {
-                fate: Fate::Stays,
-                changes: Changes::none(),
-            }),
+            None => Ok(Fate::Stays),
         }
     }
 }

@@ -1,8 +1,10 @@
 //! What a connection of any kind gives.
 
 ghost use Rattle.std.specs.Prelude.{◌≡◌};
+ghost use Rattle.conn_rules.specs.Answers.{nothing_told};
 ghost use Rattle.conn_rules.specs.Served.{told_by};
-ghost use Rattle.vfs_server.specs.Steps.{IsOf, of_directory, told_given};
+ghost use Rattle.dir_conn.specs.Served.{told_with};
+ghost use Rattle.vfs_server.specs.Steps.{of_directory, of_other};
 
 use conn_rules::{Birth, Changes, Served};
 use dir_conn::DirServed;
@@ -10,16 +12,15 @@ use fidl_names::Status;
 use io_flags::OpenFlags;
 use path_walk::Path;
 
-/// What a connection makes of a request, whatever it is to. Where names came or went, the watchers of
-/// their directories are to be told.
+/// What a connection makes of a request, whatever it is to.
 #[derive(Drop)]
 pub(crate) enum Given<'a> {
     /// The reply stands in the output.
-    Reply(Changes<'a>),
+    Reply,
     /// The reply to Close stands in the output, and the endpoint ends behind it.
     ReplyEnd,
     /// The endpoint that the request carries is to be bound.
-    Bind(Birth, Changes<'a>),
+    Bind(Birth),
     /// The reply to Watch stands in the output, and the endpoint that the request carries is to watch
     /// the directory, with this mask.
     WatchBy(u32),
@@ -38,14 +39,22 @@ pub(crate) enum Given<'a> {
 }
 
 impl<'a> Given<'a> {
-    /// What a directory's connection gives.
-    pub fn of_directory(served: DirServed<'a>) -> Given<'a>
-        ensures { result ≡ of_directory served.entry }
+    /// What a directory's connection gives. Where names came or went, the changes say so.
+    pub fn of_directory(served: DirServed<'a>, changes: &mut Changes<'a>) -> Given<'a>
+        requires none { told_by changes.old ≡ nothing_told }
+        ensures given { result ≡ of_directory served.entry }
+        ensures told { told_by changes.new ≡ told_with served.entry }
     {
         match served {
-            DirServed::Reply(changes) => Given::Reply(changes),
+            DirServed::Reply(told) => {
+                *changes = told;
+                Given::Reply
+            }
             DirServed::ReplyEnd => Given::ReplyEnd,
-            DirServed::Bind(birth, changes) => Given::Bind(birth, changes),
+            DirServed::Bind(birth, told) => {
+                *changes = told;
+                Given::Bind(birth)
+            }
             DirServed::WatchBy(mask) => Given::WatchBy(mask),
             DirServed::Forward { mount, flags, rest } => Given::Forward { mount, flags, rest },
             DirServed::Refused(status) => Given::Refused(status),
@@ -55,25 +64,15 @@ impl<'a> Given<'a> {
 
     /// What any other connection gives, at which no name comes or goes.
     pub fn of(served: Served) -> Given<'a>
-        ensures { IsOf served result }
+        ensures { result ≡ of_other served }
     {
         match served {
-            Served::Reply => Given::Reply(Changes::none()),
+            Served::Reply => Given::Reply,
             Served::ReplyEnd => Given::ReplyEnd,
-            Served::Bind(birth) => Given::Bind(birth, Changes::none()),
+            Served::Bind(birth) => Given::Bind(birth),
             Served::Refused(status) => Given::Refused(status),
             Served::End(status) => Given::End(status),
             Served::NoMemory => Given::NoMemory,
-        }
-    }
-
-    /// What watchers are to be told.
-    pub fn changes(&self) -> Changes<'a>
-        ensures { told_by result ≡ told_given self.now }
-    {
-        match self {
-            Given::Reply(changes) | Given::Bind(_, changes) => *changes,
-            _ => Changes::none(),
         }
     }
 }

@@ -7,7 +7,6 @@ mod beginning;
 mod conn;
 mod connection;
 mod connections;
-mod done;
 mod fate;
 mod firsts;
 mod frames;

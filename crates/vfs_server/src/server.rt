@@ -22,7 +22,7 @@ use crate::fate::Fate;
 use crate::telling::tell;
 use crate::tokens::Tokens;
 use crate::watching::Watching;
-use conn_rules::Birth;
+use conn_rules::{Birth, Changes};
 use endpoint_link::Outbox;
 use fidl_names::{Handle, NoMemory};
 use fidl_wire::{Ordinals, Out};
@@ -140,7 +140,8 @@ impl Server {
             token,
         };
         let len = outbox.len();
-        let done = self.connections.serve(
+        let mut changes = Changes::none();
+        let fate = self.connections.serve(
             &asking,
             &mut self.graph,
             &self.tokens,
@@ -148,8 +149,9 @@ impl Server {
             handles,
             out,
             outbox,
+            &mut changes,
         );
-        tell(&self.watching, &self.graph, &done, len, outbox)
+        tell(&self.watching, &self.graph, &fate, &changes, len, outbox)
     }
 
     /// Binds an endpoint that isn't bound here, and holds its node. Of want of memory the server is as

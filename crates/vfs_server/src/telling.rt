@@ -1,15 +1,15 @@
 //! What watchers are told of a serving, behind its answer.
 
-ghost use Rattle.std.specs.Prelude.{◌≡◌, ◌≤◌, ◌++◌, ℕ, IfOk, OnErr, OnOk, length, take};
+ghost use Rattle.std.specs.Prelude.{◌≡◌, ◌≤◌, ◌++◌, ℕ, IfOk, Ok, OnErr, OnOk, length, take};
 ghost use Rattle.endpoint_link.specs.Frames.{spellings};
 ghost use Rattle.node_graph.specs.declared.nodes.NodeRef.{NodeRef};
 ghost use Rattle.vfs_server.specs.Binding.{IsDirectory};
-ghost use Rattle.vfs_server.specs.Steps.{CanBeTold, IsTold};
+ghost use Rattle.vfs_server.specs.Steps.{CanBeTold, IsTold, done_with};
 ghost use Rattle.vfs_server.specs.Watched.{Extends, first_of};
 
-use crate::done::Done;
 use crate::fate::Fate;
 use crate::watching::Watching;
+use conn_rules::Changes;
 use endpoint_link::Outbox;
 use fidl_names::NoMemory;
 use node_graph::Graph;
@@ -20,16 +20,18 @@ use watch_events::snapshot;
 pub(crate) fn tell(
     watching: &Watching,
     graph: &Graph,
-    done: &Result<Done<'_>, NoMemory>,
+    fate: &Result<Fate, NoMemory>,
+    changes: &Changes<'_>,
     len: usize,
     outbox: &mut Outbox,
 ) -> Result<Fate, NoMemory>
-    requires can { IfOk done.now (CanBeTold graph.now) }
+    requires can { IfOk fate.now (λ fate. CanBeTold graph.now (done_with fate changes.now)) }
     requires within { len ≤ length outbox.old }
-    ensures told { IfOk result (λ fate. IsTold watching.now graph.now done.now fate outbox.old outbox.new) }
+    ensures same { IfOk result (λ told. fate.now ≡ Ok told) }
+    ensures told { IfOk result (λ fate. IsTold watching.now graph.now (done_with fate changes.now) outbox.old outbox.new) }
     ensures no_memory { OnErr result (outbox.new ≡ take len outbox.old) }
 {
-    match put_told(watching, graph, done, outbox) {
+    match put_told(watching, graph, fate, changes, outbox) {
         Ok(fate) => Ok(fate),
         Err(_) => {
             outbox.truncate(len);
@@ -43,18 +45,20 @@ pub(crate) fn tell(
 fn put_told(
     watching: &Watching,
     graph: &Graph,
-    done: &Result<Done<'_>, NoMemory>,
+    fate: &Result<Fate, NoMemory>,
+    changes: &Changes<'_>,
     outbox: &mut Outbox,
 ) -> Result<Fate, NoMemory>
-    requires can { IfOk done.now (CanBeTold graph.now) }
-    ensures told { IfOk result (λ fate. IsTold watching.now graph.now done.now fate outbox.old outbox.new) }
+    requires can { IfOk fate.now (λ fate. CanBeTold graph.now (done_with fate changes.now)) }
+    ensures same { IfOk result (λ told. fate.now ≡ Ok told) }
+    ensures told { IfOk result (λ fate. IsTold watching.now graph.now (done_with fate changes.now) outbox.old outbox.new) }
     ensures front { OnErr result (Extends outbox.old outbox.new) }
 {
-    match done {
-        Ok(done) => {
-            put_first(graph, done.fate, outbox)?;
-            watching.tell(done.changes, outbox)?;
-            Ok(done.fate)
+    match fate {
+        Ok(fate) => {
+            put_first(graph, *fate, outbox)?;
+            watching.tell(*changes, outbox)?;
+            Ok(*fate)
         }
         Err(_) => Err(NoMemory),
     }

@@ -4,8 +4,8 @@ use Rattle.io_messages.specs.declared.protocols.Protocol.TheVariants as protocol
 use Rattle.io_messages.specs.Requests.{Reads, request_of}
 use Rattle.node_conn.proofs.Echoes.{read_text}
 use Rattle.vfs_journal.specs.Serving.{outcome_of_read}
-use Rattle.vfs_server.specs.Steps.{Answers}
-use Rattle.vfs_server.proofs.Answering.{fault_answers, fault_tells}
+use Rattle.vfs_server.specs.Steps.{Answers, done_with}
+use Rattle.vfs_server.proofs.Answering.{fault_answers, fault_tells, ok_map}
 use Rattle.vfs_server.proofs.Carried.{target_named}
 use Rattle.vfs_server.proofs.connection.Connection.serve.Goals as goal
 
@@ -19,21 +19,24 @@ pub returns-in-Ok-clause-answers : goal.returns-in-Ok-clause-answers
 returns-in-Ok-clause-answers c server moment asks named =
     let protocol_is = c.protocol.ensures ∙ ap (λ connection. connection.birth.protocol) c.self.view_is in
     subst
-    (λ read. IfOk c.serve_request.result (λ done. Answers moment (outcome_of_read moment read) done c.serve_request.new.out c.serve_request.new.self c.args.graph.now c.serve_request.new.graph c.args.outbox.now c.serve_request.new.outbox))
+    (λ read. IfOk c.serve_request.result (λ fate. Answers moment (outcome_of_read moment read) (done_with fate c.serve_request.new.changes) c.serve_request.new.out c.serve_request.new.self c.args.graph.now c.serve_request.new.graph c.args.outbox.now c.serve_request.new.outbox))
     (c.in-Ok.ensures.exact ∙ ap (λ p. request_of p c.args.bytes.now c.args.handles.now) protocol_is)
     (c.serve_request.ensures.answers server moment asks
     (target_named c.args.tokens.now c.protocol.result c.args.bytes.now c.args.handles.now c.in-Ok.txid (asked c.in-Ok.request) moment.directory c.in-Ok.ensures.found named))
 
-pub returns-in_ok-answer_fault-in-Err-clause-answers : goal.returns-in_ok-answer_fault-in-Err-clause-answers
-returns-in_ok-answer_fault-in-Err-clause-answers c server moment asks named =
+pub returns-in-Err-clause-answers : goal.returns-in-Err-clause-answers
+returns-in-Err-clause-answers c server moment asks named =
     let protocol_is = c.protocol.ensures ∙ ap (λ connection. connection.birth.protocol) c.self.view_is in
+    ok_map _ _ c.answer_fault.result
+    (λ fate does.
     subst
-    (λ read. Answers moment (outcome_of_read moment read) (record { fate = c.in_ok-answer_fault-in-Err.field-0; changes = c.none.result }) c.answer_fault.new.out c.args.self.now c.args.graph.now c.args.graph.now c.args.outbox.now c.answer_fault.new.outbox)
+    (λ read. Answers moment (outcome_of_read moment read) (done_with fate c.args.changes.now) c.answer_fault.new.out c.args.self.now c.args.graph.now c.args.graph.now c.args.outbox.now c.answer_fault.new.outbox)
     (c.in-Err.ensures.exact ∙ ap (λ p. request_of p c.args.bytes.now c.args.handles.now) protocol_is)
-    (fault_answers server c.args.asking.now c.args.graph.now c.args.self.now moment asks c.in-Err.fault (record { fate = c.in_ok-answer_fault-in-Err.field-0; changes = c.none.result }) c.none.ensures c.answer_fault.new.out c.args.outbox.now c.answer_fault.new.outbox
-    c.in_ok-answer_fault-in-Err.ensures.does)
+    (fault_answers server c.args.asking.now c.args.graph.now c.args.self.now moment asks c.in-Err.fault (done_with fate c.args.changes.now) c.requires.none c.answer_fault.new.out c.args.outbox.now c.answer_fault.new.outbox does))
+    c.answer_fault.ensures.does
 
-pub returns-in_ok-answer_fault-in-Err-clause-tells : goal.returns-in_ok-answer_fault-in-Err-clause-tells
-returns-in_ok-answer_fault-in-Err-clause-tells c =
-    fault_tells 0 c.args.asking.now c.args.self.now c.in-Err.fault (record { fate = c.in_ok-answer_fault-in-Err.field-0; changes = c.none.result }) c.none.ensures c.answer_fault.new.out c.args.outbox.now c.answer_fault.new.outbox
-    c.in_ok-answer_fault-in-Err.ensures.does
+pub returns-in-Err-clause-tells : goal.returns-in-Err-clause-tells
+returns-in-Err-clause-tells c =
+    ok_map _ _ c.answer_fault.result
+    (λ fate does. fault_tells 0 c.args.asking.now c.args.self.now c.in-Err.fault (done_with fate c.args.changes.now) c.requires.none c.answer_fault.new.out c.args.outbox.now c.answer_fault.new.outbox does)
+    c.answer_fault.ensures.does

@@ -1,4 +1,4 @@
-use Rattle.std.proofs.Common.{◌≡◌, ◌∙◌, ℕ, Option, true, ap, subst, sym}
+use Rattle.std.proofs.Common.{◌≡◌, ◌∙◌, ℕ, Option, refl, true, ap, subst, sym}
 use Rattle.io_messages.specs.Asked.{Asked, asked, method_of}
 use Rattle.io_messages.specs.Protocols.{has_method}
 use Rattle.node_graph.specs.Graph.{number_of}
@@ -8,10 +8,12 @@ use Rattle.conn_rules.specs.Acts.{act_of}
 use Rattle.conn_rules.specs.Answers.{Act}
 use Rattle.conn_rules.specs.Births.{Connection}
 use Rattle.conn_rules.specs.Contexts.{context_of}
+use Rattle.conn_rules.specs.Served.{told_by}
 use Rattle.conn_rules.specs.Shared.{CanBeBound}
 use Rattle.vfs_journal.specs.Serving.{object_of}
-use Rattle.vfs_server.specs.Steps.{Acts, DoesGiven, IsAskedAt, connection_of, looked_at, room_for}
-use Rattle.vfs_server.proofs.Answering.{binds_connection, can_tell, request_answers}
+use Rattle.vfs_server.specs.declared.fate.Fate.{Fate}
+use Rattle.vfs_server.specs.Steps.{Acts, DoesGiven, IsAskedAt, connection_of, done_with, looked_at, room_for}
+use Rattle.vfs_server.proofs.Answering.{binds_connection, can_tell, ok_map, request_answers}
 use Rattle.vfs_server.proofs.Looked.{act_alike}
 use Rattle.vfs_server.proofs.connection.Connection.serve_request.Goals as goal
 
@@ -23,16 +25,16 @@ pub answer-requires : goal.answer-requires
 answer-requires c = record {
   connection =
       let can = subst (λ connection. CanBeBound c.args.graph.now connection.birth) (sym c.self.view_is) c.requires.node in
-      binds_connection c.args.graph.now c.args.tokens.now (connection_of c.self.inside.conn) can c.requires.tree c.room-room.result (asked c.args.request) (known_here (asked c.args.request) c.self.view_is c.requires.method) c.args.txid c.serve-given.result c.serve-given.new.out
+      binds_connection c.args.graph.now c.args.tokens.now (connection_of c.self.inside.conn) can c.requires.tree c.room-room.result (asked c.args.request) (known_here (asked c.args.request) c.self.view_is c.requires.method) c.args.txid c.serve-given.result (told_by c.serve-given.new.changes) c.serve-given.new.out
       (connection_of c.serve-given.new.self) c.serve-given.new.graph c.serve-given.ensures.acts;
 }
 
 -- what is in use, as the connection sees it
-room_is : (c : goal.In_ok-fate) → c.room-room.result ≡ looked_at (asked c.args.request) (room_for c.args.asking.now (number_of (connection_of c.self.inside.conn).birth.node))
+room_is : (c : goal.After-answer) → c.room-room.result ≡ looked_at (asked c.args.request) (room_for c.args.asking.now (number_of (connection_of c.self.inside.conn).birth.node))
 room_is c = c.room-room.ensures ∙ ap (λ (n : ℕ). looked_at (asked c.args.request) (room_for c.args.asking.now n)) (c.number.ensures ∙ ap number_of c.node.ensures)
 
 -- what is done, over whatever tree and tokens, doesn't look at more
-act_is : (c : goal.In_ok-fate) (tree : Tree) (directory : ℕ → Option ℕ) →
+act_is : (c : goal.After-answer) (tree : Tree) (directory : ℕ → Option ℕ) →
     act_of (context_of (connection_of c.self.inside.conn) c.room-room.result tree directory) (asked c.args.request)
     ≡ act_of (context_of (connection_of c.self.inside.conn) (room_for c.args.asking.now (number_of (connection_of c.self.inside.conn).birth.node)) tree directory) (asked c.args.request)
 act_is c tree directory =
@@ -40,29 +42,38 @@ act_is c tree directory =
     ∙ act_alike (connection_of c.self.inside.conn) (room_for c.args.asking.now (number_of (connection_of c.self.inside.conn).birth.node)) tree directory (asked c.args.request)
 
 -- what was done, by the request's endpoint and the connection's node
-does : (c : goal.In_ok-fate) →
-    DoesGiven c.args.asking.now.endpoint (object_of (asked c.args.request)) (connection_of c.self.inside.conn).birth.node c.serve-given.result c.serve-given.new.out c.in_ok-fate.fate c.answer.new.out c.args.outbox.now c.answer.new.outbox
-does c =
-    subst (λ object. DoesGiven c.args.asking.now.endpoint object (connection_of c.self.inside.conn).birth.node c.serve-given.result c.serve-given.new.out c.in_ok-fate.fate c.answer.new.out c.args.outbox.now c.answer.new.outbox) c.object_of-object.ensures
-    (subst (λ node. DoesGiven c.args.asking.now.endpoint c.object_of-object.result node c.serve-given.result c.serve-given.new.out c.in_ok-fate.fate c.answer.new.out c.args.outbox.now c.answer.new.outbox)
-    (c.node-2.ensures ∙ ap (λ birth. birth.node) c.serve-given.ensures.holds.birth) c.in_ok-fate.ensures.does)
+does : (c : goal.After-answer) (fate : Fate) →
+    DoesGiven c.args.asking.now.endpoint c.object_of-object.result c.node-2.result c.serve-given.result c.serve-given.new.out fate c.answer.new.out c.args.outbox.now c.answer.new.outbox →
+    DoesGiven c.args.asking.now.endpoint (object_of (asked c.args.request)) (connection_of c.self.inside.conn).birth.node c.serve-given.result c.serve-given.new.out fate c.answer.new.out c.args.outbox.now c.answer.new.outbox
+does c fate done =
+    subst (λ object. DoesGiven c.args.asking.now.endpoint object (connection_of c.self.inside.conn).birth.node c.serve-given.result c.serve-given.new.out fate c.answer.new.out c.args.outbox.now c.answer.new.outbox) c.object_of-object.ensures
+    (subst (λ node. DoesGiven c.args.asking.now.endpoint c.object_of-object.result node c.serve-given.result c.serve-given.new.out fate c.answer.new.out c.args.outbox.now c.answer.new.outbox)
+    (c.node-2.ensures ∙ ap (λ birth. birth.node) c.serve-given.ensures.holds.birth) done)
 
 pub returns-clause-answers : goal.returns-clause-answers
 returns-clause-answers c server moment asks named =
     let can = subst (λ connection. CanBeBound c.args.graph.now connection.birth) (sym c.self.view_is) c.requires.node in
     let here = subst (λ connection. IsAskedAt server c.args.asking.now c.args.graph.now connection moment) (sym c.self.view_is) asks in
-    let done = does c in
+    ok_map _ _ c.answer.result
+    (λ fate told.
+    let done = does c fate told in
     request_answers server c.args.asking.now c.args.graph.now c.serve-given.new.graph (connection_of c.self.inside.conn) can moment here
-    c.args.txid (asked c.args.request) (known_here (asked c.args.request) c.self.view_is c.requires.method) c.serve-given.result c.serve-given.new.out (connection_of c.serve-given.new.self) c.serve-given.ensures.holds.birth
+    c.args.txid (asked c.args.request) (known_here (asked c.args.request) c.self.view_is c.requires.method) c.serve-given.result (told_by c.serve-given.new.changes) c.serve-given.new.out (connection_of c.serve-given.new.self)
+    c.serve-given.ensures.holds.birth
     (subst
-    (λ (act : Act). Acts act c.args.txid c.serve-given.result c.serve-given.new.out (connection_of c.serve-given.new.self)
+    (λ (act : Act). Acts act c.args.txid c.serve-given.result (told_by c.serve-given.new.changes) c.serve-given.new.out (connection_of c.serve-given.new.self)
     c.args.graph.now c.serve-given.new.graph)
     (act_is c moment.tree moment.directory) (c.serve-given.ensures.acts moment.tree moment.directory here.tree named done.some))
-    (record { fate = c.in_ok-fate.fate; changes = c.changes-changes.result }) c.changes-changes.ensures c.answer.new.out c.args.outbox.now c.answer.new.outbox done
+    (done_with fate c.serve-given.new.changes) refl c.answer.new.out c.args.outbox.now c.answer.new.outbox done)
+    c.answer.ensures.does
 
 pub returns-clause-tells : goal.returns-clause-tells
 returns-clause-tells c =
     let can = subst (λ connection. CanBeBound c.args.graph.now connection.birth) (sym c.self.view_is) c.requires.node in
-    can_tell c.args.graph.now c.args.tokens.now (connection_of c.self.inside.conn) can c.requires.tree c.room-room.result (asked c.args.request) (known_here (asked c.args.request) c.self.view_is c.requires.method) c.args.txid c.serve-given.result c.serve-given.new.out
+    ok_map _ _ c.answer.result
+    (λ fate told.
+    can_tell c.args.graph.now c.args.tokens.now (connection_of c.self.inside.conn) can c.requires.tree c.room-room.result (asked c.args.request) (known_here (asked c.args.request) c.self.view_is c.requires.method) c.args.txid c.serve-given.result
+    (told_by c.serve-given.new.changes) c.serve-given.new.out
     (connection_of c.serve-given.new.self) c.serve-given.new.graph c.serve-given.ensures.acts c.serve-given.ensures.holds.birth c.args.asking.now.endpoint (object_of (asked c.args.request))
-    (record { fate = c.in_ok-fate.fate; changes = c.changes-changes.result }) c.answer.new.out c.args.outbox.now c.answer.new.outbox c.changes-changes.ensures (does c)
+    (done_with fate c.serve-given.new.changes) c.answer.new.out c.args.outbox.now c.answer.new.outbox refl (does c fate told))
+    c.answer.ensures.does

@@ -8,12 +8,12 @@ use Rattle.conn_rules.specs.Served.{KeepsHolds}
 use Rattle.io_messages.specs.Requests.{request_of}
 use Rattle.vfs_journal.specs.Handles.{numbers_of}
 use Rattle.vfs_journal.specs.Serving.{Moment, outcome_of_read}
-use Rattle.vfs_server.specs.Steps.{Answers, AreNamed, IsAskedAt}
+use Rattle.vfs_server.specs.Steps.{Answers, AreNamed, IsAskedAt, done_with}
 use Rattle.vfs_server.specs.Kept.{place_at}
 use Rattle.vfs_server.proofs.Joined.{joined_served, placed, replaced, same_length, there_at}
 use Rattle.vfs_server.proofs.connections.Connections.serve.Goals as goal
 
-found_in : (c : goal.After-serve-arg-in-Some-2-1) → finite.get c.args.self.now c.args.asking.now.endpoint ≡ Some c.index_mut-connection.result.now
+found_in : (c : goal.After-serve-arg-in-Some-3-1) → finite.get c.args.self.now c.args.asking.now.endpoint ≡ Some c.index_mut-connection.result.now
 found_in c =
     sym (ap (λ m. finite.get m c.args.asking.now.endpoint) c.self.view_is)
     ∙ there_at c.self.inside.kept c.self.inside.places.entries c.self.invariant c.args.asking.now.endpoint c.in-Some.place.now (sym c.in-Some.ensures.value)
@@ -51,7 +51,7 @@ returns-in-Some-clause-served c old is =
       subst
           (λ (was : Connection). (server : ℕ) (moment : Moment) → IsAskedAt server c.args.asking.now c.args.graph.now was moment →
           AreNamed c.args.tokens.now (numbers_of c.args.handles.now) moment.directory →
-          IfOk c.serve.result (λ done. Answers moment (outcome_of_read moment (request_of was.birth.protocol c.args.bytes.now c.args.handles.now)) done c.serve.new.out c.serve.new.self c.args.graph.now c.serve.new.graph c.args.outbox.now c.serve.new.outbox))
+          IfOk c.serve.result (λ fate. Answers moment (outcome_of_read moment (request_of was.birth.protocol c.args.bytes.now c.args.handles.now)) (done_with fate c.serve.new.changes) c.serve.new.out c.serve.new.self c.args.graph.now c.serve.new.graph c.args.outbox.now c.serve.new.outbox))
           same c.serve.ensures.answers,
     )
 
