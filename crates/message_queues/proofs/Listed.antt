@@ -1,6 +1,6 @@
 -- A list of numbers, each once, beside the set of them.
-use Rattle.std.proofs.Common.{◌≡◌, ◌≢◌, ℕ, ◌<◌, ◌≤◌, ◌^◌, Bool, true, false, cond, eqb, List, [], ◌∷◌, ◌++◌, length, refl, sym, ap, ◌∙◌, subst, arith}
-use Rattle.std.specs.Prelude.{◌||◌, ◌==◌, AllPairs, not}
+use Rattle.std.proofs.Common.{◌≡◌, ◌≢◌, ℕ, None, Some, ◌<◌, ◌≤◌, ◌^◌, Bool, true, false, cond, eqb, List, [], ◌∷◌, ◌++◌, length, refl, sym, ap, ◌∙◌, subst, arith}
+use Rattle.std.specs.Prelude.{◌||◌, ◌==◌, AllPairs, not, slice_get, take}
 use Rattle.std.specs.BTreeMap.{is_at}
 use Rattle.std.specs.List.{IsDistinct, list_any}
 use Rattle.std.specs.Ordering.{nat_cmp}
@@ -56,3 +56,37 @@ listed_once found keys listed = AllPairs-from_IsDistinct Decides-eqb found liste
 pub not_true : (b : Bool) → true ≡ not b → b ≡ false
 not_true true h = absurd (cc)
 not_true false h = refl
+
+pub apart : (a b : ℕ) → a ≢ b → (a == b) ≡ false
+apart a b other = grind (other, arith, nat_tests)
+
+turned_about : (a b : ℕ) → (a == b) ≡ (b == a)
+turned_about a b = grind (arith, nat_tests)
+
+-- the first one found, and a set of the others, in which the newest is
+pub listed_behind : (found keys now : List ℕ) (first number : ℕ) → slice_get found 0 ≡ Some first → IsListed found (take 1 found ++ keys) → number < 2 ^ 32 → (first == number) ≡ false → list_any (is_at (nat_cmp number)) keys ≡ false
+    → ((q : ℕ) → list_any (is_at (nat_cmp q)) now ≡ cond (is_at (nat_cmp number) q) true (list_any (is_at (nat_cmp q)) keys)) → IsListed (found ++ number ∷ []) (take 1 (found ++ number ∷ []) ++ now)
+listed_behind [] keys now first number is listed low other isnt updates = let wrong : None ≡ Some first = is in absurd (cc)
+listed_behind (f ∷ fs) keys now first number is listed low other isnt updates =
+    listed_push (f ∷ fs) (f ∷ keys) (f ∷ now) number listed low
+    (ap (λ (b : Bool). b || list_any (is_at (nat_cmp number)) keys) (tested number f ∙ turned_about number f ∙ ap (λ (n : ℕ). n == number) here ∙ other) ∙ isnt)
+    (λ q. ap (λ (b : Bool). is_at (nat_cmp q) f || b) (updates q) ∙ exchanged (is_at (nat_cmp q) f) (is_at (nat_cmp number) q) (list_any (is_at (nat_cmp q)) keys))
+  where
+    here : f ≡ first
+    here = let both : Some f ≡ Some first = is in cc
+
+    exchanged : (a b c : Bool) → (a || cond b true c) ≡ cond b true (a || c)
+    exchanged true true c = refl
+    exchanged true false c = refl
+    exchanged false true c = refl
+    exchanged false false c = refl
+
+-- the first one of all
+pub listed_first : (found keys : List ℕ) (number : ℕ) → slice_get found 0 ≡ None → IsListed found (take 1 found ++ keys) → number < 2 ^ 32 → IsListed (found ++ number ∷ []) (take 1 (found ++ number ∷ []) ++ keys)
+listed_first (f ∷ fs) keys number is listed low = let wrong : Some f ≡ None = is in absurd (cc)
+listed_first [] keys number is listed low =
+    listed_push [] keys (number ∷ keys) number listed low (listed.same number) (λ q. ap (λ (b : Bool). b || list_any (is_at (nat_cmp q)) keys) (tested q number ∙ turned_about q number ∙ sym (tested number q)) ∙ in_words (is_at (nat_cmp number) q) _)
+  where
+    in_words : (a b : Bool) → (a || b) ≡ cond a true b
+    in_words true b = refl
+    in_words false b = refl

@@ -18,22 +18,23 @@ pub struct Buried {
     pub tokens: Vec<u32>,
 }
 
-/// Endpoints, each once, in the order in which they were found.
+/// Endpoints, each once, in the order in which they were found. Those behind the first are a set too: mostly
+/// one dies alone, and takes no memory there.
 #[derive(Drop)]
 pub(crate) struct Dying {
     found: Vec<u32>,
-    set: BTreeSet<u32>,
+    later: BTreeSet<u32>,
 }
 
 impl Model for Dying {
-    ghost use Rattle.std.specs.Prelude.{List, ℕ};
+    ghost use Rattle.std.specs.Prelude.{List, ℕ, ◌++◌, take};
     ghost use Rattle.message_queues.specs.Steps.{IsListed};
 
     ghost Value = { List ℕ };
 
     ghost view = { λ dying. dying.found.items };
 
-    ghost invariant = { λ dying. IsListed dying.found.items dying.set.keys };
+    ghost invariant = { λ dying. IsListed dying.found.items (take 1 dying.found.items ++ dying.later.keys) };
 }
 
 impl Dying {
@@ -42,7 +43,7 @@ impl Dying {
     {
         Dying {
             found: Vec::new(alloc),
-            set: BTreeSet::new(alloc),
+            later: BTreeSet::new(alloc),
         }
     }
 
@@ -59,7 +60,14 @@ impl Dying {
         ensures { OnOk result (self.new ≡ (if among endpoint self.old then self.old else self.old ++ endpoint ∷ [])) }
     {
         self.found.reserve(1)?;
-        let added = self.set.insert(endpoint)?;
+        let Some(first) = self.found.first().copied() else {
+            self.found.push(endpoint)?;
+            return Ok(());
+        };
+        if first == endpoint {
+            return Ok(());
+        }
+        let added = self.later.insert(endpoint)?;
         if added {
             self.found.push(endpoint)?;
         }

@@ -3,4 +3,4 @@ use Rattle.message_queues.proofs.Listed.{listed_few}
 use Rattle.message_queues.proofs.dying.Dying.get.Goals as goal
 
 pub returns-clause-few : goal.returns-clause-few
-returns-clause-few c = subst (λ (found : List ℕ). length found ≤ 2 ^ 32) c.self.view_is (listed_few c.self.inside.found.items c.self.inside.set.keys c.self.invariant)
+returns-clause-few c = subst (λ (found : List ℕ). length found ≤ 2 ^ 32) c.self.view_is (listed_few c.self.inside.found.items _ c.self.invariant)
