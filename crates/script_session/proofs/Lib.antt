@@ -1,4 +1,3 @@
-pub mod Growth
 mod ReadBack
 mod Played
 pub mod Shown

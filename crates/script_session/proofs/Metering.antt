@@ -24,7 +24,7 @@ use Rattle.script_session.specs.Steps.{IsScript}
 use Rattle.script_session.specs.Tallies.{Metered, Tallies}
 use Rattle.script_session.specs.declared.tally.Tally.{Tally}
 use Rattle.script_session.proofs.Counting.{Read, none_read}
-use Rattle.script_session.proofs.Growth.{session-append}
+use Rattle.vfs_world.proofs.Growth.{session-append}
 use Rattle.script_session.proofs.ReadBack.{comes_back}
 use Rattle.script_session.proofs.Stages.{lines_many}
 

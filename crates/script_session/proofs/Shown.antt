@@ -13,7 +13,7 @@ use Rattle.vfs_script.specs.Transcripts.{counts_line, frame_line}
 use Rattle.transcripts.specs.Answering.{Past, sends, count_answers, count_calls as calls_made}
 use Rattle.transcripts.specs.Transcript.{lines_of, with_frames}
 use Rattle.script_session.specs.Playing.{Played, frames_by, frames_since, not_yet, play_all, play_line, play_lines, transcript}
-use Rattle.script_session.proofs.Growth.{Begins, begins_drained, begins_stepped}
+use Rattle.vfs_world.proofs.Growth.{Begins, begins_drained, begins_stepped}
 use Rattle.script_session.proofs.Played.{calls_are_made, frames_grow, frames_make_none, journal_is}
 
 -- all frames so far, as lines

@@ -1,115 +1,27 @@
 -- The output of a longer journal begins with that of its past.
-use Rattle.std.proofs.Common.{◌≡◌, ℕ, zero, suc, List, [], ◌∷◌, ◌++◌, Option, Some, None, refl, sym, ap, ◌∙◌, append_assoc, append-nil, fold}
-use Rattle.std.proofs.lemmas.List.Sums.{fold-append}
+use Rattle.std.proofs.Common.{◌≡◌, ◌∙◌, List, [], ap}
 use Rattle.std.proofs.lemmas.List.Concat.{flat_map-append}
-use Rattle.endpoint_link.specs.Admission.{admission}
 use Rattle.endpoint_link.specs.Frames.{Frame, spelling, spellings}
-use Rattle.endpoint_link.specs.Numbers.{word_in}
-use Rattle.endpoint_link.specs.declared.kinds.FrameKind.{FrameKind}
-use Rattle.endpoint_link.specs.declared.kinds.FrameKind.TheVariants as kind
 use Rattle.endpoint_link.specs.declared.kinds.Mode.{Mode}
-use Rattle.endpoint_link.specs.declared.kinds.Mode.TheVariants as mode
-use Rattle.endpoint_link.specs.declared.kinds.Refusal.{Refusal}
-use Rattle.vfs_journal.specs.Entries.{Entry, Journal, Sent, serves}
-use Rattle.vfs_journal.specs.History.{History}
-use Rattle.vfs_journal.specs.Outcomes.{Forwarded}
-use Rattle.vfs_journal.specs.Output.{output_of, frames_of, frames_of_event}
-use Rattle.vfs_journal.specs.Past.{history_of, event_of}
-use Rattle.vfs_journal.specs.Serving.{outcome_of}
-use Rattle.vfs_journal.specs.Session.{head, oldest, next, with_forward, after_serving, serving, serving_one, weight, drained, look_ups, admitted, by_refusal, arrives, steps, session}
+use Rattle.vfs_journal.specs.Entries.{Journal}
+use Rattle.vfs_journal.specs.Output.{frames_of, output_of}
+use Rattle.vfs_journal.specs.Past.{history_of}
+use Rattle.vfs_journal.specs.Session.{session}
 use Rattle.vfs_journal.specs.Starts.{Start}
+use Rattle.vfs_world.proofs.Growth.{Begins, begins_all, begins_drained, nothing, session-append}
 use Rattle.link_session.specs.Session.{IsFront}
 use Rattle.link_session.specs.Serving.{IsGrowing}
 use Rattle.tree_session.specs.TreeSession.{tree_course}
 
--- the output of the first journal stands in front of that of the second
-abbrev pub Begins : Start → Journal → Journal → Type 0
-Begins start journal later = IsFront (output_of start journal) (output_of start later)
-
-begins_same : (start : Start) (journal : Journal) → Begins start journal journal
-begins_same start journal = ([], sym (append-nil (output_of start journal)))
-
-begins_far : (start : Start) (first second third : Journal) → Begins start first second → Begins start second third
-    → Begins start first third
-begins_far start first second third p q =
-    (p.0 ++ q.0, q.1 ∙ ap (λ l. l ++ q.0) p.1 ∙ append_assoc (output_of start first) p.0 q.0)
-
-begins_entry : (start : Start) (journal : Journal) (entry : Entry) → Begins start journal (entry ∷ journal)
-unfolding history_of
-begins_entry start journal entry =
-    let past = history_of start journal in
-    let event = event_of start past entry in
-    (spellings (frames_of_event start past event), flat_map-append spelling (frames_of start past) (frames_of_event start past event))
-
-begins_forward : (start : Start) (origin : ℕ) (journal : Journal) (forward : Option Forwarded) → Begins start journal (with_forward origin journal forward)
-begins_forward start origin journal None = begins_same start journal
-begins_forward start origin journal (Some forward) = begins_entry start journal _
-
-begins_served : (start : Start) (journal : Journal) (sent : Sent) → Begins start journal (after_serving start journal sent)
-begins_served start journal sent =
-    begins_far start journal (serves sent ∷ journal) _ (begins_entry start journal (serves sent))
-    (begins_forward start sent.place (serves sent ∷ journal) (outcome_of start (history_of start journal) sent).forward)
-
-begins_one : (start : Start) (on : Journal → Journal) (journal : Journal) → ((later : Journal) → Begins start later (on later))
-    → (chosen : Option Sent) → Begins start journal (serving_one on (after_serving start journal) journal chosen)
-begins_one start on journal goes None = begins_same start journal
-begins_one start on journal goes (Some sent) =
-    begins_far start journal (after_serving start journal sent) _ (begins_served start journal sent) (goes (after_serving start journal sent))
-
-begins_serving : (times : ℕ) (start : Start) (choice : History → Option Sent) (journal : Journal)
-    → Begins start journal (serving times start choice journal)
-unfolding serving
-begins_serving zero start choice journal = begins_same start journal
-begins_serving (suc more) start choice journal =
-    begins_one start (serving more start choice) journal (begins_serving more start choice) (choice (history_of start journal))
-
-pub begins_drained : (start : Start) (journal : Journal) → Begins start journal (drained start journal)
-begins_drained start journal = begins_serving (weight (history_of start journal)) start (next start) journal
-
-begins_admitted : (start : Start) (journal : Journal) (k : FrameKind) (frame : Frame) → Begins start journal (admitted start journal k frame)
-begins_admitted start journal kind.Message frame = begins_entry start journal _
-begins_admitted start journal kind.Close frame = begins_entry start journal _
-begins_admitted start journal kind.Turn frame =
-    begins_serving (word_in frame.bytes) start (λ history. oldest start history frame.endpoint) journal
-begins_admitted start journal kind.Pick frame = begins_serving 1 start (λ history. head start history frame.endpoint) journal
-begins_admitted start journal kind.Refused frame = begins_same start journal
-
-begins_by : (start : Start) (journal : Journal) (frame : Frame) (why : Option Refusal) → Begins start journal (by_refusal start journal frame why)
-begins_by start journal frame (Some why) = begins_entry start journal _
-begins_by start journal frame None = begins_admitted start journal frame.kind frame
-
-begins_arrived : (start : Start) (journal : Journal) (frame : Frame) → Begins start journal (arrives start journal frame)
-begins_arrived start journal frame =
-    begins_by start journal frame (admission (look_ups start (history_of start journal)) frame)
-
-begins_stepped : (start : Start) (by : Mode) (journal : Journal) (frame : Frame) → Begins start journal (steps start by journal frame)
-begins_stepped start mode.Auto journal frame =
-    begins_far start journal (arrives start journal frame) _ (begins_arrived start journal frame)
-    (begins_drained start (arrives start journal frame))
-begins_stepped start mode.Given journal frame = begins_arrived start journal frame
-
-begins_all : (start : Start) (by : Mode) (journal : Journal) (frames : List Frame) → Begins start journal (fold (steps start by) journal frames)
-begins_all start by journal [] = begins_same start journal
-begins_all start by journal (frame ∷ frames) =
-    begins_far start journal (steps start by journal frame) _ (begins_stepped start by journal frame)
-    (begins_all start by (steps start by journal frame) frames)
-
--- a session's journal with more frames
-pub session-append : (start : Start) (by : Mode) (frames later : List Frame)
-    → session start by (frames ++ later) ≡ fold (steps start by) (session start by frames) later
-session-append start by frames later = fold-append (steps start by) [] frames later
-
--- nothing is written for no frames
-nothing : (start : Start) → output_of start [] ≡ []
-unfolding history_of
-nothing start = refl
+spelled : (start : Start) (journal later : Journal) → Begins start journal later → IsFront (output_of start journal) (output_of start later)
+spelled start journal later begins = (spellings begins.0, ap spellings begins.1 ∙ flat_map-append spelling (frames_of start (history_of start journal)) begins.0)
 
 pub tree_grows : (start : Start) (by : Mode) → IsGrowing (tree_course start by)
 unfolding tree_course
 tree_grows start by = record {
-  none = nothing start;
+  none = ap spellings (nothing start);
   more = λ frames later.
-      let all = begins_all start by (session start by frames) later in
+      let all = spelled start (session start by frames) _ (begins_all start by (session start by frames) later) in
       (all.0, ap (output_of start) (session-append start by frames later) ∙ all.1);
-  last = λ frames. begins_drained start (session start by frames);
+  last = λ frames. spelled start (session start by frames) _ (begins_drained start (session start by frames));
 }

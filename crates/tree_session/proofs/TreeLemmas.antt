@@ -9,7 +9,7 @@ use Rattle.vfs_journal.specs.Starts.{Start}
 use Rattle.vfs_session.specs.World.{World, StandsFor, LeadsTo}
 use Rattle.link_session.specs.Serving.{HeardOne, HeardEnd}
 use Rattle.tree_session.specs.TreeSession.{tree_course, StandsBehind}
-use Rattle.tree_session.proofs.Outputs.{session-append}
+use Rattle.vfs_world.proofs.Growth.{session-append}
 
 -- the world at the beginning
 pub stands_first : (start : Start) (by : Mode) (world : World) → StandsFor start world [] → StandsBehind start by world []

@@ -4,3 +4,4 @@ pub mod Worlds
 pub mod KeptNodes
 pub mod AtOnce
 pub mod Begun
+pub mod Growth

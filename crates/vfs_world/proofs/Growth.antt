@@ -12,12 +12,14 @@ use Rattle.endpoint_link.specs.declared.kinds.Refusal.{Refusal}
 use Rattle.vfs_journal.specs.Entries.{Entry, Journal, Sent, serves}
 use Rattle.vfs_journal.specs.History.{History}
 use Rattle.vfs_journal.specs.Outcomes.{Forwarded}
-use Rattle.vfs_journal.specs.Output.{frames_of_event}
+use Rattle.vfs_journal.specs.Output.{frames_of, frames_of_event}
 use Rattle.vfs_journal.specs.Past.{history_of, event_of}
 use Rattle.vfs_journal.specs.Serving.{outcome_of}
 use Rattle.vfs_journal.specs.Session.{head, oldest, next, with_forward, after_serving, serving, serving_one, weight, drained, look_ups, admitted, by_refusal, arrives, steps, session}
 use Rattle.vfs_journal.specs.Starts.{Start}
-use Rattle.script_session.specs.Playing.{frames_by}
+
+abbrev frames_by : Start → Journal → List Frame
+frames_by start journal = frames_of start (history_of start journal)
 
 -- the frames of the first journal stand in front of those of the second
 abbrev pub Begins : Start → Journal → Journal → Type 0
@@ -89,6 +91,11 @@ begins_all start by journal [] = begins_same start journal
 begins_all start by journal (frame ∷ frames) =
     begins_far start journal (steps start by journal frame) _ (begins_stepped start by journal frame)
     (begins_all start by (steps start by journal frame) frames)
+
+-- nothing is written for no frames
+pub nothing : (start : Start) → frames_by start [] ≡ []
+unfolding history_of
+nothing start = refl
 
 -- a session's journal with more frames
 pub session-append : (start : Start) (by : Mode) (frames later : List Frame)
