@@ -2,6 +2,9 @@
 use Rattle.std.specs.Prelude.{◌≡◌, ◌≤◌, ℕ, List, length}
 use Rattle.fidl_names.specs.declared.limits.TheConstants as limit
 use Rattle.fidl_names.specs.declared.methods.Handle.{Handle}
+use Rattle.endpoint_link.specs.Frames.{Frame}
+use Rattle.endpoint_link.specs.declared.kinds.FrameKind.{FrameKind}
+use Rattle.endpoint_link.specs.declared.kinds.FrameKind.TheVariants as kind
 use Rattle.vfs_journal.specs.Entries.{Sending, message, hang_up}
 use Rattle.vfs_journal.specs.Handles.{AreByNumber, numbers_of}
 use Rattle.message_queues.specs.declared.parcel.Content.{Content}
@@ -27,6 +30,11 @@ lent_sending lent.HangUp = hang_up
 abbrev pub IsLendable : LentContent → Type 0
 IsLendable (lent.Message bytes handles) = AreByNumber handles.now × (length bytes.now ≤ limit.MAX_BYTES)
 IsLendable lent.HangUp = Unit {0}
+
+-- what a frame of this kind sends: its message, or that its client hung up
+abbrev pub sent_by : FrameKind → Frame → Sending
+sent_by kind.Close frame = hang_up
+sent_by _ frame = message frame.bytes frame.handles
 
 -- a message with these bytes and handles was sent
 abbrev pub IsMessage : Sending → List ℕ → List Handle → Type 0

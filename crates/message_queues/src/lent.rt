@@ -2,13 +2,13 @@
 
 ghost use Rattle.std.specs.Prelude.{◌≡◌, ◌≤◌, None, IsNone, IfSome, IfOk, length};
 ghost use Rattle.fidl_names.specs.declared.limits.TheConstants as limit;
-ghost use Rattle.endpoint_link.specs.Views.{handle_numbers};
-ghost use Rattle.vfs_journal.specs.Entries.{handles_of, hang_up, message};
+ghost use Rattle.endpoint_link.specs.Views.{frame_of, handle_numbers};
+ghost use Rattle.vfs_journal.specs.Entries.{handles_of, hang_up};
 ghost use Rattle.vfs_journal.specs.Handles.{AreByNumber, numbers_of};
-ghost use Rattle.message_queues.specs.Parcels.{IsMessage};
+ghost use Rattle.message_queues.specs.Parcels.{IsMessage, sent_by};
 
 use crate::parcel::{Content, Sent};
-use endpoint_link::{FrameView, HandleBytes};
+use endpoint_link::{FrameKind, FrameView, HandleBytes};
 use fidl_names::{Handle, NoMemory};
 use std::alloc::Global;
 use std::marker::Model;
@@ -61,20 +61,25 @@ impl Sent {
 }
 
 impl<'a> Lent<'a> {
-    /// The message of a frame with these handles, which takes a place.
+    /// What a frame with these handles sends, which takes a place: its message, or for a Close that its client
+    /// hung up.
     pub fn of_frame(place: u64, frame: FrameView<'a>, handles: &'a [Handle]) -> Lent<'a>
         requires handles { numbers_of handles.now ≡ handle_numbers frame.handles }
         requires by_number { AreByNumber handles.now }
         requires short { length frame.bytes.now ≤ limit.MAX_BYTES }
-        ensures { result ≡ record { place = place; endpoint = frame.entry.endpoint; sending = message frame.entry.bytes.now (handle_numbers frame.entry.handles); origin = None } }
+        ensures { result ≡ record { place = place; endpoint = frame.entry.endpoint; sending = sent_by frame.entry.kind (frame_of frame.entry); origin = None } }
     {
-        Lent {
-            place,
-            endpoint: frame.endpoint,
-            content: LentContent::Message {
+        let content = match frame.kind {
+            FrameKind::Close => LentContent::HangUp,
+            _ => LentContent::Message {
                 bytes: frame.bytes,
                 handles,
             },
+        };
+        Lent {
+            place,
+            endpoint: frame.endpoint,
+            content,
             origin: None,
         }
     }

@@ -1,4 +1,4 @@
--- A message that is served at once is served as if it had waited: it is behind nothing, and is taken again at once.
+-- What is served at once is served as if it had waited: it is behind nothing, and is taken again at once.
 use Rattle.std.proofs.Common.{◌≡◌, ℕ, zero, suc, ◌+◌, ◌≤◌, ◌==◌, Bool, true, false, cond, if◌then◌else◌, IsSome, List, [], ◌∷◌, ◌++◌, length, filter, drop, Option, Some, None, refl, sym, ap, ◌∙◌, subst, arith}
 use Rattle.std.specs.Prelude.{slice_get}
 use Rattle.std.specs.Cmp.{nat_cmp_total}
@@ -12,12 +12,13 @@ use Rattle.std.proofs.lemmas.Option.{none-some, same_Some}
 use Rattle.fidl_wire.specs.Names.{AreDistinct}
 use Rattle.endpoint_link.specs.Frames.{Frame, IsFrame}
 use Rattle.endpoint_link.specs.declared.kinds.Side.TheVariants.{ToServers}
-use Rattle.vfs_journal.specs.Entries.{Journal, Sent, message}
+use Rattle.vfs_journal.specs.Entries.{Journal, Sent}
 use Rattle.vfs_journal.specs.History.{waiting}
 use Rattle.vfs_journal.specs.Past.{history_of}
 use Rattle.vfs_journal.specs.Session.{arrives, drained}
 use Rattle.vfs_journal.specs.Starts.{Start}
 use Rattle.message_queues.specs.Queues.{Mailbox, Queues, Requeues, count, head_of, queue_of, server_of}
+use Rattle.message_queues.specs.Parcels.{sent_by}
 use Rattle.message_queues.proofs.Counting.{counts_its_list}
 use Rattle.vfs_session.specs.Heads.{Takes}
 use Rattle.vfs_session.specs.Servings.{IsDrain, IsOldestOfAll, ServesOne, ServesTimes}
@@ -26,8 +27,8 @@ use Rattle.vfs_session.specs.World.{LeadsTo, StandsFor, World}
 use Rattle.vfs_session.proofs.OneMore.{one_of_these}
 use Rattle.vfs_session.proofs.Serves.{drain_leads}
 use Rattle.vfs_session.proofs.Times.{goes_on}
-use Rattle.vfs_world.specs.Steps.{IsAdmitted, IsFree, Reaches, WaitsLast}
-use Rattle.vfs_world.proofs.Hearing.{message_leads}
+use Rattle.vfs_world.specs.Steps.{IsAdmitted, IsFree, Reaches, Sends, WaitsLast}
+use Rattle.vfs_world.proofs.Hearing.{hang_up_lasts, hang_up_leads, message_lasts, message_leads}
 
 -- ---- queues with one entry more
 
@@ -123,15 +124,30 @@ module _ (queues : Queues) (sent : Sent) (none : (endpoint : ℕ) → queue_of q
 
 -- ---- from a frame to its serving
 
--- the world in which the message of a frame waits, as it would
+-- the world in which what a frame sends waits, as it would
 abbrev pub sent_in : World → Frame → Sent
-sent_in now frame = record { place = now.places; endpoint = frame.endpoint; sending = message frame.bytes frame.handles; origin = None }
+sent_in now frame = record { place = now.places; endpoint = frame.endpoint; sending = sent_by frame.kind frame; origin = None }
 
 abbrev pub waits_in : World → Frame → World
 waits_in now frame = record now { queues = with_last now.queues (sent_in now frame); places = now.places + 1 }
 
-pub waits_last : (now : World) (frame : Frame) → WaitsLast now frame.endpoint (message frame.bytes frame.handles) (waits_in now frame)
+pub waits_last : (now : World) (frame : Frame) → WaitsLast now frame.endpoint (sent_by frame.kind frame) (waits_in now frame)
 waits_last now frame = record { queued = waits_there now.queues (sent_in now frame); same = refl }
+
+-- whatever a frame sends, it leads on as its kind does
+sent_leads : AreDistinct → (start : Start) (journal : Journal) (old now new : World) (frame : Frame) (before : List ℕ) → StandsFor start old journal → IsFrame ToServers frame → Sends frame.kind →
+    IsAdmitted old frame now → WaitsLast now frame.endpoint (sent_by frame.kind frame) new → LeadsTo start (arrives start journal frame) new journal before before
+sent_leads apart start journal old now new frame before s is (inl message) admitted waits =
+    message_leads apart start journal old now new frame before s is message admitted (subst (λ k. WaitsLast now frame.endpoint (sent_by k frame) new) message waits)
+sent_leads apart start journal old now new frame before s is (inr close) admitted waits =
+    hang_up_leads apart start journal old now new frame before s is close admitted (subst (λ k. WaitsLast now frame.endpoint (sent_by k frame) new) close waits)
+
+pub sent_lasts : (most : ℕ) (old now new : World) (frame : Frame) → IsRunning most old → IsFrame ToServers frame → Sends frame.kind → IsAdmitted old frame now →
+    WaitsLast now frame.endpoint (sent_by frame.kind frame) new → IsRunning (most + 4098) new
+sent_lasts most old now new frame r is (inl message) admitted waits =
+    message_lasts most old now new frame r is message admitted (subst (λ k. WaitsLast now frame.endpoint (sent_by k frame) new) message waits)
+sent_lasts most old now new frame r is (inr close) admitted waits =
+    hang_up_lasts most old now new frame r is close admitted (subst (λ k. WaitsLast now frame.endpoint (sent_by k frame) new) close waits)
 
 -- where no more than none are counted, nothing waits on any endpoint
 pub none_waits : (old now : World) (most : ℕ) → IsRunning most old → now ≡ record old { known = now.known } → count now.queues ≡ 0 → (endpoint : ℕ) → queue_of now.queues endpoint ≡ []
@@ -151,7 +167,7 @@ pub reached_at_once : AreDistinct → (start : Start) (journal : Journal) (old n
 reached_at_once apart start journal old now new frame before after stands is admitted server free none one = record {
   there = waits_in now frame;
   between = before;
-  leads = message_leads apart start journal old now (waits_in now frame) frame before stands is free.message admitted (waits_last now frame);
+  leads = sent_leads apart start journal old now (waits_in now frame) frame before stands is free.sends admitted (waits_last now frame);
   done = 1;
   serves = (
     new,

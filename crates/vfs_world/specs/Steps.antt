@@ -1,8 +1,9 @@
 -- Words of the steps of a frame. No public clause needs these.
-use Rattle.std.specs.Prelude.{◌≡◌, ◌≤◌, ◌<◌, ◌+◌, ◌^◌, ℕ, List, [], ◌∷◌, ◌++◌, None, Some}
+use Rattle.std.specs.Prelude.{◌≡◌, ◌⊎◌, ◌≤◌, ◌<◌, ◌+◌, ◌^◌, ℕ, List, [], ◌∷◌, ◌++◌, None, Some}
 use Rattle.fidl_names.specs.declared.limits.TheConstants as limit
 use Rattle.endpoint_link.specs.Admission.{Admits, admission, look_ups}
 use Rattle.endpoint_link.specs.Frames.{Frame}
+use Rattle.endpoint_link.specs.declared.kinds.FrameKind.{FrameKind}
 use Rattle.endpoint_link.specs.declared.kinds.FrameKind.TheVariants as kind
 use Rattle.vfs_journal.specs.Entries.{Journal, Sending}
 use Rattle.vfs_journal.specs.Starts.{Start}
@@ -34,9 +35,13 @@ pub record WaitsLast (old : World) (endpoint : ℕ) (sending : Sending) (new : W
   pub queued : Requeues old.queues endpoint (queue_of old.queues endpoint ++ record { place = old.places; endpoint = endpoint; sending = sending; origin = None } ∷ []) new.queues
   pub same : new ≡ record old { queues = new.queues; places = old.places + 1 }
 
--- a frame is a message to an endpoint that is bound at this server, and nothing waits
+-- a frame sends something: a message, or that its client hung up
+abbrev pub Sends : FrameKind → Type 0
+Sends k = (k ≡ kind.Message) ⊎ (k ≡ kind.Close)
+
+-- a frame sends something to an endpoint that is bound at this server, and nothing waits
 pub record IsFree (frame : Frame) (server : ℕ) (world : World) : Type 0 where
-  pub message : frame.kind ≡ kind.Message
+  pub sends : Sends frame.kind
   pub bound : server_of world.queues frame.endpoint ≡ Some server
   pub none : count world.queues ≡ 0
 

@@ -96,19 +96,20 @@ fn reach(session: &mut Session, frame: FrameView<'_>, outbox: &mut Outbox) -> Re
     }
 }
 
-/// The server at which a message can be served at once: its endpoint is bound there, and nothing waits.
+/// The server at which what a frame sends can be served at once: its endpoint is bound there, and nothing
+/// waits.
 fn free_server(session: &Session, frame: FrameView<'_>) -> Option<u32>
     ensures { IfSome result (λ server. IsFree (frame_of frame.entry) server (whole session.now)) }
 {
     match frame.kind {
-        FrameKind::Message if session.queues.len() == 0 => {
+        FrameKind::Message | FrameKind::Close if session.queues.len() == 0 => {
             session.queues.server_of(frame.endpoint)
         }
         _ => None,
     }
 }
 
-/// Serves a message that waits nowhere, or answers that its frame is refused. It takes a place.
+/// Serves what a frame sends, which waits nowhere, or answers that it is refused. It takes a place.
 fn serve_at_once(
     session: &mut Session,
     server: u32,
@@ -130,7 +131,7 @@ fn serve_at_once(
     }
 }
 
-/// Serves an admitted message that waits nowhere. It takes a place.
+/// Serves what an admitted frame sends, which waits nowhere. It takes a place.
 fn serve_admitted(
     session: &mut Session,
     server: u32,

@@ -105,8 +105,8 @@ impl World {
         self.hear(Mode::Given, frame, outbox)
     }
 
-    /// Hears a frame: accepts it, and in mode auto serves all that can be served then. A message that finds
-    /// nothing waiting there is served without waiting itself.
+    /// Hears a frame: accepts it, and in mode auto serves all that can be served then. What finds nothing
+    /// waiting there is served without waiting itself.
     pub fn hear(
         &mut self,
         mode: Mode,

@@ -9,8 +9,7 @@ use Rattle.vfs_session.specs.Steps.{IsRunning}
 use Rattle.vfs_session.specs.World.{World}
 use Rattle.vfs_world.specs.Steps.{Hears, IsFree}
 use Rattle.vfs_world.proofs.Answered.{on_ok}
-use Rattle.vfs_world.proofs.AtOnce.{none_waits, reached_at_once, sent_in, taken_again, waits_in, waits_last}
-use Rattle.vfs_world.proofs.Hearing.{message_lasts}
+use Rattle.vfs_world.proofs.AtOnce.{none_waits, reached_at_once, sent_in, sent_lasts, taken_again, waits_in, waits_last}
 use Rattle.vfs_world.proofs.arriving.serve_admitted.Goals as goal
 
 -- behind its place it stands as what waited and was taken
@@ -21,7 +20,7 @@ takes now frame server sent heard free is =
     (taken_again now.queues (sent_in now frame) (none_waits heard.before now (2 ^ 61 - 4098) heard.running heard.admitted.same free.none) server (record now { places = now.places + 1 }) free.bound refl)
 
 runs : (now : World) (frame : Frame) (server : ℕ) → Hears (2 ^ 61 - 4098) frame now → IsFrame ToServers frame → IsFree frame server now → IsRunning (2 ^ 61) (waits_in now frame)
-runs now frame server heard is free = message_lasts (2 ^ 61 - 4098) heard.before now (waits_in now frame) frame heard.running is free.message heard.admitted (waits_last now frame)
+runs now frame server heard is free = sent_lasts (2 ^ 61 - 4098) heard.before now (waits_in now frame) frame heard.running is free.sends heard.admitted (waits_last now frame)
 
 pub serve_taken-requires : goal.serve_taken-requires
 serve_taken-requires c = record {
@@ -52,5 +51,5 @@ returns-clause-running c =
     let now : World = whole c.args.session.now in
     c.serve_taken.ensures.running (most + 4098) (waits_in now (frame_of c.args.frame))
     (runs now (frame_of c.args.frame) c.args.server c.requires.heard c.requires.frame c.requires.free)
-    (message_lasts most before now (waits_in now (frame_of c.args.frame)) (frame_of c.args.frame) run c.requires.frame c.requires.free.message admitted (waits_last now (frame_of c.args.frame)))
+    (sent_lasts most before now (waits_in now (frame_of c.args.frame)) (frame_of c.args.frame) run c.requires.frame c.requires.free.sends admitted (waits_last now (frame_of c.args.frame)))
     (takes now (frame_of c.args.frame) c.args.server c.of_frame-sent.result c.requires.heard c.requires.free c.of_frame-sent.ensures)

@@ -18,7 +18,7 @@ serve_admitted-requires c = record {
     running = c.requires.running;
     admitted = record { none = none_refused (admission (look_ups c.args.session.now.endpoints) (frame_of c.args.frame)) c.in-Ok.ensures.first; admits = c.in-Ok.ensures.admitted; same = refl };
   };
-  free = record { message = c.requires.free.message; bound = c.requires.free.bound; none = c.requires.free.none };
+  free = record { sends = c.requires.free.sends; bound = c.requires.free.bound; none = c.requires.free.none };
 }
 
 pub refuse-requires : goal.refuse-requires
