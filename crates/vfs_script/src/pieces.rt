@@ -1,10 +1,28 @@
 // What stands between certain bytes of a text, piece by piece.
 
 ghost use Rattle.std.specs.Prelude.{◌≡◌, ◌≢◌, ◌∷◌, [], length, IfSome, IfNone};
+ghost use Rattle.memchr.specs.Find.{IsFirstByte, is_byte};
 ghost use Rattle.vfs_script.specs.Words.{pieces};
 
 use memchr::memchr;
 use std::marker::Model;
+
+// The first place of a byte. Ends of lines are looked for in blocks; the others part words, which are so
+// short that a loop costs less.
+#[inline]
+fn place_of(by: u8, text: &[u8]) -> Option<usize>
+    ensures { IsFirstByte (is_byte by) text.now result }
+{
+    if by == b'\n' {
+        return memchr(by, text);
+    }
+    for i in 0..text.len() {
+        if text[i] == by {
+            return Some(i);
+        }
+    }
+    None
+}
 
 /// The pieces of a text that are left: what stands between the bytes `by`.
 #[derive(Drop)]
@@ -35,6 +53,7 @@ impl<'a> Pieces<'a> {
     }
 
     /// The next piece.
+    #[inline]
     pub(crate) fn next(&mut self) -> Option<&'a [u8]>
         ensures none { IfNone result (self.old ≡ []) }
         ensures same { IfNone result (self.new ≡ []) }
@@ -44,7 +63,7 @@ impl<'a> Pieces<'a> {
             return None;
         }
         let rest = self.rest;
-        match memchr(self.by, rest) {
+        match place_of(self.by, rest) {
             Some(place) => {
                 self.rest = &rest[place + 1..];
                 Some(&rest[..place])
