@@ -7,15 +7,11 @@ ghost use Rattle.vfs_script.specs.Words.{pieces};
 use memchr::memchr;
 use std::marker::Model;
 
-// The first place of a byte. Ends of lines are looked for in blocks; the others part words, which are so
-// short that a loop costs less.
-#[inline]
+// The first place of a byte. Words are so short that a loop costs less than a search in blocks.
+#[inline(always)]
 fn place_of(by: u8, text: &[u8]) -> Option<usize>
     ensures { IsFirstByte (is_byte by) text.now result }
 {
-    if by == b'\n' {
-        return memchr(by, text);
-    }
     for i in 0..text.len() {
         if text[i] == by {
             return Some(i);
@@ -53,7 +49,7 @@ impl<'a> Pieces<'a> {
     }
 
     /// The next piece.
-    #[inline]
+    #[inline(always)]
     pub(crate) fn next(&mut self) -> Option<&'a [u8]>
         ensures none { IfNone result (self.old ≡ []) }
         ensures same { IfNone result (self.new ≡ []) }
@@ -64,6 +60,28 @@ impl<'a> Pieces<'a> {
         }
         let rest = self.rest;
         match place_of(self.by, rest) {
+            Some(place) => {
+                self.rest = &rest[place + 1..];
+                Some(&rest[..place])
+            }
+            None => {
+                self.is_done = true;
+                Some(rest)
+            }
+        }
+    }
+
+    /// The next piece, which may be long: its end is looked for in blocks.
+    pub(crate) fn next_long(&mut self) -> Option<&'a [u8]>
+        ensures none { IfNone result (self.old ≡ []) }
+        ensures same { IfNone result (self.new ≡ []) }
+        ensures piece { IfSome result (λ piece. self.old ≡ piece.now ∷ self.new) }
+    {
+        if self.is_done {
+            return None;
+        }
+        let rest = self.rest;
+        match memchr(self.by, rest) {
             Some(place) => {
                 self.rest = &rest[place + 1..];
                 Some(&rest[..place])

@@ -198,7 +198,7 @@ impl<'a> Lines<'a> {
         ensures utf8 { IfSome result (λ line. line.2 ≡ is_utf8 line.1.now) }
         ensures text { IfSome result (λ line. IsTrue line.2 → IsUtf8 line.1.now) }
     {
-        let line = self.pieces.next()?;
+        let line = self.pieces.next_long()?;
         let number = self.number;
         self.number += 1;
         let is_text = is_line_text(self.is_text, line);
