@@ -1,19 +1,21 @@
 -- Words as numbers.
-use Rattle.std.proofs.Common.{◌≡◌, ℕ, zero, suc, ◌+◌, ◌-◌, ◌*◌, ◌<◌, ◌≤◌, ◌^◌, ◌==◌, nat_lt, nat_le, not, Bool, true, false, cond, ◌&&◌, ◌||◌, List, [], ◌∷◌, ◌++◌, length, map, get_or, take, drop, Option, Some, None, Result, Ok, Err, refl, sym, ap, ◌∙◌, subst, arith, inl, inr, append_assoc, append-nil}
-use Rattle.std.specs.Prelude.{MatchResult, is_ok}
+use Rattle.std.proofs.Common.{◌≡◌, ℕ, ◌+◌, ◌-◌, ◌*◌, ◌<◌, ◌≤◌, ◌^◌, nat_lt, nat_le, Bool, true, false, ◌&&◌, List, [], ◌∷◌, ◌++◌, length, map, get_or, take, drop, Option, Some, None, Result, Ok, Err, refl, sym, ap, ◌∙◌, subst, arith, inl, inr, append_assoc, append-nil}
+use Rattle.std.specs.Prelude.{IfSome, MatchResult, is_ok}
 use Rattle.std.specs.List.{list_all}
 use Rattle.std.specs.Char.{digit_value}
 use Rattle.std.specs.Option.{option_map}
 use Rattle.std.specs.Result.{OkIff, result_ok}
 use Rattle.std.specs.Str.{IsUtf8, IsAscii, is_utf8}
-use Rattle.std.specs.Str.Parse.{AllDigits, IsNumeral, ParsesUnsigned, digits_value, without_leading_plus}
+use Rattle.std.specs.Str.Parse.{AllDigits, IsNumeral, ParsesUnsigned, digits_value}
 use Rattle.std.proofs.lemmas.Bool.{and_parts, cases_lt, false_from_ne_true, le-ltb, leb-true, lt-ltb, or_cases}
 use Rattle.std.proofs.lemmas.Str.{IsUtf8-from_ascii, IsUtf8-from_is_utf8, is_utf8-from_IsUtf8}
 use Rattle.std.proofs.lemmas.Str.Ascii.{IsAscii-nil, IsAscii-cons}
 use Rattle.std.proofs.Math.Nat.{pow-le-pow_right}
 use Rattle.std.proofs.lemmas.Int.Digits.{digits_value-lt, digits_value_more}
-use Rattle.std.proofs.lemmas.Str.Parse.{digits_value-take-le, without_leading_plus_none}
-use Rattle.vfs_script.specs.Words.{◌>>=◌, all_given, comma, given, is_decimal, is_decimal_digit, is_digit, is_hexadecimal, is_led, number_in, numbers_of, pieces}
+use Rattle.std.proofs.lemmas.List.{length-take-le}
+use Rattle.std.proofs.lemmas.List.Folds.{list_all_more}
+use Rattle.std.proofs.lemmas.Str.Parse.{without_leading_plus_none}
+use Rattle.vfs_script.specs.Words.{◌>>=◌, all_given, comma, given, has_prefix, is_decimal, is_decimal_digit, is_digit, is_hexadecimal, number_in, number_of, numbers_of, pieces}
 
 -- a digit is of ASCII and no sign
 digit_low : (radix c : ℕ) → radix ≤ 36 → digit_value c < radix → c < 123
@@ -50,38 +52,12 @@ numeral_parsed radix word r high h p =
     let e = without_leading_plus_none word (no_plus radix word high h) in
     parsed_value (digits_value radix word) r (IsNumeral radix word) h (rw e at p)
 
--- ---- few decimal digits
-
-digit_at : (word : List ℕ) (i : ℕ) → AllDigits 10 word → i < length word → digit_value (get_or word i 0) < 10
-digit_at [] i all h = absurd (omega arith)
-digit_at (c ∷ word) zero all h = all.0
-digit_at (c ∷ word) (suc i) all h = digit_at word i all.1 (omega arith)
-
-decimal_code : (c : ℕ) → digit_value c < 10 → (48 ≤ c) × (digit_value c ≡ c - 48)
-decimal_code c h = grind arith
-
-few_fit : (word : List ℕ) (i : ℕ) → length word ≤ 19 → AllDigits 10 word → digits_value 10 (take i word) < 2 ^ 64
-few_fit word i few all =
-    let front = digits_value-take-le 10 word i (omega arith) in
-    let small = digits_value-lt 10 word all in
-    let bound : 10 ^ length word ≤ 10 ^ 19 = pow-le-pow_right (omega arith) few in
-    omega (arith, front, small, bound)
-
--- one digit more
-pub decimal_step : (word : List ℕ) (i : ℕ) → length word ≤ 19 → AllDigits 10 word → i < length word →
-    (48 ≤ get_or word i 0)
-    × (digits_value 10 (take (i + 1) word) ≡ digits_value 10 (take i word) * 10 + (get_or word i 0 - 48))
-    × (digits_value 10 (take (i + 1) word) < 2 ^ 64)
-decimal_step word i few all within =
-    let code = decimal_code (get_or word i 0) (digit_at word i all within) in (
-      code.0,
-      digits_value_more 10 word i within ∙ ap (λ d. digits_value 10 (take i word) * 10 + d) code.1,
-      few_fit word (i + 1) few all,
-    )
-
 -- the tests of digits
 decimal_value : (c : ℕ) → is_decimal_digit c ≡ true → digit_value c < 10
 decimal_value c h = grind arith
+
+decimal_code : (c : ℕ) → digit_value c < 10 → (48 ≤ c) × (digit_value c ≡ c - 48)
+decimal_code c h = grind arith
 
 letter_bounds : (c : ℕ) → nat_le 97 c && nat_le c 102 ≡ true → (97 ≤ c) × (c ≤ 102)
 letter_bounds c h = let parts = and_parts (nat_le 97 c) (nat_le c 102) h in (leb-true 97 c parts.0, leb-true c 102 parts.1)
@@ -110,20 +86,67 @@ all_hexadecimal (c ∷ word) h =
     let parts = and_parts (is_digit c) (list_all is_digit word) h in
     (digit_value_16 c parts.0, all_hexadecimal word parts.1)
 
-decimal_some : (word : List ℕ) → is_decimal word ≡ true → 0 < length word
-unfolding is_led
-decimal_some [] h = cc
-decimal_some (c ∷ word) h = omega arith
+-- ---- few digits, one behind the other
 
-hexadecimal_some : (word : List ℕ) → is_hexadecimal word ≡ true → 0 < length word
-hexadecimal_some [] h = cc
-hexadecimal_some (c ∷ word) h = omega arith
+few_fit : (radix most : ℕ) (word : List ℕ) (i : ℕ) → 0 < radix → length word ≤ most → radix ^ most ≤ 2 ^ 64 → i ≤ length word → AllDigits radix (take i word) →
+    digits_value radix (take i word) < 2 ^ 64
+few_fit radix most word i some few fits within all =
+    let small = digits_value-lt radix (take i word) all in
+    let size = length-take-le i word within in
+    let bound : radix ^ length (take i word) ≤ radix ^ most = pow-le-pow_right some (omega (arith, size, few, within)) in
+    omega (arith, small, bound, fits)
 
-pub decimal_numeral : (word : List ℕ) → is_decimal word ≡ true → IsNumeral 10 word
-decimal_numeral word h = (decimal_some word h, all_decimal word (and_parts (list_all is_decimal_digit word) _ h).0)
+-- one digit more
+pub decimal_step : (word : List ℕ) (i : ℕ) → length word ≤ 19 → list_all is_decimal_digit (take i word) ≡ true → i < length word → is_decimal_digit (get_or word i 0) ≡ true →
+    (48 ≤ get_or word i 0)
+    × (digits_value 10 (take (i + 1) word) ≡ digits_value 10 (take i word) * 10 + (get_or word i 0 - 48))
+    × (digits_value 10 (take (i + 1) word) < 2 ^ 64)
+    × (list_all is_decimal_digit (take (i + 1) word) ≡ true)
+decimal_step word i few all within digit =
+    let code = decimal_code (get_or word i 0) (decimal_value (get_or word i 0) digit) in
+    let more : list_all is_decimal_digit (take (i + 1) word) ≡ true = list_all_more is_decimal_digit word i 0 within ∙ rw (all, digit) refl in (
+      code.0,
+      digits_value_more 10 word i within ∙ ap (λ d. digits_value 10 (take i word) * 10 + d) code.1,
+      few_fit 10 19 word (i + 1) (omega arith) few (omega arith) (omega (arith, within)) (all_decimal (take (i + 1) word) more),
+      more,
+    )
 
-pub hexadecimal_numeral : (word : List ℕ) → is_hexadecimal word ≡ true → IsNumeral 16 word
-hexadecimal_numeral word h = (hexadecimal_some word h, all_hexadecimal word (and_parts (list_all is_digit word) (nat_lt 0 (length word) && nat_le (length word) 16) h).0)
+pub hexadecimal_step : (word : List ℕ) (i : ℕ) → length word ≤ 16 → list_all is_digit (take i word) ≡ true → i < length word → is_digit (get_or word i 0) ≡ true →
+    (digits_value 16 (take (i + 1) word) ≡ digits_value 16 (take i word) * 16 + digit_value (get_or word i 0))
+    × (digits_value 16 (take (i + 1) word) < 2 ^ 64)
+    × (list_all is_digit (take (i + 1) word) ≡ true)
+hexadecimal_step word i few all within digit =
+    let more : list_all is_digit (take (i + 1) word) ≡ true = list_all_more is_digit word i 0 within ∙ rw (all, digit) refl in (
+      digits_value_more 16 word i within,
+      few_fit 16 16 word (i + 1) (omega arith) few (omega arith) (omega (arith, within)) (all_hexadecimal (take (i + 1) word) more),
+      more,
+    )
+
+-- ---- numbers that fit 64 bits
+
+abbrev fitting : ℕ → Option ℕ
+fitting number = given (nat_lt number (2 ^ 64)) number
+
+fits_already : (found : Option ℕ) → IfSome found (λ number. number < 2 ^ 64) → found ≡ (found >>= fitting)
+fits_already None small = refl
+fits_already (Some number) small = rw (lt-ltb number (2 ^ 64) small) refl
+
+both_tests : (test : Bool) (number : ℕ) → given (test && nat_lt number (2 ^ 64)) number ≡ (given test number >>= fitting)
+both_tests true number = refl
+both_tests false number = refl
+
+pub number_prefixed : (word : List ℕ) (found : Option ℕ) → has_prefix word ≡ true → found ≡ given (is_hexadecimal (drop 2 word)) (digits_value 16 (drop 2 word)) →
+    IfSome found (λ number. number < 2 ^ 64) → found ≡ number_in 64 word
+unfolding number_in number_of
+number_prefixed word found prefix e small = rw prefix (fits_already found small ∙ ap (λ f. f >>= fitting) e)
+
+pub number_plain : (word : List ℕ) (found : Option ℕ) → has_prefix word ≡ false → found ≡ given (is_decimal word && nat_lt (digits_value 10 word) (2 ^ 64)) (digits_value 10 word) →
+    found ≡ number_in 64 word
+unfolding number_in number_of
+number_plain word found prefix e = rw prefix (e ∙ both_tests (is_decimal word) (digits_value 10 word))
+
+pub decimal_numeral : (word : List ℕ) → 0 < length word → list_all is_decimal_digit word ≡ true → IsNumeral 10 word
+decimal_numeral word some h = (some, all_decimal word h)
 
 -- an answer on UTF-8 is the test's
 pub text_test : {A E : Type 0} (r : Result A E) (bytes : List ℕ) (P : A → Type 0) (Q : E → Type 0) →

@@ -1,9 +1,10 @@
 // The words of a line: numbers, bytes as hexadecimal digits, handles.
 
-ghost use Rattle.std.specs.Prelude.{◌≡◌, ◌^◌, ◌<◌, ◌≤◌, length, nat_lt, IfOk, IfSome, IsTrue};
+ghost use Rattle.std.specs.Prelude.{◌≡◌, ◌^◌, ◌<◌, ◌≤◌, ◌&&◌, true, length, nat_lt, IfOk, IfSome, IsTrue};
 ghost use Rattle.std.specs.List.{list_all};
 ghost use Rattle.std.specs.Option.{option_map};
 ghost use Rattle.std.specs.Str.{IsUtf8, is_utf8};
+ghost use Rattle.std.specs.Char.{digit_value};
 ghost use Rattle.std.specs.Str.Parse.{IsNumeral, digits_value};
 ghost use Rattle.vfs_script.specs.Words.{bytes_of, given, handles_of, has_prefix, is_decimal, is_decimal_digit, is_digit, is_hexadecimal, is_led, negative_of, number_in, numbers_of, signed_of};
 
@@ -35,13 +36,6 @@ pub(crate) fn is_text(bytes: &[u8]) -> bool
     str::from_utf8(bytes).is_ok()
 }
 
-// Whether these are decimal digits, with no zero in front of others.
-fn is_decimal(word: &[u8]) -> bool
-    ensures { result ≡ is_decimal word.now }
-{
-    all_decimal(word) && is_led(word)
-}
-
 fn all_decimal(word: &[u8]) -> bool
     ensures { result ≡ list_all is_decimal_digit word.now }
 {
@@ -57,13 +51,6 @@ fn is_led(word: &[u8]) -> bool
         return true;
     }
     !word.is_empty() && word[0] != b'0'
-}
-
-// Whether these are 1 to 16 hexadecimal digits.
-fn is_hexadecimal(word: &[u8]) -> bool
-    ensures { result ≡ is_hexadecimal word.now }
-{
-    all_digits(word) && word.len() > 0 && word.len() <= 16
 }
 
 fn all_digits(word: &[u8]) -> bool
@@ -89,29 +76,74 @@ fn digits(word: &[u8], radix: u32) -> Option<u64>
     u64::from_str_radix(str::from_utf8(word).ok()?, radix).ok()
 }
 
-// The number that decimal digits write, if it fits 64 bits.
+// The number that decimal digits write, with no zero in front of others, if it fits 64 bits.
 fn decimal(word: &[u8]) -> Option<u64>
-    requires { IsNumeral 10 word.now }
-    ensures { result ≡ given (nat_lt (digits_value 10 word.now) (2 ^ 64)) (digits_value 10 word.now) }
+    ensures { result ≡ given (is_decimal word.now && nat_lt (digits_value 10 word.now) (2 ^ 64)) (digits_value 10 word.now) }
 {
-    if word.len() > 19 {
-        return digits(word, 10);
+    if !is_led(word) {
+        return None;
     }
-    Some(few_digits(word))
+    if word.len() > 19 {
+        return many_digits(word);
+    }
+    few_digits(word)
 }
 
-// The number that decimal digits write which are so few that it fits.
-fn few_digits(word: &[u8]) -> u64
-    requires few { length word.now ≤ 19 }
-    requires numeral { IsNumeral 10 word.now }
-    ensures value { result ≡ digits_value 10 word.now }
-    ensures fits { result < 2 ^ 64 }
+// The number that many digits write, if they are decimal, and if it fits 64 bits.
+fn many_digits(word: &[u8]) -> Option<u64>
+    requires { 0 < length word.now }
+    ensures { result ≡ given (list_all is_decimal_digit word.now && nat_lt (digits_value 10 word.now) (2 ^ 64)) (digits_value 10 word.now) }
+{
+    if !all_decimal(word) {
+        return None;
+    }
+    digits(word, 10)
+}
+
+// The number that digits write which are so few that it fits, if they are decimal.
+fn few_digits(word: &[u8]) -> Option<u64>
+    requires { length word.now ≤ 19 }
+    ensures value { result ≡ given (list_all is_decimal_digit word.now) (digits_value 10 word.now) }
+    ensures fits { IfSome result (λ number. number < 2 ^ 64) }
 {
     let mut number = 0;
     for byte in word {
+        if !is_decimal_digit(*byte) {
+            return None;
+        }
         number = 10 * number + u64::from(*byte - b'0');
     }
-    number
+    Some(number)
+}
+
+// The value of a hexadecimal digit.
+fn digit_value(byte: u8) -> u64
+    requires { is_digit byte ≡ true }
+    ensures { result ≡ digit_value byte }
+{
+    if byte <= b'9' {
+        u64::from(byte - b'0')
+    } else {
+        u64::from(byte - b'a') + 10
+    }
+}
+
+// The number that 1 to 16 hexadecimal digits write. So few fit.
+fn hexadecimal(word: &[u8]) -> Option<u64>
+    ensures value { result ≡ given (is_hexadecimal word.now) (digits_value 16 word.now) }
+    ensures fits { IfSome result (λ number. number < 2 ^ 64) }
+{
+    if word.is_empty() || word.len() > 16 {
+        return None;
+    }
+    let mut number = 0;
+    for byte in word {
+        if !is_digit(*byte) {
+            return None;
+        }
+        number = 16 * number + digit_value(*byte);
+    }
+    Some(number)
 }
 
 /// A number of 64 bits: decimal without leading zeros, or `0x` and 1 to 16 of the digits 0 to 9 and a to f.
@@ -120,16 +152,9 @@ pub(crate) fn long(word: &[u8]) -> Option<u64>
     ensures { result ≡ number_in 64 word.now }
 {
     if has_prefix(word) {
-        let behind = &word[2..];
-        if is_hexadecimal(behind) {
-            digits(behind, 16)
-        } else {
-            None
-        }
-    } else if is_decimal(word) {
-        decimal(word)
+        hexadecimal(&word[2..])
     } else {
-        None
+        decimal(word)
     }
 }
 
@@ -146,9 +171,6 @@ pub(crate) fn short(word: &[u8]) -> Option<u32>
 fn negative(digits: &[u8]) -> Option<i64>
     ensures { result ≡ negative_of digits.now }
 {
-    if !is_decimal(digits) {
-        return None;
-    }
     let size = decimal(digits)?;
     if size > 1 << 63 {
         return None;

@@ -66,6 +66,7 @@ impl Outtext {
     }
 
     /// Appends bytes, or for want of memory nothing.
+    #[inline(always)]
     pub fn put(&mut self, part: &[u8]) -> Result<(), NoMemory>
         ensures put { OnOk result (self.new ≡ self.old ++ part.now) }
         ensures no_memory { OnErr result (self.new ≡ self.old) }

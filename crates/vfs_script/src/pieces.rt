@@ -1,10 +1,24 @@
 // What stands between certain bytes of a text, piece by piece.
 
 ghost use Rattle.std.specs.Prelude.{◌≡◌, ◌≢◌, ◌∷◌, [], length, IfSome, IfNone};
+ghost use Rattle.memchr.specs.Find.{IsFirstByte, is_byte};
 ghost use Rattle.vfs_script.specs.Words.{pieces};
 
 use memchr::memchr;
 use std::marker::Model;
+
+// The first place of a byte. Words are so short that a loop costs less than a search in blocks.
+#[inline(always)]
+fn place_of(by: u8, text: &[u8]) -> Option<usize>
+    ensures { IsFirstByte (is_byte by) text.now result }
+{
+    for i in 0..text.len() {
+        if text[i] == by {
+            return Some(i);
+        }
+    }
+    None
+}
 
 /// The pieces of a text that are left: what stands between the bytes `by`.
 #[derive(Drop)]
@@ -35,7 +49,30 @@ impl<'a> Pieces<'a> {
     }
 
     /// The next piece.
+    #[inline(always)]
     pub(crate) fn next(&mut self) -> Option<&'a [u8]>
+        ensures none { IfNone result (self.old ≡ []) }
+        ensures same { IfNone result (self.new ≡ []) }
+        ensures piece { IfSome result (λ piece. self.old ≡ piece.now ∷ self.new) }
+    {
+        if self.is_done {
+            return None;
+        }
+        let rest = self.rest;
+        match place_of(self.by, rest) {
+            Some(place) => {
+                self.rest = &rest[place + 1..];
+                Some(&rest[..place])
+            }
+            None => {
+                self.is_done = true;
+                Some(rest)
+            }
+        }
+    }
+
+    /// The next piece, which may be long: its end is looked for in blocks.
+    pub(crate) fn next_long(&mut self) -> Option<&'a [u8]>
         ensures none { IfNone result (self.old ≡ []) }
         ensures same { IfNone result (self.new ≡ []) }
         ensures piece { IfSome result (λ piece. self.old ≡ piece.now ∷ self.new) }

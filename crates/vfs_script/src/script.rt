@@ -1,5 +1,6 @@
 ghost use Rattle.std.specs.Prelude.{◌≡◌, ◌≤◌, ◌<◌, ◌+◌, ◌↔◌, [], ◌∷◌, IsTrue, length, false, None, Some, is_none, slice_get, IfNone, IfSome, IfOk, IfErr, OnOk, OnErr};
 ghost use Rattle.std.specs.Option.{option_or};
+ghost use Rattle.std.specs.Str.{IsUtf8, is_utf8};
 ghost use Rattle.fidl_names.specs.First.{cause_if, first_of};
 ghost use Rattle.endpoint_link.specs.Frames.{spellings};
 ghost use Rattle.io_messages.specs.Shapes.{is_one_way};
@@ -155,23 +156,25 @@ fn count_calls(calls: &[Option<Call>]) -> u32
     count
 }
 
-/// The lines of a text that are left, each with its number.
+/// The lines of a text that are left, each with its number. Where the whole text is UTF-8 no line is tested.
 #[derive(Drop)]
 struct Lines<'a> {
     number: u32,
     pieces: Pieces<'a>,
+    is_text: bool,
 }
 
 impl<'a> Model for Lines<'a> {
-    ghost use Rattle.std.specs.Prelude.{List, ◌+◌, ◌≤◌, ◌<◌, length};
+    ghost use Rattle.std.specs.Prelude.{List, ◌+◌, ◌≤◌, ◌<◌, IsTrue, length};
     ghost use Rattle.fidl_names.specs.declared.limits.TheConstants as limit;
+    ghost use Rattle.vfs_script.specs.Parsed.{AreTexts};
     ghost use Rattle.vfs_script.specs.Scripts.{Numbered, numbered_from};
 
     ghost Value = { List Numbered };
 
     ghost view = { λ l. numbered_from l.number l.pieces };
 
-    ghost invariant = { λ l. (0 < l.number) × (l.number + length l.pieces ≤ limit.MAX_TEXT + 2) };
+    ghost invariant = { λ l. (0 < l.number) × (l.number + length l.pieces ≤ limit.MAX_TEXT + 2) × (IsTrue l.is_text → AreTexts l.pieces) };
 }
 
 impl<'a> Lines<'a> {
@@ -183,20 +186,33 @@ impl<'a> Lines<'a> {
         Lines {
             number: 1,
             pieces: Pieces::new(b'\n', text),
+            is_text: is_text(text),
         }
     }
 
-    /// The next line, and its number.
-    fn next(&mut self) -> Option<(u32, &'a [u8])>
+    /// The next line, its number, and whether it is UTF-8.
+    fn next(&mut self) -> Option<(u32, &'a [u8], bool)>
         ensures none { IfNone result ((self.old ≡ []) × (self.new ≡ [])) }
         ensures line { IfSome result (λ line. self.old ≡ record { number = line.0; bytes = line.1.now } ∷ self.new) }
         ensures number { IfSome result (λ line. 0 < line.0) }
+        ensures utf8 { IfSome result (λ line. line.2 ≡ is_utf8 line.1.now) }
+        ensures text { IfSome result (λ line. IsTrue line.2 → IsUtf8 line.1.now) }
     {
-        let line = self.pieces.next()?;
+        let line = self.pieces.next_long()?;
         let number = self.number;
         self.number += 1;
-        Some((number, line))
+        let is_text = is_line_text(self.is_text, line);
+        Some((number, line, is_text))
     }
+}
+
+// Whether a line is UTF-8, where it may be known.
+fn is_line_text(is_known: bool, line: &[u8]) -> bool
+    requires { IsTrue is_known → IsUtf8 line.now }
+    ensures utf8 { result ≡ is_utf8 line.now }
+    ensures text { IsTrue result → IsUtf8 line.now }
+{
+    is_known || is_text(line)
 }
 
 fn is_skipped(line: &[u8]) -> bool
@@ -226,7 +242,7 @@ fn read_mode(lines: &mut Lines<'_>) -> Result<Mode, ScriptFault>
     ensures refused { IfErr result (IsFirstBad (bad_in lines.old)) }
 {
     let mut bad = None;
-    while let Some((number, line)) = lines.next() {
+    while let Some((number, line, _)) = lines.next() {
         if !is_skipped(line) {
             return said_mode(mode_of(line), bad);
         }
@@ -267,20 +283,27 @@ fn read_lines(lines: &mut Lines<'_>, frames: &mut Frames) -> Result<(), ScriptFa
     ensures kept { OnOk result (frames.new ≡ kept_with frames.old (spoken_in lines.old)) }
     ensures refused { IfErr result (IsFirstBad (bad_lines lines.old)) }
 {
-    while let Some((number, line)) = lines.next() {
-        read_line(number, line, frames)?;
+    while let Some((number, line, is_text)) = lines.next() {
+        read_line(number, line, is_text, frames)?;
     }
     Ok(())
 }
 
-// Reads a line behind the mode line.
-fn read_line(number: u32, line: &[u8], frames: &mut Frames) -> Result<(), ScriptFault>
-    requires { 0 < number }
+// Reads a line behind the mode line, of which is known whether it is UTF-8.
+fn read_line(
+    number: u32,
+    line: &[u8],
+    is_text: bool,
+    frames: &mut Frames,
+) -> Result<(), ScriptFault>
+    requires number { 0 < number }
+    requires utf8 { is_text ≡ is_utf8 line.now }
+    requires text { IsTrue is_text → IsUtf8 line.now }
     ensures good { OnOk result (bad_lines (record { number = number; bytes = line.now } ∷ []) ≡ None) }
     ensures kept { OnOk result (frames.new ≡ kept_with frames.old (spoken_in (record { number = number; bytes = line.now } ∷ []))) }
     ensures refused { IfErr result (IsFirstBad (bad_lines (record { number = number; bytes = line.now } ∷ []))) }
 {
-    if !is_text(line) {
+    if !is_text {
         return Err(ScriptFault::Line(u64::from(number)));
     }
     if is_skipped(line) {

@@ -1,4 +1,4 @@
-use Rattle.std.proofs.Common.{[], ◌++◌, ◌∷◌, ◌∙◌, sym, ap}
+use Rattle.std.proofs.Common.{[], ◌∙◌, sym, ap}
 use Rattle.vfs_script.proofs.NumberLemmas.{so_far, so_far-start, so_far-more, so_far-bad, so_far-end}
 use Rattle.vfs_script.proofs.numbers.numbers.Goals as goal
 

@@ -1,15 +1,19 @@
-use Rattle.std.proofs.Common.{◌≡◌, ◌+◌, ◌≤◌, ◌<◌, length, arith, sym, ap, ◌∙◌}
+use Rattle.std.proofs.Common.{length, arith, sym, ap, subst, lit<}
 use Rattle.vfs_script.specs.Scripts.{lines_of, numbered_from}
-use Rattle.vfs_script.specs.Words.{newline, pieces}
-use Rattle.vfs_script.proofs.PieceLemmas.{pieces_few}
+use Rattle.vfs_script.specs.Parsed.{AreTexts}
+use Rattle.vfs_script.specs.Words.{newline}
+use Rattle.vfs_script.proofs.PieceLemmas.{pieces_are_texts, pieces_few}
 use Rattle.vfs_script.proofs.ScriptLemmas.{length-numbered}
 use Rattle.vfs_script.proofs.script.Lines.new.Goals as goal
 
 pub invariant_of-result : goal.invariant_of-result
 invariant_of-result c =
     let few = pieces_few newline c.args.text.now in
-    let size = ap length c.new.ensures in
-    (omega arith, omega (arith, few, size, c.requires))
+    let size = ap length c.new.ensures in (
+      omega arith,
+      omega (arith, few, size, c.requires),
+      λ yes. subst AreTexts (sym c.new.ensures) (pieces_are_texts newline c.args.text.now (lit< tt) (c.is_text.ensures.text yes)),
+    )
 
 pub returns-clause-lines : goal.returns-clause-lines
 unfolding lines_of
