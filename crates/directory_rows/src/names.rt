@@ -5,14 +5,13 @@ ghost use Rattle.node_graph.specs.declared.nodes.NodeKind.TheVariants.{Directory
 ghost use Rattle.node_graph.specs.Graph.{Names, SameHolds, holds_at, kind_at, number_of};
 
 use crate::directories::{ROOM, conn_to};
-use crate::requests::word;
-use crate::writer::Writer;
 use conn_rules::{At, Changes, Room};
 use dir_conn::DirServed;
 use fidl_names::MAX_NAME;
 use io_messages::{Request, read_reply};
 use io_rights::Rights;
 use node_graph::{Graph, GraphFault, NodeKind, NodeRef};
+use request_rows::{Writer, word};
 use std::alloc::Global;
 use std::process::Abort;
 use std::test::Fail;

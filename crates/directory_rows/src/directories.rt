@@ -5,13 +5,12 @@ ghost use Rattle.node_graph.specs.declared.nodes.NodeKind.TheVariants.{Directory
 ghost use Rattle.node_graph.specs.Graph.{Names, kind_at, number_of};
 ghost use Rattle.conn_rules.specs.Shared.{CanBeBound};
 
-use crate::requests::{request_of, word};
-use crate::writer::Writer;
 use conn_rules::{Birth, Changes, Room};
 use dir_conn::{DirConn, DirServed};
 use io_messages::{Protocol, Request, has_method, is_one_way};
 use io_rights::Rights;
 use node_graph::{Graph, GraphFault, NodeKind, NodeRef};
+use request_rows::{Writer, request_of, word};
 use std::alloc::Global;
 use std::process::Abort;
 use std::test::Fail;
