@@ -1,4 +1,4 @@
-//! Outside values of the client, of scripts and of what watchers are told, and the tests that read them.
+//! Outside values of the client and of scripts, and the tests that read them.
 //! They stand in a crate of their own, since a crate with tests is proved a second time with them.
 #![tactic(auto)]
 
@@ -6,5 +6,3 @@
 mod client;
 #[cfg(test)]
 mod scripts;
-#[cfg(test)]
-mod watchers;

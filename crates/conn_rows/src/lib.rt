@@ -1,18 +1,8 @@
-//! Outside values of connections to files and to directories, of references and of the echo service, and the tests that read them.
-//! They stand in a crate of their own, since a crate with tests is proved a second time with them.
+//! Outside values of connections to files, of references and of the echo service, and the tests that read
+//! them. They stand in a crate of their own, since a crate with tests is proved a second time with them.
 #![tactic(auto)]
 
 #[cfg(test)]
-mod directories;
-#[cfg(test)]
 mod files;
 #[cfg(test)]
-mod names;
-#[cfg(test)]
 mod references;
-#[cfg(test)]
-mod requests;
-#[cfg(test)]
-mod watching;
-#[cfg(test)]
-mod writer;

@@ -1,8 +1,10 @@
 //! Who is told what of a directory, and messages to watchers, as they were written down by hand.
+ghost use Rattle.std.specs.Prelude.{◌≤◌, ◌<◌, ◌^◌, length};
+
 use endpoint_link::{Outbox, Reading, Side, frame_at};
 use fidl_names::{MAX_NAME, MAX_WATCHERS};
 use io_rights::Rights;
-use node_graph::{Graph, NodeKind};
+use node_graph::{Graph, GraphFault, NodeKind};
 use std::alloc::Global;
 use std::test::Fail;
 use test_rows::{BadCell, Row, Table, all_hold, rows};
@@ -78,33 +80,42 @@ impl Table for Watched {
     }
 }
 
-/// Lets an endpoint watch directory 3.
-fn watch(watchers: &mut Watchers, endpoint: u64, mask: u64) -> Result<(), Fail> {
-    let endpoint = u32::try_from(endpoint)?;
-    let mask = u32::try_from(mask)?;
-    if watchers.count(3) >= MAX_WATCHERS || watchers.is_watching(3, endpoint) {
-        return Err(Fail::new("a watcher that may be added"));
+/// Whether an endpoint may watch directory 3, and there was memory. It watches it then.
+fn is_watching(watchers: &mut Watchers, endpoint: u64, mask: u64) -> bool {
+    match (u32::try_from(endpoint), u32::try_from(mask)) {
+        (Ok(endpoint), Ok(mask)) => {
+            watchers.count(3) < MAX_WATCHERS
+                && !watchers.is_watching(3, endpoint)
+                && watchers.add(3, endpoint, mask).is_ok()
+        }
+        _ => false,
     }
-    watchers.add(3, endpoint, mask)?;
-    Ok(())
 }
 
-/// Those who watch directory 3, by their endpoints and masks, one after the other.
-fn watching(alloc: Global, registered: &[u64]) -> Result<Watchers, Fail> {
-    let mut watchers = Watchers::new(alloc);
+/// Lets an endpoint watch directory 3.
+fn watch(watchers: &mut Watchers, endpoint: u64, mask: u64) -> Result<(), Fail> {
+    match is_watching(watchers, endpoint, mask) {
+        true => Ok(()),
+        false => Err(Fail::new("a watcher that may be added")),
+    }
+}
+
+/// Lets endpoints watch directory 3, by these and their masks, one after the other.
+fn watch_all(watchers: &mut Watchers, registered: &[u64]) -> Result<(), Fail> {
     let mut endpoint = None;
     for number in registered {
         match endpoint.take() {
-            Some(endpoint) => watch(&mut watchers, endpoint, *number)?,
+            Some(endpoint) => watch(watchers, endpoint, *number)?,
             None => endpoint = Some(*number),
         }
     }
-    Ok(watchers)
+    Ok(())
 }
 
 /// Whether those who watch are told of a change as a row says.
 fn is_changed(alloc: Global, row: &Row<'_>) -> Result<bool, Fail> {
-    let mut watchers = watching(alloc, &row.numbers(alloc, 1)?)?;
+    let mut watchers = Watchers::new(alloc);
+    watch_all(&mut watchers, &row.numbers(alloc, 1)?)?;
     let mut watched = Vec::new(alloc);
     for endpoint in &row.numbers(alloc, 2)? {
         watched.push(watchers.remove(3, u32::try_from(*endpoint)?))?;
@@ -145,13 +156,23 @@ fn a_directory_has_sixty_four_watchers(rt: HostRuntime) -> Result<(), Fail> {
     Ok(())
 }
 
+/// Makes a file in the root. It stands apart from the test of its name, since with both the proof is long.
+fn put(graph: &mut Graph, name: &[u8]) -> Result<(), GraphFault>
+    requires some { 1 ≤ length name.now }
+    requires few { length name.now ≤ MAX_NAME }
+    requires room { graph.old.made < 2 ^ 63 }
+{
+    let root = graph.root();
+    graph.create(root, name, NodeKind::File, Rights::all())?;
+    Ok(())
+}
+
 /// Makes a file in the root.
 fn make(graph: &mut Graph, name: &[u8]) -> Result<(), Fail> {
     if name.is_empty() || name.len() > MAX_NAME || graph.made() >= 1 << 63 {
         return Err(Fail::new("a file that may be made"));
     }
-    let root = graph.root();
-    graph.create(root, name, NodeKind::File, Rights::all())?;
+    put(graph, name)?;
     Ok(())
 }
 
@@ -210,15 +231,21 @@ fn new_watchers_are_told_what_is_there(rt: HostRuntime) -> Result<(), Fail> {
     for row in &rows(rt.alloc(), FIRST)? {
         assert!(rt; is_first(rt.alloc(), row)?, "{}", row.name());
     }
+    Ok(())
+}
+
+/// Whether a new watcher of a directory with long names is told as a row says.
+fn is_cut(alloc: Global, row: &Row<'_>) -> Result<bool, Fail> {
+    let graph = with_long_names(alloc, row.number(1)?)?;
+    let outbox = first(alloc, 8, &graph)?;
+    let sizes = sizes(alloc, outbox.as_bytes())?;
+    Ok(row.says(alloc, 2, &sizes))
+}
+
+#[test]
+fn long_names_go_in_several_messages(rt: HostRuntime) -> Result<(), Fail> {
     for row in &rows(rt.alloc(), LONG)? {
-        let graph = with_long_names(rt.alloc(), row.number(1)?)?;
-        let outbox = first(rt.alloc(), 8, &graph)?;
-        let sizes = sizes(rt.alloc(), outbox.as_bytes())?;
-        assert!(rt;
-            row.says(rt.alloc(), 2, &sizes),
-            "{}: {sizes:?}",
-            row.name()
-        );
+        assert!(rt; is_cut(rt.alloc(), row)?, "{}", row.name());
     }
     Ok(())
 }

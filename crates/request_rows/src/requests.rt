@@ -1,15 +1,8 @@
-//! The requests that rows have.
-
 use io_messages::Request;
 use test_rows::{BadCell, Row};
 
-// Each row: name | method | first number | second number | bytes. What a row has no cell for is the same in each.
-
-/// The request of a row. It is looked for in three functions, since the proof of one for all is long.
-pub(crate) fn request_of<'a, 'b>(
-    row: &Row<'a>,
-    bytes: &'b [u8],
-) -> Result<Request<'b>, BadCell<'a>> {
+/// The request of a row, with these bytes where it has some. It is looked for in three functions, since the proof of one for all is long.
+pub fn request_of<'a, 'b>(row: &Row<'a>, bytes: &'b [u8]) -> Result<Request<'b>, BadCell<'a>> {
     match row.cell(1)? {
         "Clone" => Ok(Request::Clone {
             request: word(row, 2)?,
@@ -88,7 +81,7 @@ fn of_directory<'a, 'b>(row: &Row<'a>, bytes: &'b [u8]) -> Result<Request<'b>, B
 }
 
 /// A cell's number, where it is one of 32 bits.
-pub(crate) fn word<'a>(row: &Row<'a>, at: usize) -> Result<u32, BadCell<'a>> {
+pub fn word<'a>(row: &Row<'a>, at: usize) -> Result<u32, BadCell<'a>> {
     match u32::try_from(row.number(at)?) {
         Ok(word) => Ok(word),
         Err(_) => Err(row.bad(at)),

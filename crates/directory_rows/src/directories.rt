@@ -5,13 +5,12 @@ ghost use Rattle.node_graph.specs.declared.nodes.NodeKind.TheVariants.{Directory
 ghost use Rattle.node_graph.specs.Graph.{Names, kind_at, number_of};
 ghost use Rattle.conn_rules.specs.Shared.{CanBeBound};
 
-use crate::requests::{request_of, word};
-use crate::writer::Writer;
 use conn_rules::{Birth, Changes, Room};
 use dir_conn::{DirConn, DirServed};
 use io_messages::{Protocol, Request, has_method, is_one_way};
 use io_rights::Rights;
 use node_graph::{Graph, GraphFault, NodeKind, NodeRef};
+use request_rows::{Writer, request_of, word};
 use std::alloc::Global;
 use std::process::Abort;
 use std::test::Fail;
@@ -42,20 +41,44 @@ fn add(
     graph.create(directory, name, kind, mask)
 }
 
+// Adds a file with these bytes to a directory.
+fn add_file(
+    rt: &impl Abort,
+    graph: &mut Graph,
+    directory: NodeRef,
+    name: &[u8],
+    mask: u16,
+    bytes: &[u8],
+) -> Result<(), GraphFault>
+    requires named { Names graph.old directory }
+    requires directory { kind_at graph.old (number_of directory) ≡ Some Directory }
+{
+    let file = add(rt, graph, directory, name, NodeKind::File, mask)?;
+    graph.write_at(file, 0, bytes)
+}
+
+// Adds a name to the root.
+fn add_to_root(
+    rt: &impl Abort,
+    graph: &mut Graph,
+    name: &[u8],
+    kind: NodeKind,
+    mask: u16,
+) -> Result<(), GraphFault> {
+    let root = graph.root();
+    add(rt, graph, root, name, kind, mask)?;
+    Ok(())
+}
+
 // Makes the directory `d` with the file `f` in it, the file `ro`, the service `echo`, and the mount `m`. Both files have bytes.
 fn plant(rt: &impl Abort, graph: &mut Graph) -> Result<(), GraphFault> {
     let root = graph.root();
     let directory = add(rt, graph, root, b"d", NodeKind::Directory, 0x1ff)?;
-    let file = add(rt, graph, directory, b"f", NodeKind::File, 0x1ff)?;
-    graph.write_at(file, 0, b"hello world")?;
+    add_file(rt, graph, directory, b"f", 0x1ff, b"hello world")?;
     let root = graph.root();
-    let file = add(rt, graph, root, b"ro", NodeKind::File, 0x12)?;
-    graph.write_at(file, 0, b"read only")?;
-    let root = graph.root();
-    add(rt, graph, root, b"echo", NodeKind::Service, 0x1ff)?;
-    let root = graph.root();
-    add(rt, graph, root, b"m", NodeKind::Mount(7), 0x82)?;
-    Ok(())
+    add_file(rt, graph, root, b"ro", 0x12, b"read only")?;
+    add_to_root(rt, graph, b"echo", NodeKind::Service, 0x1ff)?;
+    add_to_root(rt, graph, b"m", NodeKind::Mount(7), 0x82)
 }
 
 // A connection to a directory, with these rights.
@@ -187,10 +210,9 @@ fn try_open(
         ..ROOM
     };
     let served = ask(rt, graph, writer, room, request);
-    assert!(rt; is_answer(alloc, row, &served), "{}", row.name());
-    assert!(rt; writer.out.as_bytes().is_empty(), "{}", row.name());
+    let answered = is_answer(alloc, row, &served) && writer.out.as_bytes().is_empty();
     let counts = (length_of_file(rt, graph), graph.made());
-    assert!(rt; row.says(alloc, 7, &counts), "{}", row.name());
+    assert!(rt; answered && row.says(alloc, 7, &counts), "{}", row.name());
     Ok(())
 }
 
@@ -322,15 +344,11 @@ fn try_request(
     writer: &mut Writer,
     row: &Row<'_>,
 ) -> Result<(), Fail> {
-    let request = request_of(row, b"")?;
-    let served = ask(rt, graph, writer, ROOM, request);
-    assert!(rt; matches!(served, DirServed::Reply(_)), "{}", row.name());
     let wanted = row.bytes(alloc, 5)?;
-    assert!(rt;
-        writer.out.as_bytes() == wanted.as_slice(),
-        "{}",
-        row.name()
-    );
+    let request = request_of(row, b"")?;
+    let replied = matches!(ask(rt, graph, writer, ROOM, request), DirServed::Reply(_));
+    let written = writer.out.as_bytes() == wanted.as_slice();
+    assert!(rt; replied && written, "{}", row.name());
     Ok(())
 }
 
@@ -355,16 +373,27 @@ fn requests_get_their_replies(rt: HostRuntime) -> Result<(), Fail> {
 
 // What is taken out | its name | the flags | the names and the directory that are gone, where names are gone
 const UNLINKED: &str = "
-no such name                       | nope  | 0 | false None
-a flag that is none                | ro    | 2 | false None
-no name                            | ..    | 0 | false None
-a path                             | d/f   | 0 | false None
-a mount                            | m     | 0 | false None
-a file that has to be a directory  | ro    | 1 | false None
-a directory with names             | d     | 1 | false None
-a file                             | ro    | 0 | true None
-a directory without names          | empty | 1 | true Some(7)
+no such name                       | nope  | 0 | (false, None)
+a flag that is none                | ro    | 2 | (false, None)
+no name                            | ..    | 0 | (false, None)
+a path                             | d/f   | 0 | (false, None)
+a mount                            | m     | 0 | (false, None)
+a file that has to be a directory  | ro    | 1 | (false, None)
+a directory with names             | d     | 1 | (false, None)
+a file                             | ro    | 0 | (true, None)
+a directory without names          | empty | 1 | (true, Some(7))
 ";
+
+// Whether an Unlink has a reply, and tells what a row says.
+fn is_unlinked(alloc: Global, row: &Row<'_>, served: &DirServed<'_>) -> bool {
+    match served {
+        DirServed::Reply(changes) => {
+            let told = (changes.removed.is_some(), changes.deleted);
+            changes.added.is_none() && row.says(alloc, 3, &told)
+        }
+        _ => false,
+    }
+}
 
 fn try_unlink(
     rt: &impl Abort,
@@ -377,12 +406,8 @@ fn try_unlink(
         name: row.cell(1)?.as_bytes(),
         flags: row.number(2)?,
     };
-    let DirServed::Reply(changes) = ask(rt, graph, writer, ROOM, request) else {
-        panic!(rt; "an Unlink has a reply");
-    };
-    let told = format!(in alloc; "{} {:?}", changes.removed.is_some(), changes.deleted)?;
-    assert_eq!(rt; told.as_str(), row.cell(3)?, "{}", row.name());
-    assert!(rt; changes.added.is_none(), "{}", row.name());
+    let served = ask(rt, graph, writer, ROOM, request);
+    assert!(rt; is_unlinked(alloc, row, &served), "{}", row.name());
     Ok(())
 }
 
@@ -393,8 +418,7 @@ fn try_unlinks(
     writer: &mut Writer,
 ) -> Result<(), Fail> {
     plant(rt, graph)?;
-    let root = graph.root();
-    add(rt, graph, root, b"empty", NodeKind::Directory, 0x1ff)?;
+    add_to_root(rt, graph, b"empty", NodeKind::Directory, 0x1ff)?;
     for row in &rows(alloc, UNLINKED)? {
         try_unlink(rt, alloc, graph, writer, row)?;
     }

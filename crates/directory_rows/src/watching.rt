@@ -1,13 +1,12 @@
 //! What a directory answers to a Watch, by the bytes of its replies.
 
 use crate::directories::root_with;
-use crate::requests::word;
-use crate::writer::Writer;
 use conn_rules::Room;
 use dir_conn::DirServed;
 use io_messages::Request;
 use io_rights::{Rights, read_rights};
 use node_graph::Graph;
+use request_rows::{Writer, word};
 use std::alloc::Global;
 use std::test::Fail;
 use test_rows::{BadCell, Row, Table, all_hold};
