@@ -243,7 +243,7 @@ complete (CheckOf tree) before after S K answer a s n =
     (λ lists stands. text_done (line_of lists) ⊥ (sink_of before.streams) (sink_of after.streams) n.sink answer) a.1
 complete ShowAll before after S K answer a s n =
     after_done Collides (S × K) (λ (none : Unit {0}). AreDistinct) (λ none. SessionAnswers Any lines_course before.streams after.streams K) answer (no_collision s.0 answer)
-    (λ none distinct. session_done Any lines_course before.streams after.streams K s.1 n.source n.sink answer) a
+    (λ none distinct. session_done Any lines_course before.streams after.streams K s.1 n.source n.sink answer) a.1
 complete (MakeOf rounds) before after S K answer a s n =
     let told : List ℕ → Status → Type 0 = λ report. WritesText report ⊥ (sink_of before.streams) (sink_of after.streams) in
     after_done Collides K (λ (none : Unit {0}). AreDistinct) (λ none. AfterReport rounds K told) answer (no_collision s answer)

@@ -43,7 +43,8 @@ Answers (CheckOf tree) before after source_same sink_same =
     λ status. source_same × AfterTree tree before.files after.files sink_same
     (λ lists. WritesText (line_of lists) ⊥ (sink_of before.streams) (sink_of after.streams)) status
 Answers ShowAll before after source_same sink_same =
-    AfterNames (source_same × sink_same) (SessionAnswers side.Any lines_course before.streams after.streams sink_same)
+    λ status. (after.files ≡ before.files) × AfterNames (source_same × sink_same)
+    (SessionAnswers side.Any lines_course before.streams after.streams sink_same) status
 Answers (MakeOf rounds) before after source_same sink_same =
     λ status. source_same × (after.files ≡ before.files) × AfterNames sink_same
     (AfterReport rounds sink_same
