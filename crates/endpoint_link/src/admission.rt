@@ -1,9 +1,10 @@
 // The first refusal of a frame, over whatever can be looked up.
 
-ghost use Rattle.std.specs.Prelude.{◌≡◌, ◌≤◌, [], length, drop, count_by};
+ghost use Rattle.std.specs.Prelude.{◌≡◌, ◌≤◌, ◌<◌, ◌+◌, ◌^◌, [], ◌∷◌, nat_lt, length, drop, count_by};
+ghost use Rattle.fidl_names.specs.First.{cause_if, first_of};
 ghost use Rattle.fidl_names.specs.HandleNumber.{is_client};
 ghost use Rattle.endpoint_link.specs.Numbering.{among};
-ghost use Rattle.endpoint_link.specs.Admission.{LookUps, by_standing, may_travel, all_may_travel, is_full, too_many, refusal_by, admission};
+ghost use Rattle.endpoint_link.specs.Admission.{LookUps, by_standing, may_travel, all_may_travel, is_full, refusal_by, admission};
 ghost use Rattle.endpoint_link.specs.Views.{frame_of, handle_numbers};
 
 use crate::frame::{FrameView, HandleBytes};
@@ -69,10 +70,18 @@ fn message_refusal<L: LookUp>(
     if !all_may_travel(look_ups, handles) {
         return Some(Refusal::BadHandle);
     }
+    room_refusal(look_ups, count_clients(handles))
+}
+
+/// The refusal for want of room of a message that makes so many endpoints.
+pub(crate) fn room_refusal<L: LookUp>(look_ups: &L, clients: usize) -> Option<Refusal>
+    requires { clients < 2 ^ 62 }
+    ensures { result ≡ first_of (cause_if (is_full (L.tells look_ups.now)) Refusal.ShouldWait ∷ cause_if (nat_lt MAX_LIVE ((L.tells look_ups.now).live + clients)) Refusal.NoResources ∷ []) }
+{
     if is_full(look_ups) {
         return Some(Refusal::ShouldWait);
     }
-    if too_many(look_ups, handles) {
+    if too_many(look_ups, clients) {
         return Some(Refusal::NoResources);
     }
     None
@@ -155,10 +164,11 @@ fn is_full<L: LookUp>(look_ups: &L) -> bool
     look_ups.waiting() >= MAX_WAITING
 }
 
-fn too_many<L: LookUp>(look_ups: &L, handles: HandleBytes<'_>) -> bool
-    ensures { result ≡ too_many (L.tells look_ups.now) (handle_numbers handles.entry) }
+fn too_many<L: LookUp>(look_ups: &L, clients: usize) -> bool
+    requires { clients < 2 ^ 62 }
+    ensures { result ≡ nat_lt MAX_LIVE ((L.tells look_ups.now).live + clients) }
 {
-    look_ups.live() as usize + count_clients(handles) > MAX_LIVE
+    look_ups.live() as usize + clients > MAX_LIVE
 }
 
 /// How many of the handles are clients' numbers.

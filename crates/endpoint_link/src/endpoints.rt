@@ -1,18 +1,18 @@
 // The endpoints of the link: which numbers are used, and which frames are admitted.
 
-ghost use Rattle.std.specs.Prelude.{◌≡◌, ◌≢◌, ◌≤◌, ◌<◌, ◌+◌, ◌-◌, ◌⊎◌, true, false, [], All, Some, IsTrue, length, count_by, IfOk, OnOk, OnErr, MatchOption};
+ghost use Rattle.std.specs.Prelude.{◌≡◌, ◌≢◌, ◌≤◌, ◌<◌, ◌+◌, ◌-◌, ◌⊎◌, ℕ, true, false, [], All, Some, IsTrue, length, count_by, IfOk, OnOk, OnErr, MatchOption};
 ghost use Rattle.std.specs.FinMap as map;
 ghost use Rattle.fidl_names.specs.HandleNumber.{is_client};
 ghost use Rattle.endpoint_link.specs.Tables.{AreDistinct};
 ghost use Rattle.endpoint_link.specs.Standings.{standing_of, is_used, is_live, next_token_of, Starts, Sends, hung_up, ended, given, gone};
-ghost use Rattle.endpoint_link.specs.Admission.{look_ups, all_may_travel, admission, Admits};
+ghost use Rattle.endpoint_link.specs.Admission.{look_ups, all_may_travel, admission, refusal_by, Admits};
 ghost use Rattle.endpoint_link.specs.Frames.{goes_to};
 ghost use Rattle.endpoint_link.specs.declared.kinds.Side.TheVariants as side;
 ghost use Rattle.endpoint_link.specs.Views.{frame_of, handle_numbers};
 
-use crate::admission::{LookUp, first_refusal};
+use crate::admission::{LookUp, first_refusal, room_refusal};
 use crate::frame::{FrameView, HandleBytes};
-use crate::kinds::{AdmitFault, FrameKind, Standing, TokenFault};
+use crate::kinds::{AdmitFault, FrameKind, Refusal, Standing, TokenFault};
 use crate::standings::Standings;
 use crate::tokens::Tokens;
 use fidl_names::{MAX_LIVE, MAX_WAITING, NoMemory};
@@ -166,6 +166,20 @@ impl Endpoints {
             }
             FrameKind::Turn | FrameKind::Pick | FrameKind::Refused => Ok(()),
         }
+    }
+
+    /// Admits a message without handles on a live endpoint of a client, or refuses it for want of room.
+    pub fn admit_plain(&mut self) -> Result<(), Refusal>
+        ensures first { (endpoint : ℕ) → is_client endpoint ≡ true → standing_of self.old endpoint ≡ Standing.Live →
+            MatchOption (refusal_by FrameKind.Message (look_ups self.old) endpoint []) (result ≡ Ok tt) (λ why. result ≡ Err why) }
+        ensures admitted { OnOk result (Sends self.old [] self.new) }
+        ensures unchanged { OnErr result (self.new ≡ self.old) }
+    {
+        if let Some(why) = room_refusal(self, 0) {
+            return Err(why);
+        }
+        self.waiting += 1;
+        Ok(())
     }
 
     /// How a number stands.

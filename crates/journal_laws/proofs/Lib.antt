@@ -49,3 +49,4 @@ pub mod OnTrees
 pub mod SoundTrees
 pub mod Rooms
 pub mod Growing
+pub mod HangUps

@@ -1,5 +1,6 @@
 -- What holds of every start, history and journal.
-use Rattle.std.specs.Prelude.{◌≡◌, ◌≢◌, ◌<◌, All, AllPairs, Contains, filter_map, length, ℕ, ◌==◌, ◌&&◌, ◌||◌, false, not, if◌then◌else◌, List, [], ◌∷◌, ◌++◌, filter, Option, option_to_list}
+use Rattle.std.specs.Prelude.{◌≡◌, ◌≢◌, ◌<◌, All, AllPairs, Contains, filter_map, length, ℕ, ◌==◌, ◌&&◌, ◌||◌, true, false, not, if◌then◌else◌, List, [], ◌∷◌, ◌++◌, filter, Option, option_to_list}
+use Rattle.std.specs.List.{list_any}
 use Rattle.endpoint_link.specs.declared.kinds.Refusal.{Refusal}
 use Rattle.endpoint_link.specs.Numbering.{among}
 use Rattle.conn_rules.specs.Births.{fresh}
@@ -118,3 +119,9 @@ abbrev pub WhatIsSentWaits : Type 0
 WhatIsSentWaits =
     (start : Start) (journal : Journal) (endpoint : ℕ) (sending : Sending) (origin : Option ℕ) → Lawful start journal → is_dead (history_of start journal) endpoint ≡ false →
     waiting (history_of start (sends (sent_behind journal endpoint sending origin) ∷ journal)) ≡ waiting (history_of start journal) ++ sent_behind journal endpoint sending origin ∷ []
+
+-- a hang-up waits until its endpoint is dead
+abbrev pub HangUpsWait : Type 0
+HangUpsWait =
+    (start : Start) (journal : Journal) (endpoint : ℕ) → Lawful start journal → hung_up (history_of start journal) endpoint ≡ true → is_dead (history_of start journal) endpoint ≡ false →
+    list_any (λ sent. is_hang_up sent.sending && (sent.endpoint == endpoint)) (waiting (history_of start journal)) ≡ true

@@ -2,7 +2,7 @@
 
 ghost use Rattle.fidl_wire.specs.Names.{AreDistinct};
 ghost use Rattle.journal_laws.specs.Carrying.{ServingsBindWhatTheyCarry};
-ghost use Rattle.journal_laws.specs.Laws.{PlacesRise, RefusalsChangeNothing, SendingsWaitLast, ServedOnce, ServingsTakeEffect, WhatIsSentWaits};
+ghost use Rattle.journal_laws.specs.Laws.{HangUpsWait, PlacesRise, RefusalsChangeNothing, SendingsWaitLast, ServedOnce, ServingsTakeEffect, WhatIsSentWaits};
 ghost use Rattle.journal_laws.specs.Soundness.{DeathsReachAll, DrainsServeAll, EndpointsAreInTransit, EndpointsAreKnown, ServingsLowerTheWeight, SessionsAreLawful, SessionsServeAll, StartsAreSound, WhatGoesOnWaits};
 
 use fidl_wire::body_is_read_where_spelled;
@@ -33,6 +33,11 @@ pub fn places_rise()
 /// In a lawful journal what is served was sent, nothing is served twice, and each endpoint is served in order of sending.
 pub fn served_once()
     ensures { ServedOnce }
+{}
+
+/// In a lawful journal a hang-up waits until its endpoint is dead.
+pub fn hang_ups_wait()
+    ensures { HangUpsWait }
 {}
 
 /// In a lawful journal what is dead or bound was known, the ends of mounts live, and tokens are numbers of their own; where no two names

@@ -1,6 +1,6 @@
 //! The first entries of the bound endpoints, in order.
 
-ghost use Rattle.std.specs.Prelude.{◌≡◌, OnOk, OnErr};
+ghost use Rattle.std.specs.Prelude.{◌≡◌, ℕ, true, None, OnOk, OnErr};
 ghost use Rattle.std.specs.FinMap as finite;
 ghost use Rattle.message_queues.specs.Steps.{IsLeastAt};
 
@@ -100,6 +100,13 @@ impl Heads {
         self.put(server, next, endpoint)?;
         self.remove(server, place);
         Ok(())
+    }
+
+    /// Whether nothing waits on any bound endpoint.
+    pub(crate) fn is_empty(&self) -> bool
+        ensures { result ≡ true → (server : ℕ) → IsLeastAt self.now server None }
+    {
+        self.least.is_none()
     }
 
     /// A server's least place, and the endpoint there.

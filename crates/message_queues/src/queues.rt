@@ -105,6 +105,9 @@ impl Queues {
     pub fn next(&self) -> Option<u32>
         ensures { MatchOption result (NothingWaits self.now (IsBound self.now)) (λ endpoint. IsOldest self.now (IsBound self.now) endpoint) }
     {
+        if self.heads.is_empty() {
+            return None;
+        }
         let mut oldest = None;
         for server in 0..self.servers {
             oldest = older(oldest, self.heads.oldest(server));

@@ -33,3 +33,19 @@ pub none_refused : (first : Option Refusal) →
     MatchOption first ((admitted ≡ admitted) ⊎ (admitted ≡ failed fault.NoMemory)) (λ one. admitted ≡ failed (fault.Refused one)) → first ≡ None
 none_refused None h = refl
 none_refused (Some one) e = absurd (cc)
+
+-- ---- what the admission of a message without handles answers
+
+abbrev pub refused_for : Refusal → Result (Unit {0}) Refusal
+refused_for why = Err why
+
+abbrev pub let_in : Result (Unit {0}) Refusal
+let_in = Ok tt
+
+pub plain_refused : (first : Option Refusal) (why : Refusal) → MatchOption first (refused_for why ≡ let_in) (λ one. refused_for why ≡ refused_for one) → first ≡ Some why
+plain_refused None why e = absurd (cc)
+plain_refused (Some one) why e = cc
+
+pub plain_passed : (first : Option Refusal) → MatchOption first (let_in ≡ let_in) (λ one. let_in ≡ refused_for one) → first ≡ None
+plain_passed None h = refl
+plain_passed (Some one) e = absurd (cc)

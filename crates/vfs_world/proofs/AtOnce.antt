@@ -1,22 +1,35 @@
 -- What is served at once is served as if it had waited: it is behind nothing, and is taken again at once.
-use Rattle.std.proofs.Common.{◌≡◌, ℕ, zero, suc, inl, inr, ◌+◌, ◌≤◌, ◌==◌, Bool, true, false, cond, if◌then◌else◌, IsSome, List, [], ◌∷◌, ◌++◌, length, filter, drop, Option, Some, None, refl, sym, ap, ◌∙◌, subst, arith}
+use Rattle.std.proofs.Common.{◌≡◌, ℕ, zero, suc, inl, inr, ◌+◌, ◌≤◌, ◌==◌, ◌&&◌, Bool, true, false, not, cond, if◌then◌else◌, IsSome, List, [], ◌∷◌, ◌++◌, length, filter, drop, Option, Some, None, refl, sym, ap, ◌∙◌, subst, arith}
 use Rattle.std.specs.Prelude.{slice_get}
+use Rattle.std.specs.List.{list_any}
 use Rattle.std.specs.Cmp.{nat_cmp_total}
 use Rattle.std.specs.FinMap as finite
-use Rattle.std.specs.Option.{option_map_or, option_and_then}
+use Rattle.std.specs.Option.{option_map, option_map_or, option_and_then}
 use Rattle.std.specs.Ordering.{eq_by_cmp, nat_cmp}
 use Rattle.std.proofs.Math.Nat.{zero-add}
-use Rattle.std.proofs.lemmas.Bool.{eq-eqb, eqb-true}
+use Rattle.std.proofs.lemmas.Bool.{eq-eqb, eqb-true, or_left}
 use Rattle.std.proofs.lemmas.Bool.Decides.{nat_tests}
 use Rattle.std.proofs.lemmas.Option.{none-some, same_Some}
 use Rattle.fidl_wire.specs.Names.{AreDistinct}
 use Rattle.endpoint_link.specs.Frames.{Frame, IsFrame}
+use Rattle.endpoint_link.specs.Admission.{Admits, AdmitsKind, admission, look_ups as known_look_ups, refusal_by}
+use Rattle.endpoint_link.specs.Standings.{Known, Sends as SendsHandles, standing_of as known_standing}
+use Rattle.endpoint_link.specs.declared.kinds.FrameKind.{FrameKind}
+use Rattle.endpoint_link.specs.declared.kinds.FrameKind.TheVariants as kind
+use Rattle.endpoint_link.specs.declared.kinds.Refusal.{Refusal}
 use Rattle.endpoint_link.specs.declared.kinds.Side.TheVariants.{ToServers}
-use Rattle.vfs_journal.specs.Entries.{Journal, Sent}
-use Rattle.vfs_journal.specs.History.{waiting}
+use Rattle.endpoint_link.specs.declared.kinds.Standing.TheVariants as standing
+use Rattle.vfs_journal.specs.Entries.{Journal, Sent, is_hang_up}
+use Rattle.vfs_journal.specs.History.{History, births, hung_up, is_bound, is_dead, is_live, living, waiting}
 use Rattle.vfs_journal.specs.Past.{history_of}
 use Rattle.vfs_journal.specs.Session.{arrives, drained}
-use Rattle.vfs_journal.specs.Starts.{Start}
+use Rattle.vfs_journal.specs.Starts.{Bound, Start}
+use Rattle.vfs_journal.specs.View.{at_in, with_position}
+use Rattle.conn_rules.specs.Births.{Position}
+use Rattle.journal_laws.specs.Viewing.{view_behind}
+use Rattle.journal_laws.proofs.Among.{is_found}
+use Rattle.journal_laws.proofs.HangUps.{hang_ups_wait}
+use Rattle.journal_laws.proofs.Members.{found, kept_of, mapped_member}
 use Rattle.message_queues.specs.Queues.{Mailbox, Queues, Requeues, count, head_of, queue_of, server_of}
 use Rattle.message_queues.specs.Parcels.{sent_by}
 use Rattle.message_queues.proofs.Counting.{counts_its_list}
@@ -27,7 +40,7 @@ use Rattle.vfs_session.specs.World.{LeadsTo, StandsFor, World}
 use Rattle.vfs_session.proofs.OneMore.{one_of_these}
 use Rattle.vfs_session.proofs.Serves.{drain_leads}
 use Rattle.vfs_session.proofs.Times.{goes_on}
-use Rattle.vfs_world.specs.Steps.{IsAdmitted, IsFree, Reaches, Sends, WaitsLast}
+use Rattle.vfs_world.specs.Steps.{IsAdmitted, IsFree, IsPlain, Reaches, Sends, WaitsLast}
 use Rattle.vfs_world.proofs.Hearing.{hang_up_lasts, hang_up_leads, message_lasts, message_leads}
 
 -- ---- queues with one entry more
@@ -149,17 +162,21 @@ sent_lasts most old now new frame r is (inl message) admitted waits =
 sent_lasts most old now new frame r is (inr close) admitted waits =
     hang_up_lasts most old now new frame r is close admitted (subst (λ k. WaitsLast now frame.endpoint (sent_by k frame) new) close waits)
 
--- where no more than none are counted, nothing waits on any endpoint
-pub none_waits : (old now : World) (most : ℕ) → IsRunning most old → now ≡ record old { known = now.known } → count now.queues ≡ 0 → (endpoint : ℕ) → queue_of now.queues endpoint ≡ []
-none_waits old now most r same none endpoint =
-    let queues : now.queues ≡ old.queues = ap (λ (w : World). w.queues) same in
+-- where none are counted, nothing waits, and nothing on any endpoint
+nothing_waits : (most : ℕ) (world : World) (r : IsRunning most world) → count world.queues ≡ 0 → waiting (history_of r.start r.journal) ≡ []
+nothing_waits most world r none =
     let view = r.stands.holds.queues in
-    ap (λ (q : Queues). queue_of q endpoint) queues ∙ view.queue endpoint
-    ∙ ap (filter (λ (sent : Sent). sent.endpoint == endpoint)) (no_items (waiting (history_of r.start r.journal)) (sym (counts_its_list old.queues (waiting (history_of r.start r.journal)) view.queue) ∙ sym (ap count queues) ∙ none))
+    no_items (waiting (history_of r.start r.journal)) (sym (counts_its_list world.queues (waiting (history_of r.start r.journal)) view.queue) ∙ none)
   where
     no_items : (ones : List Sent) → length ones ≡ 0 → ones ≡ []
     no_items [] e = refl
     no_items (one ∷ ones) e = absurd (omega (arith, e))
+
+pub none_waits : (old now : World) (most : ℕ) → IsRunning most old → now ≡ record old { known = now.known } → count now.queues ≡ 0 → (endpoint : ℕ) → queue_of now.queues endpoint ≡ []
+none_waits old now most r same none endpoint =
+    let queues : now.queues ≡ old.queues = ap (λ (w : World). w.queues) same in
+    ap (λ (q : Queues). queue_of q endpoint) queues ∙ r.stands.holds.queues.queue endpoint
+    ∙ ap (filter (λ (sent : Sent). sent.endpoint == endpoint)) (nothing_waits most old r (sym (ap count queues) ∙ none))
 
 pub reached_at_once : AreDistinct → (start : Start) (journal : Journal) (old now new : World) (frame : Frame) (before after : List ℕ) → StandsFor start old journal → IsFrame ToServers frame →
     IsAdmitted old frame now → (server : ℕ) → IsFree frame server now → ((endpoint : ℕ) → queue_of now.queues endpoint ≡ []) → ServesOne (λ one. one ≡ frame.endpoint) (waits_in now frame) new before after →
@@ -203,3 +220,57 @@ drained_behind apart start journal later k new before between after r d =
     let whole = drain_leads apart start later r.there new r.between after r.leads.stands
     (record { done = r.done + d.done; serves = times_on IsOldestOfAll r.done d.done r.there k new r.between between after r.serves d.serves; last = d.last }) in
     (goes_on start journal later (drained start later) r.there new before r.between after r.leads whole.0, whole.1)
+
+-- ---- a message without handles, on a client's endpoint that is bound while nothing waits
+
+-- whoever is bound while nothing waits lives, and nobody hung up on it
+lives_so : (dead live hung : Bool) → dead ≡ false → live ≡ true → hung ≡ false → (if dead then standing.Dead else if live then (if hung then standing.HungUp else standing.Live) else standing.Unused) ≡ standing.Live
+lives_so false true false d l h = refl
+lives_so false true true d l h = absurd cc
+lives_so false false hung d l h = absurd cc
+lives_so true live hung d l h = absurd cc
+
+-- a bound endpoint
+record Lives (start : Start) (history : History) (endpoint : ℕ) : Type 0 where
+  undead : is_dead history endpoint ≡ false
+  live : is_live start history endpoint ≡ true
+
+not_false : (b : Bool) → not b ≡ true → b ≡ false
+not_false false e = refl
+not_false true e = absurd cc
+
+bound_by : (start : Start) (journal : Journal) (endpoint server : ℕ) (found : Option (Bound × Position)) → at_in (view_behind start journal) endpoint ≡ found → option_map (λ (pair : Bound × Position). pair.0.server) found ≡ Some server →
+    Lives start (history_of start journal) endpoint
+bound_by start journal endpoint server None is some = absurd cc
+bound_by start journal endpoint server (Some pair) is some =
+    let history = history_of start journal in
+    let there = found (λ (pair : Bound × Position). pair.0.endpoint == endpoint) (view_behind start journal).living pair is in
+    let of = mapped_member (with_position history) pair (living start history) there.0 in
+    let at : of.0.endpoint ≡ endpoint = ap (λ (p : Bound × Position). p.0.endpoint) of.2 ∙ eqb-true pair.0.endpoint endpoint there.1 in
+    let kept = kept_of (λ (bound : Bound). not (is_dead history bound.endpoint)) (births start history) of.0 of.1 in
+    record {
+      undead = ap (is_dead history) (sym at) ∙ not_false (is_dead history of.0.endpoint) kept.1;
+      live = or_left (is_bound start history endpoint) _ (is_found (λ (bound : Bound). bound.endpoint == endpoint) (living start history) of.0 of.1 (eq-eqb of.0.endpoint endpoint at));
+    }
+
+pub bound_lives : (most : ℕ) (world : World) (endpoint server : ℕ) → IsRunning most world → server_of world.queues endpoint ≡ Some server → count world.queues ≡ 0 →
+    known_standing world.known endpoint ≡ standing.Live
+bound_lives most world endpoint server r bound none =
+    let history = history_of r.start r.journal in
+    let lives = bound_by r.start r.journal endpoint server (at_in (view_behind r.start r.journal) endpoint) refl (sym (r.stands.holds.queues.bound endpoint) ∙ bound) in
+    r.stands.knows.standing endpoint
+    ∙ lives_so (is_dead history endpoint) (is_live r.start history endpoint) (hung_up history endpoint) lives.undead lives.live (by_hang_up lives.undead (hung_up history endpoint) refl)
+  where
+    by_hang_up : is_dead (history_of r.start r.journal) endpoint ≡ false → (b : Bool) → hung_up (history_of r.start r.journal) endpoint ≡ b → b ≡ false
+    by_hang_up undead false e = refl
+    by_hang_up undead true e =
+        let waits = hang_ups_wait r.start r.journal endpoint r.stands.lawful e undead in
+        sym waits ∙ ap (list_any (λ (sent : Sent). is_hang_up sent.sending && (sent.endpoint == endpoint))) (nothing_waits most world r none)
+
+-- what admits it, and what refuses it
+pub plain_admission : (known : Known) (frame : Frame) (first : Option Refusal) → IsPlain frame → refusal_by kind.Message (known_look_ups known) frame.endpoint [] ≡ first → admission (known_look_ups known) frame ≡ first
+plain_admission known frame first plain is = (λ i. refusal_by (plain.message i) (known_look_ups known) frame.endpoint (plain.bare i)) ∙ is
+
+pub plain_admits : (old new : Known) (frame : Frame) → IsPlain frame → SendsHandles old [] new → Admits old frame new
+plain_admits old new frame plain sends =
+    subst (λ (k : FrameKind). AdmitsKind k old frame.endpoint frame.handles new) (sym plain.message) (subst (λ (handles : List ℕ). SendsHandles old handles new) (sym plain.bare) sends)

@@ -1,6 +1,7 @@
 -- Words of the steps of a frame. No public clause needs these.
-use Rattle.std.specs.Prelude.{◌≡◌, ◌⊎◌, ◌≤◌, ◌<◌, ◌+◌, ◌^◌, ℕ, List, [], ◌∷◌, ◌++◌, None, Some}
+use Rattle.std.specs.Prelude.{◌≡◌, ◌⊎◌, ◌≤◌, ◌<◌, ◌+◌, ◌^◌, ℕ, true, List, [], ◌∷◌, ◌++◌, None, Some}
 use Rattle.fidl_names.specs.declared.limits.TheConstants as limit
+use Rattle.fidl_names.specs.HandleNumber.{is_client}
 use Rattle.endpoint_link.specs.Admission.{Admits, admission, look_ups}
 use Rattle.endpoint_link.specs.Frames.{Frame}
 use Rattle.endpoint_link.specs.declared.kinds.FrameKind.{FrameKind}
@@ -44,6 +45,12 @@ pub record IsFree (frame : Frame) (server : ℕ) (world : World) : Type 0 where
   pub sends : Sends frame.kind
   pub bound : server_of world.queues frame.endpoint ≡ Some server
   pub none : count world.queues ≡ 0
+
+-- a frame is a message without handles on a client's endpoint
+pub record IsPlain (frame : Frame) : Type 0 where
+  pub message : frame.kind ≡ kind.Message
+  pub bare : frame.handles ≡ []
+  pub client : is_client frame.endpoint ≡ true
 
 -- what a call leads to on its way to a drain behind a journal: a world that stands for the journal, and from there servings of the oldest
 -- entries of all

@@ -1,12 +1,13 @@
 //! A frame that arrives: a refused one is answered, and for an admitted one what it asks is done.
 
-ghost use Rattle.std.specs.Prelude.{◌≡◌, ◌≤◌, ◌<◌, ◌+◌, ◌-◌, ◌^◌, ◌++◌, ℕ, [], IfSome, OnOk, OnErr, length};
+ghost use Rattle.std.specs.Prelude.{◌≡◌, ◌≤◌, ◌<◌, ◌+◌, ◌-◌, ◌^◌, ◌++◌, ℕ, true, [], IfSome, OnOk, OnErr, length};
 ghost use Rattle.fidl_names.specs.declared.limits.TheConstants as limit;
 ghost use Rattle.endpoint_link.specs.Frames.{IsFrame, spelling};
 ghost use Rattle.endpoint_link.specs.Numbers.{word_in};
 ghost use Rattle.endpoint_link.specs.Views.{frame_of, handle_numbers};
 ghost use Rattle.endpoint_link.specs.declared.kinds.Side.TheVariants as side;
 ghost use Rattle.vfs_journal.specs.Entries.{Journal, message};
+ghost use Rattle.vfs_journal.specs.Handles.{AreByNumber, numbers_of};
 ghost use Rattle.vfs_journal.specs.History.{waiting};
 ghost use Rattle.vfs_journal.specs.Output.{refused_frame};
 ghost use Rattle.vfs_journal.specs.Past.{history_of};
@@ -15,11 +16,11 @@ ghost use Rattle.vfs_journal.specs.Starts.{Start};
 ghost use Rattle.vfs_session.specs.Running.{whole};
 ghost use Rattle.vfs_session.specs.Steps.{Begins, IsRunning};
 ghost use Rattle.vfs_session.specs.World.{LeadsTo, StandsFor, World};
-ghost use Rattle.vfs_world.specs.Steps.{CanWait, Hears, IsAdmitted, IsFree, Reaches, WaitsLast};
+ghost use Rattle.vfs_world.specs.Steps.{CanWait, Hears, IsAdmitted, IsFree, IsPlain, Reaches, WaitsLast};
 
 use byteorder::{ByteOrder, LittleEndian};
 use endpoint_link::{AdmitFault, FrameKind, FrameView, Mode, Outbox, Refusal, write_frame};
-use fidl_names::NoMemory;
+use fidl_names::{Handle, NoMemory, is_client};
 use message_queues::{Lent, Parcel, Sent, handles_in};
 use std::mem;
 use vfs_session::Session;
@@ -124,6 +125,62 @@ fn serve_at_once(
     ensures running { (most : ℕ) → IsRunning most (whole session.old) → OnOk result (IsRunning (most + 4098) (whole session.new)) }
     ensures begins { Begins outbox.old outbox.new }
 {
+    if is_plain(frame) {
+        serve_plain(session, server, frame, outbox)
+    } else {
+        serve_sending(session, server, frame, outbox)
+    }
+}
+
+/// Whether a frame is a message without handles on a client's endpoint. Where that is bound and nothing waits,
+/// only want of room can refuse it.
+fn is_plain(frame: FrameView<'_>) -> bool
+    ensures { result ≡ true → IsPlain (frame_of frame.entry) }
+{
+    match frame.kind {
+        FrameKind::Message => frame.handles.is_empty() && is_client(frame.endpoint),
+        _ => false,
+    }
+}
+
+/// Serves a message without handles, which waits nowhere, or answers that there is no room for it. It takes a
+/// place.
+fn serve_plain(
+    session: &mut Session,
+    server: u32,
+    frame: FrameView<'_>,
+    outbox: &mut Outbox,
+) -> Result<(), NoMemory>
+    requires frame { IsFrame side.ToServers (frame_of frame) }
+    requires running { IsRunning (2 ^ 61 - 4098) (whole session.old) }
+    requires free { IsFree (frame_of frame) server (whole session.old) }
+    requires plain { IsPlain (frame_of frame) }
+    ensures reached { (start : Start) (journal : Journal) → StandsFor start (whole session.old) journal →
+        OnOk result (Reaches start (arrives start journal (frame_of frame.entry)) (whole session.new) journal outbox.old outbox.new) }
+    ensures running { (most : ℕ) → IsRunning most (whole session.old) → OnOk result (IsRunning (most + 4098) (whole session.new)) }
+    ensures begins { Begins outbox.old outbox.new }
+{
+    match session.endpoints.admit_plain() {
+        Ok(()) => serve_with(session, server, frame, &[], outbox),
+        Err(why) => refuse(session, frame.endpoint, why, outbox),
+    }
+}
+
+/// Serves whatever a frame sends, which waits nowhere, or answers that it is refused. It takes a place.
+fn serve_sending(
+    session: &mut Session,
+    server: u32,
+    frame: FrameView<'_>,
+    outbox: &mut Outbox,
+) -> Result<(), NoMemory>
+    requires frame { IsFrame side.ToServers (frame_of frame) }
+    requires running { IsRunning (2 ^ 61 - 4098) (whole session.old) }
+    requires free { IsFree (frame_of frame) server (whole session.old) }
+    ensures reached { (start : Start) (journal : Journal) → StandsFor start (whole session.old) journal →
+        OnOk result (Reaches start (arrives start journal (frame_of frame.entry)) (whole session.new) journal outbox.old outbox.new) }
+    ensures running { (most : ℕ) → IsRunning most (whole session.old) → OnOk result (IsRunning (most + 4098) (whole session.new)) }
+    ensures begins { Begins outbox.old outbox.new }
+{
     match session.endpoints.admit(frame) {
         Ok(()) => serve_admitted(session, server, frame, outbox),
         Err(AdmitFault::Refused(why)) => refuse(session, frame.endpoint, why, outbox),
@@ -148,7 +205,29 @@ fn serve_admitted(
     ensures begins { Begins outbox.old outbox.new }
 {
     let handles = handles_in(session.alloc, frame.handles)?;
-    let sent = Lent::of_frame(session.places, frame, &handles);
+    serve_with(session, server, frame, &handles, outbox)
+}
+
+/// Serves what an admitted frame with these handles sends, which waits nowhere. It takes a place.
+fn serve_with(
+    session: &mut Session,
+    server: u32,
+    frame: FrameView<'_>,
+    handles: &[Handle],
+    outbox: &mut Outbox,
+) -> Result<(), NoMemory>
+    requires frame { IsFrame side.ToServers (frame_of frame) }
+    requires heard { Hears (2 ^ 61 - 4098) (frame_of frame) (whole session.old) }
+    requires free { IsFree (frame_of frame) server (whole session.old) }
+    requires handles { numbers_of handles.now ≡ handle_numbers frame.handles }
+    requires by_number { AreByNumber handles.now }
+    ensures reached { (start : Start) (journal : Journal) (before : World) → StandsFor start before journal → IsAdmitted before (frame_of frame.entry) (whole session.old) →
+        OnOk result (Reaches start (arrives start journal (frame_of frame.entry)) (whole session.new) journal outbox.old outbox.new) }
+    ensures running { (most : ℕ) (before : World) → IsRunning most before → IsAdmitted before (frame_of frame.entry) (whole session.old) →
+        OnOk result (IsRunning (most + 4098) (whole session.new)) }
+    ensures begins { Begins outbox.old outbox.new }
+{
+    let sent = Lent::of_frame(session.places, frame, handles);
     session.places += 1;
     session.serve_taken(frame.endpoint, server, &sent, outbox)
 }

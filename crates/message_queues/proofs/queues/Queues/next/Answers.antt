@@ -33,3 +33,9 @@ returns-in-None c =
     (subst (λ (servers : ℕ). IsLeastBelow inside.heads servers c.loop-server.oldest) end c.loop-server.invariant) in
     subst (λ (queues : Queues). NothingWaits queues (IsBound queues)) c.self.view_is
     (oldest_of_all (queues_with inside.boxes.entries inside.servers) inside.heads inside.count None c.self.invariant.kept least)
+
+pub returns-then-is_empty : goal.returns-then-is_empty
+returns-then-is_empty c =
+    let inside = c.self.inside in
+    subst (λ (queues : Queues). NothingWaits queues (IsBound queues)) c.self.view_is
+    (oldest_of_all (queues_with inside.boxes.entries inside.servers) inside.heads inside.count None c.self.invariant.kept (λ server place low. c.is_empty.ensures c.if-is_empty.true server place))

@@ -8,7 +8,7 @@ use Rattle.vfs_session.specs.World.{World}
 use Rattle.vfs_world.proofs.Answered.{none_refused, on_both, on_ok, refused_why}
 use Rattle.vfs_world.proofs.AtOnce.{reached_by}
 use Rattle.vfs_world.proofs.Hearing.{places_low, refused_lasts, refused_leads}
-use Rattle.vfs_world.proofs.arriving.serve_at_once.Goals as goal
+use Rattle.vfs_world.proofs.arriving.serve_sending.Goals as goal
 
 pub serve_admitted-requires : goal.serve_admitted-requires
 serve_admitted-requires c = record {

@@ -3,9 +3,9 @@ use Rattle.std.proofs.lemmas.List.Sums.{count_by-le-length}
 use Rattle.endpoint_link.specs.Views.{handle_numbers}
 use Rattle.fidl_names.specs.HandleNumber.{is_client}
 use Rattle.endpoint_link.proofs.Words.{length-words_in}
-use Rattle.endpoint_link.proofs.admission.too_many.Goals as goal
+use Rattle.endpoint_link.proofs.admission.message_refusal.Goals as goal
 
-pub overflow_add-result : goal.overflow_add-result
-overflow_add-result g c =
+pub room_refusal-requires : goal.room_refusal-requires
+room_refusal-requires g c =
     let b = c.args.handles.bytes.now in
     omega (arith, c.count_clients.ensures, count_by-le-length is_client (handle_numbers c.args.handles), length-words_in (length b / 4) b, c.ranges.handles)

@@ -10,7 +10,7 @@ use Rattle.vfs_session.specs.World.{World}
 use Rattle.vfs_world.specs.Steps.{Hears, IsFree}
 use Rattle.vfs_world.proofs.Answered.{on_ok}
 use Rattle.vfs_world.proofs.AtOnce.{none_waits, reached_at_once, sent_in, sent_lasts, taken_again, waits_in, waits_last}
-use Rattle.vfs_world.proofs.arriving.serve_admitted.Goals as goal
+use Rattle.vfs_world.proofs.arriving.serve_with.Goals as goal
 
 -- behind its place it stands as what waited and was taken
 takes : (now : World) (frame : Frame) (server : ℕ) (sent : Sent) → Hears (2 ^ 61 - 4098) frame now → IsFree frame server now → sent ≡ sent_in now frame →
