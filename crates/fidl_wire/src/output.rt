@@ -12,24 +12,29 @@ use fidl_names::{Handle, MAX_BYTES, MAX_HANDLES, NoMemory};
 use std::alloc::Global;
 use std::marker::Model;
 
+/// Room for the longest message, and for eight zeros behind it.
+const ROOM: usize = MAX_BYTES + 8;
+
 /// A message that is being written, of at most `MAX_BYTES` bytes and `MAX_HANDLES` handles. The room
-/// for all of them is reserved when it is made, so that no other call takes memory. The caller of
-/// each call that appends knows that the message still fits.
+/// for all of them is taken when it is made, so that no other call takes memory. The caller of each
+/// call that appends knows that the message still fits.
 #[derive(Drop)]
 pub struct Out {
-    bytes: Vec<u8>,
+    /// The message, up to `len`, and what earlier ones left behind it.
+    room: Vec<u8>,
+    len: usize,
     handles: Vec<Handle>,
 }
 
 impl Model for Out {
-    ghost use Rattle.std.specs.Prelude.{length, vec_capacity};
+    ghost use Rattle.std.specs.Prelude.{length, take, vec_capacity};
     ghost use Rattle.fidl_wire.specs.Written.{Written, HasRoom};
 
     ghost Value = { Written };
 
-    ghost view = { λ o. record { bytes = o.bytes.items; handles = o.handles.items } };
+    ghost view = { λ o. record { bytes = take o.len o.room.items; handles = o.handles.items } };
 
-    ghost invariant = { λ o. HasRoom (length o.bytes.items) (vec_capacity o.bytes) (length o.handles.items) (vec_capacity o.handles) };
+    ghost invariant = { λ o. HasRoom o.len (length o.room.items) (length o.handles.items) (vec_capacity o.handles) };
 }
 
 /// The dynamic flags of a header.
@@ -98,7 +103,8 @@ impl Out {
         ensures len { IfOk result (λ out. length out.bytes ≡ 0) }
     {
         Ok(Out {
-            bytes: Vec::with_capacity(alloc, MAX_BYTES)?,
+            room: vec![in alloc; 0; ROOM]?,
+            len: 0,
             handles: Vec::with_capacity(alloc, MAX_HANDLES)?,
         })
     }
@@ -152,7 +158,9 @@ impl Out {
         ensures len { length self.new.bytes ≡ length self.old.bytes + length v.now }
         ensures handles { self.new.handles ≡ self.old.handles }
     {
-        self.bytes.extend_from_slice(v).unwrap();
+        let end = self.len + v.len();
+        self.room[self.len..end].copy_from_slice(v);
+        self.len = end;
     }
 
     /// Appends the zeros that bring the number of bytes to a multiple of eight. There is always room
@@ -164,16 +172,11 @@ impl Out {
         ensures len { length self.new.bytes ≡ padded (length self.old.bytes) }
         ensures handles { self.new.handles ≡ self.old.handles }
     {
+        // Eight are written at once, and those counted that belong to the message.
         let zeros = [0; 8];
-        let len = self.bytes.len();
-        let size = padding_after(len);
-        if len + 8 <= MAX_BYTES {
-            // Eight are put at once, and cut back.
-            self.put_bytes(&zeros);
-            self.bytes.truncate(len + size);
-        } else {
-            self.put_bytes(&zeros[..size]);
-        }
+        let len = self.len;
+        self.room[len..len + 8].copy_from_slice(&zeros);
+        self.len = len + padding_after(len);
     }
 
     /// Appends a handle.
@@ -191,7 +194,7 @@ impl Out {
         ensures empty { self.new ≡ record { bytes = []; handles = [] } }
         ensures len { length self.new.bytes ≡ 0 }
     {
-        self.bytes.clear();
+        self.len = 0;
         self.handles.clear();
     }
 
@@ -200,7 +203,7 @@ impl Out {
         ensures bytes { result.now ≡ self.now.bytes }
         ensures bound { length result.now ≤ MAX_BYTES }
     {
-        self.bytes.as_slice()
+        &self.room[..self.len]
     }
 
     /// The handles that were written.
