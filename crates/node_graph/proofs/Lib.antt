@@ -4,6 +4,7 @@ mod Calls
 mod Climbs
 mod Creates
 mod Gains
+mod Heads
 mod Linked
 mod Listed
 mod Loops

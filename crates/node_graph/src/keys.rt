@@ -1,4 +1,7 @@
-ghost use Rattle.std.specs.Prelude.{◌≡◌, ◌≤◌, length, refl};
+ghost use Rattle.std.specs.Prelude.{◌≡◌, ℕ, ◌≤◌, ◌<◌, length, refl, slice_index};
+ghost use Rattle.std.specs.Int.{w64, from_be_bytes};
+ghost use Rattle.std.specs.Ordering.{nat_cmp};
+ghost use Rattle.std.specs.Cmp.Lexicographic.{slice_cmp};
 ghost use Rattle.std.specs.Cmp.{partial_order_from_total, partial_equiv_from_equiv, eq_by_cmp_equiv};
 ghost use Rattle.std.specs.Ordering.{eq_by_cmp, as_partial_cmp};
 ghost use Rattle.node_graph.specs.Tree.{EdgeKey, edge_cmp};
@@ -12,12 +15,15 @@ use std::marker::Model;
 #[derive(Drop)]
 pub struct EdgeName {
     directory: u64,
+    // The first bytes of the name, which tell most names apart in one step.
+    head: u64,
     bytes: [u8; MAX_NAME],
     length: usize,
 }
 
 impl Model for EdgeName {
     ghost use Rattle.std.specs.Prelude.{take, ◌≤◌};
+    ghost use Rattle.node_graph.specs.Keys.{IsHead};
     ghost use Rattle.fidl_names.specs.declared.limits.TheConstants.{MAX_NAME};
     ghost use Rattle.node_graph.specs.Tree.{EdgeKey};
     ghost use Rattle.node_graph.specs.Codes.{key_code};
@@ -28,7 +34,7 @@ impl Model for EdgeName {
 
     ghost view = { λ key. record { directory = key.directory; name = take key.length key.bytes } };
 
-    ghost invariant = { λ key. key.length ≤ MAX_NAME };
+    ghost invariant = { λ key. (key.length ≤ MAX_NAME) × IsHead key.head (take key.length key.bytes) };
 }
 
 impl EdgeName {
@@ -40,6 +46,7 @@ impl EdgeName {
         bytes[..name.len()].copy_from_slice(name);
         EdgeName {
             directory,
+            head: head_of(&bytes),
             bytes,
             length: name.len(),
         }
@@ -51,6 +58,25 @@ impl EdgeName {
     {
         &self.bytes[..self.length]
     }
+
+    fn cmp_names(&self, other: &EdgeName) -> Ordering
+        ensures { result ≡ slice_cmp nat_cmp self.now.name other.now.name }
+    {
+        match self.head.cmp(&other.head) {
+            Ordering::Equal => self.name().cmp(other.name()),
+            apart => apart,
+        }
+    }
+}
+
+// The first eight bytes as one number, which is in the order of the bytes.
+fn head_of(bytes: &[u8; MAX_NAME]) -> u64
+    ensures number { result ≡ from_be_bytes w64 bytes.now }
+    ensures bytes { (place : ℕ) → place < 8 → slice_index bytes.now place < 256 }
+{
+    u64::from_be_bytes([
+        bytes[0], bytes[1], bytes[2], bytes[3], bytes[4], bytes[5], bytes[6], bytes[7],
+    ])
 }
 
 impl PartialEq for EdgeName {
@@ -88,7 +114,7 @@ impl Ord for EdgeName {
 
     fn cmp(&self, other: &EdgeName) -> Ordering {
         match self.directory.cmp(&other.directory) {
-            Ordering::Equal => self.name().cmp(other.name()),
+            Ordering::Equal => self.cmp_names(other),
             apart => apart,
         }
     }
