@@ -1,8 +1,9 @@
-ghost use Rattle.std.specs.Prelude.{◌≡◌, ◌≤◌, length, true, [], IfOk};
+ghost use Rattle.std.specs.Prelude.{◌≡◌, ◌≤◌, length, true, [], ◌∷◌, IfOk};
 ghost use Rattle.conn_rules.specs.Births.{fresh};
 ghost use Rattle.endpoint_link.specs.declared.kinds.Side.TheVariants as side;
 ghost use Rattle.run_status.specs.Causes.{AfterNames};
 ghost use Rattle.run_status.specs.Outside.{files_told, streams_told};
+ghost use Rattle.run_status.specs.Reads.{ReadsOnly};
 ghost use Rattle.link_session.specs.Session.{SessionAnswers};
 ghost use Rattle.named_files.specs.FileCauses.{AfterFile};
 ghost use Rattle.file_session.specs.Bound.{IsBoundTo};
@@ -29,13 +30,14 @@ pub fn serve_file<F: Files, S: Source, K: Sink>(
     source: &mut S,
     sink: &mut K,
 ) -> Status
-    ensures { AfterNames ((source.new ≡ source.old) × (sink.new ≡ sink.old))
+    ensures answers { AfterNames ((source.new ≡ source.old) × (sink.new ≡ sink.old))
         (AfterFile name.now (files_told F.told F.faults F.overlong files.old) (files_told F.told F.faults F.overlong files.new)
         ((source.new ≡ source.old) × (sink.new ≡ sink.old))
         (λ file. SessionAnswers side.ToServers (file_course file)
         (streams_told S.left S.faults K.written K.flushed K.faults source.old sink.old)
         (streams_told S.left S.faults K.written K.flushed K.faults source.new sink.new)
         (sink.new ≡ sink.old))) result }
+    ensures reads { ReadsOnly F.reads (name.now ∷ []) files.old files.new }
 {
     let ordinals = match Ordinals::new() {
         Ok(ordinals) => ordinals,

@@ -1,11 +1,11 @@
 -- Files in memory.
-use Rattle.std.specs.Prelude.{ℕ, List, Option, Result, None, Some, Ok, Err, refl}
+use Rattle.std.specs.Prelude.{◌≡◌, ℕ, ◌+◌, ◌≤◌, List, Option, Result, None, Some, Ok, Err, refl}
 use Rattle.std.specs.Coded.{Coded, code_by, coded×, coded_ℕ, coded_list}
 use Rattle.std.specs.Cmp.Lexicographic.{slice_cmp}
-use Rattle.std.specs.FinMap.{FinMap, code}
+use Rattle.std.specs.FinMap.{FinMap, code, get}
 use Rattle.std.specs.Ordering.{nat_cmp}
 use Rattle.host_io.specs.Calls.{Calls, calls_code, after_success, after_failure}
-use Rattle.host_io.specs.Causes.{next_count}
+use Rattle.host_io.specs.Causes.{Rose, next_count}
 use Rattle.host_io.specs.Told.{Told, Missing, Holds}
 use Rattle.host_io.specs.declared.files.FileFault.{FileFault}
 use Rattle.host_io.specs.declared.files.FileFault.TheVariants as fault
@@ -41,3 +41,11 @@ after_answer (Ok bytes) state = record { files = state.files; calls = after_succ
 after_answer (Err fault.Failed) state = record { files = state.files; calls = after_failure state.calls; overlong = state.overlong }
 after_answer (Err fault.TooLarge) state = record { files = state.files; calls = after_success state.calls; overlong = next_count state.overlong }
 after_answer (Err fault.NoMemory) state = record { files = state.files; calls = after_success state.calls; overlong = state.overlong }
+
+-- one read of this name, whatever it gave: one call is counted, and at most one fault, which is there where no file has the name
+pub record IsReadOf (name : List ℕ) (before after : FilesState) : Type 0 where
+  pub files : after.files ≡ before.files
+  pub once : after.calls.made ≡ next_count before.calls.made
+  pub faults : after.calls.faults ≤ before.calls.faults + 1
+  pub overlong : after.overlong ≤ before.overlong + 1
+  pub missing : get before.files name ≡ None → Rose before.calls.faults after.calls.faults

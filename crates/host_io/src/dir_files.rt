@@ -1,6 +1,6 @@
 ghost use Rattle.std.specs.Prelude.{◌≡◌, ◌≤◌, vec_len, IfOk};
 ghost use Rattle.host_io.specs.Causes.{NeverFalls, Rose};
-ghost use Rattle.host_io.specs.FileCounts.{after_read};
+ghost use Rattle.host_io.specs.FileCounts.{IsOneRead, after_read};
 ghost use Rattle.host_io.specs.Told.{Untold};
 ghost use Rattle.host_io.specs.declared.files.FileFault.TheVariants as fault;
 
@@ -47,9 +47,12 @@ impl<R: rt::Files> Files for DirFiles<R> {
 
     ghost overlong = { λ f name. f.overlong };
 
+    ghost reads = { λ name old new. IsOneRead old new };
+
     /// Reads at most one byte more than the limit. A directory is a failure.
     fn read_all(&mut self, alloc: Global, name: &str, limit: usize) -> Result<Vec<u8>, FileFault>
         ensures bound { IfOk result (λ bytes. vec_len bytes ≤ limit) }
+        ensures once { IsOneRead self.old self.new }
 
         ensures faults_stay { NeverFalls (λ _. self.old.faults) (λ _. self.new.faults) }
         ensures overlong_stays { NeverFalls (λ _. self.old.overlong) (λ _. self.new.overlong) }

@@ -34,11 +34,16 @@ pub trait Files {
     /// The count of files of a name that were longer than the limit. It never falls, for any name.
     ghost overlong: { Self → List ℕ → ℕ };
 
+    /// One read of a name leads from the first object to the second. Nothing is known of two reads,
+    /// so code over any files shows this by one read of that name alone.
+    ghost reads: { List ℕ → Self → Self → Type 0 };
+
     /// All the bytes of a file, which are at most `limit`. A missing file is a failure.
     fn read_all(&mut self, alloc: Global, name: &str, limit: usize) -> Result<Vec<u8>, FileFault>
         ensures bound { IfOk result (λ bytes. vec_len bytes ≤ limit) }
         ensures whole { IfOk result (λ bytes. IsAllOf (told self.old name.now) bytes.items) }
         ensures stays { (other : List ℕ) → told self.new other ≡ told self.old other }
+        ensures once { reads name.now self.old self.new }
 
         ensures faults_stay { NeverFalls (faults self.old) (faults self.new) }
         ensures overlong_stays { NeverFalls (overlong self.old) (overlong self.new) }

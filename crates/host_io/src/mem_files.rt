@@ -2,7 +2,7 @@ ghost use Rattle.std.specs.Prelude.{ℕ, ◌≡◌, ◌<◌, ◌≤◌, ◌↔�
 ghost use Rattle.std.specs.FinMap.{empty, get, insert};
 ghost use Rattle.host_io.specs.Calls.{no_calls, IsListed};
 ghost use Rattle.host_io.specs.Causes.{NeverFalls, Rose};
-ghost use Rattle.host_io.specs.MemFiles.{told_of, after_answer};
+ghost use Rattle.host_io.specs.MemFiles.{IsReadOf, told_of, after_answer};
 ghost use Rattle.host_io.specs.Told.{IsAllOf, IsLongerThan};
 ghost use Rattle.host_io.specs.declared.files.FileFault.TheVariants as fault;
 
@@ -72,12 +72,15 @@ impl Files for MemFiles {
 
     ghost overlong = { λ f name. f.overlong };
 
+    ghost reads = { λ name old new. IsReadOf name old new };
+
     fn read_all(&mut self, alloc: Global, name: &str, limit: usize) -> Result<Vec<u8>, FileFault>
         ensures bound { IfOk result (λ bytes. vec_len bytes ≤ limit) }
         ensures whole { IfOk result (λ bytes.
             IsAllOf (told_of (get self.old.files name.now)) bytes.items) }
         ensures stays { (other : List ℕ) →
             told_of (get self.new.files other) ≡ told_of (get self.old.files other) }
+        ensures once { IsReadOf name.now self.old self.new }
 
         ensures faults_stay { NeverFalls (λ _. self.old.calls.faults) (λ _. self.new.calls.faults) }
         ensures overlong_stays { NeverFalls (λ _. self.old.overlong) (λ _. self.new.overlong) }

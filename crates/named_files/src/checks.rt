@@ -1,5 +1,6 @@
-ghost use Rattle.std.specs.Prelude.{◌≡◌, IfOk};
+ghost use Rattle.std.specs.Prelude.{◌≡◌, ◌∷◌, [], IfOk};
 ghost use Rattle.run_status.specs.Outside.{files_told, sink_told};
+ghost use Rattle.run_status.specs.Reads.{ReadsOnly};
 ghost use Rattle.run_status.specs.Texts.{WritesText};
 ghost use Rattle.named_files.specs.FileCauses.{AfterTree};
 ghost use Rattle.named_files.specs.Trees.{line_of};
@@ -17,10 +18,11 @@ pub fn check_tree<F: Files, K: Sink>(
     files: &mut F,
     sink: &mut K,
 ) -> Status
-    ensures { AfterTree name.now (files_told F.told F.faults F.overlong files.old) (files_told F.told F.faults F.overlong files.new)
+    ensures answers { AfterTree name.now (files_told F.told F.faults F.overlong files.old) (files_told F.told F.faults F.overlong files.new)
         (sink.new ≡ sink.old)
         (λ lists. WritesText (line_of lists) ⊥ (sink_told K.written K.flushed K.faults sink.old) (sink_told K.written K.flushed K.faults sink.new))
         result }
+    ensures reads { ReadsOnly F.reads (name.now ∷ []) files.old files.new }
 {
     let start = match read_start(alloc, name, files) {
         Ok(start) => start,

@@ -20,6 +20,7 @@ pub fn read_file<F: Files>(
     ensures refused { IfErr result (HasNoFile most name.now
         (files_told F.told F.faults F.overlong files.old) (files_told F.told F.faults F.overlong files.new)) }
     ensures files { StillTold (files_told F.told F.faults F.overlong files.old) (files_told F.told F.faults F.overlong files.new) }
+    ensures reads { F.reads name.now files.old files.new }
 {
     match files.read_all(alloc, name, most) {
         Ok(file) => Ok(file),

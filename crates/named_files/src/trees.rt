@@ -17,6 +17,7 @@ pub fn read_start<F: Files>(alloc: Global, name: &str, files: &mut F) -> Result<
     ensures refused { IfErr result (HasNoStart name.now
         (files_told F.told F.faults F.overlong files.old) (files_told F.told F.faults F.overlong files.new)) }
     ensures files { StillTold (files_told F.told F.faults F.overlong files.old) (files_told F.told F.faults F.overlong files.new) }
+    ensures reads { F.reads name.now files.old files.new }
 {
     let text = read_file(alloc, name, MAX_TEXT, files)?;
     match start_of(alloc, &text) {

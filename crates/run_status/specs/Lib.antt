@@ -1,4 +1,5 @@
 pub mod Outside
+pub mod Reads
 pub mod Notes
 pub mod Texts
 pub mod Causes

@@ -1,9 +1,10 @@
-ghost use Rattle.std.specs.Prelude.{◌≡◌, List, ℕ, IfOk, IfErr};
+ghost use Rattle.std.specs.Prelude.{◌≡◌, List, [], ◌∷◌, ℕ, IfOk, IfErr};
 ghost use Rattle.script_session.specs.Playing.{transcript};
 ghost use Rattle.script_session.specs.Steps.{IsScript};
 ghost use Rattle.vfs_journal.specs.Starts.{start_of};
 ghost use Rattle.run_status.specs.Causes.{AfterNames};
 ghost use Rattle.run_status.specs.Outside.{files_told, sink_told};
+ghost use Rattle.run_status.specs.Reads.{ReadsOnly};
 ghost use Rattle.run_status.specs.Texts.{WritesPieces};
 ghost use Rattle.named_files.specs.FileCauses.{AfterTree};
 ghost use Rattle.script_commands.specs.ScriptCauses.{AfterScript, HasNoScript};
@@ -27,13 +28,14 @@ pub fn run_script<F: Files, K: Sink>(
     files: &mut F,
     sink: &mut K,
 ) -> Status
-    ensures { AfterNames (sink.new ≡ sink.old)
+    ensures answers { AfterNames (sink.new ≡ sink.old)
         (AfterTree tree.now (files_told F.told F.faults F.overlong files.old) (files_told F.told F.faults F.overlong files.new)
         (sink.new ≡ sink.old)
         (λ lists. AfterScript script.now (files_told F.told F.faults F.overlong files.old) (files_told F.told F.faults F.overlong files.new)
         (sink.new ≡ sink.old)
         (λ said. WritesPieces (transcript (start_of lists) said.by said.text)
         (sink_told K.written K.flushed K.faults sink.old) (sink_told K.written K.flushed K.faults sink.new)))) result }
+    ensures reads { ReadsOnly F.reads (tree.now ∷ script.now ∷ []) files.old files.new }
 {
     let ordinals = match Ordinals::new() {
         Ok(ordinals) => ordinals,
@@ -65,6 +67,7 @@ fn read_script<F: Files>(
         × Says (F.told files.old name.now) (record { text = text; by = script.mode })) }
     ensures refused { IfErr result (HasNoScript name.now
         (files_told F.told F.faults F.overlong files.old) (files_told F.told F.faults F.overlong files.new)) }
+    ensures reads { F.reads name.now files.old files.new }
 {
     let text = read_file(alloc, name, MAX_TEXT, files)?;
     match script_of(alloc, ordinals, &text) {

@@ -1,10 +1,11 @@
-ghost use Rattle.std.specs.Prelude.{◌≡◌, ◌<◌, ◌+◌, ◌^◌, List, [], IfOk, OnOk};
+ghost use Rattle.std.specs.Prelude.{◌≡◌, ◌<◌, ◌+◌, ◌^◌, List, [], ◌∷◌, IfOk, OnOk};
 ghost use Rattle.endpoint_link.specs.Frames.{Frame, IsFrame};
 ghost use Rattle.endpoint_link.specs.Views.{frame_of};
 ghost use Rattle.endpoint_link.specs.declared.kinds.Side.TheVariants as side;
 ghost use Rattle.vfs_journal.specs.Starts.{Start as TheStart, start_of};
 ghost use Rattle.run_status.specs.Causes.{AfterNames};
 ghost use Rattle.run_status.specs.Outside.{files_told, streams_told};
+ghost use Rattle.run_status.specs.Reads.{ReadsOnly};
 ghost use Rattle.link_session.specs.Serving.{HeardOne};
 ghost use Rattle.link_session.specs.Session.{SessionAnswers};
 ghost use Rattle.named_files.specs.FileCauses.{AfterTree};
@@ -30,13 +31,14 @@ pub fn serve_tree<F: Files, S: Source, K: Sink>(
     source: &mut S,
     sink: &mut K,
 ) -> Status
-    ensures { AfterNames ((source.new ≡ source.old) × (sink.new ≡ sink.old))
+    ensures answers { AfterNames ((source.new ≡ source.old) × (sink.new ≡ sink.old))
         (AfterTree tree.now (files_told F.told F.faults F.overlong files.old) (files_told F.told F.faults F.overlong files.new)
         ((source.new ≡ source.old) × (sink.new ≡ sink.old))
         (λ lists. SessionAnswers side.ToServers (tree_course (start_of lists) mode)
         (streams_told S.left S.faults K.written K.flushed K.faults source.old sink.old)
         (streams_told S.left S.faults K.written K.flushed K.faults source.new sink.new)
         (sink.new ≡ sink.old))) result }
+    ensures reads { ReadsOnly F.reads (tree.now ∷ []) files.old files.new }
 {
     let ordinals = match Ordinals::new() {
         Ok(ordinals) => ordinals,

@@ -1,15 +1,27 @@
--- Words that ask for a tree in a mode, for a script or for so many rounds ask for nothing else.
-use Rattle.std.proofs.Common.{◌≡◌, ℕ, List, [], ◌∷◌, refl, sym, ap, ◌∙◌, codes, decimal, arith}
+-- Words that ask for something ask for nothing else, and so name one list of files.
+use Rattle.std.proofs.Common.{◌≡◌, ℕ, List, [], ◌∷◌, refl, sym, ap, ◌∙◌, codes, decimal, arith, subst}
 use Rattle.std.proofs.lemmas.Fmt.{decimal_injective}
 use Rattle.endpoint_link.specs.declared.kinds.Mode.{Mode}
 use Rattle.endpoint_link.specs.declared.kinds.Mode.TheVariants as mode
-use Rattle.vfs_program.specs.Words.{Asks, FileOf, ServeOf, RunOf, CheckOf, ShowAll, MakeOf, IsRounds, Means, mode_word}
+use Rattle.run_status.specs.Reads.{ReadsOnly}
+use Rattle.vfs_program.specs.Words.{Asks, FileOf, ServeOf, RunOf, CheckOf, ShowAll, MakeOf, IsRounds, Means, files_of, mode_word}
 
 same_mode : (a b : Mode) → mode_word a ≡ mode_word b → a ≡ b
 same_mode mode.Auto mode.Auto e = refl
 same_mode mode.Auto mode.Given e = absurd (grind (arith, e))
 same_mode mode.Given mode.Auto e = absurd (grind (arith, e))
 same_mode mode.Given mode.Given e = refl
+
+files_alone : (words : List (List ℕ)) (name : List ℕ) (asks : Asks) → Means words (FileOf name) → Means words asks → asks ≡ FileOf name
+files_alone words name (FileOf other) m n =
+    let both : codes "file" ∷ other ∷ [] ≡ codes "file" ∷ name ∷ [] = sym n ∙ m in
+    let name' : other ≡ name = cc in
+    cc
+files_alone words name (ServeOf tree by) m n = absurd (grind (arith, m, n))
+files_alone words name (RunOf tree script) m n = absurd (grind (arith, m, n))
+files_alone words name (CheckOf tree) m n = absurd (grind (arith, m, n))
+files_alone words name ShowAll m n = absurd (grind (arith, m, n))
+files_alone words name (MakeOf rounds) m n = absurd (grind (arith, m, n.0))
 
 pub serves_alone : (words : List (List ℕ)) (tree : List ℕ) (by : Mode) (asks : Asks) → Means words (ServeOf tree by) → Means words asks → asks ≡ ServeOf tree by
 serves_alone words tree by (FileOf name) m n = absurd (grind (arith, m, n))
@@ -49,3 +61,35 @@ makes_alone words rounds (MakeOf other) m n =
     let both : codes "make" ∷ decimal other ∷ [] ≡ codes "make" ∷ decimal rounds ∷ [] = sym n.0 ∙ m.0 in
     let word : decimal other ≡ decimal rounds = cc in
     ap MakeOf (same_rounds other rounds n.1 m.1 word)
+
+checks_alone : (words : List (List ℕ)) (tree : List ℕ) (asks : Asks) → Means words (CheckOf tree) → Means words asks → asks ≡ CheckOf tree
+checks_alone words tree (FileOf name) m n = absurd (grind (arith, m, n))
+checks_alone words tree (ServeOf other by) m n = absurd (grind (arith, m, n))
+checks_alone words tree (RunOf other script) m n = absurd (grind (arith, m, n))
+checks_alone words tree (CheckOf other) m n =
+    let both : codes "check" ∷ other ∷ [] ≡ codes "check" ∷ tree ∷ [] = sym n ∙ m in
+    let tree' : other ≡ tree = cc in
+    cc
+checks_alone words tree ShowAll m n = absurd (grind (arith, m, n))
+checks_alone words tree (MakeOf rounds) m n = absurd (grind (arith, m, n.0))
+
+shows_alone : (words : List (List ℕ)) (asks : Asks) → Means words ShowAll → Means words asks → asks ≡ ShowAll
+shows_alone words (FileOf name) m n = absurd (grind (arith, m, n))
+shows_alone words (ServeOf tree by) m n = absurd (grind (arith, m, n))
+shows_alone words (RunOf tree script) m n = absurd (grind (arith, m, n))
+shows_alone words (CheckOf tree) m n = absurd (grind (arith, m, n))
+shows_alone words ShowAll m n = refl
+shows_alone words (MakeOf rounds) m n = absurd (grind (arith, m, n.0))
+
+same_files : (words : List (List ℕ)) (one asks : Asks) → Means words one → Means words asks → files_of asks ≡ files_of one
+same_files words (FileOf name) asks m n = ap files_of (files_alone words name asks m n)
+same_files words (ServeOf tree by) asks m n = ap files_of (serves_alone words tree by asks m n)
+same_files words (RunOf tree script) asks m n = ap files_of (runs_alone words tree script asks m n)
+same_files words (CheckOf tree) asks m n = ap files_of (checks_alone words tree asks m n)
+same_files words ShowAll asks m n = ap files_of (shows_alone words asks m n)
+same_files words (MakeOf rounds) asks m n = ap files_of (makes_alone words rounds asks m n)
+
+-- what reads only the files of one meaning reads only those of each
+pub reads_only : {F : Type 0} (reads : List ℕ → F → F → Type 0) (words : List (List ℕ)) (one asks : Asks) (before after : F)
+    → Means words one → Means words asks → ReadsOnly reads (files_of one) before after → ReadsOnly reads (files_of asks) before after
+reads_only reads words one asks before after m n r = subst (λ (names : List (List ℕ)). ReadsOnly reads names before after) (sym (same_files words one asks m n)) r

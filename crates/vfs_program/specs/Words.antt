@@ -43,6 +43,15 @@ Means words (MakeOf rounds) = (words ≡ codes "make" ∷ decimal rounds ∷ [])
 abbrev pub MeanNothing : List (List ℕ) → Type 0
 MeanNothing words = (asks : Asks) → Means words asks → ⊥
 
+-- the files that a command reads, in this order
+abbrev pub files_of : Asks → List (List ℕ)
+files_of (FileOf name) = name ∷ []
+files_of (ServeOf tree by) = tree ∷ []
+files_of (RunOf tree script) = tree ∷ script ∷ []
+files_of (CheckOf tree) = tree ∷ []
+files_of ShowAll = []
+files_of (MakeOf rounds) = []
+
 -- a command without where its words lie in memory
 abbrev pub command_seen : Command → Asks
 command_seen (File name) = FileOf name.now

@@ -1,11 +1,12 @@
 ghost use Rattle.std.specs.Prelude.{◌≡◌, map, string_bytes};
 ghost use Rattle.run_status.specs.Notes.{note_of};
 ghost use Rattle.run_status.specs.Outside.{outside_told, sink_told};
+ghost use Rattle.run_status.specs.Reads.{ReadsOnly};
 ghost use Rattle.run_status.specs.Texts.{Tells};
 ghost use Rattle.run_status.specs.declared.statuses.Status.TheVariants as status;
 ghost use Rattle.vfs_program.specs.Answers.{Answers, IsServable, NoFault, IsDoneOrNoMemory};
 ghost use Rattle.vfs_program.specs.Lawful.{IsLawfulRun};
-ghost use Rattle.vfs_program.specs.Words.{Asks, Means, MeanNothing};
+ghost use Rattle.vfs_program.specs.Words.{Asks, Means, MeanNothing, files_of};
 
 use crate::words::{Command, command_of};
 use file_session::serve_file;
@@ -37,6 +38,9 @@ pub fn run_words<F: Files, S: Source, K: Sink, N: Sink>(
         (asks : Asks) → Means (map string_bytes words.now) asks →
         Answers asks (told files.old source.old sink.old) (told files.new source.new sink.new)
         (source.new ≡ source.old) (sink.new ≡ sink.old) result }
+
+    // A command reads at most the files that its words name, each once and in their order.
+    ensures reads { (asks : Asks) → Means (map string_bytes words.now) asks → ReadsOnly F.reads (files_of asks) files.old files.new }
 
     // A command that has all that it needs, and meets no fault, is done unless memory runs out.
     ensures complete { let told = outside_told F.told F.faults F.overlong S.left S.faults K.written K.flushed K.faults in
@@ -70,6 +74,7 @@ fn answer<F: Files, S: Source, K: Sink>(
         (asks : Asks) → Means (map string_bytes words.now) asks →
         Answers asks (told files.old source.old sink.old) (told files.new source.new sink.new)
         (source.new ≡ source.old) (sink.new ≡ sink.old) result }
+    ensures reads { (asks : Asks) → Means (map string_bytes words.now) asks → ReadsOnly F.reads (files_of asks) files.old files.new }
 {
     match command_of(words) {
         Some(Command::File { name }) => serve_file(alloc, name, files, source, sink),

@@ -3,8 +3,8 @@ use Rattle.file_session.specs.OneFile.{file_course}
 use Rattle.file_session.proofs.SessionLemmas.{file_grows, first_stand}
 use Rattle.file_session.proofs.serving.serve_file.Goals as goal
 
-pub returns : goal.returns
-returns g c =
+pub returns-clause-answers : goal.returns-clause-answers
+returns-clause-answers g c =
     let file = c.in-Ok-read_file.file.items in
     let session = c.in-Ok-new-2.session in
     inr (

@@ -1,6 +1,6 @@
 use Rattle.std.proofs.Common.{inr}
 use Rattle.named_files.proofs.checks.check_tree.Goals as goal
 
-pub returns-in-Ok-pass_on : goal.returns-in-Ok-pass_on
-returns-in-Ok-pass_on g c =
+pub returns-in-Ok-pass_on-clause-answers : goal.returns-in-Ok-pass_on-clause-answers
+returns-in-Ok-pass_on-clause-answers g c =
     inr (c.in-Ok.start, c.in-Ok.ensures.stands, rw (c.deref.ensures.value, c.in-Ok-line_of.ensures) at c.in-Ok-pass_on.ensures.whole)

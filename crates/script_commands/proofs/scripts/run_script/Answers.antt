@@ -5,8 +5,8 @@ use Rattle.transcripts.specs.Telling.{FailedOnly}
 use Rattle.script_commands.proofs.ScriptLemmas.{still_says}
 use Rattle.script_commands.proofs.scripts.run_script.Goals as goal
 
-pub returns-in-Ok-play : goal.returns-in-Ok-play
-returns-in-Ok-play g c =
+pub returns-in-Ok-play-clause-answers : goal.returns-in-Ok-play-clause-answers
+returns-in-Ok-play-clause-answers g c =
     let says = c.in-Ok-read_script.ensures.says in
     inr (
       tt,
@@ -25,8 +25,8 @@ returns-in-Ok-play g c =
       ),
     )
 
-pub returns-in-Err-Failed : goal.returns-in-Err-Failed
-returns-in-Err-Failed g c =
+pub returns-in-Err-Failed-clause-answers : goal.returns-in-Err-Failed-clause-answers
+returns-in-Err-Failed-clause-answers g c =
     let says = c.in-Ok-read_script.ensures.says in
     inr (
       tt,
@@ -48,8 +48,8 @@ returns-in-Err-Failed g c =
       ),
     )
 
-pub returns : goal.returns
-returns g c =
+pub returns-clause-answers : goal.returns-clause-answers
+returns-clause-answers g c =
     let says = c.in-Ok-read_script.ensures.says in
     inr (
       tt,

@@ -5,8 +5,8 @@ use Rattle.tree_session.specs.TreeSession.{tree_course, StandsBehind}
 use Rattle.tree_session.proofs.Outputs.{tree_grows}
 use Rattle.tree_session.proofs.serving.serve_tree.Goals as goal
 
-pub returns : goal.returns
-returns g c =
+pub returns-clause-answers : goal.returns-clause-answers
+returns-clause-answers g c =
     let start = start_of c.in-Ok-read_start.start in
     let by = c.args.mode in
     let session = c.in-Ok-new-2.session in
