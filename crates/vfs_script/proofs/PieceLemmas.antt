@@ -98,16 +98,11 @@ pieces_are_texts by text low utf8 = texts_up_to (length text) by text low (omega
 pub tail_is : (n : ℕ) (xs : List ℕ) → take (length xs - n) (drop n xs) ≡ drop n xs
 tail_is n xs = take_all (length xs - n) (drop n xs) (let size = length-drop n xs in omega (arith, size))
 
--- a step over the pieces that are left
-pub pieces_next : (by : ℕ) (text after : List ℕ) (done : Bool) (at : ℕ) (now : List (List ℕ)) → cond done [] (pieces by text) ≡ now → done ≡ false →
-    IsFirstByte (is_byte by) text (Some at) → after ≡ drop (at + 1) text → now ≡ take at text ∷ cond done [] (pieces by after)
-pieces_next by text after true at now view e found same = cc
-pieces_next by text after false at now view e found same = sym view ∙ (pieces_found by text at found ∙ ap (λ rest. take at text ∷ pieces by rest) (sym same))
-
-pub pieces_last : (by : ℕ) (text : List ℕ) (done : Bool) (now : List (List ℕ)) → cond done [] (pieces by text) ≡ now → done ≡ false →
-    IsFirstByte (is_byte by) text None → now ≡ text ∷ []
-pieces_last by text true now view e none = cc
-pieces_last by text false now view e none = sym view ∙ pieces_none by text none
+-- the first piece, and the pieces of what follows it
+pub cut_found : (by : ℕ) (text : List ℕ) (at : ℕ) (others : List (List ℕ)) → IsFirstByte (is_byte by) text (Some at) →
+    others ≡ pieces by (take (length text - (at + 1)) (drop (at + 1) text)) → pieces by text ≡ take at text ∷ others
+cut_found by text at others found are =
+    pieces_found by text at found ∙ ap (λ rest. take at text ∷ rest) (sym (are ∙ ap (pieces by) (tail_is (at + 1) text)))
 
 -- the words behind the first one are texts
 pub texts_behind : (words : List (List ℕ)) (first : List ℕ) (others : List (List ℕ)) → words ≡ first ∷ others → AreTexts words → AreTexts others

@@ -20,6 +20,26 @@ fn place_of(by: u8, text: &[u8]) -> Option<usize>
     None
 }
 
+// The first piece of a text, which ends there or at the end of the text, and the pieces behind it.
+#[tactic(auto, using(crate::proofs::PieceLemmas::pieces_none))]
+#[inline(always)]
+fn cut<'a>(by: u8, text: &'a [u8], end: Option<usize>) -> (&'a [u8], Pieces<'a>)
+    requires { IsFirstByte (is_byte by) text.now end }
+    ensures { pieces by text.now ≡ result.0.now ∷ result.1 }
+{
+    match end {
+        Some(place) => (&text[..place], Pieces::new(by, &text[place + 1..])),
+        None => (
+            text,
+            Pieces {
+                by,
+                rest: text,
+                is_done: true,
+            },
+        ),
+    }
+}
+
 /// The pieces of a text that are left: what stands between the bytes `by`.
 #[derive(Drop)]
 pub(crate) struct Pieces<'a> {
@@ -58,17 +78,9 @@ impl<'a> Pieces<'a> {
         if self.is_done {
             return None;
         }
-        let rest = self.rest;
-        match place_of(self.by, rest) {
-            Some(place) => {
-                self.rest = &rest[place + 1..];
-                Some(&rest[..place])
-            }
-            None => {
-                self.is_done = true;
-                Some(rest)
-            }
-        }
+        let (piece, others) = cut(self.by, self.rest, place_of(self.by, self.rest));
+        *self = others;
+        Some(piece)
     }
 
     /// The next piece, which may be long: its end is looked for in blocks.
@@ -80,17 +92,9 @@ impl<'a> Pieces<'a> {
         if self.is_done {
             return None;
         }
-        let rest = self.rest;
-        match memchr(self.by, rest) {
-            Some(place) => {
-                self.rest = &rest[place + 1..];
-                Some(&rest[..place])
-            }
-            None => {
-                self.is_done = true;
-                Some(rest)
-            }
-        }
+        let (piece, others) = cut(self.by, self.rest, memchr(self.by, self.rest));
+        *self = others;
+        Some(piece)
     }
 
     /// The pieces, if there is exactly one.
