@@ -1,8 +1,6 @@
-//! Outside values of the client and of scripts, and the tests that read them.
+//! Outside values of the client, and the tests that read them.
 //! They stand in a crate of their own, since a crate with tests is proved a second time with them.
 #![tactic(auto)]
 
 #[cfg(test)]
 mod client;
-#[cfg(test)]
-mod scripts;

@@ -16,7 +16,7 @@ use std::process::Abort;
 use std::test::Fail;
 use test_rows::{Row, rows};
 
-pub(crate) const ROOM: Room = Room {
+const ROOM: Room = Room {
     connections: 1,
     watchers: 0,
     token: None,
@@ -81,46 +81,18 @@ fn plant(rt: &impl Abort, graph: &mut Graph) -> Result<(), GraphFault> {
     add_to_root(rt, graph, b"m", NodeKind::Mount(7), 0x82)
 }
 
-// A connection to a directory, with these rights.
-fn conn_with(graph: &Graph, node: NodeRef, rights: Rights) -> DirConn
-    requires named { Names graph.now node }
-    requires directory { kind_at graph.now (number_of node) ≡ Some Directory }
-    ensures can { CanBeBound graph.now result.birth }
-    ensures protocol { result.birth.protocol ≡ Protocol.Directory }
-{
-    DirConn::new(Birth {
-        node,
-        rights,
-        protocol: Protocol::Directory,
-        append: false,
-        announce: false,
-    })
-}
-
-// A connection to a directory, with all rights.
-pub(crate) fn conn_to(graph: &Graph, node: NodeRef) -> DirConn
-    requires named { Names graph.now node }
-    requires directory { kind_at graph.now (number_of node) ≡ Some Directory }
-    ensures can { CanBeBound graph.now result.birth }
-    ensures protocol { result.birth.protocol ≡ Protocol.Directory }
-{
-    conn_with(graph, node, Rights::all())
-}
-
 // A connection to the root, with these rights.
 pub(crate) fn root_with(graph: &Graph, rights: Rights) -> DirConn
     ensures can { CanBeBound graph.now result.birth }
     ensures protocol { result.birth.protocol ≡ Protocol.Directory }
 {
-    conn_with(graph, graph.root(), rights)
-}
-
-// A connection to the root.
-fn root_conn(graph: &Graph) -> DirConn
-    ensures can { CanBeBound graph.now result.birth }
-    ensures protocol { result.birth.protocol ≡ Protocol.Directory }
-{
-    conn_to(graph, graph.root())
+    DirConn::new(Birth {
+        node: graph.root(),
+        rights,
+        protocol: Protocol::Directory,
+        append: false,
+        announce: false,
+    })
 }
 
 // What the root answers to a request.
@@ -135,7 +107,7 @@ fn ask<'a>(
     assert!(rt; has_method(Protocol::Directory, method));
     assert!(rt; graph.made() < 1 << 63);
     let txid = if is_one_way(method) { 0 } else { 2 };
-    let mut conn = root_conn(graph);
+    let mut conn = root_with(graph, Rights::all());
     writer.out.clear();
     conn.serve(
         &writer.ordinals,

@@ -5,6 +5,4 @@
 #[cfg(test)]
 mod directories;
 #[cfg(test)]
-mod names;
-#[cfg(test)]
 mod watching;

@@ -1,8 +1,6 @@
-//! What the tree of one server does, row by row and from outside.
+//! What the tree of one server does with names, row by row and from outside.
 //! The tests stand in a crate of their own, since a crate with tests is proved a second time with them.
 #![tactic(auto)]
 
 #[cfg(test)]
 mod names;
-#[cfg(test)]
-mod nodes;

@@ -9,5 +9,5 @@
 mod outside;
 mod said;
 
-pub use outside::{WHOLE_TREE, files, sink, source, told};
-pub use said::{Ran, is_said, told_of};
+pub use outside::{MemOutside, outside_of};
+pub use said::{Runs, all_end_as_said};

@@ -2,29 +2,38 @@ use host_io::{MemFiles, MemSink, MemSource};
 use std::alloc::Global;
 use std::test::Fail;
 use test_rows::{Row, number};
+use worked_trees::WHOLE_TREE;
 
-/// A tree of two servers that are mounted in one another, one of them twice: `examples/trees/every_kind.toml`. A row has
-/// `whole tree` in place of its text.
-pub const WHOLE_TREE: &str = r#"
-version = 1
-server = [{name = "a"}, {name = "b"}]
-node = [
-    {server = "a", path = "d", kind = "dir"},
-    {server = "a", path = "d/f", kind = "file", text = "hello world"},
-    {server = "a", path = "ro", kind = "file", text = "fixed", rights = "rg"},
-    {server = "a", path = "echo", kind = "service"},
-    {server = "b", path = "g", kind = "file", text = "remote"},
-]
-mount = [
-    {server = "a", path = "m", target = "b", at = "."},
-    {server = "b", path = "m", target = "a", at = "."},
-    {server = "a", path = "r", target = "b", at = ".", rights = "rget"},
-]
-client = [{endpoint = 1, server = "a", path = "."}]
-"#;
+/// The outside of a run in memory: its files, where its input comes from, and where its output and its note go.
+#[derive(Drop)]
+pub struct MemOutside {
+    pub files: MemFiles,
+    pub source: MemSource,
+    pub sink: MemSink,
+    pub notes: MemSink,
+}
+
+/// The outside of a row, where an input comes by pieces of at most so many bytes.
+pub fn outside_of(
+    alloc: Global,
+    row: &Row<'_>,
+    input: &[u8],
+    piece: usize,
+) -> Result<MemOutside, Fail> {
+    let files = files(alloc, row)?;
+    let source = source(alloc, row, input, piece)?;
+    let sink = sink(alloc, row)?;
+    let notes = MemSink::new(alloc, 1000, 1000, Vec::new(alloc))?;
+    Ok(MemOutside {
+        files,
+        source,
+        sink,
+        notes,
+    })
+}
 
 /// The files of a row.
-pub fn files(alloc: Global, row: &Row<'_>) -> Result<MemFiles, Fail> {
+fn files(alloc: Global, row: &Row<'_>) -> Result<MemFiles, Fail> {
     let mut files = MemFiles::new(alloc);
     if row.cell(2)? == "whole tree" {
         files.put("held", WHOLE_TREE.as_bytes())?;
@@ -39,13 +48,13 @@ pub fn files(alloc: Global, row: &Row<'_>) -> Result<MemFiles, Fail> {
 }
 
 /// A source of an input, by pieces of at most so many bytes.
-pub fn source(alloc: Global, row: &Row<'_>, input: &[u8], piece: usize) -> Result<MemSource, Fail> {
+fn source(alloc: Global, row: &Row<'_>, input: &[u8], piece: usize) -> Result<MemSource, Fail> {
     let input = Vec::from_slice(alloc, input)?;
     Ok(MemSource::new(input, piece, failing(alloc, row, "read")?))
 }
 
 /// The sink of a row.
-pub fn sink(alloc: Global, row: &Row<'_>) -> Result<MemSink, Fail> {
+fn sink(alloc: Global, row: &Row<'_>) -> Result<MemSink, Fail> {
     let sizes = row.numbers(alloc, 6)?;
     let (Some(room), Some(piece)) = (sizes.first(), sizes.last()) else {
         return Err(row.bad(6).into());
@@ -73,7 +82,7 @@ fn failing(alloc: Global, row: &Row<'_>, kind: &str) -> Result<Vec<u64>, Fail> {
 }
 
 /// The bytes of a cell, or behind `'` its text.
-pub fn told(alloc: Global, row: &Row<'_>, at: usize) -> Result<Vec<u8>, Fail> {
+pub(crate) fn told(alloc: Global, row: &Row<'_>, at: usize) -> Result<Vec<u8>, Fail> {
     match row.cell(at)?.strip_prefix("'") {
         Some(text) => Ok(lines(alloc, text)?),
         None => Ok(row.bytes(alloc, at)?),

@@ -2,60 +2,38 @@
 
 use crate::rows::ROWS;
 use crate::run::run_words;
-use host_io::MemSink;
-use run_rows::{Ran, files, is_said, sink, source, told};
+use run_rows::{MemOutside, Runs, all_end_as_said, outside_of};
 use run_status::Status;
 use std::alloc::Global;
 use std::test::Fail;
 use test_rows::{Row, bytes, rows};
 
+/// Runs of the words of rows.
+#[derive(Drop)]
+struct Program;
+
+impl Runs for Program {
+    fn run(
+        &mut self,
+        alloc: Global,
+        row: &Row<'_>,
+        outside: &mut MemOutside,
+    ) -> Result<Status, Fail> {
+        let words = words(alloc, row)?;
+        Ok(run_words(
+            alloc,
+            &words,
+            &mut outside.files,
+            &mut outside.source,
+            &mut outside.sink,
+            &mut outside.notes,
+        ))
+    }
+}
+
 #[test]
 fn runs_end_as_their_rows_say(rt: HostRuntime) -> Result<(), Fail> {
-    all_end_as_said(rt.alloc(), ROWS)
-}
-
-/// Fails with the name of the first row that isn't what its runs end as.
-fn all_end_as_said(alloc: Global, text: &str) -> Result<(), Fail> {
-    for row in &rows(alloc, text)? {
-        if !runs_as_said(alloc, row)? {
-            return Err(Fail::new(row.name()));
-        }
-    }
-    Ok(())
-}
-
-/// Whether runs by each of the pieces of a row end as it says.
-fn runs_as_said(alloc: Global, row: &Row<'_>) -> Result<bool, Fail> {
-    let input = told(alloc, row, 3)?;
-    for piece in &row.numbers(alloc, 4)? {
-        let ran = run(alloc, row, &input, *piece as usize)?;
-        if !is_said(alloc, row, &ran)? {
-            return Ok(false);
-        }
-    }
-    Ok(true)
-}
-
-/// Runs the words of a row over an input, by pieces of at most so many bytes.
-fn run(alloc: Global, row: &Row<'_>, input: &[u8], piece: usize) -> Result<Ran, Fail> {
-    let mut files = files(alloc, row)?;
-    let mut source = source(alloc, row, input, piece)?;
-    let mut sink = sink(alloc, row)?;
-    let mut notes = MemSink::new(alloc, 1000, 1000, Vec::new(alloc))?;
-    let words = words(alloc, row)?;
-    let status = run_words(
-        alloc,
-        &words,
-        &mut files,
-        &mut source,
-        &mut sink,
-        &mut notes,
-    );
-    Ok(Ran {
-        status,
-        sink,
-        notes,
-    })
+    all_end_as_said(rt.alloc(), ROWS, &mut Program)
 }
 
 fn words(alloc: Global, row: &Row<'_>) -> Result<Vec<String>, Fail> {
@@ -105,9 +83,10 @@ fn every_prefix_is_done_or_truncated(rt: HostRuntime) -> Result<(), Fail> {
 
 /// Whether each prefix of an input is done or truncated.
 fn each_prefix_ends(alloc: Global, row: &Row<'_>, input: &[u8]) -> Result<bool, Fail> {
+    let mut program = Program;
     for at in 0..input.len() {
-        let ran = run(alloc, row, &input[..at], 100)?;
-        if ran.status != end_of(at) {
+        let mut outside = outside_of(alloc, row, &input[..at], 100)?;
+        if program.run(alloc, row, &mut outside)? != end_of(at) {
             return Ok(false);
         }
     }

@@ -8,28 +8,10 @@ use fidl_wire::Ordinals;
 use std::alloc::Global;
 use std::process::Abort;
 use std::test::Fail;
-use test_rows::{bytes, rows};
+use test_rows::{Row, bytes, rows};
 use tree_file::start_of;
 use vfs_world::World;
-
-/// A tree of two servers that are mounted in one another, one of them twice.
-const TREE: &str = r#"
-version = 1
-server = [{name = "a"}, {name = "b"}]
-node = [
-    {server = "a", path = "d", kind = "dir"},
-    {server = "a", path = "d/f", kind = "file", text = "hello world"},
-    {server = "a", path = "ro", kind = "file", text = "fixed", rights = "rg"},
-    {server = "a", path = "echo", kind = "service"},
-    {server = "b", path = "g", kind = "file", text = "remote"},
-]
-mount = [
-    {server = "a", path = "m", target = "b", at = "."},
-    {server = "b", path = "m", target = "a", at = "."},
-    {server = "a", path = "r", target = "b", at = ".", rights = "rget"},
-]
-client = [{endpoint = 1, server = "a", path = "."}]
-"#;
+use worked_trees::WHOLE_TREE;
 
 // Each row: what is sent | the frame | how many nodes the first server keeps behind it
 
@@ -59,7 +41,7 @@ fn begin(alloc: Global) -> Result<World, Fail> {
     let Ok(ordinals) = Ordinals::new() else {
         return Err(Fail::new("two names have one ordinal"));
     };
-    let Ok(start) = start_of(alloc, TREE.as_bytes()) else {
+    let Ok(start) = start_of(alloc, WHOLE_TREE.as_bytes()) else {
         return Err(Fail::new("the tree is refused"));
     };
     match World::new(alloc, ordinals, &start) {
@@ -81,19 +63,37 @@ fn kept_behind(rt: &impl Abort, world: &mut World, frame: &[u8], outbox: &mut Ou
     world.kept(0)
 }
 
+/// The frame of a row, and how many nodes are kept behind it.
+fn try_frame(
+    rt: &impl Abort,
+    alloc: Global,
+    world: &mut World,
+    outbox: &mut Outbox,
+    row: &Row<'_>,
+) -> Result<(), Fail> {
+    let wanted = row.number(2)?;
+    let frame = row.bytes(alloc, 1)?;
+    let kept = kept_behind(rt, world, &frame, outbox);
+    assert!(rt; u64::from(kept) == wanted, "{}", row.name());
+    Ok(())
+}
+
+fn try_frames(
+    rt: &impl Abort,
+    alloc: Global,
+    world: &mut World,
+    outbox: &mut Outbox,
+) -> Result<(), Fail> {
+    for row in &rows(alloc, FRAMES)? {
+        try_frame(rt, alloc, world, outbox, row)?;
+    }
+    Ok(())
+}
+
 #[test]
 fn a_node_is_kept_while_it_is_named_or_held(rt: HostRuntime) -> Result<(), Fail> {
     let alloc = rt.alloc();
-    let mut world = begin(alloc)?;
-    let mut outbox = Outbox::new(alloc);
-    for row in &rows(alloc, FRAMES)? {
-        let frame = row.bytes(alloc, 1)?;
-        let kept = kept_behind(&rt, &mut world, &frame, &mut outbox);
-        if u64::from(kept) != row.number(2)? {
-            return Err(Fail::new(row.name()));
-        }
-    }
-    Ok(())
+    try_frames(&rt, alloc, &mut begin(alloc)?, &mut Outbox::new(alloc))
 }
 
 /// The bytes that these digits say.
@@ -127,24 +127,32 @@ fn kept_behind_round(
     Ok(kept_behind(rt, world, frame.as_bytes(), outbox))
 }
 
-#[test]
-fn no_node_is_kept_for_nobody(rt: HostRuntime) -> Result<(), Fail> {
-    let alloc = rt.alloc();
-    let mut world = begin(alloc)?;
-    let (mut outbox, mut frame) = (Outbox::new(alloc), Outbox::new(alloc));
-    let (make, unlink) = (message(alloc, MAKE)?, message(alloc, UNLINK)?);
+/// How many nodes are kept behind many rounds.
+fn kept_behind_rounds(
+    rt: &impl Abort,
+    world: &mut World,
+    make: &[u8],
+    unlink: &[u8],
+    outbox: &mut Outbox,
+    frame: &mut Outbox,
+) -> Result<u32, Fail> {
     let mut kept = 0;
     for round in 0..ROUNDS {
-        kept = kept_behind_round(
-            &rt,
-            &mut world,
-            2 + round,
-            &make,
-            &unlink,
-            &mut outbox,
-            &mut frame,
-        )?;
+        kept = kept_behind_round(rt, world, 2 + round, make, unlink, outbox, frame)?;
     }
+    Ok(kept)
+}
+
+fn try_rounds(rt: &impl Abort, alloc: Global, world: &mut World) -> Result<(), Fail> {
+    let make = message(alloc, MAKE)?;
+    let unlink = message(alloc, UNLINK)?;
+    let (mut outbox, mut frame) = (Outbox::new(alloc), Outbox::new(alloc));
+    let kept = kept_behind_rounds(rt, world, &make, &unlink, &mut outbox, &mut frame)?;
     assert_eq!(rt; kept, 7);
     Ok(())
+}
+
+#[test]
+fn no_node_is_kept_for_nobody(rt: HostRuntime) -> Result<(), Fail> {
+    try_rounds(&rt, rt.alloc(), &mut begin(rt.alloc())?)
 }

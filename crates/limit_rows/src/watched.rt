@@ -1,6 +1,8 @@
 // Long sessions in which many watch, or one watches a directory of many names.
 
-use super::long::{AUTO, OPEN, ROOM, ROOT, full_of_names, name_of, put, spelled, writes};
+use crate::exchange::Exchange;
+use crate::filled::{ROOM, name_of, put_all_names, put_opens};
+use endpoint_link::Mode;
 use std::alloc::Global;
 use std::test::Fail;
 
@@ -35,37 +37,44 @@ const ONE_LEAVES: &str =
 const ONE_COMES: &str =
     "0100000001000000180000004b0000000200000179d851a5b930d37200000000000000000100000001000000200000004c00000002000001ed7b8da726030a7501000000000000000000000000000100";
 
+/// Watches on endpoints from 2 on, until there are 64.
+fn put_watches(exchange: &mut Exchange) -> Result<(), Fail> {
+    for endpoint in 2..66 {
+        exchange.send_with(WATCH, endpoint, "-")?;
+        exchange.send_with("-", endpoint, OF_WATCH)?;
+        exchange.get_with(WATCHED, endpoint, IS_WATCHED)?;
+    }
+    Ok(())
+}
+
+/// What the 64 are told, but for one that has left.
+fn put_told(exchange: &mut Exchange, told: &str, left: Option<u32>) -> Result<(), Fail> {
+    for endpoint in 2..66 {
+        if left != Some(endpoint) {
+            exchange.get_with("-", endpoint, told)?;
+        }
+    }
+    Ok(())
+}
+
+fn put_watchers(exchange: &mut Exchange) -> Result<(), Fail> {
+    put_watches(exchange)?;
+    exchange.send(ONE_MORE)?;
+    exchange.get(NONE_MORE)?;
+    put_told(exchange, ADDED, None)?;
+    exchange.send(ONE_LEAVES)?;
+    exchange.get(ONE_COMES)?;
+    put_told(exchange, REMOVED, Some(33))?;
+    exchange.get_with("-", 75, REMOVED)
+}
+
 /// 64 endpoints watch the root, and there is no room for one more, but with a mask or options that are none
 /// that isn't looked at. All are told of a name, in order; and one may come when another went.
 #[test]
 fn a_watcher_too_many_has_no_resources(rt: HostRuntime) -> Result<(), Fail> {
-    let alloc = rt.alloc();
-    let (watch, of_watch) = (spelled(alloc, WATCH)?, spelled(alloc, OF_WATCH)?);
-    let (watched, is_watched) = (spelled(alloc, WATCHED)?, spelled(alloc, IS_WATCHED)?);
-    let (added, removed) = (spelled(alloc, ADDED)?, spelled(alloc, REMOVED)?);
-    let mut input = Vec::new(alloc);
-    let mut output = Vec::new(alloc);
-    for endpoint in 2..66 {
-        put(&mut input, &watch, endpoint, &[])?;
-        put(&mut input, &[], endpoint, &of_watch)?;
-        put(&mut output, &watched, endpoint, &is_watched)?;
-    }
-    input.extend_from_slice(&spelled(alloc, ONE_MORE)?)?;
-    output.extend_from_slice(&spelled(alloc, NONE_MORE)?)?;
-    for endpoint in 2..66 {
-        put(&mut output, &[], endpoint, &added)?;
-    }
-    input.extend_from_slice(&spelled(alloc, ONE_LEAVES)?)?;
-    output.extend_from_slice(&spelled(alloc, ONE_COMES)?)?;
-    for endpoint in 2..66 {
-        if endpoint != 33 {
-            put(&mut output, &[], endpoint, &removed)?;
-        }
-    }
-    put(&mut output, &[], 75, &removed)?;
-    let holds = writes(alloc, AUTO, &input, &output)?;
-    assert!(rt; holds);
-    Ok(())
+    let mut exchange = Exchange::new(rt.alloc());
+    put_watchers(&mut exchange)?;
+    exchange.holds(Mode::Auto)
 }
 
 /// Where there is room for one more connection: a Watch, and one more; Watches with the masks 0 and 32 and
@@ -80,20 +89,18 @@ const LAST: &str =
 const IS_FULL: &str =
     "010000000100000018000000020000000200000179d851a5b930d3720000000000000000010000000100000018000000030000000200000179d851a5b930d372fdffffff00000000001000000200000000000000010000000100000018000000040000000200000179d851a5b930d372f6ffffff00000000011000000200000000000000010000000100000018000000050000000200000179d851a5b930d372f6ffffff00000000021000000200000000000000010000000100000018000000060000000200000179d851a5b930d372f6ffffff000000000310000002000000000000000410000001000000180000000000000002000001fffffffffffffffffdffffff000000000410000002000000000000000510000001000000180000000000000002000001fffffffffffffffffdffffff000000000510000002000000000000000100000001000000200000000900000002000001ed7b8da726030a7501000000000000000000000000000100ff0f000001000000040000000202726f0100000001000000180000000b0000000200000179d851a5b930d37200000000000000000100000001000000200000000c00000002000001ed7b8da726030a750100000000000000000000000000010006100000010000000600000002046563686f";
 
+fn put_last(exchange: &mut Exchange) -> Result<(), Fail> {
+    put_opens(exchange, 4095)?;
+    exchange.send(LAST)?;
+    exchange.get(IS_FULL)
+}
+
 /// A watcher takes the room of a connection, and gives it back.
 #[test]
 fn a_watcher_takes_the_room_of_a_connection(rt: HostRuntime) -> Result<(), Fail> {
-    let alloc = rt.alloc();
-    let (open, root) = (spelled(alloc, OPEN)?, spelled(alloc, ROOT)?);
-    let mut input = Vec::new(alloc);
-    for object in 2..4095 {
-        put(&mut input, &open, object, &root)?;
-    }
-    input.extend_from_slice(&spelled(alloc, LAST)?)?;
-    let output = spelled(alloc, IS_FULL)?;
-    let holds = writes(alloc, AUTO, &input, &output)?;
-    assert!(rt; holds);
-    Ok(())
+    let mut exchange = Exchange::new(rt.alloc());
+    put_last(&mut exchange)?;
+    exchange.holds(Mode::Auto)
 }
 
 /// A Watch of the root for EXISTING and IDLE with the endpoint 5000; its answer; and IDLE.
@@ -107,33 +114,30 @@ const IDLE: &str = "8813000001000000020000000400";
 
 const WATCHER: u32 = 5000;
 
+/// The kind of the frames with these messages, behind its endpoint.
+const MESSAGE: &str = "01000000";
+
 /// How many bytes a message to a watcher may have.
 const MOST_TOLD: usize = 8192;
 
-/// What the watcher is told of names that are there: whole messages as frames, and the one that was begun.
+/// The message to the watcher that was begun, of names that are there.
 #[derive(Drop)]
 struct Told {
-    frames: Vec<u8>,
     message: Vec<u8>,
 }
 
 impl Told {
     fn new(alloc: Global) -> Told {
         Told {
-            frames: Vec::new(alloc),
             message: Vec::new(alloc),
         }
     }
 
-    /// Puts a name into the message that was begun, or behind that if there is no room.
-    fn put(&mut self, name: &[u8]) -> Result<(), Fail> {
-        let size = self
-            .message
-            .len()
-            .saturating_add(2)
-            .saturating_add(name.len());
-        if size > MOST_TOLD {
-            self.end()?;
+    /// Puts a name into the message, or into one behind that if there is no room.
+    fn put(&mut self, exchange: &mut Exchange, name: &[u8]) -> Result<(), Fail> {
+        let size = self.message.len().saturating_add(2);
+        if size.saturating_add(name.len()) > MOST_TOLD {
+            self.end(exchange)?;
         }
         self.message.push(3)?;
         self.message.push((name.len() & 0xff) as u8)?;
@@ -142,36 +146,41 @@ impl Told {
     }
 
     /// Ends a message.
-    fn end(&mut self) -> Result<(), Fail> {
+    fn end(&mut self, exchange: &mut Exchange) -> Result<(), Fail> {
         let size = (self.message.len() & 0xffff) as u32;
-        put(&mut self.frames, &[], WATCHER, &[1, 0, 0, 0])?;
-        put(&mut self.frames, &[], size, &self.message)?;
+        exchange.get_with("-", WATCHER, MESSAGE)?;
+        exchange.get_with("-", size, "-")?;
+        exchange.output.extend_from_slice(&self.message)?;
         self.message.clear();
         Ok(())
     }
 }
 
+fn put_names_told(exchange: &mut Exchange, told: &mut Told) -> Result<(), Fail> {
+    told.put(exchange, b".")?;
+    for number in 0..ROOM {
+        told.put(exchange, &name_of(number))?;
+    }
+    told.put(exchange, b"d")?;
+    told.put(exchange, b"echo")?;
+    told.put(exchange, b"m")?;
+    told.put(exchange, b"r")?;
+    told.put(exchange, b"ro")?;
+    told.end(exchange)
+}
+
+fn put_watched_all(exchange: &mut Exchange, told: &mut Told) -> Result<(), Fail> {
+    put_all_names(exchange)?;
+    exchange.send(WATCH_ALL)?;
+    exchange.get(IS_WATCHED_ALL)?;
+    put_names_told(exchange, told)?;
+    exchange.get(IDLE)
+}
+
 /// A new watcher is told 4,095 names of a root and the root itself, in as few messages as they need.
 #[test]
 fn all_names_of_a_server_are_told(rt: HostRuntime) -> Result<(), Fail> {
-    let alloc = rt.alloc();
-    let mut input = full_of_names(alloc)?;
-    input.extend_from_slice(&spelled(alloc, WATCH_ALL)?)?;
-    let mut told = Told::new(alloc);
-    told.put(b".")?;
-    for number in 0..ROOM {
-        told.put(&name_of(number))?;
-    }
-    told.put(b"d")?;
-    told.put(b"echo")?;
-    told.put(b"m")?;
-    told.put(b"r")?;
-    told.put(b"ro")?;
-    told.end()?;
-    let mut output = spelled(alloc, IS_WATCHED_ALL)?;
-    output.extend_from_slice(&told.frames)?;
-    output.extend_from_slice(&spelled(alloc, IDLE)?)?;
-    let holds = writes(alloc, AUTO, &input, &output)?;
-    assert!(rt; holds);
-    Ok(())
+    let mut exchange = Exchange::new(rt.alloc());
+    put_watched_all(&mut exchange, &mut Told::new(rt.alloc()))?;
+    exchange.holds(Mode::Auto)
 }

@@ -4,7 +4,7 @@ use Rattle.std.specs.List.{slice_get}
 use Rattle.io_client.specs.Calls.{Calls, call_cmp, none_yet}
 use Rattle.vfs_script.specs.declared.calls.Call.{Call}
 use Rattle.vfs_script.specs.Noting.{IsFree}
-use Rattle.client_rows.proofs.scripts.waiting_for.Goals as goal
+use Rattle.line_rows.proofs.scripts.waiting_for.Goals as goal
 
 -- no call waits before the first
 free_at_first : (found : Option (Option Call)) → IsFree none_yet found

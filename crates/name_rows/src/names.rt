@@ -3,12 +3,12 @@
 ghost use Rattle.std.specs.Prelude.{◌≡◌, ◌<◌, ◌^◌, ◌-◌, ℕ, Some, IfOk, IfSome, length};
 ghost use Rattle.node_graph.specs.declared.nodes.NodeKind.TheVariants.{Directory};
 ghost use Rattle.node_graph.specs.Graph.{Names, SameHolds, holds_at, kind_at, number_of};
+ghost use Rattle.conn_rules.specs.Shared.{CanBeBound};
 
-use crate::directories::{ROOM, conn_to};
-use conn_rules::{At, Changes, Room};
-use dir_conn::DirServed;
+use conn_rules::{At, Birth, Changes, Room};
+use dir_conn::{DirConn, DirServed};
 use fidl_names::MAX_NAME;
-use io_messages::{Request, read_reply};
+use io_messages::{Protocol, Request, read_reply};
 use io_rights::Rights;
 use node_graph::{Graph, GraphFault, NodeKind, NodeRef};
 use request_rows::{Writer, word};
@@ -108,6 +108,28 @@ fn target(rt: &impl Abort, graph: &mut Graph, path: &str) -> Result<Option<NodeR
         "gone" => Ok(Some(removed(rt, graph)?)),
         _ => Ok(Some(directory(rt, graph, path))),
     }
+}
+
+const ROOM: Room = Room {
+    connections: 1,
+    watchers: 0,
+    token: None,
+};
+
+// A connection to a directory, with all rights.
+fn conn_to(graph: &Graph, node: NodeRef) -> DirConn
+    requires named { Names graph.now node }
+    requires directory { kind_at graph.now (number_of node) ≡ Some Directory }
+    ensures can { CanBeBound graph.now result.birth }
+    ensures protocol { result.birth.protocol ≡ Protocol.Directory }
+{
+    DirConn::new(Birth {
+        node,
+        rights: Rights::all(),
+        protocol: Protocol::Directory,
+        append: false,
+        announce: false,
+    })
 }
 
 // What the root tells of a request, whose reply then stands in the output.

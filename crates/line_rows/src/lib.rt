@@ -1,0 +1,6 @@
+//! Outside values of the lines of scripts and of frames, and the tests that read them. They stand in a crate of their own, since a crate
+//! with tests is proved a second time with them.
+#![tactic(auto)]
+
+#[cfg(test)]
+mod scripts;
