@@ -3,9 +3,10 @@
 PROGRAM := build/vfs
 BENCH := build/bench
 
-.PHONY: help build run test check bench clean
+.PHONY: help try build run test check bench clean
 
 help:
+	@echo "make try    play a script over a small tree before anything is proved, in some minutes"
 	@echo "make build  prove the program and build it, as $(PROGRAM)"
 	@echo "make run    build it, serve example trees and a file (frames with what comes back), play a script, and check example trees"
 	@echo "make test   all proofs, the edits that must be refused, the tests and the programs, the examples and the documents"
@@ -14,6 +15,11 @@ help:
 	@echo "make clean  remove what was built and what checks kept"
 	@echo
 	@echo "A first build proves all crates below the program, those that don't stand on each other side by side."
+
+# Nothing is proved here: an index out of bounds, a sum that doesn't fit or a case that can't be stops the program.
+try:
+	@cd crates/vfs_program && rt try --data small.toml=../../examples/trees/small.toml \
+		--data reading.script=../../examples/scripts/reading.script -- run small.toml reading.script
 
 build:
 	@mkdir -p build
