@@ -18,12 +18,12 @@ help:
 
 # Nothing is proved here: an index out of bounds, a sum that doesn't fit or a case that can't be stops the program.
 try:
-	@cd crates/vfs_program && rt try --data small.toml=../../examples/trees/small.toml \
+	@cd crates/vfs && rt try --data small.toml=../../examples/trees/small.toml \
 		--data reading.script=../../examples/scripts/reading.script -- run small.toml reading.script
 
 build:
 	@mkdir -p build
-	@tools/build.sh vfs_program $(PROGRAM) file data/hello
+	@tools/build.sh vfs $(PROGRAM) file data/hello
 
 # Sessions over a tree: one that reads, one that changes it, one over its names, and one that watches them; one over two
 # servers in mode given; one over a file; a script with its transcript; and the check of trees.

@@ -1,12 +1,12 @@
 // The program over objects in memory, as rows; and every prefix of an input.
 
 use crate::rows::ROWS;
-use crate::run::run_words;
 use run_rows::{MemOutside, Runs, all_end_as_said, outside_of};
 use run_status::Status;
 use std::alloc::Global;
 use std::test::Fail;
 use test_rows::{Row, bytes, rows};
+use vfs_program::run_words;
 
 /// Runs of the words of rows.
 #[derive(Drop)]

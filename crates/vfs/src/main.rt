@@ -1,12 +1,5 @@
-// The program `vfs`: the words, the notes, the exit statuses, and what each command does.
+// The program `vfs`: it hands its words, the files, its streams and its notes to `run_words`, and ends with the status's number.
 #![tactic(auto)]
-
-#[cfg(test)]
-mod rows;
-mod run;
-#[cfg(test)]
-mod tests;
-mod words;
 
 use host_io::{DirFiles, StdSink, StdSource};
 use run_status::Status;
@@ -14,6 +7,7 @@ use std::io::ErrorKind;
 use std::process::ExitCode;
 use std::rt::Env;
 use std::{env, io};
+use vfs_program::run_words;
 
 /// Where the words can't be had for another cause than memory, as when they aren't UTF-8.
 const NO_WORDS: u8 = 12;
@@ -30,7 +24,7 @@ fn main(rt: HostRuntime) -> ExitCode {
     let mut source = StdSource::new(rt.stdin());
     let mut sink = StdSink::new(rt.stdout());
     let mut notes = StdSink::new(rt.stderr());
-    let status = run::run_words(
+    let status = run_words(
         rt.alloc(),
         words.as_slice(),
         &mut files,

@@ -1,0 +1,7 @@
+//! What the program `vfs` does: the words, the notes, the exit statuses, and what each command does.
+#![tactic(auto)]
+
+mod run;
+mod words;
+
+pub use run::run_words;
