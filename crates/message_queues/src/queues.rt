@@ -176,8 +176,8 @@ impl Queues {
 
     /// Drops what waits on these endpoints and on all that die with them, since what is dropped carries them, and unbinds them. Answers
     /// all that died, each once, and the tokens that what is dropped carried. Want of memory leaves all as it was.
-    pub fn bury(&mut self, alloc: Global, dying: &[u32]) -> Result<Buried, NoMemory>
-        ensures died { IfOk result (λ buried. AreDeaths self.old dying.now buried.dead.items) }
+    pub fn bury(&mut self, alloc: Global, dying: Vec<u32>) -> Result<Buried, NoMemory>
+        ensures died { IfOk result (λ buried. AreDeaths self.old dying.items buried.dead.items) }
         ensures buried { IfOk result (λ buried. Buries self.old buried.dead.items self.new) }
         ensures tokens { IfOk result (λ buried. buried.tokens.items ≡ tokens_on self.old buried.dead.items) }
         ensures dropped { IfOk result (λ buried. count self.new + sum_by (λ endpoint. length (queue_of self.old endpoint)) buried.dead.items ≡ count self.old) }
@@ -190,11 +190,10 @@ impl Queues {
     }
 
     /// Who dies with these.
-    fn deaths(&self, alloc: Global, firsts: &[u32]) -> Result<Vec<u32>, NoMemory>
-        ensures { IfOk result (λ dead. AreDeaths self.now firsts.now dead.items) }
+    fn deaths(&self, alloc: Global, firsts: Vec<u32>) -> Result<Vec<u32>, NoMemory>
+        ensures { IfOk result (λ dead. AreDeaths self.now firsts.items dead.items) }
     {
-        let mut dying = Dying::new(alloc);
-        dying.add_all(firsts)?;
+        let mut dying = Dying::of(alloc, firsts)?;
         let mut index = 0;
         while let Some(endpoint) = dying.get(index) {
             self.add_carried(endpoint, &mut dying)?;
