@@ -1,9 +1,8 @@
 //! What waits, over all endpoints.
 
-ghost use Rattle.std.specs.Prelude.{◌≡◌, ◌≢◌, AllPairs, ◌≤◌, ◌<◌, ◌+◌, ◌++◌, ◌∷◌, [], Some, None, IfOk, IsSome, OnOk, OnErr, MatchOption, drop, flat_map, length, nat_eq, slice_get, sum_by};
+ghost use Rattle.std.specs.Prelude.{◌≡◌, ◌≢◌, ◌↔◌, AllPairs, ◌≤◌, ◌<◌, ◌+◌, ◌++◌, ◌∷◌, [], Some, None, IfOk, IsSome, IsTrue, OnOk, OnErr, MatchOption, drop, flat_map, length, nat_eq, slice_get, sum_by};
 ghost use Rattle.std.specs.HashMap.{IsUnique, Updates, get};
 ghost use Rattle.std.specs.List.Sorted.{IsPermutation};
-ghost use Rattle.std.specs.Option.{option_copied};
 ghost use Rattle.vfs_journal.specs.Entries.{endpoints_in, tokens_in};
 ghost use Rattle.message_queues.specs.Queues.{Binds, IsAbove, IsNew, IsReady, Requeues, count, head_of, queue_of, server_of};
 ghost use Rattle.message_queues.specs.Oldest.{IsBound, IsBoundAt, IsOldest, NothingWaits};
@@ -81,13 +80,13 @@ impl Queues {
         self.count
     }
 
-    /// The first entry that waits on an endpoint, where it lies.
-    pub fn first(&self, endpoint: u32) -> Option<&Sent>
-        ensures { option_copied result ≡ head_of self.now endpoint }
+    /// Whether an endpoint is bound and something waits on it.
+    pub fn is_ready(&self, endpoint: u32) -> bool
+        ensures { IsTrue result ↔ IsReady self.now endpoint }
     {
         match self.boxes.get(&endpoint) {
-            Some(mailbox) => mailbox.head(),
-            None => None,
+            Some(mailbox) => mailbox.is_ready(),
+            None => false,
         }
     }
 
