@@ -1,5 +1,5 @@
 -- A list of numbers, each once, beside the set of them.
-use Rattle.std.proofs.Common.{◌≡◌, ◌≢◌, ℕ, None, Some, ◌<◌, ◌≤◌, ◌^◌, Bool, true, false, cond, eqb, List, [], ◌∷◌, ◌++◌, length, refl, sym, ap, ◌∙◌, subst, arith}
+use Rattle.std.proofs.Common.{◌≡◌, ◌≢◌, ℕ, None, Some, ◌<◌, ◌≤◌, ◌^◌, Bool, true, false, cond, eqb, List, [], ◌∷◌, ◌++◌, get_or, length, refl, sym, ap, ◌∙◌, subst, arith}
 use Rattle.std.specs.Prelude.{◌||◌, ◌==◌, AllPairs, not, slice_get, take}
 use Rattle.std.specs.BTreeMap.{is_at}
 use Rattle.std.specs.List.{IsDistinct, list_any}
@@ -90,3 +90,9 @@ listed_first [] keys number is listed low =
     in_words : (a b : Bool) → (a || b) ≡ cond a true b
     in_words true b = refl
     in_words false b = refl
+
+-- a list of at most one
+pub listed_alone : (found keys : List ℕ) → length found ≤ 1 → (0 < length found → get_or found 0 0 < 2 ^ 32) → keys ≡ [] → IsListed found (take 1 found ++ keys)
+listed_alone [] keys few fit none = listed_none keys none
+listed_alone (number ∷ []) keys few fit none = listed_first [] keys number refl (listed_none keys none) (fit (omega arith))
+listed_alone (number ∷ other ∷ found) keys few fit none = absurd (omega arith)

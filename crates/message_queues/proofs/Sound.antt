@@ -232,6 +232,13 @@ not_some : {A : Type 0} (o : Option A) → o ≡ None → IsSome o → ⊥
 not_some None e h = cc
 not_some (Some x) e h = cc
 
+pub ready_by : (m : Boxes) (endpoint servers : ℕ) (was : Mailbox) → box_at m endpoint ≡ Some was → IsSome was.server × IsSome (slice_get was.queue 0)
+    → IsReady (queues_with m.entries servers) endpoint
+ready_by m endpoint servers was there ready = (
+  subst (λ (server : Option ℕ). IsSome server) (sym (server_is m endpoint servers (Some was) there)) ready.0,
+  subst (λ (queue : List Sent). IsSome (slice_get queue 0)) (sym (queue_is m endpoint servers (Some was) there)) ready.1,
+)
+
 pub ready_none : (m : Boxes) (endpoint servers : ℕ) → box_at m endpoint ≡ None → IsReady (queues_with m.entries servers) endpoint → ⊥
 ready_none m endpoint servers none ready = not_some (server_of (queues_with m.entries servers) endpoint) (server_is m endpoint servers None none) ready.0
 

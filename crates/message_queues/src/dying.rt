@@ -1,6 +1,6 @@
 //! Endpoints that die with others.
 
-ghost use Rattle.std.specs.Prelude.{◌≡◌, ◌≢◌, ◌≤◌, ◌^◌, ◌++◌, [], ◌∷◌, AllPairs, OnOk, flat_map, if◌then◌else◌, length, slice_get};
+ghost use Rattle.std.specs.Prelude.{◌≡◌, ◌≢◌, ◌≤◌, ◌^◌, ◌++◌, [], ◌∷◌, AllPairs, IfOk, OnOk, flat_map, if◌then◌else◌, length, slice_get};
 ghost use Rattle.endpoint_link.specs.Numbering.{among};
 ghost use Rattle.vfs_journal.specs.Entries.{endpoints_in};
 ghost use Rattle.message_queues.specs.Steps.{Adds};
@@ -45,6 +45,22 @@ impl Dying {
             found: Vec::new(alloc),
             later: BTreeSet::new(alloc),
         }
+    }
+
+    /// These endpoints, each once. A list of at most one is itself what was found so far, so that who dies alone
+    /// takes no memory here.
+    pub(crate) fn of(alloc: Global, firsts: Vec<u32>) -> Result<Dying, NoMemory>
+        ensures { IfOk result (λ dying. Adds firsts.items [] dying) }
+    {
+        if firsts.len() <= 1 {
+            return Ok(Dying {
+                found: firsts,
+                later: BTreeSet::new(alloc),
+            });
+        }
+        let mut dying = Dying::new(alloc);
+        dying.add_all(&firsts)?;
+        Ok(dying)
     }
 
     /// The endpoint at an index.

@@ -1,6 +1,6 @@
 //! What is kept of one endpoint.
 
-ghost use Rattle.std.specs.Prelude.{◌≡◌, ◌≤◌, ◌<◌, ◌++◌, [], ◌∷◌, None, Some, IsOk, OnOk, OnErr, drop, flat_map, length, option_to_list, slice_get};
+ghost use Rattle.std.specs.Prelude.{◌≡◌, ◌↔◌, ◌≤◌, ◌<◌, ◌++◌, [], ◌∷◌, None, Some, IsOk, IsSome, IsTrue, OnOk, OnErr, drop, flat_map, length, option_to_list, slice_get};
 ghost use Rattle.std.specs.Option.{option_copied};
 ghost use Rattle.vfs_journal.specs.Entries.{endpoints_in, tokens_in};
 ghost use Rattle.message_queues.specs.Steps.{Adds};
@@ -72,6 +72,13 @@ impl Mailbox {
         ensures { option_copied result ≡ slice_get self.now.queue 1 }
     {
         self.later.front()
+    }
+
+    /// Whether the endpoint is bound and something waits on it.
+    pub(crate) fn is_ready(&self) -> bool
+        ensures { IsTrue result ↔ IsSome self.now.server × IsSome (slice_get self.now.queue 0) }
+    {
+        self.server.is_some() && self.first.is_some()
     }
 
     /// Puts an entry behind all others.

@@ -1,9 +1,8 @@
 //! What waits, over all endpoints.
 
-ghost use Rattle.std.specs.Prelude.{◌≡◌, ◌≢◌, AllPairs, ◌≤◌, ◌<◌, ◌+◌, ◌++◌, ◌∷◌, [], Some, None, IfOk, IsSome, OnOk, OnErr, MatchOption, drop, flat_map, length, nat_eq, slice_get, sum_by};
+ghost use Rattle.std.specs.Prelude.{◌≡◌, ◌≢◌, ◌↔◌, AllPairs, ◌≤◌, ◌<◌, ◌+◌, ◌++◌, ◌∷◌, [], Some, None, IfOk, IsSome, IsTrue, OnOk, OnErr, MatchOption, drop, flat_map, length, nat_eq, slice_get, sum_by};
 ghost use Rattle.std.specs.HashMap.{IsUnique, Updates, get};
 ghost use Rattle.std.specs.List.Sorted.{IsPermutation};
-ghost use Rattle.std.specs.Option.{option_copied};
 ghost use Rattle.vfs_journal.specs.Entries.{endpoints_in, tokens_in};
 ghost use Rattle.message_queues.specs.Queues.{Binds, IsAbove, IsNew, IsReady, Requeues, count, head_of, queue_of, server_of};
 ghost use Rattle.message_queues.specs.Oldest.{IsBound, IsBoundAt, IsOldest, NothingWaits};
@@ -81,13 +80,13 @@ impl Queues {
         self.count
     }
 
-    /// The first entry that waits on an endpoint, where it lies.
-    pub fn first(&self, endpoint: u32) -> Option<&Sent>
-        ensures { option_copied result ≡ head_of self.now endpoint }
+    /// Whether an endpoint is bound and something waits on it.
+    pub fn is_ready(&self, endpoint: u32) -> bool
+        ensures { IsTrue result ↔ IsReady self.now endpoint }
     {
         match self.boxes.get(&endpoint) {
-            Some(mailbox) => mailbox.head(),
-            None => None,
+            Some(mailbox) => mailbox.is_ready(),
+            None => false,
         }
     }
 
@@ -176,8 +175,8 @@ impl Queues {
 
     /// Drops what waits on these endpoints and on all that die with them, since what is dropped carries them, and unbinds them. Answers
     /// all that died, each once, and the tokens that what is dropped carried. Want of memory leaves all as it was.
-    pub fn bury(&mut self, alloc: Global, dying: &[u32]) -> Result<Buried, NoMemory>
-        ensures died { IfOk result (λ buried. AreDeaths self.old dying.now buried.dead.items) }
+    pub fn bury(&mut self, alloc: Global, dying: Vec<u32>) -> Result<Buried, NoMemory>
+        ensures died { IfOk result (λ buried. AreDeaths self.old dying.items buried.dead.items) }
         ensures buried { IfOk result (λ buried. Buries self.old buried.dead.items self.new) }
         ensures tokens { IfOk result (λ buried. buried.tokens.items ≡ tokens_on self.old buried.dead.items) }
         ensures dropped { IfOk result (λ buried. count self.new + sum_by (λ endpoint. length (queue_of self.old endpoint)) buried.dead.items ≡ count self.old) }
@@ -190,11 +189,10 @@ impl Queues {
     }
 
     /// Who dies with these.
-    fn deaths(&self, alloc: Global, firsts: &[u32]) -> Result<Vec<u32>, NoMemory>
-        ensures { IfOk result (λ dead. AreDeaths self.now firsts.now dead.items) }
+    fn deaths(&self, alloc: Global, firsts: Vec<u32>) -> Result<Vec<u32>, NoMemory>
+        ensures { IfOk result (λ dead. AreDeaths self.now firsts.items dead.items) }
     {
-        let mut dying = Dying::new(alloc);
-        dying.add_all(firsts)?;
+        let mut dying = Dying::of(alloc, firsts)?;
         let mut index = 0;
         while let Some(endpoint) = dying.get(index) {
             self.add_carried(endpoint, &mut dying)?;

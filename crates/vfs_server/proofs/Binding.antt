@@ -1,6 +1,6 @@
 -- What a server is behind one connection or watcher more, and one less.
-use Rattle.std.proofs.Common.{◌≡◌, ◌≢◌, ◌∙◌, ℕ, ◌+◌, ◌-◌, ◌++◌, true, false, ◌||◌, List, [], ◌∷◌, length, length-append, append-nil, Option, Some, None, refl, sym, ap, subst, arith}
-use Rattle.std.specs.Prelude.{IsSome, if◌then◌else◌, is_some}
+use Rattle.std.proofs.Common.{◌≡◌, ◌≢◌, ◌∙◌, ℕ, ◌+◌, ◌-◌, ◌++◌, true, false, List, [], ◌∷◌, length, length-append, append-nil, Option, Some, None, refl, sym, ap, subst, arith}
+use Rattle.std.specs.Prelude.{IsSome, if◌then◌else◌}
 use Rattle.std.proofs.lemmas.Bool.{eq-eqb, ne_eqb}
 use Rattle.std.proofs.lemmas.List.{length-map, map-append}
 use Rattle.std.specs.FinMap as finite
@@ -103,7 +103,7 @@ unbinds_one index old new connections seats tokens endpoint connection there unw
         ap (seen_as index (bounds_at index seats) one) (get_cut_other connections endpoint one e)
         ∙ sym (ap (λ t. if t then None else seen_as index (bounds_at index seats) one (finite.get connections one)) (ne_eqb one endpoint e))
   ];
-  count = omega (arith, shorter connections endpoint connection there);
+  count = λ pair is. omega (arith, shorter connections endpoint connection there);
   watchers =
       let left = without_none endpoint seats unwatched in
       ap (bounds_at index) (sym left) ∙ bounds_left endpoint index seats (ap (λ (found : Seats). seat_at found endpoint) left ∙ unwatched);
@@ -114,6 +114,7 @@ unbinds_one index old new connections seats tokens endpoint connection there unw
       let one : connected index endpoint connection ≡ pair = cc in
       subst (λ (p : Bound × Position). HoldsNow old new p.0.birth.node (holds_at old p.0.birth.node - 1)) one holds;
   names = names;
+  idle = λ none. absurd (let wrong : Some (connected index endpoint connection) ≡ None = sym (ap (seen_as index (bounds_at index seats) endpoint) there) ∙ none in cc);
 }
 
 -- ---- watchers
@@ -163,7 +164,7 @@ unwatches_one index old new connections seats tokens endpoint seat free there go
         seats_alike index one (without endpoint seats) seats (finite.get connections one) (other_less endpoint one seats e)
         ∙ sym (ap (λ t. if t then None else seen_as index (bounds_at index seats) one (finite.get connections one)) (ne_eqb one endpoint e))
   ];
-  count =
+  count = λ pair is.
       let was = in_use_is index old connections seats tokens in
       let now = in_use_is index new connections (without endpoint seats) tokens in
       let less = length_less endpoint seat seats there in
@@ -177,36 +178,40 @@ unwatches_one index old new connections seats tokens endpoint seat free there go
       let one : (bound_at index (endpoint, seat), fresh) ≡ pair = cc in
       subst (λ (p : Bound × Position). HoldsNow old new p.0.birth.node (holds_at old p.0.birth.node - 1)) one holds;
   names = names;
+  idle = λ none.
+      let wrong : Some (bound_at index (endpoint, seat), fresh) ≡ None =
+      sym (seen_watching index endpoint seats (finite.get connections endpoint) free ∙ ap (option_map (seated index endpoint)) there) ∙ none in
+      absurd (cc);
 }
 
+-- ---- neither
+
+-- where an endpoint isn't bound, nothing changes
+pub unbinds_none : (index : ℕ) (graph : Kept) (connections : Connections) (seats : Seats) (tokens : Tokens) (endpoint : ℕ) → finite.get connections endpoint ≡ None → seat_at seats endpoint ≡ None →
+    Unbinds (server_of index graph connections seats tokens) endpoint (server_of index graph connections seats tokens)
+unbinds_none index graph connections seats tokens endpoint free unwatched = record {
+  index = refl;
+  bound = λ one. elim (standing one endpoint) [
+    | same e b ↦
+        ap (λ n. seen_as index (bounds_at index seats) n (finite.get connections n)) e ∙ unseen
+        ∙ sym (ap (λ t. if t then None else seen_as index (bounds_at index seats) one (finite.get connections one)) (eq-eqb one endpoint e))
+    | other e b ↦ sym (ap (λ t. if t then None else seen_as index (bounds_at index seats) one (finite.get connections one)) (ne_eqb one endpoint e))
+  ];
+  count = λ pair is. absurd (let wrong : None ≡ Some pair = sym unseen ∙ is in cc);
+  watchers =
+      let left = without_none endpoint seats unwatched in
+      ap (bounds_at index) (sym left) ∙ bounds_left endpoint index seats (ap (λ (found : Seats). seat_at found endpoint) left ∙ unwatched);
+  tokens = refl;
+  tree = λ tree stands. stands;
+  holds = λ pair is. absurd (let wrong : None ≡ Some pair = sym unseen ∙ is in cc);
+  names = λ node named kept. (named, refl);
+  idle = λ none. refl;
+}
+  where
+    unseen : seen_as index (bounds_at index seats) endpoint (finite.get connections endpoint) ≡ None
+    unseen = seen_watching index endpoint seats (finite.get connections endpoint) free ∙ ap (option_map (seated index endpoint)) unwatched
+
 -- ---- who it is
-
--- who is bound without watching has a connection
-pub is_connected : (index endpoint : ℕ) (seats : Seats) (o : Option Connection) → seat_at seats endpoint ≡ None → IsSome (seen_as index (bounds_at index seats) endpoint o) → IsSome o
-is_connected index endpoint seats (Some connection) unwatched some = refl
-is_connected index endpoint seats None unwatched some =
-    let none : false ≡ true = subst IsSome (watching_as index endpoint seats ∙ ap (option_map (seated index endpoint)) unwatched) some in
-    absurd (cc)
-
--- and who watches has none
-pub not_connected : (connections : Connections) (seats : Seats) (endpoint : ℕ) (seat : Seat) → ((one : ℕ) → IsSome (finite.get connections one) → seat_at seats one ≡ None) → seat_at seats endpoint ≡ Some seat →
-    finite.get connections endpoint ≡ None
-not_connected connections seats endpoint seat apart there = by_get (finite.get connections endpoint) refl where
-  by_get : (o : Option Connection) → finite.get connections endpoint ≡ o → o ≡ None
-  by_get None is = refl
-  by_get (Some connection) is = absurd (let wrong : None ≡ Some seat = sym (apart endpoint (subst IsSome (sym is) refl)) ∙ there in cc)
-
-pub some_of : {X : Type 0} (o : Option X) → IsSome o → (x : X) × (o ≡ Some x)
-some_of None some = absurd (cc)
-some_of (Some x) some = (x, refl)
-
--- an endpoint is bound where it has a connection or watches
-pub bound_by_either : (index endpoint : ℕ) (seats : Seats) (o : Option Connection) → is_some (seen_as index (bounds_at index seats) endpoint o) ≡ (is_some o || is_some (seat_at seats endpoint))
-bound_by_either index endpoint seats (Some connection) = refl
-bound_by_either index endpoint seats None = ap is_some (watching_as index endpoint seats) ∙ mapped (seat_at seats endpoint) where
-  mapped : (o : Option Seat) → is_some (option_map (seated index endpoint) o) ≡ is_some o
-  mapped None = refl
-  mapped (Some seat) = refl
 
 pub either_way : {X : Type 0} (P : Type 0) (o : Option X) → ((x : X) → o ≡ Some x → P) → (o ≡ None → P) → P
 either_way P (Some x) some none = some x refl

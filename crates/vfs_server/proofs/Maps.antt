@@ -62,6 +62,12 @@ get_cut_other m k q apart = elim (standing q k) [
   | other e b ↦ finite.get-remove nat_cmp_total m k q ∙ ap (λ b. cond b None (finite.get m q)) b
 ]
 
+pub nothing_cut : {V : Type 0} (m : Numbered V) (k : ℕ) → finite.get m k ≡ None → finite.remove m k ≡ m
+nothing_cut m k none = same_map _ _ (λ q. elim (standing q k) [
+  | same e b ↦ ap (finite.get (finite.remove m k)) e ∙ get_cut m k ∙ sym (ap (finite.get m) e ∙ none)
+  | other e b ↦ get_cut_other m k q e
+])
+
 -- ---- counting over the entries of a map
 
 abbrev pub one_if : Bool → ℕ

@@ -10,7 +10,7 @@ use Rattle.node_graph.specs.Tree.{stay}
 use Rattle.vfs_server.specs.Binding.{Forgets, NamesBy}
 use Rattle.vfs_server.specs.Kept.{Connections, Tokens}
 use Rattle.vfs_server.specs.Watched.{Seats}
-use Rattle.vfs_server.proofs.Maps.{standing, same, other, same_map, get_put, get_put_other, get_cut, get_cut_other}
+use Rattle.vfs_server.proofs.Maps.{standing, same, other, get_put, get_put_other, get_cut, get_cut_other, nothing_cut}
 use Rattle.vfs_server.proofs.Binding.{server_of}
 
 pub names_one : (index : ℕ) (old new : Kept) (connections : Connections) (seats : Seats) (tokens : Tokens) (token : ℕ) (directory : NodeRef) →
@@ -65,12 +65,6 @@ forgets_one index old new connections seats tokens token directory there tree ho
   idle = λ none. absurd (let wrong : Some (number_of directory) ≡ None = sym (ap (option_map number_of) there) ∙ none in cc);
 }
 
-pub removed_none : (tokens : Tokens) (token : ℕ) → finite.get tokens token ≡ None → finite.remove tokens token ≡ tokens
-removed_none tokens token none = same_map _ _ (λ q. elim (standing q token) [
-  | same e b ↦ ap (finite.get (finite.remove tokens token)) e ∙ get_cut tokens token ∙ sym (ap (finite.get tokens) e ∙ none)
-  | other e b ↦ get_cut_other tokens token q e
-])
-
 pub forgets_none : (index : ℕ) (graph : Kept) (connections : Connections) (seats : Seats) (tokens : Tokens) (token : ℕ) → finite.get tokens token ≡ None →
     Forgets (server_of index graph connections seats tokens) token (server_of index graph connections seats (finite.remove tokens token))
 forgets_none index graph connections seats tokens token none = record {
@@ -81,5 +75,5 @@ forgets_none index graph connections seats tokens token none = record {
   tree = λ tree stands. stands;
   holds = λ node is. absurd (let wrong : None ≡ Some node = sym (ap (option_map number_of) none) ∙ is in cc);
   names = λ node named kept. (named, refl);
-  idle = λ is. ap (server_of index graph connections seats) (removed_none tokens token none);
+  idle = λ is. ap (server_of index graph connections seats) (nothing_cut tokens token none);
 }

@@ -21,7 +21,7 @@ use Rattle.conn_rules.specs.declared.births.Room.{Room}
 use Rattle.conn_rules.specs.Answers.{only, silent}
 use Rattle.conn_rules.specs.Births.{Connection, Position, fresh}
 use Rattle.conn_rules.specs.Opens.{is_full}
-use Rattle.conn_rules.specs.Served.{KeepsHolds, told_by}
+use Rattle.conn_rules.specs.Served.{KeepsHolds}
 use Rattle.conn_rules.specs.Shared.{CanBeBound, is_spoken_at}
 use Rattle.vfs_journal.specs.Entries.{message}
 use Rattle.vfs_journal.specs.Handles.{AreByNumber, numbers_of}

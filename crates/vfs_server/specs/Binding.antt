@@ -32,17 +32,18 @@ pub record Binds (old : Server) (newest : Bound) (new : Server) : Type 0 where
   pub holds : HoldsNow old.graph new.graph newest.birth.node (holds_at old.graph newest.birth.node + 1)
   pub names : KeepsNames old.graph new.graph
 
--- an endpoint isn't bound any more and no other changes; the node that it was bound to has one hold less
+-- an endpoint isn't bound any more, where it was, and no other changes; the node that it was bound to has one hold less
 pub record Unbinds (old : Server) (endpoint : ℕ) (new : Server) : Type 0 where
   pub index : new.index ≡ old.index
   pub bound : (other : ℕ) → seen new other ≡ (if other == endpoint then None else seen old other)
-  pub count : in_use new + 1 ≡ in_use old
+  pub count : (pair : Bound × Position) → seen old endpoint ≡ Some pair → in_use new + 1 ≡ in_use old
   pub watchers : new.watchers ≡ filter (λ bound. not (bound.endpoint == endpoint)) old.watchers
   pub tokens : new.tokens ≡ old.tokens
   pub tree : Leads old.graph new.graph stay
   pub holds : (pair : Bound × Position) → seen old endpoint ≡ Some pair →
       HoldsNow old.graph new.graph pair.0.birth.node (holds_at old.graph pair.0.birth.node - 1)
   pub names : KeepsNames old.graph new.graph
+  pub idle : seen old endpoint ≡ None → new ≡ old
 
 -- ---- directories
 

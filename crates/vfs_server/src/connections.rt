@@ -1,6 +1,6 @@
 //! The connections of a server, by their endpoints.
 
-ghost use Rattle.std.specs.Prelude.{◌≡◌, ◌≤◌, ◌<◌, ◌^◌, ℕ, IfOk, OnErr, OnOk, Option, IsSome, Some, None, length};
+ghost use Rattle.std.specs.Prelude.{◌≡◌, ◌≤◌, ◌<◌, ◌^◌, ℕ, IfOk, OnErr, OnOk, Option, Some, None, length};
 ghost use Rattle.fidl_names.specs.declared.limits.TheConstants as limit;
 ghost use Rattle.std.specs.FinMap as finite;
 ghost use Rattle.conn_rules.specs.Births as births;
@@ -68,13 +68,6 @@ impl Connections {
         self.kept.len()
     }
 
-    /// Whether an endpoint has one.
-    pub fn contains(&self, endpoint: u32) -> bool
-        ensures { result ≡ finite.contains_key self.now endpoint }
-    {
-        self.places.contains_key(&endpoint)
-    }
-
     /// Puts one at an endpoint that has none. Room is made before anything changes.
     pub fn insert(&mut self, endpoint: u32, connection: Connection) -> Result<(), NoMemory>
         requires free { finite.get self.old endpoint ≡ None }
@@ -88,16 +81,13 @@ impl Connections {
         Ok(())
     }
 
-    /// Takes out the one of an endpoint that has one.
-    pub fn remove(&mut self, endpoint: u32) -> Connection
-        requires there { IsSome (finite.get self.old endpoint) }
-        ensures given { finite.get self.old endpoint ≡ Some result }
+    /// Takes out the one of an endpoint, if it has one.
+    pub fn remove(&mut self, endpoint: u32) -> Option<Connection>
+        ensures given { result ≡ finite.get self.old endpoint }
         ensures removed { self.new ≡ finite.remove self.old endpoint }
     {
-        match self.places.remove(&endpoint) {
-            Some(place) => self.kept.remove(place),
-            None => unreachable!(),
-        }
+        let place = self.places.remove(&endpoint)?;
+        Some(self.kept.remove(place))
     }
 
     /// Serves a message on the one of the endpoint that is asked. No other changes. What watchers are to be

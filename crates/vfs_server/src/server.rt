@@ -1,4 +1,4 @@
-ghost use Rattle.std.specs.Prelude.{◌≡◌, ◌≤◌, ◌<◌, ◌+◌, ◌^◌, ℕ, IfOk, IsSome, None, OnErr, OnOk, [], is_some, length};
+ghost use Rattle.std.specs.Prelude.{◌≡◌, ◌≤◌, ◌<◌, ◌+◌, ◌^◌, ℕ, IfOk, IsSome, None, OnErr, OnOk, [], length};
 ghost use Rattle.fidl_names.specs.declared.limits.TheConstants as limit;
 ghost use Rattle.std.specs.FinMap as finite;
 ghost use Rattle.node_graph.specs.Graph.{holds_at, number_of};
@@ -97,13 +97,6 @@ impl Server {
         ensures few { result ≤ 1 + finite.len self.now.graph.edges + limit.MAX_CONNECTIONS + limit.MAX_TOKENS }
     {
         self.graph.kept()
-    }
-
-    /// Whether an endpoint is bound here.
-    pub fn is_bound(&self, endpoint: u32) -> bool
-        ensures { result ≡ is_some (seen self.now endpoint) }
-    {
-        self.connections.contains(endpoint) || self.watching.contains(endpoint)
     }
 
     /// Serves a message on an endpoint that is bound here: the frames of the answer are written to the
@@ -205,17 +198,15 @@ impl Server {
         }
     }
 
-    /// Lets go of an endpoint that is bound here, and releases its node.
+    /// Lets go of an endpoint where it is bound here, and releases its node. Most are connections, so that
+    /// these are asked first.
     pub fn unbind(&mut self, endpoint: u32)
-        requires bound { IsSome (seen self.old endpoint) }
         ensures { Unbinds self.old endpoint self.new }
     {
-        match self.watching.remove(endpoint, &self.graph) {
-            Some(directory) => self.graph.release(directory),
-            None => {
-                let connection = self.connections.remove(endpoint);
-                self.graph.release(connection.node());
-            }
+        if let Some(connection) = self.connections.remove(endpoint) {
+            self.graph.release(connection.node());
+        } else if let Some(directory) = self.watching.remove(endpoint, &self.graph) {
+            self.graph.release(directory);
         }
     }
 }

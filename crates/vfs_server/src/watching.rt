@@ -1,6 +1,6 @@
 //! The watchers of a server.
 
-ghost use Rattle.std.specs.Prelude.{◌≡◌, ◌<◌, ◌++◌, ◌∷◌, [], ℕ, All, None, OnErr, OnOk, Some, filter, is_some, length};
+ghost use Rattle.std.specs.Prelude.{◌≡◌, ◌<◌, ◌++◌, ◌∷◌, [], ℕ, All, None, OnErr, OnOk, Some, filter, length};
 ghost use Rattle.std.specs.Option.{option_map};
 ghost use Rattle.endpoint_link.specs.Frames.{spellings};
 ghost use Rattle.fidl_names.specs.declared.limits.TheConstants as limit;
@@ -70,13 +70,6 @@ impl Watching {
         ensures { result ≡ length (filter (is_at directory) self.now) }
     {
         self.watchers.count(directory)
-    }
-
-    /// Whether an endpoint watches.
-    pub fn contains(&self, endpoint: u32) -> bool
-        ensures { result ≡ is_some (seat_at self.now endpoint) }
-    {
-        self.seats.contains_key(&endpoint)
     }
 
     /// Lets an endpoint that doesn't watch yet watch a directory of the graph. Room is made before

@@ -1,5 +1,5 @@
 -- What a server holds behind deaths.
-use Rattle.std.proofs.Common.{◌≡◌, ◌≢◌, ℕ, ◌+◌, ◌-◌, ◌<◌, ◌≤◌, ◌==◌, ◌&&◌, ◌||◌, Bool, true, false, not, cond, is_some, if◌then◌else◌, List, [], ◌∷◌, ◌++◌, length, filter, count_by, take, Option, Some, None, get_or, refl, sym, ap, ◌∙◌, subst, arith}
+use Rattle.std.proofs.Common.{◌≡◌, ◌≢◌, ℕ, ◌+◌, ◌-◌, ◌<◌, ◌≤◌, ◌==◌, ◌&&◌, ◌||◌, Bool, true, false, not, cond, if◌then◌else◌, List, [], ◌∷◌, ◌++◌, length, filter, count_by, take, Option, Some, None, get_or, refl, sym, ap, ◌∙◌, subst, arith}
 use Rattle.std.specs.Option.{option_map_or}
 use Rattle.std.proofs.lemmas.Bool.{eqb-true, eq-eqb, ne_eqb, true≢false}
 use Rattle.std.proofs.lemmas.Bool.Decides.{nat_tests}
@@ -58,7 +58,7 @@ unbound_here view one now index d pair apart h there s =
           ∙ if_at_none index (n == d) (at_in view n)
           ∙ ap (if_at index) (sym (found_others d n view.living));
       count =
-          let c = s.count in
+          let c = s.count pair there in
           let k = h.count in
           let a = length-filter at (bounds (others d view.living)) in
           let b = length-filter at (bounds view.living) in
@@ -116,6 +116,13 @@ unbound_there view one index d apart h none =
       by_test n true e = ap (seen one) (eqb-true n d e) ∙ none
       by_test n false e = h.bound n
 
+-- and any endpoint
+unbound : (view : View) (one now : Server) (index d : ℕ) → Apart view.living → HoldsNumber view index one → Unbinds one d now → HoldsNumber (without_one view d) index now
+unbound view one now index d apart h s = by_seen (seen one d) refl where
+  by_seen : (o : Option (Bound × Position)) → seen one d ≡ o → HoldsNumber (without_one view d) index now
+  by_seen (Some pair) there = unbound_here view one now index d pair apart h there s
+  by_seen None none = subst (HoldsNumber (without_one view d) index) (sym (s.idle none)) (unbound_there view one index d apart h none)
+
 -- ---- many endpoints
 
 pub filter_true : (l : Living) → filter (λ (_ : Bound × Position). true) l ≡ l
@@ -163,36 +170,19 @@ let_go_more view one now index dead i d within is h =
 
 -- ---- as the call tells it
 
-some_of : {X : Type 0} (o : Option X) → is_some o ≡ true → (x : X) × (o ≡ Some x)
-some_of (Some x) e = (x, refl)
-some_of None e = absurd (true≢false (sym e))
-
-none_of : {X : Type 0} (o : Option X) → is_some o ≡ false → o ≡ None
-none_of None e = refl
-none_of (Some x) e = absurd (true≢false e)
-
 pub go_first : (view : View) (one : Server) → HoldsAt view one → HoldsAt (without_in view []) one
 go_first view one h = by_index (without_in view []) one one.index refl (none_without view one one.index (by_number view one one.index refl h))
 
 same_next : (view : View) (dead : List ℕ) (i : ℕ) → i < length dead → without_one (without_in view (take i dead)) (get_or dead i 0) ≡ without_in view (take (i + 1) dead)
 same_next view dead i within = without_more view (take i dead) (get_or dead i 0) ∙ ap (without_in view) (sym (take_more dead i 0 within))
 
-pub go_bound : (view : View) (one now : Server) (dead : List ℕ) (i : ℕ) → i < length dead → Apart view.living → is_some (seen one (get_or dead i 0)) ≡ true → Unbinds one (get_or dead i 0) now →
+pub go_on : (view : View) (one now : Server) (dead : List ℕ) (i : ℕ) → i < length dead → Apart view.living → Unbinds one (get_or dead i 0) now →
     HoldsAt (without_in view (take i dead)) one → HoldsAt (without_in view (take (i + 1) dead)) now
-go_bound view one now dead i within apart bound s h =
-    let there = some_of (seen one (get_or dead i 0)) bound in
+go_on view one now dead i within apart s h =
     let v = without_in view (take i dead) in
     subst (λ (w : View). HoldsAt w now) (same_next view dead i within)
     (by_index (without_one v (get_or dead i 0)) now one.index s.index
-    (unbound_here v one now one.index (get_or dead i 0) there.0 (apart_without view (take i dead) apart) (by_number v one one.index refl h) there.1 s))
-
-pub go_past : (view : View) (one : Server) (dead : List ℕ) (i : ℕ) → i < length dead → Apart view.living → is_some (seen one (get_or dead i 0)) ≡ false →
-    HoldsAt (without_in view (take i dead)) one → HoldsAt (without_in view (take (i + 1) dead)) one
-go_past view one dead i within apart free h =
-    let v = without_in view (take i dead) in
-    subst (λ (w : View). HoldsAt w one) (same_next view dead i within)
-    (by_index (without_one v (get_or dead i 0)) one one.index refl
-    (unbound_there v one one.index (get_or dead i 0) (apart_without view (take i dead) apart) (by_number v one one.index refl h) (none_of (seen one (get_or dead i 0)) free)))
+    (unbound v one now one.index (get_or dead i 0) (apart_without view (take i dead) apart) (by_number v one one.index refl h) s))
 
 pub go_last : (view : View) (one : Server) (dead : List ℕ) (i : ℕ) → length dead ≤ i → HoldsAt (without_in view (take i dead)) one → HoldsAt (without_in view dead) one
 go_last view one dead i over h = subst (λ (ds : List ℕ). HoldsAt (without_in view ds) one) (take_all i dead over) h

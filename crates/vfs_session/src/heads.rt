@@ -150,7 +150,7 @@ impl Session {
             &mut self.servers,
             &mut self.queues,
             &mut self.endpoints,
-            &dying,
+            dying,
         )?;
         close_others(
             self.alloc,

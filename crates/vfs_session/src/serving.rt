@@ -40,13 +40,11 @@ impl Session {
         ensures running { (most : ℕ) → IsRunning most (whole self.old) → OnOk result (IsRunning most (whole self.new)) }
         ensures begins { Begins outbox.old outbox.new }
     {
-        match (self.queues.server_of(endpoint), self.queues.first(endpoint)) {
-            (Some(_), Some(_)) => {
-                self.serve_head(endpoint, outbox)?;
-                Ok(true)
-            }
-            _ => Ok(false),
+        if !self.queues.is_ready(endpoint) {
+            return Ok(false);
         }
+        self.serve_head(endpoint, outbox)?;
+        Ok(true)
     }
 
     /// Serves the oldest entries of all, until nothing is left that can be served. Memory is wanting only

@@ -70,9 +70,7 @@ fn let_go(server: &mut Server, dead: &[u32])
     ensures gone { (view : View) → AreApart view.living → HoldsAt view server.old → HoldsAt (without_in view dead.now) server.new }
 {
     for endpoint in dead {
-        if server.is_bound(*endpoint) {
-            server.unbind(*endpoint);
-        }
+        server.unbind(*endpoint);
     }
 }
 
@@ -105,11 +103,11 @@ pub(crate) fn bury(
     servers: &mut Vec<Server>,
     queues: &mut Queues,
     endpoints: &mut Endpoints,
-    dying: &[u32],
+    dying: Vec<u32>,
 ) -> Result<Buried, NoMemory>
-    requires live { (dead : List ℕ) → AreDeaths queues.old dying.now dead → All (λ endpoint. is_live (standing_of endpoints.old endpoint) ≡ true) dead }
+    requires live { (dead : List ℕ) → AreDeaths queues.old dying.items dead → All (λ endpoint. is_live (standing_of endpoints.old endpoint) ≡ true) dead }
     requires counted { count queues.old ≡ endpoints.old.waiting }
-    ensures died { IfOk result (λ buried. AreDeaths queues.old dying.now buried.dead.items) }
+    ensures died { IfOk result (λ buried. AreDeaths queues.old dying.items buried.dead.items) }
     ensures buried { IfOk result (λ buried. Buries queues.old buried.dead.items queues.new) }
     ensures tokens { IfOk result (λ buried. buried.tokens.items ≡ tokens_on queues.old buried.dead.items) }
     ensures gone { (view : View) → AreApart view.living → HoldsEach view servers.old.items → IfOk result (λ buried. HoldsEach (without_in view buried.dead.items) servers.new.items) }

@@ -6,7 +6,8 @@ use Rattle.vfs_server.specs.Servers.{Server}
 use Rattle.vfs_server.proofs.Giving.{leads_on}
 use Rattle.vfs_server.proofs.Binding.{server_of}
 use Rattle.vfs_server.proofs.Held.{held_by_token}
-use Rattle.vfs_server.proofs.Naming.{forgets_none, forgets_one, removed_none}
+use Rattle.vfs_server.proofs.Maps.{nothing_cut}
+use Rattle.vfs_server.proofs.Naming.{forgets_none, forgets_one}
 use Rattle.vfs_server.proofs.Sound.{sound_forgotten}
 use Rattle.vfs_server.proofs.server.Server.forget.Goals as goal
 
@@ -24,7 +25,7 @@ invariant_of-self c =
 pub invariant_of-self-in_default : goal.invariant_of-self-in_default
 invariant_of-self-in_default c =
     subst (λ (tokens : Tokens). IsSound c.self.inside.graph c.self.inside.connections c.self.inside.watching tokens)
-    (sym (c.remove.ensures.removed ∙ removed_none c.self.inside.tokens c.args.token (sym c.remove.ensures.named ∙ c.in_default.is))) c.self.invariant
+    (sym (c.remove.ensures.removed ∙ nothing_cut c.self.inside.tokens c.args.token (sym c.remove.ensures.named ∙ c.in_default.is))) c.self.invariant
 
 pub returns-in-Some : goal.returns-in-Some
 returns-in-Some c =

@@ -14,20 +14,20 @@ returns-then-is_empty-clause-dead c =
 
 pub bury-requires-clause-live : goal.bury-requires-clause-live
 bury-requires-clause-live c =
-    λ dead died. c.requires.live dead (subst (λ (firsts : List ℕ). AreDeaths c.args.self.now.queues firsts dead) (c.deref.ensures.value ∙ c.in_ok-dying.ensures) died)
+    λ dead died. c.requires.live dead (subst (λ (firsts : List ℕ). AreDeaths c.args.self.now.queues firsts dead) c.in_ok-dying.ensures died)
 
 pub returns-clause-dead : goal.returns-clause-dead
 returns-clause-dead c =
     record {
       dead = c.in_ok-buried.buried.dead.items;
-      died = subst (λ (firsts : List ℕ). AreDeaths c.args.self.now.queues firsts c.in_ok-buried.buried.dead.items) (c.deref.ensures.value ∙ c.in_ok-dying.ensures) c.in_ok-buried.ensures.died;
+      died = subst (λ (firsts : List ℕ). AreDeaths c.args.self.now.queues firsts c.in_ok-buried.buried.dead.items) c.in_ok-dying.ensures c.in_ok-buried.ensures.died;
       buried = c.in_ok-buried.ensures.buried;
       tokens = c.in_ok-buried.ensures.tokens;
       goes = c.in_ok-buried.ensures.gone;
       closed =
           c.in_ok-close_others.ensures.written
-          ∙ ap (λ (one : Option ℕ). c.args.outbox.now ++ spellings (closed_for one c.deref-2.result.now)) (c.end_told.ensures ∙ ap (λ (sent : Sent). end_told sent.endpoint c.args.fate.now) c.sent.view_is)
-          ∙ ap (λ (dead : List ℕ). c.args.outbox.now ++ spellings (closed_for (end_told c.args.sent.now.endpoint c.args.fate.now) dead)) c.deref-2.ensures.value;
+          ∙ ap (λ (one : Option ℕ). c.args.outbox.now ++ spellings (closed_for one c.deref.result.now)) (c.end_told.ensures ∙ ap (λ (sent : Sent). end_told sent.endpoint c.args.fate.now) c.sent.view_is)
+          ∙ ap (λ (dead : List ℕ). c.args.outbox.now ++ spellings (closed_for (end_told c.args.sent.now.endpoint c.args.fate.now) dead)) c.deref.ensures.value;
       known = c.in_ok-buried.ensures.known;
       count = c.in_ok-buried.ensures.count;
       places = refl;
