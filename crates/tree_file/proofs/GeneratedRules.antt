@@ -1,15 +1,14 @@
 -- The lists of the generated workload keep the rules of a tree.
-use Rattle.std.proofs.Common.{◌≡◌, ◌≢◌, ◌<◌, ◌≤◌, ℕ, zero, suc, List, [], ◌∷◌, All, AllPairs, None, codes, length, slice_index, ap, refl, arith, inr}
+use Rattle.std.proofs.Common.{◌≡◌, ◌≢◌, ◌<◌, ℕ, zero, suc, List, [], ◌∷◌, All, AllPairs, None, codes, slice_index, ap, refl, arith, inr}
 use Rattle.std.specs.Str.{is_utf8, chars}
 use lib.Utf8.{encode}
 use Rattle.fidl_names.specs.Numbers.{AreBytes}
-use Rattle.fidl_names.specs.declared.limits.TheConstants as limit
 use Rattle.path_walk.specs.Names.{IsName, name_fault}
 use Rattle.path_walk.specs.Parts.{before_last_slash, parent_of}
 use Rattle.path_walk.specs.Paths.{path_fault, names_of}
 use Rattle.tree_file.specs.Accepted.{AreAccepted, AreItems, AreServers, IsAt, IsNode, IsMount, IsClient, OtherEndpoint}
 use Rattle.tree_file.specs.Generated.{directory_of, mount_of_second, client_of_first, generated_lists}
-use Rattle.tree_file.specs.Items.{NodeItem, MountItem, ClientItem, Lists}
+use Rattle.tree_file.specs.Items.{NodeItem, MountItem, ClientItem}
 use Rattle.tree_file.specs.Rules.{first_failing, found_among, is_directory, first_broken, rules_on_lists}
 
 all_of_one : {X : Type 0} (P : X → Type 0) (x : X) → P x → All P (x ∷ [])

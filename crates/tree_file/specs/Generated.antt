@@ -1,5 +1,5 @@
 -- The start of the generated workload: two servers with a directory each, the second mounted in the first, and one client.
-use Rattle.std.specs.Prelude.{ℕ, List, [], ◌∷◌, codes}
+use Rattle.std.specs.Prelude.{ℕ, [], ◌∷◌, codes}
 use Rattle.io_rights.specs.Operations.{all}
 use Rattle.node_graph.specs.declared.nodes.NodeKind.TheVariants.{Directory}
 use Rattle.tree_file.specs.Items.{NodeItem, MountItem, ClientItem, Lists}

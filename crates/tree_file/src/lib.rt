@@ -17,6 +17,3 @@ pub use generated::generated_start;
 pub use laws::starts_are_sound;
 pub use lent::{StartClient, StartMount, StartNode};
 pub use start::{Start, start_of};
-
-#[cfg(test)]
-mod tests;

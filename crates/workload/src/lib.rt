@@ -9,6 +9,3 @@ mod rounds;
 
 pub use generating::{MAX_ROUNDS, generated};
 pub use laws::workloads_are_scripts;
-
-#[cfg(test)]
-mod tests;

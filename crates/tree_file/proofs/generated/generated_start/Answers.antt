@@ -1,4 +1,4 @@
-use Rattle.std.proofs.Common.{◌≡◌, ℕ, List, [], ◌∷◌, ◌∙◌, ap, ap₂}
+use Rattle.std.proofs.Common.{ℕ, List, [], ◌∷◌, ◌∙◌, ap, ap₂}
 use Rattle.tree_file.specs.Items.{NodeItem, MountItem, ClientItem}
 use Rattle.tree_file.proofs.GeneratedRules.{same_accepted, same_bytes}
 use Rattle.tree_file.proofs.generated.generated_start.Goals as goal

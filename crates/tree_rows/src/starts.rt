@@ -1,13 +1,12 @@
-use crate::{TreeFault, start_of};
-use std::alloc::Global;
-use std::test::Fail;
-
+//! Texts that are trees, with their counts, and texts that are none, with the rule and the item that are told.
 mod accepted;
 mod forms;
 mod items;
-mod lent;
-mod limits;
 mod places;
+
+use std::alloc::Global;
+use std::test::Fail;
+use tree_file::{TreeFault, start_of};
 
 // The first row that isn't refused so.
 fn first_other(alloc: Global, rows: &[(&[u8], u32, u64)]) -> Option<usize> {

@@ -1,9 +1,8 @@
-// What a start lends, over a tree with every kind of item.
-
-use crate::{StartClient, StartMount, StartNode, start_of};
+//! What a start lends, over a tree with every kind of item.
 use io_rights::{Operation, Rights};
 use node_graph::NodeKind;
 use std::test::Fail;
+use tree_file::{StartClient, StartMount, StartNode, start_of};
 
 const TREE: &[u8] = b"version = 1\n\n[[server]]\nname = \"a\"\n[[server]]\nname = \"b\"\n\n\
     [[node]]\nserver = \"a\"\npath = \"d\"\nkind = \"dir\"\n\n\

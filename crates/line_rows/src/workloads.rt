@@ -1,6 +1,7 @@
-use crate::generated;
+//! Generated workloads, by their texts.
 use std::alloc::Global;
 use std::test::Fail;
+use workload::generated;
 
 // The texts of a few rounds, worked out apart from this code.
 const TEXTS: [(u32, &[u8]); 2] = [

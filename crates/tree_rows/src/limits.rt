@@ -1,8 +1,7 @@
-// Trees at the limits of a server, and one item past them.
-
-use crate::{TreeFault, start_of};
+//! Trees at the limits of a server, and one item past them.
 use std::alloc::Global;
 use std::test::Fail;
+use tree_file::{TreeFault, start_of};
 
 // A tree of one server with so many of each, and a file of so many bytes first where there is some.
 fn tree_of(

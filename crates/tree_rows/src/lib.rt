@@ -1,0 +1,10 @@
+//! Outside values of tree files, as rows, and the tests that read them.
+//! They stand in a crate of their own, since a crate with tests is proved a second time with them.
+#![tactic(auto)]
+
+#[cfg(test)]
+mod lent;
+#[cfg(test)]
+mod limits;
+#[cfg(test)]
+mod starts;
