@@ -1,20 +1,22 @@
 -- What every value keeps, behind each change.
-use Rattle.std.proofs.Common.{◌≡◌, ℕ, ◌+◌, ◌-◌, ◌<◌, Bool, true, false, List, [], ◌∷◌, ◌++◌, map, refl, sym, ap, ◌∙◌, subst, arith, length}
+use Rattle.std.proofs.Common.{◌≡◌, ℕ, ◌+◌, ◌-◌, ◌<◌, Bool, true, false, List, [], ◌∷◌, ◌++◌, map, refl, sym, ap, ◌∙◌, subst, arith, length, replicate}
 use Rattle.std.specs.Prelude.{◌||◌, ◌==◌, Option, Some, None, if◌then◌else◌, is_none, slice_get}
 use Rattle.std.specs.FinMap as finite
 use Rattle.std.specs.List.{IsDistinct}
 use Rattle.std.specs.Ordering.{nat_cmp}
 use Rattle.std.proofs.lemmas.Cmp.{nat_cmp_total}
+use Rattle.std.proofs.lemmas.List.{length-replicate}
 use Rattle.std.proofs.lemmas.Map.Lookups.{exact_unsigned}
 use Rattle.fidl_names.specs.declared.limits.TheConstants as limit
 use Rattle.endpoint_link.specs.Numbering.{among}
 use Rattle.vfs_journal.specs.Entries.{Sent}
 use Rattle.message_queues.specs.Queues.{Binds, IsAbove, IsNew, Mailbox, Queues, Requeues, count, head_of, queue_of, server_of}
 use Rattle.message_queues.specs.Dying.{Buries}
-use Rattle.message_queues.specs.Steps.{AreOnce, AreTurns, Heads, IsKept, IsSound, drop_turn, place_cmp, places_of, put_turn, queues_with, turn_by, turn_of}
+use Rattle.message_queues.specs.Steps.{AreOnce, AreTurns, Heads, IsKept, IsSound, drop_turn, places_of, put_turn, queues_with, turn_by, turn_of}
 use Rattle.message_queues.proofs.Changed.{count-entries, queue_in, server_in}
 use Rattle.message_queues.proofs.Finite.{Same, one_key, two_keys, same_or_other}
 use Rattle.message_queues.proofs.Numbers.{above_none, among-append, among-one, either, either_one, either_other, itself, once_push, other_number, same_number}
+use Rattle.message_queues.proofs.Placed.{got_none, many_dropped, many_put}
 use Rattle.message_queues.proofs.Turns.{KeepsTurns, head_place, turn_place, turns_cut, turns_move, turns_put, turns_same}
 
 abbrev places : List Sent → List ℕ
@@ -41,21 +43,25 @@ or_here : (a b : Bool) → a ≡ true → (a || b) ≡ true
 or_here true b h = refl
 or_here false b h = absurd (cc)
 
+-- where an endpoint is bound, that server has its heads
+pub known_server : (q : Queues) (heads : List Heads) (counted : ℕ) → IsKept q heads counted → (endpoint server : ℕ) → server_of q endpoint ≡ Some server → server < length heads
+known_server q heads counted kept endpoint server bound = let low = kept.within endpoint server bound in omega (arith, low, kept.each)
+
 -- ---- binding
 
-module _ (q now : Queues) (heads : Heads) (counted endpoint server : ℕ) (kept : IsKept q heads counted) (unbound : server_of q endpoint ≡ None) (binds : Binds q endpoint server now) where
+module _ (q now : Queues) (heads : List Heads) (counted endpoint server : ℕ) (kept : IsKept q heads counted) (unbound : server_of q endpoint ≡ None) (binds : Binds q endpoint server now) where
   bound_keeps : KeepsTurns (turn_of q) endpoint (turn_of now)
   bound_keeps other apart = same_turn q now other (binds.waiting other) (binds.bound other ∙ either_other (other == endpoint) _ _ (other_number endpoint other apart))
 
   bound_here : (head : Option Sent) → head_of q endpoint ≡ head → turn_of now endpoint ≡ turn_by (Some server) head
   bound_here head is = turn_alike _ _ _ _ (binds.bound endpoint ∙ either_one (endpoint == endpoint) _ _ (itself endpoint)) (ap (λ (queue : List Sent). slice_get queue 0) (binds.waiting endpoint) ∙ is)
 
-  bound_turns : (head : Option Sent) → head_of q endpoint ≡ head → AreTurns (put_turn heads (turn_by (Some server) head) endpoint) (turn_of now)
-  bound_turns None is = turns_same heads (turn_of q) (turn_of now) kept.turns (λ other. elim (one_or_other endpoint other) [
+  bound_turns : (head : Option Sent) → server < q.servers → head_of q endpoint ≡ head → AreTurns (put_turn heads (turn_by (Some server) head) endpoint) (turn_of now)
+  bound_turns None known is = turns_same heads (turn_of q) (turn_of now) kept.turns (λ other. elim (one_or_other endpoint other) [
     | one_key e b ↦ ap (turn_of now) e ∙ bound_here None is ∙ sym (ap (turn_of q) e ∙ turn_alike _ _ _ _ unbound is)
     | two_keys e b ↦ bound_keeps other e
   ])
-  bound_turns (Some sent) is = turns_put heads (turn_of q) (turn_of now) endpoint (server, sent.place) kept.turns (turn_alike _ _ _ _ unbound is) (bound_here (Some sent) is) bound_keeps
+  bound_turns (Some sent) known is = turns_put heads (turn_of q) (turn_of now) endpoint (server, sent.place) (omega (arith, known, kept.each)) kept.turns (turn_alike _ _ _ _ unbound is) (bound_here (Some sent) is) bound_keeps
       (λ other apart turn. apart (kept.apart other endpoint sent.place (turn_place q other (server, sent.place) turn) (head_place (queue_of q endpoint) sent is)))
 
   bound_within : server < q.servers → (other at : ℕ) → server_of now other ≡ Some at → at < now.servers
@@ -67,7 +73,8 @@ module _ (q now : Queues) (heads : Heads) (counted endpoint server : ℕ) (kept 
 
   pub kept_bound : server < q.servers → count now ≡ count q → IsKept now (put_turn heads (turn_by (Some server) (head_of q endpoint)) endpoint) counted
   kept_bound known counts = record {
-    turns = bound_turns (head_of q endpoint) refl;
+    each = many_put heads (turn_by (Some server) (head_of q endpoint)) endpoint ∙ kept.each ∙ sym binds.those;
+    turns = bound_turns (head_of q endpoint) known refl;
     once = λ other. subst AreOnce (sym (ap places (binds.waiting other))) (kept.once other);
     apart = λ one two at a b. kept.apart one two at (sym (ap (λ (queue : List Sent). among at (places queue)) (binds.waiting one)) ∙ a) (sym (ap (λ (queue : List Sent). among at (places queue)) (binds.waiting two)) ∙ b);
     within = λ other at is. bound_within known other at is;
@@ -77,7 +84,7 @@ module _ (q now : Queues) (heads : Heads) (counted endpoint server : ℕ) (kept 
 
 -- ---- other queues
 
-module _ (q now : Queues) (heads : Heads) (counted endpoint : ℕ) (queue : List Sent) (kept : IsKept q heads counted) (requeues : Requeues q endpoint queue now) where
+module _ (q now : Queues) (heads : List Heads) (counted endpoint : ℕ) (queue : List Sent) (kept : IsKept q heads counted) (requeues : Requeues q endpoint queue now) where
   queue_here : queue_of now endpoint ≡ queue
   queue_here = requeues.waiting endpoint ∙ either_one (endpoint == endpoint) _ _ (itself endpoint)
 
@@ -119,7 +126,7 @@ module _ (q now : Queues) (heads : Heads) (counted endpoint : ℕ) (queue : List
 
 -- ---- pushing
 
-module _ (q now : Queues) (heads : Heads) (counted endpoint : ℕ) (sent : Sent) (kept : IsKept q heads counted) (above : IsAbove q sent.place) (requeues : Requeues q endpoint (queue_of q endpoint ++ sent ∷ []) now) where
+module _ (q now : Queues) (heads : List Heads) (counted endpoint : ℕ) (sent : Sent) (kept : IsKept q heads counted) (above : IsAbove q sent.place) (requeues : Requeues q endpoint (queue_of q endpoint ++ sent ∷ []) now) where
   new_place : (other : ℕ) → among sent.place (places_of q other) ≡ false
   new_place other = above_none (queue_of q other) sent.place (above other)
 
@@ -139,7 +146,7 @@ module _ (q now : Queues) (heads : Heads) (counted endpoint : ℕ) (sent : Sent)
   pushed_turns : (queue : List Sent) (server : Option ℕ) → queue_of q endpoint ≡ queue → server_of q endpoint ≡ server
       → AreTurns (put_turn heads (turn_by server (if is_none (slice_get queue 0) then Some sent else None)) endpoint) (turn_of now)
   pushed_turns [] (Some server) none is =
-      turns_put heads (turn_of q) (turn_of now) endpoint (server, sent.place) kept.turns (ap (λ (queue : List Sent). turn_by (server_of q endpoint) (slice_get queue 0)) none ∙ turn_none (server_of q endpoint))
+      turns_put heads (turn_of q) (turn_of now) endpoint (server, sent.place) (known_server q heads counted kept endpoint server is) kept.turns (ap (λ (queue : List Sent). turn_by (server_of q endpoint) (slice_get queue 0)) none ∙ turn_none (server_of q endpoint))
       (queued_here q now heads counted endpoint (queue_of q endpoint ++ sent ∷ []) kept requeues (Some server) is ∙ ap (λ (queue : List Sent). turn_by (Some server) (slice_get (queue ++ sent ∷ []) 0)) none)
       (queued_keeps q now heads counted endpoint (queue_of q endpoint ++ sent ∷ []) kept requeues)
       (λ other apart turn. let wrong : false ≡ true = sym (new_place other) ∙ turn_place q other (server, sent.place) turn in cc)
@@ -160,6 +167,7 @@ module _ (q now : Queues) (heads : Heads) (counted endpoint : ℕ) (sent : Sent)
   pub kept_pushed : counted < limit.MAX_WAITING → count now ≡ count q + 1
       → IsKept now (put_turn heads (turn_by (server_of q endpoint) (if is_none (head_of q endpoint) then Some sent else None)) endpoint) (counted + 1)
   kept_pushed room counts = record {
+    each = many_put heads (turn_by (server_of q endpoint) (if is_none (head_of q endpoint) then Some sent else None)) endpoint ∙ kept.each ∙ sym requeues.those;
     turns = pushed_turns (queue_of q endpoint) (server_of q endpoint) refl refl;
     once = queued_once q now heads counted endpoint (queue_of q endpoint ++ sent ∷ []) kept requeues
         (subst AreOnce (sym (places-push (queue_of q endpoint))) (once_push (places_of q endpoint) sent.place (kept.once endpoint) (new_place endpoint)));
@@ -171,7 +179,7 @@ module _ (q now : Queues) (heads : Heads) (counted endpoint : ℕ) (sent : Sent)
 
 -- ---- taking
 
-module _ (q now : Queues) (heads : Heads) (counted endpoint server : ℕ) (first : Sent) (later : List Sent) (kept : IsKept q heads counted) (bound : server_of q endpoint ≡ Some server) (waits : queue_of q endpoint ≡ first ∷ later) (requeues : Requeues q endpoint later now) where
+module _ (q now : Queues) (heads : List Heads) (counted endpoint server : ℕ) (first : Sent) (later : List Sent) (kept : IsKept q heads counted) (bound : server_of q endpoint ≡ Some server) (waits : queue_of q endpoint ≡ first ∷ later) (requeues : Requeues q endpoint later now) where
   taken_was : turn_of q endpoint ≡ Some (server, first.place)
   taken_was = turn_alike _ _ _ _ bound (ap (λ (queue : List Sent). slice_get queue 0) waits)
 
@@ -188,7 +196,7 @@ module _ (q now : Queues) (heads : Heads) (counted endpoint server : ℕ) (first
       (queued_keeps q now heads counted endpoint later kept requeues)
   taken_turns (second ∷ rest) some =
       let stands : among second.place (places later) ≡ true = ap (λ (queue : List Sent). among second.place (places queue)) some ∙ or_here (second.place == second.place) (among second.place (places rest)) (itself second.place) in
-      turns_move heads (turn_of q) (turn_of now) endpoint (server, first.place) (server, second.place) kept.turns taken_was
+      turns_move heads (turn_of q) (turn_of now) endpoint (server, first.place) (server, second.place) (known_server q heads counted kept endpoint server bound) kept.turns taken_was
       (queued_here q now heads counted endpoint later kept requeues (Some server) bound ∙ ap (λ (queue : List Sent). turn_by (Some server) (slice_get queue 0)) some)
       (λ is. absurd (let alike : second.place ≡ first.place = ap (λ (key : ℕ × ℕ). key.1) is in let wrong : false ≡ true = sym taken_once.0 ∙ ap (λ (n : ℕ). among n (places later)) (sym alike) ∙ stands in cc))
       (queued_keeps q now heads counted endpoint later kept requeues)
@@ -197,6 +205,8 @@ module _ (q now : Queues) (heads : Heads) (counted endpoint server : ℕ) (first
   pub kept_taken : count now + 1 ≡ count q
       → IsKept now (drop_turn (put_turn heads (turn_by (Some server) (slice_get later 0)) endpoint) (Some (server, first.place))) (counted - 1)
   kept_taken counts = record {
+    each = many_dropped (put_turn heads (turn_by (Some server) (slice_get later 0)) endpoint) (Some (server, first.place)) ∙ many_put heads (turn_by (Some server) (slice_get later 0)) endpoint ∙ kept.each
+        ∙ sym requeues.those;
     turns = taken_turns later refl;
     once = queued_once q now heads counted endpoint later kept requeues taken_once.1;
     apart = queued_apart q now heads counted endpoint later kept requeues (λ other at apart there here. apart (kept.apart other endpoint at there (later_among at here)));
@@ -207,7 +217,7 @@ module _ (q now : Queues) (heads : Heads) (counted endpoint server : ℕ) (first
 
 -- ---- closing
 
-module _ (q now : Queues) (heads : Heads) (counted endpoint : ℕ) (kept : IsKept q heads counted) (buries : Buries q (endpoint ∷ []) now) where
+module _ (q now : Queues) (heads : List Heads) (counted endpoint : ℕ) (kept : IsKept q heads counted) (buries : Buries q (endpoint ∷ []) now) where
   closed_test : (other : ℕ) → among other (endpoint ∷ []) ≡ (endpoint == other)
   closed_test other = among-one other endpoint
 
@@ -256,6 +266,7 @@ module _ (q now : Queues) (heads : Heads) (counted endpoint : ℕ) (kept : IsKep
 
   pub kept_closed : count now + length (queue_of q endpoint) ≡ count q → IsKept now (drop_turn heads (turn_of q endpoint)) (counted - length (queue_of q endpoint))
   kept_closed counts = record {
+    each = many_dropped heads (turn_of q endpoint) ∙ kept.each ∙ sym buries.those;
     turns = closed_turns (turn_of q endpoint) refl;
     once = closed_once;
     apart = λ one two at a b. kept.apart one two at (closed_places one at a) (closed_places two at b);
@@ -279,12 +290,13 @@ new_is servers = record {
   those = refl;
 }
 
-pub sound_none : (servers : ℕ) → IsSound [] finite.empty 0 servers
+pub sound_none : (servers : ℕ) → IsSound [] (replicate servers finite.empty) 0 servers
 unfolding IsDistinct
 sound_none servers = record {
   kept = record {
+    each = length-replicate servers finite.empty;
     turns = λ key endpoint. (
-      (λ there. absurd (none_some _ endpoint (finite.get-empty place_cmp key) there)),
+      (λ there. absurd (none_some _ endpoint (got_none servers key) there)),
       (λ turn. absurd (none_some _ key (turn_alike _ _ _ _ ((new_is servers).bound endpoint) (ap (λ (queue : List Sent). slice_get queue 0) ((new_is servers).waiting endpoint))) turn)),
     );
     once = λ endpoint. subst AreOnce (sym (ap places ((new_is servers).waiting endpoint))) tt;

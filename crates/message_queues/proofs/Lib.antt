@@ -11,6 +11,6 @@ mod Served
 mod Spread
 mod PutBehind
 mod Listed
-mod Ranged
+mod Placed
 mod Least
 pub mod Counting

@@ -1,13 +1,12 @@
 -- Which endpoint is served next, by the heads.
-use Rattle.std.proofs.Common.{◌≡◌, ℕ, ◌+◌, ◌<◌, ◌≤◌, Bool, true, false, List, [], ◌∷◌, refl, sym, ap, ◌∙◌, subst, arith}
+use Rattle.std.proofs.Common.{◌≡◌, ℕ, ◌+◌, ◌<◌, ◌≤◌, Bool, true, false, List, [], ◌∷◌, length, refl, sym, ap, ◌∙◌, subst, arith}
 use Rattle.std.specs.Prelude.{Option, Some, None, Result, Ok, Err, IsOk, IsSome, MatchOption, OnErr, if◌then◌else◌, nat_lt, slice_get}
 use Rattle.std.specs.Option.{option_map}
-use Rattle.std.specs.FinMap as finite
 use Rattle.std.proofs.lemmas.Bool.Decides.{nat_tests}
 use Rattle.vfs_journal.specs.Entries.{Sent}
 use Rattle.message_queues.specs.Queues.{Queues, head_of, queue_of, server_of}
 use Rattle.message_queues.specs.Oldest.{IsBound, IsBoundAt, IsOldest, NothingWaits}
-use Rattle.message_queues.specs.Steps.{Heads, IsKept, IsLeastAt, IsLeastBelow, older, turn_by, turn_of}
+use Rattle.message_queues.specs.Steps.{Heads, IsKept, IsLeast, IsLeastBelow, head_at, heads_of, older, turn_by, turn_of}
 use Rattle.message_queues.proofs.Turns.{turn_parts}
 
 some_is : {A : Type 0} (o : Option A) (x : A) → o ≡ Some x → IsSome o
@@ -33,7 +32,7 @@ nothing q endpoint none = by_cases (queue_of q endpoint) refl
 
 -- ---- at one server
 
-pub oldest_at : (q : Queues) (heads : Heads) (counted server : ℕ) (head : Option (ℕ × ℕ)) → IsKept q heads counted → IsLeastAt heads server head
+pub oldest_at : (q : Queues) (heads : List Heads) (counted server : ℕ) (head : Option (ℕ × ℕ)) → IsKept q heads counted → IsLeast (heads_of heads server) head
     → MatchOption (option_map (λ (h : ℕ × ℕ). h.1) head) (NothingWaits q (IsBoundAt q server)) (λ endpoint. IsOldest q (IsBoundAt q server) endpoint)
 oldest_at q heads counted server None kept none = λ endpoint bound. nothing q endpoint (λ sent waits.
     let there = (kept.turns (server, sent.place) endpoint).1 (has_turn q endpoint server sent bound waits) in
@@ -52,7 +51,7 @@ oldest_at q heads counted server (Some head) kept least =
 
 -- ---- over all servers
 
-pub least_none : (heads : Heads) → IsLeastBelow heads 0 None
+pub least_none : (heads : List Heads) → IsLeastBelow heads 0 None
 least_none heads = λ server place low. absurd (omega arith)
 
 data Where (server servers : ℕ) : Type 0 where
@@ -70,28 +69,28 @@ no_head : {A : Type 0} (o : Option A) → o ≡ None → IsSome o → ⊥
 no_head None h some = cc
 no_head (Some x) h some = cc
 
-module _ (heads : Heads) (servers : ℕ) where
-  one_kept : (one : ℕ × ℕ) → IsLeastBelow heads servers (Some one) → ((place : ℕ) → IsSome (finite.get heads (servers, place)) → one.0 ≤ place) → IsLeastBelow heads (servers + 1) (Some one)
+module _ (heads : List Heads) (servers : ℕ) where
+  one_kept : (one : ℕ × ℕ) → IsLeastBelow heads servers (Some one) → ((place : ℕ) → IsSome (head_at heads (servers, place)) → one.0 ≤ place) → IsLeastBelow heads (servers + 1) (Some one)
   one_kept one least least_here = (
     (least.0.0, (let low = least.0.1 in omega arith), least.0.2),
     λ server place low there. elim (where_is server servers low) [
-      | here e ↦ least_here place (subst (λ (s : ℕ). IsSome (finite.get heads (s, place))) e there)
+      | here e ↦ least_here place (subst (λ (s : ℕ). IsSome (head_at heads (s, place))) e there)
       | before less ↦ least.1 server place less there
     ],
   )
 
-  other_taken : (other : ℕ × ℕ) → IsLeastAt heads servers (Some other) → ((server place : ℕ) → server < servers → IsSome (finite.get heads (server, place)) → other.0 ≤ place) → IsLeastBelow heads (servers + 1) (Some other)
+  other_taken : (other : ℕ × ℕ) → IsLeast (heads_of heads servers) (Some other) → ((server place : ℕ) → server < servers → IsSome (head_at heads (server, place)) → other.0 ≤ place) → IsLeastBelow heads (servers + 1) (Some other)
   other_taken other least least_before = (
     (servers, (omega arith), least.0),
     λ server place low there. elim (where_is server servers low) [
-      | here e ↦ least.1 place (subst (λ (s : ℕ). IsSome (finite.get heads (s, place))) e there)
+      | here e ↦ least.1 place (subst (λ (s : ℕ). IsSome (head_at heads (s, place))) e there)
       | before less ↦ least_before server place less there
     ],
   )
 
-  pub least_more : (one other : Option (ℕ × ℕ)) → IsLeastBelow heads servers one → IsLeastAt heads servers other → IsLeastBelow heads (servers + 1) (older one other)
+  pub least_more : (one other : Option (ℕ × ℕ)) → IsLeastBelow heads servers one → IsLeast (heads_of heads servers) other → IsLeastBelow heads (servers + 1) (older one other)
   least_more None None least none = λ server place low. elim (where_is server servers low) [
-    | here e ↦ ap (λ (s : ℕ). finite.get heads (s, place)) e ∙ none place
+    | here e ↦ ap (λ (s : ℕ). head_at heads (s, place)) e ∙ none place
     | before less ↦ least server place less
   ]
   least_more None (Some other) none least = other_taken other least (λ server place low there. absurd (no_head _ (none server place low) there))
@@ -102,7 +101,7 @@ module _ (heads : Heads) (servers : ℕ) where
       by_test true e = other_taken other least_here (λ server place low there. let le : one.0 ≤ place = least.1 server place low there in let less : other.0 < one.0 = grind (arith, nat_tests) in omega arith)
       by_test false e = one_kept one least (λ place there. let le : other.0 ≤ place = least_here.1 place there in let less : one.0 ≤ other.0 = grind (arith, nat_tests) in omega arith)
 
-pub oldest_of_all : (q : Queues) (heads : Heads) (counted : ℕ) (head : Option (ℕ × ℕ)) → IsKept q heads counted → IsLeastBelow heads q.servers head
+pub oldest_of_all : (q : Queues) (heads : List Heads) (counted : ℕ) (head : Option (ℕ × ℕ)) → IsKept q heads counted → IsLeastBelow heads q.servers head
     → MatchOption (option_map (λ (h : ℕ × ℕ). h.1) head) (NothingWaits q (IsBound q)) (λ endpoint. IsOldest q (IsBound q) endpoint)
 oldest_of_all q heads counted None kept none = λ endpoint bound. nothing q endpoint (λ sent waits.
     let at = the_some (server_of q endpoint) bound in
@@ -120,6 +119,13 @@ oldest_of_all q heads counted (Some head) kept least =
           let low : head.0 ≤ later.place = least.1 at.0 later.place (kept.within other at.0 at.1) (some_is _ other there) in
           let is : turn.sent.place ≡ head.0 = turn.place in omega arith;
     }
+
+-- the same once the heads of each were looked at
+pub oldest_behind : (q : Queues) (heads items : List Heads) (counted index : ℕ) (head : Option (ℕ × ℕ)) → IsKept q heads counted → items ≡ heads → length items ≤ index → index ≤ length items → IsLeastBelow items index head
+    → MatchOption (option_map (λ (h : ℕ × ℕ). h.1) head) (NothingWaits q (IsBound q)) (λ endpoint. IsOldest q (IsBound q) endpoint)
+oldest_behind q heads items counted index head kept same end low least =
+    let many : index ≡ q.servers = omega (arith, ap length same, kept.each, end, low) in
+    oldest_of_all q heads counted head kept (subst (λ (hs : List Heads). IsLeastBelow hs q.servers head) same (subst (λ (servers : ℕ). IsLeastBelow items servers head) many least))
 
 -- ---- results
 

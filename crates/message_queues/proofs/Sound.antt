@@ -1,6 +1,6 @@
 -- What is kept of the mailboxes, behind each change of one.
 use Rattle.std.proofs.Common.{◌≡◌, ℕ, ◌+◌, ◌-◌, ◌<◌, ◌≤◌, Bool, true, false, eqb, List, [], ◌∷◌, ◌++◌, refl, sym, ap, ◌∙◌, subst, arith, length, length-append}
-use Rattle.std.specs.Prelude.{Option, Some, None, Result, Ok, Err, OnErr, IsSome, if◌then◌else◌, drop, is_none, slice_get, unwrap_or}
+use Rattle.std.specs.Prelude.{Option, Some, None, Result, Ok, Err, OnErr, IfSome, IsSome, if◌then◌else◌, drop, is_none, slice_get, unwrap_or}
 use Rattle.std.specs.HashMap.{IsUnique, UpdatesBy, WritesThrough}
 use Rattle.std.specs.List.Sorted.{IsPermutation}
 use Rattle.std.specs.Map.{lookup, remove_entry, set_value}
@@ -15,7 +15,7 @@ use Rattle.message_queues.specs.Dying.{Buries}
 use Rattle.message_queues.specs.Steps.{Heads, IsKept, IsSound, bound_box, drop_turn, first_pushed, popped_box, pushed_box, put_turn, queues_with, turn_by, turn_of}
 use Rattle.message_queues.proofs.Changed.{Boxes, binds_from, buries_from, count-entries, count_cut, count_put, count_set, found, queue_in, requeues_from, server_in, weigh}
 use Rattle.message_queues.proofs.Numbers.{among-one, same_number}
-use Rattle.message_queues.proofs.Kept.{kept_bound, kept_closed, kept_pushed, kept_taken}
+use Rattle.message_queues.proofs.Kept.{kept_bound, kept_closed, kept_pushed, kept_taken, known_server}
 
 -- the mailbox of an endpoint
 abbrev pub box_at : Boxes → ℕ → Option Mailbox
@@ -42,9 +42,9 @@ written_back m n endpoint was now there same writes =
     writes.0 ∙ ap (λ (box : Mailbox). set_value (eqb endpoint) m.entries box) same ∙ set_value_same (eqb endpoint) m.entries was there
 
 -- nothing changed
-pub sound_same : (m n : Boxes) (heads now : Heads) (counted servers : ℕ) → IsSound m.entries heads counted servers → n.entries ≡ m.entries → now ≡ heads → IsSound n.entries now counted servers
+pub sound_same : (m n : Boxes) (heads now : List Heads) (counted servers : ℕ) → IsSound m.entries heads counted servers → n.entries ≡ m.entries → now ≡ heads → IsSound n.entries now counted servers
 sound_same m n heads now counted servers sound entries same =
-    subst (λ (es : List (ℕ × Mailbox)). IsSound es now counted servers) (sym entries) (subst (λ (h : Heads). IsSound m.entries h counted servers) (sym same) sound)
+    subst (λ (es : List (ℕ × Mailbox)). IsSound es now counted servers) (sym entries) (subst (λ (h : List Heads). IsSound m.entries h counted servers) (sym same) sound)
 
 pub view_same : {A E P : Type 0} (r : Result A E) → P → OnErr r P
 view_same (Ok v) same = tt
@@ -52,7 +52,7 @@ view_same (Err e) same = same
 
 -- ---- binding
 
-pub bound_there : (m n : Boxes) (heads now : Heads) (counted servers endpoint server : ℕ) (was box : Mailbox) → IsSound m.entries heads counted servers → box_at m endpoint ≡ Some was
+pub bound_there : (m n : Boxes) (heads now : List Heads) (counted servers endpoint server : ℕ) (was box : Mailbox) → IsSound m.entries heads counted servers → box_at m endpoint ≡ Some was
     → server_of (queues_with m.entries servers) endpoint ≡ None → server < servers → box ≡ bound_box was server → WritesThrough eqb (eqb endpoint) m box n → now ≡ put_turn heads (turn_by (Some server) (slice_get was.queue 0)) endpoint
     → IsSound n.entries now counted servers × Binds (queues_with m.entries servers) endpoint server (queues_with n.entries servers) × (count (queues_with n.entries servers) ≡ count (queues_with m.entries servers))
 bound_there m n heads now counted servers endpoint server was box sound there unbound known is writes put =
@@ -65,9 +65,9 @@ bound_there m n heads now counted servers endpoint server was box sound there un
     let counts : count (queues_with n.entries servers) ≡ count q = omega (arith, set, long) in
     let kept = kept_bound q (queues_with n.entries servers) heads counted endpoint server sound.kept unbound binds known counts in
     let is_now : put_turn heads (turn_by (Some server) (head_of q endpoint)) endpoint ≡ now = ap (λ (entries : List Sent). put_turn heads (turn_by (Some server) (slice_get entries 0)) endpoint) queue ∙ sym put in
-    (record { kept = subst (λ (h : Heads). IsKept (queues_with n.entries servers) h counted) is_now kept; distinct = writes.4 }, binds, counts)
+    (record { kept = subst (λ (h : List Heads). IsKept (queues_with n.entries servers) h counted) is_now kept; distinct = writes.4 }, binds, counts)
 
-pub bound_new : (m n : Boxes) (heads : Heads) (counted servers endpoint server : ℕ) (box : Mailbox) → IsSound m.entries heads counted servers → box_at m endpoint ≡ None
+pub bound_new : (m n : Boxes) (heads : List Heads) (counted servers endpoint server : ℕ) (box : Mailbox) → IsSound m.entries heads counted servers → box_at m endpoint ≡ None
     → server < servers → box ≡ record { server = Some server; queue = [] } → UpdatesBy eqb (eqb endpoint) m n (Some box) → IsPermutation ((endpoint, box) ∷ m.entries) n.entries → IsUnique eqb n
     → IsSound n.entries heads counted servers × Binds (queues_with m.entries servers) endpoint server (queues_with n.entries servers) × (count (queues_with n.entries servers) ≡ count (queues_with m.entries servers))
 bound_new m n heads counted servers endpoint server box sound none known is updates entries unique =
@@ -80,11 +80,11 @@ bound_new m n heads counted servers endpoint server box sound none known is upda
     let counts : count (queues_with n.entries servers) ≡ count q = omega (arith, put, long) in
     let kept = kept_bound q (queues_with n.entries servers) heads counted endpoint server sound.kept (server_is m endpoint servers None none) binds known counts in
     let is_now : put_turn heads (turn_by (Some server) (head_of q endpoint)) endpoint ≡ heads = ap (λ (waits : List Sent). put_turn heads (turn_by (Some server) (slice_get waits 0)) endpoint) queue in
-    (record { kept = subst (λ (h : Heads). IsKept (queues_with n.entries servers) h counted) is_now kept; distinct = unique }, binds, counts)
+    (record { kept = subst (λ (h : List Heads). IsKept (queues_with n.entries servers) h counted) is_now kept; distinct = unique }, binds, counts)
 
 -- ---- pushing
 
-pub pushed_there : (m n : Boxes) (heads now : Heads) (counted servers endpoint : ℕ) (was box : Mailbox) (sent : Sent) → IsSound m.entries heads counted servers → box_at m endpoint ≡ Some was
+pub pushed_there : (m n : Boxes) (heads now : List Heads) (counted servers endpoint : ℕ) (was box : Mailbox) (sent : Sent) → IsSound m.entries heads counted servers → box_at m endpoint ≡ Some was
     → IsAbove (queues_with m.entries servers) sent.place → counted < limit.MAX_WAITING → box ≡ pushed_box was sent → WritesThrough eqb (eqb endpoint) m box n
     → now ≡ put_turn heads (turn_by was.server (first_pushed was sent)) endpoint
     → IsSound n.entries now (counted + 1) servers × Requeues (queues_with m.entries servers) endpoint (queue_of (queues_with m.entries servers) endpoint ++ sent ∷ []) (queues_with n.entries servers)
@@ -103,9 +103,9 @@ pushed_there m n heads now counted servers endpoint was box sent sound there abo
     let is_now : put_turn heads (turn_by (server_of q endpoint) (if is_none (head_of q endpoint) then Some sent else None)) endpoint ≡ now =
     ap (λ (s : Option ℕ). put_turn heads (turn_by s (if is_none (head_of q endpoint) then Some sent else None)) endpoint) server
     ∙ ap (λ (waits : List Sent). put_turn heads (turn_by was.server (if is_none (slice_get waits 0) then Some sent else None)) endpoint) queue ∙ sym put in
-    (record { kept = subst (λ (h : Heads). IsKept (queues_with n.entries servers) h (counted + 1)) is_now kept; distinct = writes.4 }, requeues, counts)
+    (record { kept = subst (λ (h : List Heads). IsKept (queues_with n.entries servers) h (counted + 1)) is_now kept; distinct = writes.4 }, requeues, counts)
 
-pub pushed_new : (m n : Boxes) (heads : Heads) (counted servers endpoint : ℕ) (box : Mailbox) (sent : Sent) → IsSound m.entries heads counted servers → box_at m endpoint ≡ None
+pub pushed_new : (m n : Boxes) (heads : List Heads) (counted servers endpoint : ℕ) (box : Mailbox) (sent : Sent) → IsSound m.entries heads counted servers → box_at m endpoint ≡ None
     → IsAbove (queues_with m.entries servers) sent.place → counted < limit.MAX_WAITING → box ≡ record { server = None; queue = sent ∷ [] }
     → UpdatesBy eqb (eqb endpoint) m n (Some box) → IsPermutation ((endpoint, box) ∷ m.entries) n.entries → IsUnique eqb n
     → IsSound n.entries heads (counted + 1) servers × Requeues (queues_with m.entries servers) endpoint (queue_of (queues_with m.entries servers) endpoint ++ sent ∷ []) (queues_with n.entries servers)
@@ -124,7 +124,7 @@ pushed_new m n heads counted servers endpoint box sent sound none above room is 
     let kept = kept_pushed q (queues_with n.entries servers) heads counted endpoint sent sound.kept above requeues room counts in
     let is_now : put_turn heads (turn_by (server_of q endpoint) (if is_none (head_of q endpoint) then Some sent else None)) endpoint ≡ heads =
     ap (λ (s : Option ℕ). put_turn heads (turn_by s (if is_none (head_of q endpoint) then Some sent else None)) endpoint) server in
-    (record { kept = subst (λ (h : Heads). IsKept (queues_with n.entries servers) h (counted + 1)) is_now kept; distinct = unique }, requeues, counts)
+    (record { kept = subst (λ (h : List Heads). IsKept (queues_with n.entries servers) h (counted + 1)) is_now kept; distinct = unique }, requeues, counts)
 
 -- ---- taking
 
@@ -140,7 +140,7 @@ second_is : (queue : List Sent) → slice_get (drop 1 queue) 0 ≡ slice_get que
 second_is [] = refl
 second_is (first ∷ later) = refl
 
-pub taken_there : (m n : Boxes) (heads now : Heads) (counted servers endpoint : ℕ) (was box : Mailbox) → IsSound m.entries heads counted servers → box_at m endpoint ≡ Some was
+pub taken_there : (m n : Boxes) (heads now : List Heads) (counted servers endpoint : ℕ) (was box : Mailbox) → IsSound m.entries heads counted servers → box_at m endpoint ≡ Some was
     → IsSome was.server → IsSome (slice_get was.queue 0) → box ≡ popped_box was → WritesThrough eqb (eqb endpoint) m box n
     → now ≡ drop_turn (put_turn heads (turn_by was.server (slice_get was.queue 1)) endpoint) (turn_by was.server (slice_get was.queue 0))
     → IsSound n.entries now (counted - 1) servers × Requeues (queues_with m.entries servers) endpoint (drop 1 (queue_of (queues_with m.entries servers) endpoint)) (queues_with n.entries servers)
@@ -163,14 +163,14 @@ taken_there m n heads now counted servers endpoint was box sound there bound wai
     let is_now : drop_turn (put_turn heads (turn_by (Some server.0) (slice_get (drop 1 was.queue) 0)) endpoint) (Some (server.0, first.0.place)) ≡ now =
     ap (λ (t : Option (ℕ × ℕ)). drop_turn (put_turn heads t endpoint) (Some (server.0, first.0.place))) (sym next)
     ∙ ap (λ (t : Option (ℕ × ℕ)). drop_turn (put_turn heads (turn_by was.server (slice_get was.queue 1)) endpoint) t) (sym turn) ∙ sym put in (
-      record { kept = subst (λ (h : Heads). IsKept (queues_with n.entries servers) h (counted - 1)) is_now kept; distinct = writes.4 },
+      record { kept = subst (λ (h : List Heads). IsKept (queues_with n.entries servers) h (counted - 1)) is_now kept; distinct = writes.4 },
       subst (λ (entries : List Sent). Requeues q endpoint (drop 1 entries) (queues_with n.entries servers)) (sym queue) requeues,
       counts,
     )
 
 -- ---- closing
 
-pub closed_there : (m n : Boxes) (heads now : Heads) (counted servers endpoint : ℕ) (was : Mailbox) → IsSound m.entries heads counted servers → box_at m endpoint ≡ Some was
+pub closed_there : (m n : Boxes) (heads now : List Heads) (counted servers endpoint : ℕ) (was : Mailbox) → IsSound m.entries heads counted servers → box_at m endpoint ≡ Some was
     → UpdatesBy eqb (eqb endpoint) m n None → IsPermutation (remove_entry (eqb endpoint) m.entries) n.entries → IsUnique eqb n
     → now ≡ drop_turn heads (turn_by was.server (slice_get was.queue 0))
     → IsSound n.entries now (counted - length was.queue) servers × Buries (queues_with m.entries servers) (endpoint ∷ []) (queues_with n.entries servers)
@@ -184,10 +184,10 @@ closed_there m n heads now counted servers endpoint was sound there updates entr
     let turn : turn_of q endpoint ≡ turn_by was.server (slice_get was.queue 0) = turn_alike _ _ _ _ (server_is m endpoint servers (Some was) there) (ap (λ (waits : List Sent). slice_get waits 0) queue) in
     let is_now : drop_turn heads (turn_of q endpoint) ≡ now = ap (drop_turn heads) turn ∙ sym put in
     let left : counted - length (queue_of q endpoint) ≡ counted - length was.queue = ap (λ (waits : List Sent). counted - length waits) queue in
-    (record { kept = subst (λ (c : ℕ). IsKept (queues_with n.entries servers) now c) left (subst (λ (h : Heads). IsKept (queues_with n.entries servers) h (counted - length (queue_of q endpoint))) is_now kept); distinct = unique }, buries, counts)
+    (record { kept = subst (λ (c : ℕ). IsKept (queues_with n.entries servers) now c) left (subst (λ (h : List Heads). IsKept (queues_with n.entries servers) h (counted - length (queue_of q endpoint))) is_now kept); distinct = unique }, buries, counts)
 
 -- what waits on one endpoint are no more than all that wait
-pub few_there : (m : Boxes) (heads : Heads) (counted servers endpoint : ℕ) (was : Mailbox) → IsSound m.entries heads counted servers → box_at m endpoint ≡ Some was
+pub few_there : (m : Boxes) (heads : List Heads) (counted servers endpoint : ℕ) (was : Mailbox) → IsSound m.entries heads counted servers → box_at m endpoint ≡ Some was
     → length was.queue ≤ counted
 few_there m heads counted servers endpoint was sound there =
     let cut = sum_by-remove_entry weigh (eqb endpoint) m.entries in
@@ -242,7 +242,7 @@ ready_by m endpoint servers was there ready = (
 pub ready_none : (m : Boxes) (endpoint servers : ℕ) → box_at m endpoint ≡ None → IsReady (queues_with m.entries servers) endpoint → ⊥
 ready_none m endpoint servers none ready = not_some (server_of (queues_with m.entries servers) endpoint) (server_is m endpoint servers None none) ready.0
 
-pub some_counted : (m : Boxes) (heads : Heads) (counted servers endpoint : ℕ) (was : Mailbox) → IsSound m.entries heads counted servers → box_at m endpoint ≡ Some was → IsSome (slice_get was.queue 0) → 1 ≤ counted
+pub some_counted : (m : Boxes) (heads : List Heads) (counted servers endpoint : ℕ) (was : Mailbox) → IsSound m.entries heads counted servers → box_at m endpoint ≡ Some was → IsSome (slice_get was.queue 0) → 1 ≤ counted
 some_counted m heads counted servers endpoint was sound there waits =
     let few = few_there m heads counted servers endpoint was sound there in
     let some = long_enough was.queue waits in
@@ -253,3 +253,25 @@ box_server m endpoint servers was there = server_is m endpoint servers (Some was
 
 pub box_head : (m : Boxes) (endpoint servers : ℕ) (was : Mailbox) → box_at m endpoint ≡ Some was → head_of (queues_with m.entries servers) endpoint ≡ slice_get was.queue 0
 box_head m endpoint servers was there = ap (λ (queue : List Sent). slice_get queue 0) (queue_is m endpoint servers (Some was) there)
+
+-- where a mailbox is bound, that server has its heads
+pub known_there : (m : Boxes) (heads : List Heads) (counted servers endpoint : ℕ) (was : Mailbox) → IsSound m.entries heads counted servers → box_at m endpoint ≡ Some was
+    → IfSome was.server (λ server. server < length heads)
+known_there m heads counted servers endpoint was sound there = by_server was.server (server_is m endpoint servers (Some was) there)
+  where
+    by_server : (server : Option ℕ) → server_of (queues_with m.entries servers) endpoint ≡ server → IfSome server (λ s. s < length heads)
+    by_server None is = tt
+    by_server (Some server) is = known_server (queues_with m.entries servers) heads counted sound.kept endpoint server is
+
+-- where none are counted nothing waits
+pub nothing_counted : (m : Boxes) (heads : List Heads) (counted servers : ℕ) → IsSound m.entries heads counted servers → counted ≡ 0 → (endpoint : ℕ)
+    → queue_of (queues_with m.entries servers) endpoint ≡ []
+nothing_counted m heads counted servers sound none endpoint = by_box (box_at m endpoint) refl
+  where
+    no_entry : (queue : List Sent) → length queue ≡ 0 → queue ≡ []
+    no_entry [] e = refl
+    no_entry (first ∷ later) e = absurd (omega (arith, e))
+
+    by_box : (box : Option Mailbox) → box_at m endpoint ≡ box → queue_of (queues_with m.entries servers) endpoint ≡ []
+    by_box None is = queue_is m endpoint servers None is
+    by_box (Some was) is = let few = few_there m heads counted servers endpoint was sound is in queue_is m endpoint servers (Some was) is ∙ no_entry was.queue (omega (arith, few, none))

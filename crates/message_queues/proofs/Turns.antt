@@ -1,23 +1,16 @@
 -- The first entries of bound endpoints, as they change.
-use Rattle.std.proofs.Common.{◌≡◌, ℕ, Bool, true, List, [], ◌∷◌, map, refl, sym, ap, ◌∙◌}
+use Rattle.std.proofs.Common.{◌≡◌, ℕ, Bool, true, List, [], ◌∷◌, ◌<◌, length, map, refl, sym, ap, ◌∙◌}
 use Rattle.std.specs.Prelude.{◌||◌, ◌==◌, Option, Some, None, slice_get}
-use Rattle.std.specs.Cmp.{IsTotalOrder}
-use Rattle.std.specs.FinMap as finite
 use Rattle.std.specs.Ordering.{nat_cmp}
-use Rattle.std.proofs.lemmas.Cmp.{nat_cmp_total, then_total, on_total}
-use Rattle.std.proofs.lemmas.Map.Lookups.{CmpEqualImpliesEq, exact_pairs, exact_unsigned}
+use Rattle.std.proofs.lemmas.Cmp.{nat_cmp_total}
+use Rattle.std.proofs.lemmas.Map.Lookups.{exact_unsigned}
 use Rattle.endpoint_link.specs.Numbering.{among}
 use Rattle.vfs_journal.specs.Entries.{Sent}
 use Rattle.message_queues.specs.Queues.{Queues, head_of, queue_of, server_of}
-use Rattle.message_queues.specs.Steps.{AreTurns, Heads, place_cmp, places_of, turn_by, turn_of}
-use Rattle.message_queues.proofs.Finite.{Same, one_key, two_keys, same_or_other, get-put_here, get-put_other, get-cut_here, get-cut_other}
+use Rattle.message_queues.specs.Steps.{AreTurns, Heads, drop_turn, head_at, places_of, put_turn, turn_by, turn_of}
+use Rattle.message_queues.proofs.Finite.{Same, one_key, two_keys, same_or_other}
 use Rattle.message_queues.proofs.Numbers.{itself}
-
-pub place_cmp_total : IsTotalOrder place_cmp
-place_cmp_total = then_total (on_total (λ (key : ℕ × ℕ). key.0) nat_cmp_total) (on_total (λ (key : ℕ × ℕ). key.1) nat_cmp_total)
-
-pub place_cmp_exact : CmpEqualImpliesEq place_cmp
-place_cmp_exact = exact_pairs nat_cmp nat_cmp exact_unsigned exact_unsigned
+use Rattle.message_queues.proofs.Placed.{one_turn, two_turns, one_or_two, got_put_here, got_put_other, got_cut_here, got_cut_other}
 
 same_some : {A : Type 0} (x y : A) → Some x ≡ Some y → x ≡ y
 same_some x y e = cc
@@ -64,65 +57,65 @@ IsFree turn endpoint key = (other : ℕ) → ¬ (other ≡ endpoint) → turn ot
 one_or_other : (endpoint other : ℕ) → Same nat_cmp other endpoint
 one_or_other endpoint other = same_or_other nat_cmp_total exact_unsigned other endpoint
 
-pub turns_same : (heads : Heads) (old new : ℕ → Option (ℕ × ℕ)) → AreTurns heads old → ((endpoint : ℕ) → new endpoint ≡ old endpoint) → AreTurns heads new
+pub turns_same : (heads : List Heads) (old new : ℕ → Option (ℕ × ℕ)) → AreTurns heads old → ((endpoint : ℕ) → new endpoint ≡ old endpoint) → AreTurns heads new
 turns_same heads old new turns is key endpoint = ((λ there. is endpoint ∙ (turns key endpoint).0 there), (λ turn. (turns key endpoint).1 (sym (is endpoint) ∙ turn)))
 
-pub turns_put : (heads : Heads) (old new : ℕ → Option (ℕ × ℕ)) (endpoint : ℕ) (key : ℕ × ℕ) → AreTurns heads old → old endpoint ≡ None → new endpoint ≡ Some key
-    → KeepsTurns old endpoint new → IsFree old endpoint key → AreTurns (finite.insert heads key endpoint) new
-turns_put heads old new endpoint key turns none now keeps free at who = (forth, back)
+pub turns_put : (heads : List Heads) (old new : ℕ → Option (ℕ × ℕ)) (endpoint : ℕ) (key : ℕ × ℕ) → key.0 < length heads → AreTurns heads old → old endpoint ≡ None → new endpoint ≡ Some key
+    → KeepsTurns old endpoint new → IsFree old endpoint key → AreTurns (put_turn heads (Some key) endpoint) new
+turns_put heads old new endpoint key low turns none now keeps free at who = (forth, back)
   where
-    forth : finite.get (finite.insert heads key endpoint) at ≡ Some who → new who ≡ Some at
-    forth there = elim (same_or_other place_cmp_total place_cmp_exact at key) [
-      | one_key e b ↦ let is : endpoint ≡ who = same_some endpoint who (sym (ap (finite.get (finite.insert heads key endpoint)) e ∙ get-put_here place_cmp_total place_cmp_exact heads key endpoint) ∙ there) in ap new (sym is) ∙ now ∙ ap Some (sym e)
-      | two_keys e b ↦ let was : finite.get heads at ≡ Some who = sym (get-put_other place_cmp_total place_cmp_exact heads key at endpoint e) ∙ there in
+    forth : head_at (put_turn heads (Some key) endpoint) at ≡ Some who → new who ≡ Some at
+    forth there = elim (one_or_two at key) [
+      | one_turn e ↦ let is : endpoint ≡ who = same_some endpoint who (sym (ap (head_at (put_turn heads (Some key) endpoint)) e ∙ got_put_here heads key endpoint low) ∙ there) in ap new (sym is) ∙ now ∙ ap Some (sym e)
+      | two_turns e ↦ let was : head_at heads at ≡ Some who = sym (got_put_other heads key at endpoint e) ∙ there in
           elim (one_or_other endpoint who) [
             | one_key i c ↦ absurd (no_key at (old endpoint) none (ap old (sym i) ∙ (turns at who).0 was))
             | two_keys i c ↦ keeps who i ∙ (turns at who).0 was
           ]
     ]
 
-    back : new who ≡ Some at → finite.get (finite.insert heads key endpoint) at ≡ Some who
+    back : new who ≡ Some at → head_at (put_turn heads (Some key) endpoint) at ≡ Some who
     back turn = elim (one_or_other endpoint who) [
-      | one_key i c ↦ let is : key ≡ at = same_some key at (sym now ∙ ap new (sym i) ∙ turn) in ap (finite.get (finite.insert heads key endpoint)) (sym is) ∙ get-put_here place_cmp_total place_cmp_exact heads key endpoint ∙ ap Some (sym i)
+      | one_key i c ↦ let is : key ≡ at = same_some key at (sym now ∙ ap new (sym i) ∙ turn) in ap (head_at (put_turn heads (Some key) endpoint)) (sym is) ∙ got_put_here heads key endpoint low ∙ ap Some (sym i)
       | two_keys i c ↦ let was : old who ≡ Some at = sym (keeps who i) ∙ turn in
-          get-put_other place_cmp_total place_cmp_exact heads key at endpoint (λ e. absurd (free who i (was ∙ ap Some e))) ∙ (turns at who).1 was
+          got_put_other heads key at endpoint (λ e. absurd (free who i (was ∙ ap Some e))) ∙ (turns at who).1 was
     ]
 
-pub turns_cut : (heads : Heads) (old new : ℕ → Option (ℕ × ℕ)) (endpoint : ℕ) (key : ℕ × ℕ) → AreTurns heads old → old endpoint ≡ Some key → new endpoint ≡ None
-    → KeepsTurns old endpoint new → AreTurns (finite.remove heads key) new
+pub turns_cut : (heads : List Heads) (old new : ℕ → Option (ℕ × ℕ)) (endpoint : ℕ) (key : ℕ × ℕ) → AreTurns heads old → old endpoint ≡ Some key → new endpoint ≡ None
+    → KeepsTurns old endpoint new → AreTurns (drop_turn heads (Some key)) new
 turns_cut heads old new endpoint key turns was none keeps at who = (forth, back)
   where
-    forth : finite.get (finite.remove heads key) at ≡ Some who → new who ≡ Some at
-    forth there = elim (same_or_other place_cmp_total place_cmp_exact at key) [
-      | one_key e b ↦ absurd (no_key who (finite.get (finite.remove heads key) at) (ap (finite.get (finite.remove heads key)) e ∙ get-cut_here place_cmp_total place_cmp_exact heads key) there)
-      | two_keys e b ↦ let stood : finite.get heads at ≡ Some who = sym (get-cut_other place_cmp_total place_cmp_exact heads key at e) ∙ there in
+    forth : head_at (drop_turn heads (Some key)) at ≡ Some who → new who ≡ Some at
+    forth there = elim (one_or_two at key) [
+      | one_turn e ↦ absurd (no_key who (head_at (drop_turn heads (Some key)) at) (ap (head_at (drop_turn heads (Some key))) e ∙ got_cut_here heads key) there)
+      | two_turns e ↦ let stood : head_at heads at ≡ Some who = sym (got_cut_other heads key at e) ∙ there in
           elim (one_or_other endpoint who) [
             | one_key i c ↦ absurd (e (same_some at key (sym ((turns at who).0 stood) ∙ ap old i ∙ was)))
             | two_keys i c ↦ keeps who i ∙ (turns at who).0 stood
           ]
     ]
 
-    back : new who ≡ Some at → finite.get (finite.remove heads key) at ≡ Some who
+    back : new who ≡ Some at → head_at (drop_turn heads (Some key)) at ≡ Some who
     back turn = elim (one_or_other endpoint who) [
       | one_key i c ↦ absurd (no_key at (new endpoint) none (ap new (sym i) ∙ turn))
-      | two_keys i c ↦ let stood : finite.get heads at ≡ Some who = (turns at who).1 (sym (keeps who i) ∙ turn) in
-          get-cut_other place_cmp_total place_cmp_exact heads key at (λ e. absurd (i (same_some who endpoint (sym stood ∙ ap (finite.get heads) e ∙ (turns key endpoint).1 was)))) ∙ stood
+      | two_keys i c ↦ let stood : head_at heads at ≡ Some who = (turns at who).1 (sym (keeps who i) ∙ turn) in
+          got_cut_other heads key at (λ e. absurd (i (same_some who endpoint (sym stood ∙ ap (head_at heads) e ∙ (turns key endpoint).1 was)))) ∙ stood
     ]
 
-pub turns_move : (heads : Heads) (old new : ℕ → Option (ℕ × ℕ)) (endpoint : ℕ) (key next : ℕ × ℕ) → AreTurns heads old → old endpoint ≡ Some key → new endpoint ≡ Some next
-    → ¬ (next ≡ key) → KeepsTurns old endpoint new → IsFree old endpoint next → AreTurns (finite.remove (finite.insert heads next endpoint) key) new
-turns_move heads old new endpoint key next turns was now apart keeps free at who = (forth, back)
+pub turns_move : (heads : List Heads) (old new : ℕ → Option (ℕ × ℕ)) (endpoint : ℕ) (key next : ℕ × ℕ) → next.0 < length heads → AreTurns heads old → old endpoint ≡ Some key → new endpoint ≡ Some next
+    → ¬ (next ≡ key) → KeepsTurns old endpoint new → IsFree old endpoint next → AreTurns (drop_turn (put_turn heads (Some next) endpoint) (Some key)) new
+turns_move heads old new endpoint key next low turns was now apart keeps free at who = (forth, back)
   where
-    put : Heads
-    put = finite.insert heads next endpoint
+    put : List Heads
+    put = put_turn heads (Some next) endpoint
 
-    forth : finite.get (finite.remove (finite.insert heads next endpoint) key) at ≡ Some who → new who ≡ Some at
-    forth there = elim (same_or_other place_cmp_total place_cmp_exact at key) [
-      | one_key e b ↦ absurd (no_key who (finite.get (finite.remove (finite.insert heads next endpoint) key) at) (ap (finite.get (finite.remove (finite.insert heads next endpoint) key)) e ∙ get-cut_here place_cmp_total place_cmp_exact (finite.insert heads next endpoint) key) there)
-      | two_keys e b ↦ let stands : finite.get (finite.insert heads next endpoint) at ≡ Some who = sym (get-cut_other place_cmp_total place_cmp_exact (finite.insert heads next endpoint) key at e) ∙ there in
-          elim (same_or_other place_cmp_total place_cmp_exact at next) [
-            | one_key f d ↦ let is : endpoint ≡ who = same_some endpoint who (sym (ap (finite.get (finite.insert heads next endpoint)) f ∙ get-put_here place_cmp_total place_cmp_exact heads next endpoint) ∙ stands) in ap new (sym is) ∙ now ∙ ap Some (sym f)
-            | two_keys f d ↦ let stood : finite.get heads at ≡ Some who = sym (get-put_other place_cmp_total place_cmp_exact heads next at endpoint f) ∙ stands in
+    forth : head_at (drop_turn put (Some key)) at ≡ Some who → new who ≡ Some at
+    forth there = elim (one_or_two at key) [
+      | one_turn e ↦ absurd (no_key who (head_at (drop_turn put (Some key)) at) (ap (head_at (drop_turn put (Some key))) e ∙ got_cut_here put key) there)
+      | two_turns e ↦ let stands : head_at put at ≡ Some who = sym (got_cut_other put key at e) ∙ there in
+          elim (one_or_two at next) [
+            | one_turn f ↦ let is : endpoint ≡ who = same_some endpoint who (sym (ap (head_at put) f ∙ got_put_here heads next endpoint low) ∙ stands) in ap new (sym is) ∙ now ∙ ap Some (sym f)
+            | two_turns f ↦ let stood : head_at heads at ≡ Some who = sym (got_put_other heads next at endpoint f) ∙ stands in
                 elim (one_or_other endpoint who) [
                   | one_key i c ↦ absurd (e (same_some at key (sym ((turns at who).0 stood) ∙ ap old i ∙ was)))
                   | two_keys i c ↦ keeps who i ∙ (turns at who).0 stood
@@ -130,12 +123,12 @@ turns_move heads old new endpoint key next turns was now apart keeps free at who
           ]
     ]
 
-    back : new who ≡ Some at → finite.get (finite.remove (finite.insert heads next endpoint) key) at ≡ Some who
+    back : new who ≡ Some at → head_at (drop_turn put (Some key)) at ≡ Some who
     back turn = elim (one_or_other endpoint who) [
       | one_key i c ↦ let is : next ≡ at = same_some next at (sym now ∙ ap new (sym i) ∙ turn) in
-          get-cut_other place_cmp_total place_cmp_exact (finite.insert heads next endpoint) key at (λ e. absurd (apart (is ∙ e))) ∙ (ap (finite.get (finite.insert heads next endpoint)) (sym is) ∙ get-put_here place_cmp_total place_cmp_exact heads next endpoint ∙ ap Some (sym i))
+          got_cut_other put key at (λ e. absurd (apart (is ∙ e))) ∙ (ap (head_at put) (sym is) ∙ got_put_here heads next endpoint low ∙ ap Some (sym i))
       | two_keys i c ↦ let had : old who ≡ Some at = sym (keeps who i) ∙ turn in
-          let stood : finite.get heads at ≡ Some who = (turns at who).1 had in
-          get-cut_other place_cmp_total place_cmp_exact (finite.insert heads next endpoint) key at (λ e. absurd (i (same_some who endpoint (sym stood ∙ ap (finite.get heads) e ∙ (turns key endpoint).1 was))))
-          ∙ (get-put_other place_cmp_total place_cmp_exact heads next at endpoint (λ e. absurd (free who i (had ∙ ap Some e))) ∙ stood)
+          let stood : head_at heads at ≡ Some who = (turns at who).1 had in
+          got_cut_other put key at (λ e. absurd (i (same_some who endpoint (sym stood ∙ ap (head_at heads) e ∙ (turns key endpoint).1 was))))
+          ∙ (got_put_other heads next at endpoint (λ e. absurd (free who i (had ∙ ap Some e))) ∙ stood)
     ]

@@ -1,11 +1,9 @@
 -- Words of the steps: which first entries are kept in order, and what every value keeps. No public clause cites them.
-use Rattle.std.specs.Prelude.{◌≡◌, ◌↔◌, ◌≤◌, ◌<◌, ◌^◌, ◌++◌, ◌||◌, ℕ, Bool, true, false, List, [], ◌∷◌, IsSome, drop, flat_map, is_none, length, map, nat_eq, nat_lt, slice_get, Option, Some, None, if◌then◌else◌}
+use Rattle.std.specs.Prelude.{◌≡◌, ◌↔◌, ◌≤◌, ◌<◌, ◌^◌, ◌++◌, ◌||◌, ℕ, Bool, true, false, List, [], ◌∷◌, IsSome, drop, flat_map, get_or, is_none, length, map, nat_eq, nat_lt, set, slice_get, Option, Some, None, if◌then◌else◌}
 use Rattle.std.specs.FinMap as finite
 use Rattle.std.specs.List.{IsDistinct, list_any}
 use Rattle.std.specs.Map.{keys_of}
-use Rattle.std.specs.Ordering.{nat_cmp, ordering_then}
-use Rattle.std.specs.declared.cmp.Ordering.{Ordering}
-use Rattle.std.specs.declared.cmp.Ordering.TheVariants.{Less}
+use Rattle.std.specs.Ordering.{nat_cmp}
 use Rattle.std.specs.Prelude.{eqb}
 use Rattle.std.specs.BTreeMap.{is_at}
 use Rattle.fidl_names.specs.declared.limits.TheConstants as limit
@@ -14,13 +12,17 @@ use Rattle.vfs_journal.specs.Entries.{Sent, endpoints_in}
 use Rattle.message_queues.specs.Dying.{HasAll, IsClosed}
 use Rattle.message_queues.specs.Queues.{Mailbox, Queues, count, head_of, queue_of, server_of}
 
--- by servers, and there by places
-abbrev pub place_cmp : ℕ × ℕ → ℕ × ℕ → Ordering
-place_cmp one other = ordering_then (nat_cmp one.0 other.0) (nat_cmp one.1 other.1)
-
--- for a server and a place the endpoint whose first entry it is
+-- of one server, for a place the endpoint whose first entry stands there
 abbrev pub Heads : Type 0
-Heads = finite.FinMap place_cmp ℕ
+Heads = finite.FinMap nat_cmp ℕ
+
+-- of the heads of all servers those of one: none where there is no such server
+abbrev pub heads_of : List Heads → ℕ → Heads
+heads_of heads server = get_or heads server finite.empty
+
+-- the endpoint whose first entry stands at a server and a place there
+abbrev pub head_at : List Heads → ℕ × ℕ → Option ℕ
+head_at heads key = finite.get (heads_of heads key.0) key.1
 
 -- the places of what waits on an endpoint
 abbrev pub places_of : Queues → ℕ → List ℕ
@@ -40,11 +42,12 @@ abbrev pub turn_of : Queues → ℕ → Option (ℕ × ℕ)
 turn_of queues endpoint = turn_by (server_of queues endpoint) (head_of queues endpoint)
 
 -- at each key stands the endpoint whose turn is there
-abbrev pub AreTurns : Heads → (ℕ → Option (ℕ × ℕ)) → Type 0
-AreTurns heads turn = (key : ℕ × ℕ) (endpoint : ℕ) → (finite.get heads key ≡ Some endpoint) ↔ (turn endpoint ≡ Some key)
+abbrev pub AreTurns : List Heads → (ℕ → Option (ℕ × ℕ)) → Type 0
+AreTurns heads turn = (key : ℕ × ℕ) (endpoint : ℕ) → (head_at heads key ≡ Some endpoint) ↔ (turn endpoint ≡ Some key)
 
--- the heads are those of the bound endpoints, no two entries have one place, and the count is that of what waits
-pub record IsKept (queues : Queues) (heads : Heads) (counted : ℕ) : Type 0 where
+-- each server has its heads, which are those of the bound endpoints, no two entries have one place, and the count is that of what waits
+pub record IsKept (queues : Queues) (heads : List Heads) (counted : ℕ) : Type 0 where
+  pub each : length heads ≡ queues.servers
   pub turns : AreTurns heads (turn_of queues)
   pub once : (endpoint : ℕ) → AreOnce (places_of queues endpoint)
   pub apart : (one other place : ℕ) → among place (places_of queues one) ≡ true → among place (places_of queues other) ≡ true → one ≡ other
@@ -56,7 +59,7 @@ pub record IsKept (queues : Queues) (heads : Heads) (counted : ℕ) : Type 0 whe
 abbrev pub queues_with : List (ℕ × Mailbox) → ℕ → Queues
 queues_with entries servers = record { boxes = finite.from_entries entries; servers = servers }
 
-pub record IsSound (entries : List (ℕ × Mailbox)) (heads : Heads) (counted servers : ℕ) : Type 0 where
+pub record IsSound (entries : List (ℕ × Mailbox)) (heads : List Heads) (counted servers : ℕ) : Type 0 where
   pub kept : IsKept (queues_with entries servers) heads counted
   pub distinct : IsDistinct nat_eq (keys_of entries)
 
@@ -91,37 +94,36 @@ popped_box box = record { server = box.server; queue = drop 1 box.queue }
 abbrev pub first_pushed : Mailbox → Sent → Option Sent
 first_pushed box sent = if is_none (slice_get box.queue 0) then Some sent else None
 
--- the heads with an endpoint at its turn, and without a turn
-abbrev pub put_turn : Heads → Option (ℕ × ℕ) → ℕ → Heads
-put_turn heads (Some key) endpoint = finite.insert heads key endpoint
+-- the heads of all servers with an endpoint at its turn, and without a turn
+abbrev pub put_turn : List Heads → Option (ℕ × ℕ) → ℕ → List Heads
+put_turn heads (Some key) endpoint = set heads key.0 (finite.insert (heads_of heads key.0) key.1 endpoint)
 put_turn heads None endpoint = heads
 
-abbrev pub drop_turn : Heads → Option (ℕ × ℕ) → Heads
-drop_turn heads (Some key) = finite.remove heads key
+abbrev pub drop_turn : List Heads → Option (ℕ × ℕ) → List Heads
+drop_turn heads (Some key) = set heads key.0 (finite.remove (heads_of heads key.0) key.1)
 drop_turn heads None = heads
 
 -- the heads of which the least stands beside the others
-abbrev pub heads_with : Option ((ℕ × ℕ) × ℕ) → Heads → Heads
+abbrev pub heads_with : Option (ℕ × ℕ) → Heads → Heads
 heads_with None later = later
 heads_with (Some least) later = finite.insert later least.0 least.1
 
 -- the least is before all others, and there are none where it isn't there
-abbrev pub IsBefore : Option ((ℕ × ℕ) × ℕ) → Heads → Type 0
-IsBefore None later = (key : ℕ × ℕ) → finite.get later key ≡ None
-IsBefore (Some least) later = (key : ℕ × ℕ) → IsSome (finite.get later key) → place_cmp least.0 key ≡ Less
+abbrev pub IsBefore : Option (ℕ × ℕ) → Heads → Type 0
+IsBefore None later = (place : ℕ) → finite.get later place ≡ None
+IsBefore (Some least) later = (place : ℕ) → IsSome (finite.get later place) → least.0 < place
 
--- a server's least place with its endpoint, or that nothing stands at the server
-abbrev pub IsLeastAt : Heads → ℕ → Option (ℕ × ℕ) → Type 0
-IsLeastAt heads server None = (place : ℕ) → finite.get heads (server, place) ≡ None
-IsLeastAt heads server (Some head) =
-    (finite.get heads (server, head.0) ≡ Some head.1) × ((place : ℕ) → IsSome (finite.get heads (server, place)) → head.0 ≤ place)
+-- the least place of these heads with its endpoint, or that nothing stands there
+abbrev pub IsLeast : Heads → Option (ℕ × ℕ) → Type 0
+IsLeast heads None = (place : ℕ) → finite.get heads place ≡ None
+IsLeast heads (Some head) = (finite.get heads head.0 ≡ Some head.1) × ((place : ℕ) → IsSome (finite.get heads place) → head.0 ≤ place)
 
 -- the same over the first so many servers
-abbrev pub IsLeastBelow : Heads → ℕ → Option (ℕ × ℕ) → Type 0
-IsLeastBelow heads servers None = (server place : ℕ) → server < servers → finite.get heads (server, place) ≡ None
+abbrev pub IsLeastBelow : List Heads → ℕ → Option (ℕ × ℕ) → Type 0
+IsLeastBelow heads servers None = (server place : ℕ) → server < servers → head_at heads (server, place) ≡ None
 IsLeastBelow heads servers (Some head) =
-    ((server : ℕ) × (server < servers) × (finite.get heads (server, head.0) ≡ Some head.1))
-    × ((server place : ℕ) → server < servers → IsSome (finite.get heads (server, place)) → head.0 ≤ place)
+    ((server : ℕ) × (server < servers) × (head_at heads (server, head.0) ≡ Some head.1))
+    × ((server place : ℕ) → server < servers → IsSome (head_at heads (server, place)) → head.0 ≤ place)
 
 -- so far who dies was found: what waits on the first so many of them carries no other endpoint
 pub record IsSpread (queues : Queues) (firsts found : List ℕ) (done : ℕ) : Type 0 where

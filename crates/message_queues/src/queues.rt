@@ -1,6 +1,6 @@
 //! What waits, over all endpoints.
 
-ghost use Rattle.std.specs.Prelude.{◌≡◌, ◌≢◌, ◌↔◌, AllPairs, ◌≤◌, ◌<◌, ◌+◌, ◌++◌, ◌∷◌, [], Some, None, IfOk, IsSome, IsTrue, OnOk, OnErr, MatchOption, drop, flat_map, length, nat_eq, slice_get, sum_by};
+ghost use Rattle.std.specs.Prelude.{◌≡◌, ◌≢◌, ◌↔◌, AllPairs, ◌≤◌, ◌<◌, ◌+◌, ◌++◌, ◌∷◌, [], Some, None, IfOk, IfSome, IsSome, IsTrue, OnOk, OnErr, MatchOption, drop, flat_map, length, nat_eq, slice_get, sum_by};
 ghost use Rattle.std.specs.HashMap.{IsUnique, Updates, get};
 ghost use Rattle.std.specs.List.Sorted.{IsPermutation};
 ghost use Rattle.vfs_journal.specs.Entries.{endpoints_in, tokens_in};
@@ -23,7 +23,7 @@ use std::marker::Model;
 pub struct Queues {
     alloc: Global,
     boxes: HashMap<u32, Mailbox>,
-    heads: Heads,
+    heads: Vec<Heads>,
     count: u32,
     servers: u32,
 }
@@ -38,21 +38,21 @@ impl Model for Queues {
 
     ghost view = { λ queues. queues_with queues.boxes.entries queues.servers };
 
-    ghost invariant = { λ queues. IsSound queues.boxes.entries queues.heads queues.count queues.servers };
+    ghost invariant = { λ queues. IsSound queues.boxes.entries queues.heads.items queues.count queues.servers };
 }
 
 impl Queues {
     /// Nothing waits, and no endpoint is bound, at so many servers.
-    pub fn new(alloc: Global, servers: u32) -> Queues
-        ensures { IsNew result servers }
+    pub fn new(alloc: Global, servers: u32) -> Result<Queues, NoMemory>
+        ensures { IfOk result (λ queues. IsNew queues servers) }
     {
-        Queues {
+        Ok(Queues {
             alloc,
             boxes: HashMap::new(alloc),
-            heads: Heads::new(alloc),
+            heads: Heads::of_each(alloc, servers)?,
             count: 0,
             servers,
-        }
+        })
     }
 
     /// How many servers there are.
@@ -94,7 +94,8 @@ impl Queues {
     pub fn oldest(&self, server: u32) -> Option<u32>
         ensures { MatchOption result (NothingWaits self.now (IsBoundAt self.now server)) (λ endpoint. IsOldest self.now (IsBoundAt self.now server) endpoint) }
     {
-        match self.heads.oldest(server) {
+        let heads = self.heads.get(server as usize)?;
+        match heads.oldest() {
             Some(head) => Some(head.1),
             None => None,
         }
@@ -104,12 +105,12 @@ impl Queues {
     pub fn next(&self) -> Option<u32>
         ensures { MatchOption result (NothingWaits self.now (IsBound self.now)) (λ endpoint. IsOldest self.now (IsBound self.now) endpoint) }
     {
-        if self.heads.is_empty() {
+        if self.count == 0 {
             return None;
         }
         let mut oldest = None;
-        for server in 0..self.servers {
-            oldest = older(oldest, self.heads.oldest(server));
+        for heads in &self.heads {
+            oldest = older(oldest, heads.oldest());
         }
         match oldest {
             Some(head) => Some(head.1),
@@ -285,29 +286,31 @@ fn add_box(
 /// Binds an endpoint that has a mailbox. Its first entry is put in order.
 fn bind_waiting(
     mailbox: &mut Mailbox,
-    heads: &mut Heads,
+    heads: &mut Vec<Heads>,
     endpoint: u32,
     server: u32,
 ) -> Result<(), NoMemory>
+    requires { server < length heads.old.items }
     ensures bound { OnOk result (mailbox.new ≡ bound_box mailbox.old server) }
-    ensures put { OnOk result (heads.new ≡ put_turn heads.old (turn_by (Some server) (slice_get mailbox.old.queue 0)) endpoint) }
-    ensures err { OnErr result ((mailbox.new ≡ mailbox.old) × (heads.new ≡ heads.old)) }
+    ensures put { OnOk result (heads.new.items ≡ put_turn heads.old.items (turn_by (Some server) (slice_get mailbox.old.queue 0)) endpoint) }
+    ensures err { OnErr result ((mailbox.new ≡ mailbox.old) × (heads.new.items ≡ heads.old.items)) }
 {
     if let Some(head) = mailbox.head() {
-        heads.put(server, head.place, endpoint)?;
+        heads[server as usize].put(head.place, endpoint)?;
     }
     mailbox.bind(server);
     Ok(())
 }
 
 /// Puts an entry into its mailbox. The first one of a bound endpoint is put in order.
-fn push_into(mailbox: &mut Mailbox, heads: &mut Heads, sent: Sent) -> Result<(), NoMemory>
+fn push_into(mailbox: &mut Mailbox, heads: &mut Vec<Heads>, sent: Sent) -> Result<(), NoMemory>
+    requires { IfSome mailbox.old.server (λ server. server < length heads.old.items) }
     ensures pushed { OnOk result (mailbox.new ≡ pushed_box mailbox.old sent) }
-    ensures put { OnOk result (heads.new ≡ put_turn heads.old (turn_by mailbox.old.server (first_pushed mailbox.old sent)) sent.endpoint) }
-    ensures err { OnErr result ((mailbox.new ≡ mailbox.old) × (heads.new ≡ heads.old)) }
+    ensures put { OnOk result (heads.new.items ≡ put_turn heads.old.items (turn_by mailbox.old.server (first_pushed mailbox.old sent)) sent.endpoint) }
+    ensures err { OnErr result ((mailbox.new ≡ mailbox.old) × (heads.new.items ≡ heads.old.items)) }
 {
     if let (Some(server), None) = (mailbox.server(), mailbox.head()) {
-        heads.put(server, sent.place, sent.endpoint)?;
+        heads[server as usize].put(sent.place, sent.endpoint)?;
     }
     mailbox.push(sent)
 }
@@ -316,16 +319,17 @@ fn push_into(mailbox: &mut Mailbox, heads: &mut Heads, sent: Sent) -> Result<(),
 /// memory changes nothing.
 fn take_from(
     mailbox: &mut Mailbox,
-    heads: &mut Heads,
+    heads: &mut Vec<Heads>,
     endpoint: u32,
 ) -> Result<(u32, Sent), NoMemory>
     requires bound { IsSome mailbox.old.server }
     requires some { IsSome (slice_get mailbox.old.queue 0) }
+    requires known { IfSome mailbox.old.server (λ server. server < length heads.old.items) }
     ensures bound { IfOk result (λ taken. mailbox.old.server ≡ Some taken.0) }
     ensures first { IfOk result (λ taken. slice_get mailbox.old.queue 0 ≡ Some taken.1) }
     ensures later { OnOk result (mailbox.new ≡ popped_box mailbox.old) }
-    ensures put { OnOk result (heads.new ≡ drop_turn (put_turn heads.old (turn_by mailbox.old.server (slice_get mailbox.old.queue 1)) endpoint) (turn_by mailbox.old.server (slice_get mailbox.old.queue 0))) }
-    ensures err { OnErr result ((mailbox.new ≡ mailbox.old) × (heads.new ≡ heads.old)) }
+    ensures put { OnOk result (heads.new.items ≡ drop_turn (put_turn heads.old.items (turn_by mailbox.old.server (slice_get mailbox.old.queue 1)) endpoint) (turn_by mailbox.old.server (slice_get mailbox.old.queue 0))) }
+    ensures err { OnErr result ((mailbox.new ≡ mailbox.old) × (heads.new.items ≡ heads.old.items)) }
 {
     let Some(server) = mailbox.server() else {
         unreachable!();
@@ -338,31 +342,38 @@ fn take_from(
 }
 
 /// The entry behind the first one of a mailbox is put in order in the place of that.
-fn advance(mailbox: &Mailbox, heads: &mut Heads, server: u32, endpoint: u32) -> Result<(), NoMemory>
+fn advance(
+    mailbox: &Mailbox,
+    heads: &mut Vec<Heads>,
+    server: u32,
+    endpoint: u32,
+) -> Result<(), NoMemory>
     requires some { IsSome (slice_get mailbox.now.queue 0) }
-    ensures put { OnOk result (heads.new ≡ drop_turn (put_turn heads.old (turn_by (Some server) (slice_get mailbox.now.queue 1)) endpoint) (turn_by (Some server) (slice_get mailbox.now.queue 0))) }
-    ensures err { OnErr result (heads.new ≡ heads.old) }
+    requires known { server < length heads.old.items }
+    ensures put { OnOk result (heads.new.items ≡ drop_turn (put_turn heads.old.items (turn_by (Some server) (slice_get mailbox.now.queue 1)) endpoint) (turn_by (Some server) (slice_get mailbox.now.queue 0))) }
+    ensures err { OnErr result (heads.new.items ≡ heads.old.items) }
 {
     let Some(first) = mailbox.head() else {
         unreachable!();
     };
     match mailbox.second() {
-        Some(second) => heads.advance(server, first.place, second.place, endpoint),
+        Some(second) => heads[server as usize].advance(first.place, second.place, endpoint),
         None => {
-            heads.remove(server, first.place);
+            heads[server as usize].remove(first.place);
             Ok(())
         }
     }
 }
 
 /// Drops a mailbox, and its first entry from the order. Answers how many entries waited there.
-fn discard(mailbox: Mailbox, heads: &mut Heads) -> u32
-    requires { length mailbox.queue ≤ MAX_WAITING }
+fn discard(mailbox: Mailbox, heads: &mut Vec<Heads>) -> u32
+    requires few { length mailbox.queue ≤ MAX_WAITING }
+    requires known { IfSome mailbox.server (λ server. server < length heads.old.items) }
     ensures len { result ≡ length mailbox.queue }
-    ensures dropped { heads.new ≡ drop_turn heads.old (turn_by mailbox.server (slice_get mailbox.queue 0)) }
+    ensures dropped { heads.new.items ≡ drop_turn heads.old.items (turn_by mailbox.server (slice_get mailbox.queue 0)) }
 {
     if let (Some(server), Some(head)) = (mailbox.server(), mailbox.head()) {
-        heads.remove(server, head.place);
+        heads[server as usize].remove(head.place);
     }
     mailbox.len()
 }

@@ -1,5 +1,5 @@
 use Rattle.message_queues.specs.Steps.{IsLeastBelow}
 use Rattle.message_queues.proofs.queues.Queues.next.Given as goal
 
-abbrev pub invariant-loop-server : goal.invariant-loop-server
-invariant-loop-server l = IsLeastBelow l.self-inside.heads l.server l.oldest
+abbrev pub invariant-loop-heads : goal.invariant-loop-heads
+invariant-loop-heads l = IsLeastBelow l.heads-items l.heads-index l.oldest
