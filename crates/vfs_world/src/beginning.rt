@@ -64,7 +64,7 @@ fn begin_queues(alloc: Global, start: &Start) -> Result<Queues, NoMemory>
     requires accepted { AreAccepted start.now }
     ensures { IfOk result (HoldsQueues (view_of (start_of start.now) [])) }
 {
-    let mut queues = Queues::new(alloc, start.servers());
+    let mut queues = Queues::new(alloc, start.servers())?;
     bind_clients(start, &mut queues)?;
     bind_mounts(start, &mut queues)?;
     Ok(queues)
