@@ -16,7 +16,7 @@ use Rattle.dir_conn.specs.Laws.{masks_of}
 use Rattle.tree_file.specs.Numbering.{end_of_mount}
 use Rattle.vfs_journal.specs.Serving.{Read, moment_of, read_by}
 use Rattle.rights_laws.specs.Lineage.{ancestors_of, end_rights, lineage_given, lineage_of, lines_of, masks_along, request_in, trail_given}
-use Rattle.lineage_rows.specs.Rows.{LineagesNameEachSet, all_served, end_of_m, end_of_n, is_sent, mask_of_d, mask_of_m, mask_of_n, of_client, on_root, once_served, opening, three_servers, tree_with, twice_served}
+use Rattle.lineage_rows.specs.Rows.{LineagesNameEachSet, all_served, end_of_m, end_of_n, is_sent, mask_of_d, mask_of_m, mask_of_n, of_client, of_first_opened, of_last_opened, on_d, on_root, once_served, opening, three_servers, thrice_served, tree_with, twice_served}
 
 -- ---- the walks
 
@@ -72,20 +72,34 @@ second_trail b h b' h' t t' reads reads' =
     ∙ ap (λ (w : Walk). (lines_of three_servers (once_served b h)).onward 0 ++ masks_of w ++ end_rights three_servers w) second_walk
     ∙ ap (λ (trail : List OperationSet). trail ++ masks_of over_n ++ end_rights three_servers over_n) (first_trail b h t reads)
 
-whole : (b h b' h' b'' h'' : List ℕ) (t t' t'' : ℕ) → read_by protocol.Directory b h ≡ Ok (t, asks.open_path (codes "m/n/d") 0 None 5) →
+third_lineage : (b h b' h' b'' h'' : List ℕ) (t t' t'' : ℕ) → read_by protocol.Directory b h ≡ Ok (t, asks.open_path (codes "m/n/d") 0 None 5) →
     read_by protocol.Directory b' h' ≡ Ok (t', asks.open_path (codes "n/d") 0 None 5) → read_by protocol.Directory b'' h'' ≡ Ok (t'', asks.open_path (codes "d") 0 None 5) →
-    lineage_of three_servers (all_served b h b' h' b'' h'') 5 ≡ of_client ∷ mask_of_m ∷ end_of_m ∷ mask_of_n ∷ end_of_n ∷ mask_of_d ∷ []
+    lineage_of three_servers (thrice_served b h b' h' b'' h'') 5 ≡ of_client ∷ mask_of_m ∷ end_of_m ∷ mask_of_n ∷ end_of_n ∷ mask_of_d ∷ of_first_opened ∷ []
 unfolding lines_of names_of
-whole b h b' h' b'' h'' t t' t'' reads reads' reads'' =
+third_lineage b h b' h' b'' h'' t t' t'' reads reads' reads'' =
     let sent = opening 4 (end_of_mount 1) (Some 2) b'' h'' in
     let past = is_sent sent ∷ twice_served b h b' h' in
     let to_d = arrives 2 (mask_of_d ∷ []) in
     ap
-    (λ (r : Read). option_map_or (lineage_given (lines_of three_servers past) sent (moment_of three_servers past (on_root (end_of_mount 1) 2 end_of_n))) (request_in r) [])
+    (λ (r : Read). option_map_or (lineage_given (lines_of three_servers past) sent (moment_of three_servers past (on_root (end_of_mount 1) 2 end_of_n))) (request_in r) [] ++ of_first_opened ∷ [])
     reads''
-    ∙ ap (λ (w : Walk). (lines_of three_servers (twice_served b h b' h')).onward 2 ++ masks_along w) third_walk
-    ∙ ap (λ (trail : List OperationSet). trail ++ masks_along to_d) (second_trail b h b' h' t t' reads reads')
+    ∙ ap (λ (w : Walk). (lines_of three_servers (twice_served b h b' h')).onward 2 ++ masks_along w ++ of_first_opened ∷ []) third_walk
+    ∙ ap (λ (trail : List OperationSet). trail ++ masks_along to_d ++ of_first_opened ∷ []) (second_trail b h b' h' t t' reads reads')
+
+whole : (b h b' h' b'' h'' c i : List ℕ) (t t' t'' u : ℕ) → read_by protocol.Directory b h ≡ Ok (t, asks.open_path (codes "m/n/d") 0 None 5) →
+    read_by protocol.Directory b' h' ≡ Ok (t', asks.open_path (codes "n/d") 0 None 5) → read_by protocol.Directory b'' h'' ≡ Ok (t'', asks.open_path (codes "d") 0 None 5) →
+    read_by protocol.Directory c i ≡ Ok (u, asks.open_path (codes ".") 0 None 7) →
+    lineage_of three_servers (all_served b h b' h' b'' h'' c i) 7
+    ≡ of_client ∷ mask_of_m ∷ end_of_m ∷ mask_of_n ∷ end_of_n ∷ mask_of_d ∷ of_first_opened ∷ of_last_opened ∷ []
+unfolding lines_of names_of walk
+whole b h b' h' b'' h'' c i t t' t'' u reads reads' reads'' last =
+    let sent = opening 6 5 None c i in
+    let past = is_sent sent ∷ thrice_served b h b' h' b'' h'' in
+    ap
+    (λ (r : Read). option_map_or (lineage_given (lines_of three_servers past) sent (moment_of three_servers past (on_d 5 of_first_opened))) (request_in r) [] ++ of_last_opened ∷ [])
+    last
+    ∙ ap (λ (members : List OperationSet). members ++ masks_along (arrives 2 []) ++ of_last_opened ∷ []) (third_lineage b h b' h' b'' h'' t t' t'' reads reads' reads'')
 
 pub each_set : LineagesNameEachSet
 unfolding ancestors_of
-each_set b h b' h' b'' h'' t t' t'' reads reads' reads'' = (whole b h b' h' b'' h'' t t' t'' reads reads' reads'', refl)
+each_set b h b' h' b'' h'' c i t t' t'' u reads reads' reads'' last = (whole b h b' h' b'' h'' c i t t' t'' u reads reads' reads'' last, refl)

@@ -1,5 +1,5 @@
--- A worked row: three servers, mounted one behind the other, and an Open that goes over both mounts. The lineage of what it binds names each
--- set that it came through, and no member is missing.
+-- A worked row: three servers, mounted one behind the other, an Open that goes over both mounts, and another on what this binds. The lineage
+-- of what the second binds names each set that it came through, and no member is missing.
 use Rattle.std.specs.Prelude.{◌≡◌, ℕ, Bool, true, false, List, [], ◌∷◌, Option, Some, None, Ok, codes}
 use Rattle.std.specs.FinMap as finite
 use Rattle.io_messages.specs.Asked as asks
@@ -16,7 +16,7 @@ use Rattle.vfs_journal.specs.Serving.{read_by}
 use Rattle.vfs_journal.specs.Starts.{Bound, Start, directory_birth}
 use Rattle.rights_laws.specs.Lineage.{ancestor_of, lineage_of}
 
--- ---- six sets that differ: each has the rights to get attributes and to traverse, and of three others those that are said
+-- ---- eight sets that differ: each has the rights to get attributes and to traverse, and of three others those that are said
 
 abbrev pub set_with : Bool → Bool → Bool → OperationSet
 set_with reads writes lists =
@@ -50,6 +50,12 @@ end_of_n = set_with false true true
 abbrev pub mask_of_d : OperationSet
 mask_of_d = set_with false true false
 
+abbrev pub of_first_opened : OperationSet
+of_first_opened = set_with false false true
+
+abbrev pub of_last_opened : OperationSet
+of_last_opened = set_with false false false
+
 -- ---- the start: `m` of the first server leads to the second, `n` of that to the third, and `d` there is a directory
 
 -- a root with one name
@@ -64,6 +70,10 @@ tree_with kind name mask =
 abbrev pub on_root : ℕ → ℕ → OperationSet → Bound
 on_root endpoint server rights = record { endpoint = endpoint; server = server; birth = directory_birth 1 rights; mask = 0 }
 
+-- a connection to `d`
+abbrev pub on_d : ℕ → OperationSet → Bound
+on_d endpoint rights = record { endpoint = endpoint; server = 2; birth = directory_birth 2 rights; mask = 0 }
+
 abbrev pub three_servers : Start
 three_servers =
     record {
@@ -72,7 +82,8 @@ three_servers =
       mounts = on_root (end_of_mount 0) 1 end_of_m ∷ on_root (end_of_mount 1) 2 end_of_n ∷ [];
     }
 
--- ---- what happened: an Open of `m/n/d` on endpoint 1 with the new endpoint 5, which goes on twice
+-- ---- what happened: an Open of `m/n/d` on endpoint 1 with the new endpoint 5, which goes on twice, and one of `.` on 5 with the new
+-- endpoint 7
 
 abbrev pub opening : ℕ → ℕ → Option ℕ → List ℕ → List ℕ → Sent
 opening place endpoint origin bytes handles = record { place = place; endpoint = endpoint; sending = message bytes handles; origin = origin }
@@ -92,18 +103,25 @@ abbrev pub twice_served : List ℕ → List ℕ → List ℕ → List ℕ → Hi
 twice_served b h b' h' =
     is_served (opening 2 (end_of_mount 0) (Some 0) b' h') None ∷ is_sent (opening 2 (end_of_mount 0) (Some 0) b' h') ∷ once_served b h
 
--- and then at the third, which bound endpoint 5
-abbrev pub all_served : List ℕ → List ℕ → List ℕ → List ℕ → List ℕ → List ℕ → History
-all_served b h b' h' b'' h'' =
-    is_served (opening 4 (end_of_mount 1) (Some 2) b'' h'') (Some (on_root 5 2 end_of_n)) ∷ is_sent (opening 4 (end_of_mount 1) (Some 2) b'' h'')
+-- then at the third, which bound endpoint 5
+abbrev pub thrice_served : List ℕ → List ℕ → List ℕ → List ℕ → List ℕ → List ℕ → History
+thrice_served b h b' h' b'' h'' =
+    is_served (opening 4 (end_of_mount 1) (Some 2) b'' h'') (Some (on_d 5 of_first_opened)) ∷ is_sent (opening 4 (end_of_mount 1) (Some 2) b'' h'')
     ∷ twice_served b h b' h'
+
+-- and then the other came on endpoint 5, and its serving bound endpoint 7
+abbrev pub all_served : List ℕ → List ℕ → List ℕ → List ℕ → List ℕ → List ℕ → List ℕ → List ℕ → History
+all_served b h b' h' b'' h'' c i =
+    is_served (opening 6 5 None c i) (Some (on_d 7 of_last_opened)) ∷ is_sent (opening 6 5 None c i) ∷ thrice_served b h b' h' b'' h''
 
 -- ---- the row
 
--- messages that are read as these Opens give endpoint 5 this lineage, whose ancestor is endpoint 1
+-- messages that are read as these Opens give endpoint 7 this lineage, whose ancestor is endpoint 1
 abbrev pub LineagesNameEachSet : Type 0
 LineagesNameEachSet =
-    (b h b' h' b'' h'' : List ℕ) (t t' t'' : ℕ) → read_by protocol.Directory b h ≡ Ok (t, asks.open_path (codes "m/n/d") 0 None 5) →
+    (b h b' h' b'' h'' c i : List ℕ) (t t' t'' u : ℕ) → read_by protocol.Directory b h ≡ Ok (t, asks.open_path (codes "m/n/d") 0 None 5) →
     read_by protocol.Directory b' h' ≡ Ok (t', asks.open_path (codes "n/d") 0 None 5) → read_by protocol.Directory b'' h'' ≡ Ok (t'', asks.open_path (codes "d") 0 None 5) →
-    (lineage_of three_servers (all_served b h b' h' b'' h'') 5 ≡ of_client ∷ mask_of_m ∷ end_of_m ∷ mask_of_n ∷ end_of_n ∷ mask_of_d ∷ [])
-    × (ancestor_of (all_served b h b' h' b'' h'') 5 ≡ 1)
+    read_by protocol.Directory c i ≡ Ok (u, asks.open_path (codes ".") 0 None 7) →
+    (lineage_of three_servers (all_served b h b' h' b'' h'' c i) 7
+    ≡ of_client ∷ mask_of_m ∷ end_of_m ∷ mask_of_n ∷ end_of_n ∷ mask_of_d ∷ of_first_opened ∷ of_last_opened ∷ [])
+    × (ancestor_of (all_served b h b' h' b'' h'' c i) 7 ≡ 1)

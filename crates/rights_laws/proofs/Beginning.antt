@@ -52,7 +52,7 @@ forwards_asked moment sending forward e = forwards_by moment sending (outcome_of
 
 -- ---- beginnings
 
-begins_more : (start : Start) (ancestor : ℕ) (members more : List OperationSet) → BeginsAt start ancestor members → BeginsAt start ancestor (members ++ more)
+pub begins_more : (start : Start) (ancestor : ℕ) (members more : List OperationSet) → BeginsAt start ancestor members → BeginsAt start ancestor (members ++ more)
 begins_more start ancestor members more h = record {
   first = h.first;
   there = h.there;

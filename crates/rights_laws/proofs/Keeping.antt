@@ -6,14 +6,14 @@ use Rattle.std.specs.Prelude.{IsTrue}
 use Rattle.std.proofs.lemmas.Bool.{eq-eqb, eqb-true}
 use Rattle.std.proofs.lemmas.List.Elements.{All-nil, All-cons, Contains-append_cases, All-contains}
 use Rattle.endpoint_link.specs.declared.kinds.Refusal.{Refusal}
-use Rattle.io_rights.specs.Operations.{is_within}
+use Rattle.io_rights.specs.Operations.{OperationSet, is_within}
 use Rattle.io_flags.proofs.GrantLemmas.{within_self}
 use Rattle.vfs_journal.specs.Entries.{Sent, sends, refuses}
 use Rattle.vfs_journal.specs.History.{History, all_sent, births, serves_place}
 use Rattle.vfs_journal.specs.Past.{behind, event_of}
 use Rattle.vfs_journal.specs.Starts.{Bound, Start}
 use Rattle.journal_laws.specs.Soundness.{IsStart, OtherEndpoint}
-use Rattle.journal_laws.proofs.Members.{contains_cases, contains_none, found, first_found, none_found}
+use Rattle.journal_laws.proofs.Members.{contains_cases, contains_here, contains_none, found, first_found, none_found}
 use Rattle.journal_laws.proofs.Steps.{refusals_change_nothing, sendings_wait_last}
 use Rattle.rights_laws.specs.Lineage.{ancestor_of, ancestors_of, lines_of, lineage_of, first_lineage}
 use Rattle.rights_laws.specs.Rights.{AreWithinEach, BeginsAt}
@@ -21,7 +21,8 @@ use Rattle.rights_laws.proofs.Serving.{AreTrailed}
 use Rattle.fidl_names.specs.HandleNumber.{is_client}
 
 pub record Holds (start : Start) (history : History) : Type 0 where
-  -- the rights of whatever was bound lie within its lineage
+  -- the rights of whatever was bound stand in its lineage, and lie within it
+  pub own : (bound : Bound) → Contains (births start history) bound → Contains (lineage_of start history bound.endpoint) bound.birth.rights
   pub rights : (bound : Bound) → Contains (births start history) bound → AreWithinEach bound.birth.rights (lineage_of start history bound.endpoint)
   -- that of a client's endpoint begins at its ancestor
   pub begun : (bound : Bound) → Contains (births start history) bound → is_client bound.endpoint ≡ true → BeginsAt start (ancestor_of history bound.endpoint) (lineage_of start history bound.endpoint)
@@ -59,6 +60,7 @@ first_begins start s bound there client =
 pub begins : (start : Start) → IsStart start → Holds start []
 unfolding lines_of ancestors_of
 begins start s = record {
+  own = λ bound there. subst (λ (members : List OperationSet). Contains members bound.birth.rights) (sym (first_alone start s bound there)) (contains_here bound.birth.rights []);
   rights = λ bound there. subst (AreWithinEach bound.birth.rights) (sym (first_alone start s bound there))
       (All-cons (λ member. IsTrue (is_within bound.birth.rights member)) bound.birth.rights [] (within_self bound.birth.rights) (All-nil (λ member. IsTrue (is_within bound.birth.rights member))));
   begun = λ bound there client. first_begins start s bound there client;
@@ -74,6 +76,7 @@ unfolding event_of lines_of ancestors_of
 refused_holds start past endpoint why h =
     let same = refusals_change_nothing start past endpoint why in
     record {
+      own = λ bound there. h.own bound (subst (λ (bounds : List Bound). Contains bounds bound) same.same.born there);
       rights = λ bound there. h.rights bound (subst (λ (bounds : List Bound). Contains bounds bound) same.same.born there);
       begun = λ bound there client. h.begun bound (subst (λ (bounds : List Bound). Contains bounds bound) same.same.born there) client;
       origins = λ sent origin there e. h.origins sent origin (subst (λ (ones : List Sent). Contains ones sent) same.sent there) e;
@@ -104,6 +107,7 @@ unfolding event_of lines_of ancestors_of
 sent_holds start past new is h =
     let step = sendings_wait_last start past new in
     record {
+      own = λ bound there. h.own bound (subst (λ (bounds : List Bound). Contains bounds bound) step.same.born there);
       rights = λ bound there. h.rights bound (subst (λ (bounds : List Bound). Contains bounds bound) step.same.born there);
       begun = λ bound there client. h.begun bound (subst (λ (bounds : List Bound). Contains bounds bound) step.same.born there) client;
       origins = λ sent origin there e. origin_by sent origin e (last_of (all_sent past) new sent (subst (λ (ones : List Sent). Contains ones sent) step.sent_last there));

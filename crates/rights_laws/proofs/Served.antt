@@ -2,15 +2,16 @@
 use Rattle.std.proofs.Common.{◌≡◌, ◌≢◌, ℕ, ◌^◌, ◌<◌, ◌==◌, ◌⊎◌, Bool, true, false, not, if◌then◌else◌, List, [], ◌∷◌, option_to_list, Option, Some, None, Ok, Contains, refl, sym, ap, ◌∙◌, subst, inl, inr, arith, ◌++◌}
 use Rattle.std.specs.List.{list_any}
 use Rattle.std.specs.Option.{option_map_or}
-use Rattle.std.specs.Prelude.{All}
+use Rattle.std.specs.Prelude.{All, IsTrue}
 use Rattle.std.proofs.lemmas.Bool.{eq-eqb, eqb-true, false_from_ne_true, or_left, or_right, true≢false}
-use Rattle.std.proofs.lemmas.List.Elements.{All-contains, Contains-append_cases, Contains-append_right}
+use Rattle.std.proofs.lemmas.List.Elements.{All-append, All-cons, All-contains, All-nil, Contains-append_cases, Contains-append_right}
 use Rattle.fidl_names.specs.HandleNumber.{is_client}
 use Rattle.io_messages.specs.Asked.{Asked}
 use Rattle.io_messages.specs.Asked as asks
 use Rattle.io_messages.specs.declared.protocols.Protocol.{Protocol}
 use Rattle.io_messages.specs.declared.protocols.Protocol.TheVariants as protocol
-use Rattle.io_rights.specs.Operations.{OperationSet}
+use Rattle.io_flags.proofs.GrantLemmas.{within_self}
+use Rattle.io_rights.specs.Operations.{OperationSet, is_within}
 use Rattle.path_walk.specs.Paths.{text_of}
 use Rattle.remote_forward.specs.Onward.{onward_bytes}
 use Rattle.dir_conn.specs.Laws.{OpensOnlyNarrow}
@@ -27,7 +28,7 @@ use Rattle.journal_laws.proofs.Among.{carried_is, is_found, some_found}
 use Rattle.journal_laws.proofs.Below.{Below}
 use Rattle.journal_laws.proofs.Carrying.{bind_what_they_carry}
 use Rattle.journal_laws.proofs.Kept.{client_low, is_serving, lawful_kept}
-use Rattle.journal_laws.proofs.Members.{contains_cases, contains_none, kept, kept_of}
+use Rattle.journal_laws.proofs.Members.{contains_cases, contains_here, contains_none, kept, kept_of}
 use Rattle.journal_laws.proofs.Onward.{AreBytes, flags_small, onward_reads}
 use Rattle.journal_laws.proofs.OnTrees.{stand_on_trees}
 use Rattle.journal_laws.proofs.Places.{head_is, waits_of_sent, waits_unserved}
@@ -38,7 +39,7 @@ use Rattle.journal_laws.proofs.Steps.{servings_take_effect}
 use Rattle.journal_laws.proofs.TransitLaws.{in_transit}
 use Rattle.rights_laws.specs.Lineage.{ancestor_of, ancestors_of, asked_by, at_serving, request_in, lineage_given, lines_of, lineage_of, sent_from, trail_given}
 use Rattle.rights_laws.specs.Rights.{AreWithinEach, BeginsAt, HasAllAsked}
-use Rattle.rights_laws.proofs.Beginning.{IsOpen, binds_asked, forwards_asked, lineage_given_begins, trail_given_begins}
+use Rattle.rights_laws.proofs.Beginning.{IsOpen, begins_more, binds_asked, forwards_asked, lineage_given_begins, trail_given_begins}
 use Rattle.rights_laws.proofs.Keeping.{Holds, IsNew}
 use Rattle.rights_laws.proofs.Requests.{end_is_passed}
 use Rattle.rights_laws.proofs.Serving.{AreTrailed, IsTrailed, bound_within, onward_within, found}
@@ -49,6 +50,12 @@ the_one (Some y) x there = by_case (contains_cases x y [] there) where
   by_case : (y ≡ x) ⊎ Contains [] x → Some y ≡ Some x
   by_case (inl e) = ap Some e
   by_case (inr there) = absurd (contains_none x there)
+
+-- rights that lie within each of some sets do so with themselves behind these
+within_more : (rights : OperationSet) (members : List OperationSet) → AreWithinEach rights members → AreWithinEach rights (members ++ rights ∷ [])
+within_more rights members h =
+    All-append (λ member. IsTrue (is_within rights member)) members (rights ∷ []) h
+    (All-cons (λ member. IsTrue (is_within rights member)) rights [] (within_self rights) (All-nil (λ member. IsTrue (is_within rights member))))
 
 -- what two readings of one message say
 read_of : Sending → Read
@@ -121,32 +128,47 @@ module _ (below : Below) (narrow : OpensOnlyNarrow) (start : Start) (journal : J
   old_line bound there None e = refl
   old_line bound there (Some x) e = false_from_ne_true (x.endpoint == bound.endpoint) (λ same. new_born x e bound there (sym (eqb-true x.endpoint bound.endpoint same)))
 
+  abbrev own_rights : Option Bound → List OperationSet
+  own_rights o = option_map_or (λ b. b.birth.rights ∷ []) o []
+
   -- what holds of the lineage of a birth holds of it still
   old_then : (P : List OperationSet → Type 0) (bound : Bound) → Contains (births start (history_of start journal)) bound → P (lineage_of start (history_of start journal) bound.endpoint) → P (lineage_of start (behind start (serves k) (history_of start journal)) bound.endpoint)
   unfolding event_of lines_of
   old_then P bound there h =
-      subst (λ (b : Bool). P (if b then at_serving (lineage_given (lines_of start (history_of start journal)) k) start (history_of start journal) k else lineage_of start (history_of start journal) bound.endpoint))
+      subst (λ (b : Bool). P (if b then at_serving (lineage_given (lines_of start (history_of start journal)) k) start (history_of start journal) k ++ own_rights (outcome_of start (history_of start journal) k).bound else lineage_of start (history_of start journal) bound.endpoint))
       (sym (old_line bound there _ refl)) h
 
-  -- what holds of the lineage that is given holds of what is bound
+  -- what holds of the lineage that is given, and then of the rights of what is bound, holds of its lineage
   new_then : (P : List OperationSet → Type 0) (x : Bound) → (outcome_of start (history_of start journal) k).bound ≡ Some x → (b : Bound) → IsBoundTo b →
-      P (found (lineage_given (lines_of start (history_of start journal)) k (moment_of start (history_of start journal) b)) (asked_by (moment_of start (history_of start journal) b) k.sending)) →
+      P (found (lineage_given (lines_of start (history_of start journal)) k (moment_of start (history_of start journal) b)) (asked_by (moment_of start (history_of start journal) b) k.sending) ++ x.birth.rights ∷ []) →
       P (lineage_of start (behind start (serves k) (history_of start journal)) x.endpoint)
   unfolding event_of lines_of
   new_then P x e b to h =
       let lines = lines_of start (history_of start journal) in
       let binds : option_map_or (λ bound. bound.endpoint == x.endpoint) (outcome_of start (history_of start journal) k).bound false ≡ true =
       ap (λ (o : Option Bound). option_map_or (λ bound. bound.endpoint == x.endpoint) o false) e ∙ eq-eqb x.endpoint x.endpoint refl in
-      subst (λ (t : Bool). P (if t then at_serving (lineage_given lines k) start (history_of start journal) k else lineage_of start (history_of start journal) x.endpoint))
-      (sym binds) (subst P (sym (seen b to (lineage_given lines k))) h)
+      subst
+      (λ (t : Bool).
+      P (if t then at_serving (lineage_given lines k) start (history_of start journal) k ++ own_rights (outcome_of start (history_of start journal) k).bound else lineage_of start (history_of start journal) x.endpoint))
+      (sym binds)
+      (subst (λ (o : Option Bound). P (at_serving (lineage_given lines k) start (history_of start journal) k ++ own_rights o)) (sym e)
+      (subst (λ (members : List OperationSet). P (members ++ x.birth.rights ∷ [])) (sym (seen b to (lineage_given lines k))) h))
 
   new_within : (x : Bound) → (outcome_of start (history_of start journal) k).bound ≡ Some x → AreWithinEach x.birth.rights (lineage_of start (behind start (serves k) (history_of start journal)) x.endpoint)
   new_within x e =
       let to = bound_to in
       let b = to.0 in
       new_then (AreWithinEach x.birth.rights) x e b to.1
+      (within_more x.birth.rights _
       (bound_within below narrow (moment_of start (history_of start journal) b) (lines_of start (history_of start journal)) k to.1.within (holds.trails k waits.0) x
-      (sym (ap (λ (o : Outcome). o.bound) (whole b to.1)) ∙ e))
+      (sym (ap (λ (o : Outcome). o.bound) (whole b to.1)) ∙ e)))
+
+  new_own : (x : Bound) → (outcome_of start (history_of start journal) k).bound ≡ Some x → Contains (lineage_of start (behind start (serves k) (history_of start journal)) x.endpoint) x.birth.rights
+  new_own x e =
+      let to = bound_to in
+      new_then (λ members. Contains members x.birth.rights) x e to.0 to.1
+      (Contains-append_right (found (lineage_given (lines_of start (history_of start journal)) k (moment_of start (history_of start journal) to.0)) (asked_by (moment_of start (history_of start journal) to.0) k.sending)) (x.birth.rights ∷ []) x.birth.rights
+      (contains_here x.birth.rights []))
 
   -- ---- where it begins
 
@@ -205,8 +227,9 @@ module _ (below : Below) (narrow : OpensOnlyNarrow) (start : Start) (journal : J
       let moment = moment_of start (history_of start journal) b in
       let request = binds_asked moment k.sending x (sym (ap (λ (o : Outcome). o.bound) (whole b to.1)) ∙ e) in
       new_then (BeginsAt start (ancestor_of (behind start (serves k) (history_of start journal)) x.endpoint)) x e b to.1
-      (subst (λ (n : ℕ). BeginsAt start n (found (lineage_given (lines_of start (history_of start journal)) k moment) (asked_by moment k.sending))) (sym (new_ancestor x e))
-      (lineage_given_begins start moment (lines_of start (history_of start journal)) (ancestors_of (history_of start journal)) k (own_begun b to.1) over_begun request.0 request.1 (opens b to.1)))
+      (subst (λ (n : ℕ). BeginsAt start n (found (lineage_given (lines_of start (history_of start journal)) k moment) (asked_by moment k.sending) ++ x.birth.rights ∷ [])) (sym (new_ancestor x e))
+      (begins_more start (sent_from (history_of start journal) k) (found (lineage_given (lines_of start (history_of start journal)) k moment) (asked_by moment k.sending)) (x.birth.rights ∷ [])
+      (lineage_given_begins start moment (lines_of start (history_of start journal)) (ancestors_of (history_of start journal)) k (own_begun b to.1) over_begun request.0 request.1 (opens b to.1))))
 
   -- ---- what went on before
 
@@ -242,12 +265,18 @@ module _ (below : Below) (narrow : OpensOnlyNarrow) (start : Start) (journal : J
   served_holds =
       let effect = servings_take_effect start (history_of start journal) k in
       record {
+        own = λ bound there. own_kept bound (Contains-append_cases (births start (history_of start journal)) (option_to_list (outcome_of start (history_of start journal) k).bound) bound (subst (λ (bounds : List Bound). Contains bounds bound) effect.born there));
         rights = λ bound there. rights_by bound (Contains-append_cases (births start (history_of start journal)) (option_to_list (outcome_of start (history_of start journal) k).bound) bound (subst (λ (bounds : List Bound). Contains bounds bound) effect.born there));
         begun = λ bound there client. begun_by bound client (Contains-append_cases (births start (history_of start journal)) (option_to_list (outcome_of start (history_of start journal) k).bound) bound (subst (λ (bounds : List Bound). Contains bounds bound) effect.born there));
         trails_begun = λ sent origin there e. still_begun sent origin (subst (λ (ones : List Sent). Contains ones sent) effect.sent_same there) e;
         origins = λ sent origin there e. or_right (k.place == origin) _ (holds.origins sent origin (subst (λ (ones : List Sent). Contains ones sent) effect.sent_same there) e);
         trails = λ sent there. still_trailed sent (subst (λ (ones : List Sent). Contains ones sent) effect.sent_same there);
       } where
+        own_kept : (bound : Bound) → Contains (births start (history_of start journal)) bound ⊎ Contains (option_to_list (outcome_of start (history_of start journal) k).bound) bound →
+            Contains (lineage_of start (behind start (serves k) (history_of start journal)) bound.endpoint) bound.birth.rights
+        own_kept bound (inl there) = old_then (λ members. Contains members bound.birth.rights) bound there (holds.own bound there)
+        own_kept bound (inr there) = new_own bound (the_one (outcome_of start (history_of start journal) k).bound bound there)
+
         rights_by : (bound : Bound) → Contains (births start (history_of start journal)) bound ⊎ Contains (option_to_list (outcome_of start (history_of start journal) k).bound) bound →
             AreWithinEach bound.birth.rights (lineage_of start (behind start (serves k) (history_of start journal)) bound.endpoint)
         rights_by bound (inl there) = old_then (AreWithinEach bound.birth.rights) bound there (holds.rights bound there)

@@ -86,7 +86,11 @@ module _ (below : Below) (narrow : OpensOnlyNarrow) (start : Start) (s : IsStart
 -- ---- the laws
 
 pub rights_stay : Below → OpensOnlyNarrow → RightsStayWithinLineage
-rights_stay below narrow start later past s h = (time_holds below narrow start s past (time_of start (later ++ past) h later past refl)).rights
+rights_stay below narrow start later past s h bound there =
+    let holds = time_holds below narrow start s past (time_of start (later ++ past) h later past refl) in (
+      holds.own bound there,
+      holds.rights bound there,
+    )
 
 pub lineages_begin : Below → OpensOnlyNarrow → LineagesBeginAtFirsts
 lineages_begin below narrow start later past s h = (time_holds below narrow start s past (time_of start (later ++ past) h later past refl)).begun

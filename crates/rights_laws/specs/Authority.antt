@@ -23,15 +23,15 @@ use Rattle.rights_laws.specs.Rights.{AreWithinEach}
 abbrev pub EachHas : Operation → List OperationSet → Type 0
 EachHas operation members = AreWithinEach (single operation) members
 
--- a token was given, on an endpoint of whose lineage each member has MODIFY_DIRECTORY
+-- a token was given, on an endpoint of whose lineage each member has MODIFY_DIRECTORY, its own rights among them
 pub record IsGivenWith (start : Start) (history : History) (token : ℕ) : Type 0 where
   pub given : Given
   pub first : find (λ given. given.token == token) (all_given history) ≡ Some given
   pub allowed : EachHas op.ModifyDirectory (lineage_of start history given.endpoint)
 
--- a request that makes this change, and what authority each has: to write or resize, each member of the lineage has WRITE_BYTES; to take
--- out, add or move a name MODIFY_DIRECTORY, and so for the token that names where to; to make a node each member of the trail and each mask
--- of the walk has MODIFY_DIRECTORY; and to truncate each member of the lineage of what is opened has WRITE_BYTES
+-- a request that makes this change, and what authority each has: to write or resize, each member of the lineage, and so the connection itself
+-- and each on the way, has WRITE_BYTES; to take out, add or move a name MODIFY_DIRECTORY, and so for the token that names where to; to make a
+-- node each member of the trail and each mask of the walk has MODIFY_DIRECTORY; and to truncate these have WRITE_BYTES
 abbrev pub HasAuthority : Start → History → Sent → Moment → Asked → Change → Type 0
 HasAuthority start past sent moment (asks.write bytes) change = EachHas op.WriteBytes (lineage_of start past sent.endpoint)
 HasAuthority start past sent moment (asks.write_at bytes offset) change = EachHas op.WriteBytes (lineage_of start past sent.endpoint)

@@ -1,5 +1,5 @@
--- The lineage of an endpoint: the sets of rights that it comes from, through names, connections and mounts. Each is found in the past: what
--- a serving saw is the tree of its own time.
+-- The lineage of an endpoint: the sets of rights that it comes from, through connections, names and mounts. Its own rights are the last, so
+-- that a narrow connection on the way binds what is opened on it. Each is found in the past: what a serving saw is the tree of its own time.
 use Rattle.std.specs.Prelude.{ℕ, ◌==◌, List, [], ◌∷◌, ◌++◌, find, if◌then◌else◌, slice_get, Option, Some, None, Ok, Err}
 use Rattle.std.specs.Option.{option_map_or}
 use Rattle.io_messages.specs.Asked.{Asked}
@@ -49,7 +49,7 @@ first_lineage start endpoint =
     option_map_or (λ bound. bound.birth.rights ∷ []) (find (λ bound. bound.endpoint == endpoint) (start.firsts ++ start.mounts)) []
 
 -- the trail of what was sent: what came over a mount goes on with the trail behind its origin, and a client's begins with the lineage of
--- its endpoint
+-- its endpoint, the rights of this among them
 abbrev pub trail_by : Lines → ℕ → Option ℕ → List OperationSet
 trail_by lines endpoint None = lines.lineage endpoint
 trail_by lines endpoint (Some origin) = lines.onward origin
@@ -64,7 +64,8 @@ masks_along (missing directory name masks) = masks ++ all ∷ []
 masks_along (crosses mount rest masks) = masks
 masks_along (stops status) = []
 
--- of what an Open binds: its trail, and then the masks of its walk; of what a Clone or a Watch binds: that of the endpoint that it came on
+-- of what is bound all but its own rights: from an Open its trail, and then the masks of its walk; from a Clone or a Watch the lineage of
+-- the endpoint that it came on
 abbrev pub lineage_given : Lines → Sent → Moment → Asked → List OperationSet
 lineage_given lines sent moment (asks.open_path path word attributes object) = trail_in lines sent ++ masks_along (walk_at moment path word)
 lineage_given lines sent moment _ = lines.lineage sent.endpoint
@@ -82,13 +83,18 @@ trail_given start lines sent moment _ = []
 
 -- ---- looking back
 
--- behind an event, the endpoint that it binds has a lineage, and the place that it serves a trail; the others are as they were
+-- the rights of what an event binds
+abbrev pub rights_bound : Event → List OperationSet
+rights_bound event = option_map_or (λ bound. bound.birth.rights ∷ []) event.outcome.bound []
+
+-- behind an event, the endpoint that it binds has a lineage, what its serving gives and then its own rights, and the place that it serves a
+-- trail; the others are as they were
 abbrev pub lines_behind : Start → History → Lines → Event → Lines
 lines_behind start past lines event =
     record {
       lineage = λ endpoint.
           if binds_endpoint endpoint event
-          then option_map_or (λ sent. at_serving (lineage_given lines sent) start past sent) (served_by event.entry) []
+          then option_map_or (λ sent. at_serving (lineage_given lines sent) start past sent) (served_by event.entry) [] ++ rights_bound event
           else lines.lineage endpoint;
       onward = λ place.
           if serves_place place event

@@ -36,10 +36,11 @@ pub record BeginsAt (start : Start) (ancestor : ℕ) (members : List OperationSe
 
 -- ---- at one time
 
--- the rights of each endpoint that is or was bound lie within each member of its lineage
+-- the rights of each endpoint that is or was bound stand in its lineage, and lie within each member of it
 abbrev pub RightsAreWithin : Start → History → Type 0
 RightsAreWithin start history =
-    (bound : Bound) → Contains (births start history) bound → AreWithinEach bound.birth.rights (lineage_of start history bound.endpoint)
+    (bound : Bound) → Contains (births start history) bound →
+    Contains (lineage_of start history bound.endpoint) bound.birth.rights × AreWithinEach bound.birth.rights (lineage_of start history bound.endpoint)
 
 -- the lineage of each client's endpoint begins at its ancestor, which is a first connection
 abbrev pub LineagesBegin : Start → History → Type 0

@@ -8,8 +8,8 @@ use fidl_wire::body_is_read_where_spelled;
 use io_messages::written_request_is_read;
 use path_walk::path_laws;
 
-/// At each time of a lawful journal over a sound start the rights of each endpoint that is or was bound lie within every member of its
-/// lineage; where no two names have equal ordinals.
+/// At each time of a lawful journal over a sound start the rights of each endpoint that is or was bound stand in its lineage and lie within
+/// every member of it, the rights of each connection on the way among them; where no two names have equal ordinals.
 pub fn rights_stay_within_lineage()
     ensures { AreDistinct → RightsStayWithinLineage }
 {

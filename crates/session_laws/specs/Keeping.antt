@@ -58,8 +58,8 @@ AreAnswered start history = (sent : Sent) → Contains (served_on history sent.e
 pub record KeepsLaws (start : Start) (journal : Journal) : Type 0 where
   -- nothing is served twice, and each endpoint is served in order of sending
   pub once : AreServedOnce journal (history_of start journal)
-  -- no endpoint has a right that its lineage lacks; that of a client's begins at its ancestor; and no Open that came over a mount asks for
-  -- what its trail lacks
+  -- no endpoint has a right that its lineage lacks, in which its own rights stand; that of a client's begins at its ancestor; and no Open that
+  -- came over a mount asks for what its trail lacks
   pub rights : AtEachTime journal (λ past. RightsAreWithin start (history_of start past))
   pub ancestors : AtEachTime journal (λ past. LineagesBegin start (history_of start past))
   pub flags : AtEachTime journal (λ past. FlagsAreWithin start (history_of start past))
