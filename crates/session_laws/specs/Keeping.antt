@@ -1,7 +1,6 @@
 -- What every session keeps, at each of its times: a field for each law, in the words of the crate that proves it.
 use Rattle.std.specs.Prelude.{◌≡◌, ℕ, true, All, Contains, [], ◌∷◌, ◌++◌, map}
 use Rattle.endpoint_link.specs.Numbering.{among}
-use Rattle.conn_rules.specs.NameRows.{every_event}
 use Rattle.watch_events.specs.Messages.{watch_frame}
 use Rattle.vfs_journal.specs.Deaths.{deaths_of}
 use Rattle.vfs_journal.specs.Entries.{Journal, Sent, serves}
@@ -14,7 +13,7 @@ use Rattle.rights_laws.specs.Authority.{ChangeIsAllowed, NarrowChangesNothing}
 use Rattle.rights_laws.specs.Rights.{FlagsAreWithin, LineagesBegin, RightsAreWithin}
 use Rattle.reply_laws.specs.Laws.{ArePipelined, IsAnswered, IsSettled}
 use Rattle.reply_laws.specs.Pipelined.{served_on}
-use Rattle.watch_laws.specs.Laws.{HasNames, KnowsItsNames}
+use Rattle.watch_laws.specs.Laws.{AsksForNames, HasNames, KnowsItsNames}
 use Rattle.watch_laws.specs.Sight.{messages_on, sight}
 use Rattle.frame_laws.specs.Bytes.{BeginsWithBytes}
 use Rattle.frame_laws.specs.Laws.{IsReadBack}
@@ -43,10 +42,10 @@ DieOfNoChange start past sent =
     (watcher : Bound) → Contains (living start past) watcher → is_watcher watcher.birth.protocol ≡ true →
     among watcher.endpoint (deaths_of past sent (outcome_of start past sent)) ≡ true → (outcome_of start past sent).told ≡ []
 
--- a living watcher that asks for every event knows its directory's names
+-- a living watcher whose mask asks for EXISTING, ADDED and REMOVED knows its directory's names
 abbrev pub KnowTheirNames : Start → History → Type 0
 KnowTheirNames start history =
-    (watcher : Bound) → Contains (living start history) watcher → is_watcher watcher.birth.protocol ≡ true → watcher.mask ≡ every_event →
+    (watcher : Bound) → Contains (living start history) watcher → is_watcher watcher.birth.protocol ≡ true → AsksForNames watcher →
     KnowsItsNames start history watcher
 
 -- what was served has the replies that it asks for

@@ -1,4 +1,4 @@
--- A watcher of every event knows the names of its directory.
+-- A watcher that asks for names knows the names of its directory.
 use Rattle.std.proofs.Common.{◌≡◌, ℕ, zero, suc, ◌<◌, ◌==◌, ◌&&◌, ◌⊎◌, Bool, true, false, not, cond, List, [], ◌∷◌, ◌++◌, length, filter, map, option_to_list, Option, Some, None, All, Contains, refl, sym, ap, ◌∙◌, subst, inl, inr, eq-eqb, eqb-true, lit<, arith}
 use Rattle.std.specs.Option.{option_map_or}
 use Rattle.std.specs.Str.{bytes_eq}
@@ -14,9 +14,9 @@ use Rattle.path_walk.proofs.PartLemmas.{name_short}
 use Rattle.path_walk.proofs.PathLemmas.{same_bytes}
 use Rattle.conn_rules.specs.Answers.{Happening, only}
 use Rattle.conn_rules.specs.Answers as news
-use Rattle.conn_rules.specs.NameRows.{every_event, name_in}
+use Rattle.conn_rules.specs.NameRows.{name_in}
 use Rattle.watch_events.specs.Events.{Event, EventsAreReadOnce, bytes_of}
-use Rattle.watch_events.specs.Messages.{asks_for}
+use Rattle.watch_events.specs.Messages.{asks_for, idle}
 use Rattle.watch_events.specs.NamesNow.{is_named_now}
 use Rattle.vfs_journal.specs.Entries.{Journal, Sent, sends, serves, refuses}
 use Rattle.vfs_journal.specs.History as past_of
@@ -33,11 +33,11 @@ use Rattle.journal_laws.proofs.Filters.{all_of, none_kept}
 use Rattle.journal_laws.proofs.OnTrees.{stand_on_trees}
 use Rattle.journal_laws.proofs.Members.{kept, kept_of}
 use Rattle.journal_laws.proofs.Steps.{births-more, trees_stay}
-use Rattle.watch_laws.specs.Laws.{HasNames, WatchersKnowTheirNames}
+use Rattle.watch_laws.specs.Laws.{AsksForNames, HasNames, WatchersKnowTheirNames}
 use Rattle.watch_laws.specs.Sight.{AreWritten, events_for, is_told, messages_on, place_of, sight, told_as}
 use Rattle.watch_laws.proofs.Acts.{acts}
 use Rattle.watch_laws.proofs.Messages.{BindsOther, sending_holds}
-use Rattle.watch_laws.proofs.Named.{among_is_there, bytes_same, is_existing, last_puts, named_there, snapshot_puts, there_is_among, told_puts}
+use Rattle.watch_laws.proofs.Named.{all_said, among_is_there, bytes_same, is_existing, last_puts, named_there, snapshot_puts, there_is_among, told_puts}
 use Rattle.watch_laws.proofs.Names.{AreTold, IsOfName, found_by, is_there, left_behind, names_stay}
 use Rattle.watch_laws.proofs.Seen.{binds_not, new_one, same_births, sight_on, sight_still, times_seen}
 use Rattle.watch_laws.proofs.Serving.{IsServedOn, served_on}
@@ -68,11 +68,11 @@ KnowsNames start history watcher =
     (name : List ℕ) → bytes_eq dot name ≡ false → last_puts (events_seen start watcher history) name ≡ is_there (tree_at (trees_of start history) watcher.server).edges (name_in watcher.birth.node name)
 
 -- names are names; the messages of a watcher's sight are its events; and these stand for the names of its directory, where it lives and asks
--- for every event
+-- for names
 pub record AreKnown (start : Start) (history : History) : Type 0 where
   pub named : (server : ℕ) → HasNames (tree_at (trees_of start history) server)
   pub spelled : (watcher : Bound) → Contains (births start history) watcher → is_watcher watcher.birth.protocol ≡ true → AreSpelled (sight start watcher history) (events_seen start watcher history)
-  pub knows : (watcher : Bound) → Contains (living start history) watcher → is_watcher watcher.birth.protocol ≡ true → watcher.mask ≡ every_event → KnowsNames start history watcher
+  pub knows : (watcher : Bound) → Contains (living start history) watcher → is_watcher watcher.birth.protocol ≡ true → AsksForNames watcher → KnowsNames start history watcher
 
 -- ---- an event that tells nothing
 
@@ -100,11 +100,11 @@ idle_known start past event none quiet stays alive h = record {
   spelled = λ watcher born is.
       subst (λ (messages : List (List ℕ)). AreSpelled messages (events_seen start watcher (event ∷ past))) (sym (sight_still start watcher event past none quiet))
       (subst (AreSpelled (sight start watcher past)) (sym (events_still start watcher event past none quiet)) (h.spelled watcher (before watcher born) is));
-  knows = λ watcher lives is mask name other.
+  knows = λ watcher lives is asks name other.
       let now = lives_born start (event ∷ past) watcher lives in
       let alive' = (or_parts (among watcher.endpoint event.deaths) (is_dead past watcher.endpoint) now.1).1 in
       ap (λ (events : List Event). last_puts events name) (events_still start watcher event past none quiet)
-      ∙ h.knows watcher (born_lives start past watcher (before watcher now.0) alive') is mask name other
+      ∙ h.knows watcher (born_lives start past watcher (before watcher now.0) alive') is asks name other
       ∙ ap (λ (trees : List Tree). is_there (tree_at trees watcher.server).edges (name_in watcher.birth.node name)) (sym trees');
 } where
   trees' : trees_of start (event ∷ past) ≡ trees_of start past
@@ -192,18 +192,18 @@ module _ (below : Below) (start : Start) (past : History) (k : Sent) (on : IsSer
     by_test false e = subst HasNames (sym (tree_elsewhere server e)) (h.named server)
 
   -- a watcher that lives on knows the names as they are then
-  still_knows : (watcher : Bound) → Contains (living start past) watcher → is_watcher watcher.birth.protocol ≡ true → watcher.mask ≡ every_event → (name : List ℕ) → bytes_eq dot name ≡ false →
+  still_knows : (watcher : Bound) → Contains (living start past) watcher → is_watcher watcher.birth.protocol ≡ true → AsksForNames watcher → (name : List ℕ) → bytes_eq dot name ≡ false →
       last_puts (events_seen start watcher past ++ events_for watcher outcome) name ≡ is_there (tree_at (changed trees outcome.server outcome.change) watcher.server).edges (name_in watcher.birth.node name)
-  still_knows watcher lives is mask name other = by_test (watcher.server == outcome.server) refl where
+  still_knows watcher lives is asks name other = by_test (watcher.server == outcome.server) refl where
     knew : last_puts (events_seen start watcher past) name ≡ is_there (tree_at trees watcher.server).edges (name_in watcher.birth.node name)
-    knew = h.knows watcher lives is mask name other
+    knew = h.knows watcher lives is asks name other
 
     by_test : (b : Bool) → (watcher.server == outcome.server) ≡ b →
         last_puts (events_seen start watcher past ++ events_for watcher outcome) name ≡ is_there (tree_at (changed trees outcome.server outcome.change) watcher.server).edges (name_in watcher.birth.node name)
     by_test true e =
         let same = eqb-true watcher.server outcome.server e in
         let key = name_in watcher.birth.node name in
-        told_puts outcome.server watcher is e mask name (events_seen start watcher past) outcome.told
+        told_puts outcome.server watcher is e asks name (events_seen start watcher past) outcome.told
         ∙ ap (λ (was : Bool). left_behind key was outcome.told) (knew ∙ ap (λ (server : ℕ). is_there (tree_at trees server).edges key) same)
         ∙ sym (told_there key)
         ∙ ap (λ (tree : Tree). is_there tree.edges key) (sym tree_here)
@@ -256,34 +256,34 @@ module _ (below : Below) (start : Start) (past : History) (k : Sent) (on : IsSer
       (subst (AreSpelled (first_messages tree watcher)) (sym (events_new watcher e))
       (first_spelled watcher.mask (names_in tree.edges watcher.birth.node) (short_names tree watcher.birth.node (named_then watcher.server))))
 
-  knows_new : (watcher : Bound) → outcome.bound ≡ Some watcher → watcher.mask ≡ every_event → (name : List ℕ) → bytes_eq dot name ≡ false →
+  knows_new : (watcher : Bound) → outcome.bound ≡ Some watcher → AsksForNames watcher → (name : List ℕ) → bytes_eq dot name ≡ false →
       last_puts (events_seen start watcher (event_of start past (serves k) ∷ past)) name ≡ is_there (tree_at (changed trees outcome.server outcome.change) watcher.server).edges (name_in watcher.birth.node name)
-  knows_new watcher e mask name other =
+  knows_new watcher e asks name other =
       let tree = tree_at (changed trees outcome.server outcome.change) watcher.server in
       let names = names_in tree.edges watcher.birth.node in
       ap (λ (events : List Event). last_puts events name) (events_new watcher e)
-      ∙ ap (λ (m : ℕ). last_puts (first_events m names) name) mask
-      ∙ snapshot_puts names name other
+      ∙ ap (λ (b : Bool). last_puts (cond b (is_existing dot ∷ map is_existing names) [] ++ cond (asks_for watcher.mask idle) (all_said ∷ []) []) name) asks.snapshot
+      ∙ snapshot_puts names name (asks_for watcher.mask idle) other
       ∙ named_there tree.edges watcher.birth.node name
 
-  knows_born : (watcher : Bound) → Contains (births start past) watcher → is_dead past watcher.endpoint ≡ false → is_watcher watcher.birth.protocol ≡ true → watcher.mask ≡ every_event → (name : List ℕ) → bytes_eq dot name ≡ false →
+  knows_born : (watcher : Bound) → Contains (births start past) watcher → is_dead past watcher.endpoint ≡ false → is_watcher watcher.birth.protocol ≡ true → AsksForNames watcher → (name : List ℕ) → bytes_eq dot name ≡ false →
       last_puts (events_seen start watcher (event_of start past (serves k) ∷ past)) name ≡ is_there (tree_at (changed trees outcome.server outcome.change) watcher.server).edges (name_in watcher.birth.node name)
   unfolding event_of
-  knows_born watcher born alive is mask name other =
+  knows_born watcher born alive is asks name other =
       ap (λ (events : List Event). last_puts events name)
       (events_on start watcher (event_of start past (serves k)) past (on.binds_other watcher born)
       ∙ ap (λ (b : Bool). cond b (events_seen start watcher past) (events_seen start watcher past ++ events_for watcher outcome)) alive)
-      ∙ still_knows watcher (born_lives start past watcher born alive) is mask name other
+      ∙ still_knows watcher (born_lives start past watcher born alive) is asks name other
 
   pub served_known : AreKnown start (event_of start past (serves k) ∷ past)
   unfolding event_of
   served_known = record {
     named = named_then;
     spelled = λ watcher born is. spelled_by watcher is (born_by watcher born);
-    knows = λ watcher lives is mask name other.
+    knows = λ watcher lives is asks name other.
         let now = lives_born start (event_of start past (serves k) ∷ past) watcher lives in
         let alive = (or_parts (among watcher.endpoint (event_of start past (serves k)).deaths) (is_dead past watcher.endpoint) now.1).1 in
-        knows_by watcher alive is mask name other (born_by watcher now.0);
+        knows_by watcher alive is asks name other (born_by watcher now.0);
   } where
     born_by : (watcher : Bound) → Contains (births start (event_of start past (serves k) ∷ past)) watcher → Contains (births start past) watcher ⊎ (outcome.bound ≡ Some watcher)
     born_by watcher born =
@@ -297,11 +297,11 @@ module _ (below : Below) (start : Start) (past : History) (k : Sent) (on : IsSer
     spelled_by watcher is (inl born) = spelled_born watcher born is
     spelled_by watcher is (inr e) = spelled_new watcher e
 
-    knows_by : (watcher : Bound) → is_dead past watcher.endpoint ≡ false → is_watcher watcher.birth.protocol ≡ true → watcher.mask ≡ every_event → (name : List ℕ) → bytes_eq dot name ≡ false →
+    knows_by : (watcher : Bound) → is_dead past watcher.endpoint ≡ false → is_watcher watcher.birth.protocol ≡ true → AsksForNames watcher → (name : List ℕ) → bytes_eq dot name ≡ false →
         Contains (births start past) watcher ⊎ (outcome.bound ≡ Some watcher) →
         last_puts (events_seen start watcher (event_of start past (serves k) ∷ past)) name ≡ is_there (tree_at (changed trees outcome.server outcome.change) watcher.server).edges (name_in watcher.birth.node name)
-    knows_by watcher alive is mask name other (inl born) = knows_born watcher born alive is mask name other
-    knows_by watcher alive is mask name other (inr e) = knows_new watcher e mask name other
+    knows_by watcher alive is asks name other (inl born) = knows_born watcher born alive is asks name other
+    knows_by watcher alive is asks name other (inr e) = knows_new watcher e asks name other
 
 -- ---- entry by entry
 
@@ -350,7 +350,7 @@ named_now tree directory events names knows name = by_test (bytes_eq name dot) r
   by_test false e = knows name (false_from_ne_true (bytes_eq dot name) (λ same. true≢false (sym (bytes_same name dot (sym (same_bytes dot name same))) ∙ e)))
 
 pub know_their_names : Below → EventsAreReadOnce → WatchersKnowTheirNames
-know_their_names below once start later past watcher s names h lives is mask =
+know_their_names below once start later past watcher s names h lives is asks =
     let time = earlier_timed start later past (timed start (later ++ past) h) in
     let history = history_of start past in
     let tree = tree_at (trees_of start history) watcher.server in
@@ -359,7 +359,7 @@ know_their_names below once start later past watcher s names h lives is mask =
     let seen = (times_seen below start past s time).seen watcher born is in
     let events = events_seen start watcher history in
     let written' = subst (λ frames. AreWritten frames events) (sym seen) (written watcher.endpoint (sight start watcher history) events (known.spelled watcher born is)) in
-    let named = named_now tree watcher.birth.node events (known.named watcher.server) (known.knows watcher lives is mask) in
+    let named = named_now tree watcher.birth.node events (known.named watcher.server) (known.knows watcher lives is asks) in
     record {
       events = events;
       written = written';

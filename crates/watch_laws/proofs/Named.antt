@@ -17,15 +17,16 @@ use Rattle.path_walk.specs.Names.{dot}
 use Rattle.path_walk.proofs.PathLemmas.{same_bytes}
 use Rattle.conn_rules.specs.Answers.{Happening}
 use Rattle.conn_rules.specs.Answers as news
-use Rattle.conn_rules.specs.NameRows.{every_event, name_in}
+use Rattle.conn_rules.specs.NameRows.{name_in}
 use Rattle.watch_events.specs.Events.{Event}
-use Rattle.watch_events.specs.Messages.{asks_for, existing, idle}
+use Rattle.watch_events.specs.Messages.{added, asks_for, deleted, existing, idle, removed}
 use Rattle.watch_events.specs.NamesNow.{puts_in, tells_of}
 use Rattle.vfs_journal.specs.History.{is_watcher, watches_node}
 use Rattle.vfs_journal.specs.Starts.{Bound}
 use Rattle.journal_laws.proofs.Among.{one_passes, passes_any}
 use Rattle.journal_laws.proofs.Edges.{Same, alike_key, other_key, same_or_other}
 use Rattle.journal_laws.proofs.Lists.{eqb_sym}
+use Rattle.watch_laws.specs.Laws.{AsksForNames}
 use Rattle.watch_laws.specs.Sight.{is_told, told_as}
 use Rattle.watch_laws.proofs.Names.{is_there, left_behind, left_by}
 
@@ -63,17 +64,16 @@ more_puts events one name = ap (λ es. option_map_or puts_in (find (tells_of nam
   by_test true = refl
   by_test false = refl
 
--- ---- what a watcher of every event is told
+-- ---- what a watcher that asks for names is told
 
-module _ (server : ℕ) (watcher : Bound) (is : is_watcher watcher.birth.protocol ≡ true) (at : (watcher.server == server) ≡ true) (whole : watcher.mask ≡ every_event) (name : List ℕ) where
+module _ (server : ℕ) (watcher : Bound) (is : is_watcher watcher.birth.protocol ≡ true) (at : (watcher.server == server) ≡ true) (asks : AsksForNames watcher) (name : List ℕ) where
   abbrev its_name : EdgeKey
   its_name = name_in watcher.birth.node name
 
-  -- it is told of what happens in its directory
-  told_here : (place event : ℕ) → asks_for every_event event ≡ true → (watches_node server place watcher && asks_for watcher.mask event) ≡ (watcher.birth.node == place)
-  told_here place event asks =
-      ap (λ (mask : ℕ). watches_node server place watcher && asks_for mask event) whole
-      ∙ ap (λ (b : Bool). watches_node server place watcher && b) asks
+  -- it is told of what happens in its directory and its mask has
+  told_here : (place event : ℕ) → asks_for watcher.mask event ≡ true → (watches_node server place watcher && asks_for watcher.mask event) ≡ (watcher.birth.node == place)
+  told_here place event has =
+      ap (λ (b : Bool). watches_node server place watcher && b) has
       ∙ and-true (watches_node server place watcher)
       ∙ ap (λ (b : Bool). b && ((watcher.server == server) && (watcher.birth.node == place))) is
       ∙ ap (λ (b : Bool). b && (watcher.birth.node == place)) at
@@ -98,16 +98,14 @@ module _ (server : ℕ) (watcher : Bound) (is : is_watcher watcher.birth.protoco
   one_puts : (events : List Event) (happening : Happening) →
       last_puts (events ++ map told_as (filter (is_told server watcher) (happening ∷ []))) name ≡ left_by its_name (last_puts events name) happening
   one_puts events (news.removed key) =
-      ap (λ (b : Bool). last_puts (events ++ map told_as (cond b (news.removed key ∷ []) [])) name) (told_here key.directory 2 refl)
+      ap (λ (b : Bool). last_puts (events ++ map told_as (cond b (news.removed key ∷ []) [])) name) (told_here key.directory removed asks.removals)
       ∙ removed_puts events key (watcher.birth.node == key.directory)
       ∙ sym (ap (λ (b : Bool). cond b false (last_puts events name)) (same_name watcher.birth.node name key))
   one_puts events (news.added key) =
-      ap (λ (b : Bool). last_puts (events ++ map told_as (cond b (news.added key ∷ []) [])) name) (told_here key.directory 1 refl)
+      ap (λ (b : Bool). last_puts (events ++ map told_as (cond b (news.added key ∷ []) [])) name) (told_here key.directory added asks.additions)
       ∙ added_puts events key (watcher.birth.node == key.directory)
       ∙ sym (ap (λ (b : Bool). cond b true (last_puts events name)) (same_name watcher.birth.node name key))
-  one_puts events (news.deleted directory) =
-      ap (λ (b : Bool). last_puts (events ++ map told_as (cond b (news.deleted directory ∷ []) [])) name) (told_here directory 0 refl)
-      ∙ deleted_puts events directory (watcher.birth.node == directory)
+  one_puts events (news.deleted directory) = deleted_puts events directory (watches_node server directory watcher && asks_for watcher.mask deleted)
 
   pub told_puts : (events : List Event) (happenings : List Happening) →
       last_puts (events ++ map told_as (filter (is_told server watcher) happenings)) name ≡ left_behind its_name (last_puts events name) happenings
@@ -142,12 +140,16 @@ existing_puts (one ∷ names) events name =
       by_test true was = sym (or-true was)
       by_test false was = refl
 
--- `.`, these names, and that these are all
-pub snapshot_puts : (names : List (List ℕ)) (name : List ℕ) → bytes_eq dot name ≡ false →
-    last_puts ((is_existing dot ∷ map is_existing names) ++ all_said ∷ []) name ≡ list_any (λ (n : List ℕ). bytes_eq n name) names
-snapshot_puts names name other =
-    more_puts (is_existing dot ∷ map is_existing names) all_said name
-    ∙ ap (λ (b : Bool). cond b false (last_puts (is_existing dot ∷ map is_existing names) name)) (and-false (bytes_eq [] name))
+-- that these are all puts nothing in, and takes nothing out
+said_puts : (events : List Event) (name : List ℕ) (said : Bool) → last_puts (events ++ cond said (all_said ∷ []) []) name ≡ last_puts events name
+said_puts events name true = more_puts events all_said name ∙ ap (λ (b : Bool). cond b false (last_puts events name)) (and-false (bytes_eq [] name))
+said_puts events name false = ap (λ es. last_puts es name) (append-nil events)
+
+-- `.` and these names, and that these are all where it is said
+pub snapshot_puts : (names : List (List ℕ)) (name : List ℕ) (said : Bool) → bytes_eq dot name ≡ false →
+    last_puts ((is_existing dot ∷ map is_existing names) ++ cond said (all_said ∷ []) []) name ≡ list_any (λ (n : List ℕ). bytes_eq n name) names
+snapshot_puts names name said other =
+    said_puts (is_existing dot ∷ map is_existing names) name said
     ∙ existing_puts names (is_existing dot ∷ []) name
     ∙ ap (λ (b : Bool). option_map_or puts_in (cond (b && true) (Some (is_existing dot)) None) false || list_any (λ (n : List ℕ). bytes_eq n name) names) other
 

@@ -6,9 +6,8 @@ use Rattle.node_graph.specs.Tree.{EdgeKey, EdgeTo, Tree, names_in}
 use Rattle.path_walk.specs.Names.{IsName}
 use Rattle.tree_file.specs.Accepted.{AreAccepted}
 use Rattle.tree_file.specs.Items.{Lists}
-use Rattle.conn_rules.specs.NameRows.{every_event}
 use Rattle.watch_events.specs.Events.{Event}
-use Rattle.watch_events.specs.Messages.{watch_frame}
+use Rattle.watch_events.specs.Messages.{added, asks_for, existing, removed, watch_frame}
 use Rattle.watch_events.specs.NamesNow.{is_named_now}
 use Rattle.vfs_journal.specs.Deaths.{deaths_of}
 use Rattle.vfs_journal.specs.Entries.{Journal, Sent, serves}
@@ -50,11 +49,18 @@ pub record KnowsItsNames (start : Start) (history : History) (watcher : Bound) :
   pub alone : (others : List Event) → AreWritten (messages_on start history watcher.endpoint) others → others ≡ events
   pub named : (name : List ℕ) → IsTrue (is_named_now events name) ↔ Contains (names_in (tree_at (trees_of start history) watcher.server).edges watcher.birth.node) name
 
--- so it is at each time for a watcher that lives and asks for every event, and also when its directory is gone: that has no name
+-- its mask asks for EXISTING, for ADDED and for REMOVED, the events that put a name in or take one out. DELETED and IDLE do neither, so that
+-- it makes no difference whether the mask asks for these
+pub record AsksForNames (watcher : Bound) : Type 0 where
+  pub snapshot : asks_for watcher.mask existing ≡ true
+  pub additions : asks_for watcher.mask added ≡ true
+  pub removals : asks_for watcher.mask removed ≡ true
+
+-- so it is at each time for a watcher that lives and asks for names, and also when its directory is gone: that has no name
 abbrev pub WatchersKnowTheirNames : Type 0
 WatchersKnowTheirNames =
     (start : Start) (later past : Journal) (watcher : Bound) → IsStart start → All HasNames start.trees → Lawful start (later ++ past) →
-    Contains (living start (history_of start past)) watcher → is_watcher watcher.birth.protocol ≡ true → watcher.mask ≡ every_event →
+    Contains (living start (history_of start past)) watcher → is_watcher watcher.birth.protocol ≡ true → AsksForNames watcher →
     KnowsItsNames start (history_of start past) watcher
 
 -- so it is in each tree of a file that is accepted

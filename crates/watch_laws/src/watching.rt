@@ -29,8 +29,8 @@ pub fn watchers_die_of_no_change()
     path_laws();
 }
 
-/// At each time of a lawful journal over a sound start whose names break no rule, what was written on a living watcher that asks for every
-/// event stands for the names of its directory at that time; where no two names have equal ordinals.
+/// At each time of a lawful journal over a sound start whose names break no rule, what was written on a living watcher whose mask has
+/// EXISTING, ADDED and REMOVED stands for the names of its directory at that time; where no two names have equal ordinals.
 pub fn watchers_know_their_names()
     ensures { AreDistinct → WatchersKnowTheirNames }
 {
