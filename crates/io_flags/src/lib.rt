@@ -11,6 +11,3 @@ pub use check::OpenFlags;
 pub use faults::FlagFault;
 pub use grants::{asked, explicit, forwarded, grant, laws_of_flags, words_are_sets};
 pub use names::Flag;
-
-#[cfg(test)]
-mod tests;

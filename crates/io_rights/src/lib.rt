@@ -10,6 +10,3 @@ pub use operations::Operation;
 pub use sets::{Rights, laws_of_rights};
 pub use table::needed;
 pub use texts::{Letters, read_rights};
-
-#[cfg(test)]
-mod tests;

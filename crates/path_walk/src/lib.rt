@@ -10,6 +10,3 @@ pub use faults::PathFault;
 pub use names::check_name;
 pub use parts::{last_name, parent_of};
 pub use walk::{Path, path_laws};
-
-#[cfg(test)]
-mod tests;

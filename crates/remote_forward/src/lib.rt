@@ -6,6 +6,3 @@ mod onward;
 
 pub use mounts::{MountTarget, Mounts};
 pub use onward::forward;
-
-#[cfg(test)]
-mod tests;

@@ -1,7 +1,12 @@
-use crate::{Operation, Rights, laws_of_rights, needed, read_rights};
+//! The text of each set of rights, texts that are none, and the right that each method needs.
 use fidl_names::Method;
+use io_rights::{Operation, Rights, laws_of_rights, needed, read_rights};
 use std::alloc::{AllocError, Global};
 use std::test::Fail;
+
+pub(crate) fn rights_of(bits: u16) -> Result<Rights, Fail> {
+    Ok(Rights::from_bits(bits).ok_or("these are bits of rights")?)
+}
 
 // The text of the rights with these bits, from the order of the letters alone.
 fn text_of(alloc: Global, bits: u16) -> Result<Vec<u8>, AllocError> {
@@ -23,7 +28,7 @@ fn text_of(alloc: Global, bits: u16) -> Result<Vec<u8>, AllocError> {
 fn each_set_has_its_text(rt: HostRuntime) -> Result<(), Fail> {
     for bits in 0..512u16 {
         let text = text_of(rt.alloc(), bits)?;
-        let rights = Rights::from_bits(bits).ok_or("these are bits of rights")?;
+        let rights = rights_of(bits)?;
         assert_eq!(rt; rights.bits(), bits);
         assert!(rt;
             rights.letters().as_bytes() == text.as_slice(),

@@ -1,15 +1,18 @@
-use crate::PathFault::{DotName, Empty, EmptyName, NameTooLong, NotUtf8, Slash, TooLong, ZeroByte};
-use crate::{Path, PathFault, check_name, path_laws};
+//! Texts that are paths, with their names, and texts that are none, with their faults.
+use path_walk::PathFault::{
+    DotName, Empty, EmptyName, NameTooLong, NotUtf8, Slash, TooLong, ZeroByte,
+};
+use path_walk::{Path, PathFault, check_name, path_laws};
 use std::alloc::{AllocError, Global};
 use std::test::Fail;
 
 // Pieces, each with the number of times that it stands there.
-type Pieces = &'static [(&'static [u8], usize)];
+pub(crate) type Pieces = &'static [(&'static [u8], usize)];
 
 const LONG_NAME_AND_SLASH: &[u8] =
     b"xxxxxxxxxxxxxxxxxxxxxxxxxxxxxxxxxxxxxxxxxxxxxxxxxxxxxxxxxxxxxxxxxxxxxxxxxxxxxxxxxxxxxxxxxxxxxxxxxxxxxxxxxxxxxxxxxxxxxxxxxxxxxxxxxxxxxxxxxxxxxxxxxxxxxxxxxxxxxxxxxxxxxxxxxxxxxxxxxxxxxxxxxxxxxxxxxxxxxxxxxxxxxxxxxxxxxxxxxxxxxxxxxxxxxxxxxxxxxxxxxxxxxxxxxxxxxxx/";
 
-fn text_of(alloc: Global, pieces: Pieces) -> Result<Vec<u8>, AllocError> {
+pub(crate) fn text_of(alloc: Global, pieces: Pieces) -> Result<Vec<u8>, AllocError> {
     let mut text = Vec::new(alloc);
     for (piece, count) in pieces {
         for _ in 0..*count {

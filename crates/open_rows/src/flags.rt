@@ -1,8 +1,9 @@
-use crate::{
+//! Words of flags: their rights, their faults, what they are granted, and the word that goes on.
+use crate::rights::rights_of;
+use fidl_names::Status;
+use io_flags::{
     Flag, FlagFault, OpenFlags, asked, explicit, forwarded, grant, laws_of_flags, words_are_sets,
 };
-use fidl_names::Status;
-use io_rights::Rights;
 use std::process::Abort;
 use std::test::Fail;
 
@@ -162,10 +163,6 @@ const NOT_GRANTED: &[(u64, u16, u16, u64)] = &[
 
 fn flags_of(word: u64) -> Result<OpenFlags, Fail> {
     Ok(OpenFlags::check(word).ok().ok_or("a word without a fault")?)
-}
-
-fn rights_of(bits: u16) -> Result<Rights, Fail> {
-    Ok(Rights::from_bits(bits).ok_or("these are bits of rights")?)
 }
 
 fn accepts(rt: &impl Abort, table: &[(u64, u16, u16)]) -> Result<(), Fail> {

@@ -1,9 +1,10 @@
-use crate::{MountTarget, Mounts, forward};
+//! The Open that goes on behind a mount, byte by byte, and where each of as many mounts as there may be goes on.
+use crate::paths::text_of;
 use fidl_names::Handle;
 use fidl_wire::{Ordinals, Out};
 use io_flags::OpenFlags;
 use path_walk::Path;
-use std::alloc::{AllocError, Global};
+use remote_forward::{MountTarget, Mounts, forward};
 use std::test::Fail;
 
 // A path, flags and an object, with the message, written down field by field: the header, the path's
@@ -71,21 +72,11 @@ fn what_goes_on_is_spelled(rt: HostRuntime) -> Result<(), Fail> {
     Ok(())
 }
 
-// A path of 2,048 names of one byte: `m/` 2,047 times, and `g`.
-fn longest_path(alloc: Global) -> Result<Vec<u8>, AllocError> {
-    let mut path = Vec::new(alloc);
-    for _ in 0..2047 {
-        path.extend_from_slice(b"m/")?;
-    }
-    path.push(b'g')?;
-    Ok(path)
-}
-
 #[test]
 fn the_longest_path_fits(rt: HostRuntime) -> Result<(), Fail> {
     let ordinals = Ordinals::new()?;
     let mut out = Out::new(rt.alloc())?;
-    let path = longest_path(rt.alloc())?;
+    let path = text_of(rt.alloc(), &[(b"m/", 2047), (b"g", 1)])?;
     let written = write(&ordinals, &path, 2, 2, &mut out);
     assert!(rt; written && path.len() == 4095);
     let bytes = out.as_bytes();
