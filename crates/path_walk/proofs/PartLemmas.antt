@@ -6,8 +6,7 @@ use Rattle.std.proofs.lemmas.Bool.{ltb-false, eqb-false, eqb-true}
 use Rattle.std.proofs.lemmas.List.{reverse-append, take-append-drop, drop_more, get_or-drop, length-drop}
 use Rattle.std.proofs.lemmas.List.Elements.{All-nil, All-cons, All-head, All-contains, Contains-push, All-from_get_or}
 use Rattle.std.proofs.lemmas.List.Splits.{slice_split_none, length-slice_split, slice_split-cons_yes, slice_split-cons_no}
-use Rattle.std.proofs.lemmas.Slice.Eq.{bytes_eq-Decides}
-use Rattle.fidl_names.specs.First.{cause_if, first_of}
+use Rattle.fidl_names.specs.First.{cause_if}
 use Rattle.fidl_names.specs.declared.limits.TheConstants as limit
 use Rattle.fidl_names.proofs.FirstLaws.{first_of-none, cause_if-none}
 use Rattle.path_walk.specs.declared.faults.PathFault.{PathFault}
