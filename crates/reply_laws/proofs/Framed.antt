@@ -96,13 +96,17 @@ one_reply : (own : ℕ) (handles bytes : List ℕ) → (txid_in bytes == 0) ≡ 
 one_reply own handles bytes id =
     ap (λ (same : Bool). same && not (txid_in bytes == 0)) (eq-eqb own own refl) ∙ ap (λ (zero : Bool). not zero) id
 
+-- there is one reply on an endpoint, with this transaction id
+abbrev pub IsReplied : ℕ → ℕ → List Frame → Type 0
+IsReplied own txid frames = (reply : Frame) × (filter (is_reply_on own) frames ≡ reply ∷ []) × (txid_in reply.bytes ≡ txid)
+
 -- what an answer's frames are to an endpoint with this transaction id: there is no reply on another endpoint; with an id there is one on
 -- this, unless it ends with a status; and none without
 pub record AreFramed (own txid : ℕ) (frames : List Frame) : Type 0 where
   pub others : (e : ℕ) → (own == e) ≡ false → filter (is_reply_on e) frames ≡ []
   pub one_way : (txid == 0) ≡ true → filter (is_reply_on own) frames ≡ []
   pub two_way : (txid == 0) ≡ false →
-      ((status : Status) × (frames ≡ ending own status)) ⊎ ((reply : Frame) × (filter (is_reply_on own) frames ≡ reply ∷ []) × (txid_in reply.bytes ≡ txid))
+      ((status : Status) × (frames ≡ ending own status)) ⊎ IsReplied own txid frames
 
 -- no reply at all, where none is asked for
 unasked : (own txid : ℕ) (frames : List Frame) → (txid == 0) ≡ true → ((e : ℕ) → filter (is_reply_on e) frames ≡ []) → AreFramed own txid frames
@@ -129,22 +133,28 @@ announced_none e object p false = refl
 announced_none e object p true =
     first_kept (is_reply_on e) (frame_with object kind.Message [] (event_bytes p)) false (no_reply e object [] (event_bytes p) (event_id p))
 
--- a reply, and what is none behind it
-replied_with : (asker : Asker) (a : Answered) (frames : List Frame) → ((e : ℕ) → filter (is_reply_on e) frames ≡ cond (is_reply_on e (reply_frame asker a)) (reply_frame asker a ∷ []) []) →
-    IsShort asker.txid → (asker.txid == 0) ≡ false → AreFramed asker.endpoint asker.txid frames
-replied_with asker a frames are short id =
+-- of these frames the reply alone is one
+abbrev OnlyReplies : Asker → Answered → List Frame → Type 0
+OnlyReplies asker a frames = (e : ℕ) → filter (is_reply_on e) frames ≡ cond (is_reply_on e (reply_frame asker a)) (reply_frame asker a ∷ []) []
+
+only_replied : (asker : Asker) (a : Answered) (frames : List Frame) → OnlyReplies asker a frames → IsShort asker.txid → (asker.txid == 0) ≡ false → IsReplied asker.endpoint asker.txid frames
+only_replied asker a frames are short id =
     let handles = map number_of_handle (reply_handles a) in
     let bytes = reply_bytes asker.txid a in
-    let same : txid_in bytes ≡ asker.txid = reply_id asker.txid a short in
-    record {
-      others = λ e other. are e ∙ first_kept (is_reply_on e) (reply_frame asker a) false (other_reply e asker.endpoint handles bytes other);
-      one_way = λ z. absurd (cc);
-      two_way = λ z. inr (
-        reply_frame asker a,
-        are asker.endpoint ∙ first_kept (is_reply_on asker.endpoint) (reply_frame asker a) true (one_reply asker.endpoint handles bytes (ap (λ (n : ℕ). n == 0) same ∙ id)),
-        same,
-      );
-    }
+    let same : txid_in bytes ≡ asker.txid = reply_id asker.txid a short in (
+      reply_frame asker a,
+      are asker.endpoint ∙ first_kept (is_reply_on asker.endpoint) (reply_frame asker a) true (one_reply asker.endpoint handles bytes (ap (λ (n : ℕ). n == 0) same ∙ id)),
+      same,
+    )
+
+-- a reply, and what is none behind it
+replied_with : (asker : Asker) (a : Answered) (frames : List Frame) → OnlyReplies asker a frames → IsShort asker.txid → (asker.txid == 0) ≡ false → AreFramed asker.endpoint asker.txid frames
+replied_with asker a frames are short id = record {
+  others = λ e other.
+      are e ∙ first_kept (is_reply_on e) (reply_frame asker a) false (other_reply e asker.endpoint (map number_of_handle (reply_handles a)) (reply_bytes asker.txid a) other);
+  one_way = λ z. absurd (cc);
+  two_way = λ z. inr (only_replied asker a frames are short id);
+}
 
 replied : (asker : Asker) (a : Answered) → IsShort asker.txid → (asker.txid == 0) ≡ false → AreFramed asker.endpoint asker.txid (frames_of asker (replies a))
 replied asker a short id = replied_with asker a (reply_frame asker a ∷ []) (λ e. refl) short id
@@ -177,6 +187,18 @@ two_way_framed asker (refuses status) is short id = absurd is
 two_way_framed asker (ends status) is short id = absurd is
 two_way_framed asker hangs_up is short id = absurd is
 two_way_framed asker silent is short id = absurd is
+
+-- such an answer is a reply, whatever it says
+two_way_replied : (asker : Asker) (answer : Answer) → IsTwoWay answer → IsShort asker.txid → (asker.txid == 0) ≡ false → IsReplied asker.endpoint asker.txid (frames_of asker answer)
+two_way_replied asker (replies a) is short id = only_replied asker a (reply_frame asker a ∷ []) (λ e. refl) short id
+two_way_replied asker closes is short id = only_replied asker (done method.Close) (reply_frame asker (done method.Close) ∷ close_frame asker.endpoint ∷ []) (λ e. refl) short id
+two_way_replied asker (watches mask) is short id = only_replied asker (settled method.Watch) (reply_frame asker (settled method.Watch) ∷ []) (λ e. refl) short id
+two_way_replied asker (binds birth announced) is short id = absurd is
+two_way_replied asker (forwards mount flags rest) is short id = absurd is
+two_way_replied asker (refuses status) is short id = absurd is
+two_way_replied asker (ends status) is short id = absurd is
+two_way_replied asker hangs_up is short id = absurd is
+two_way_replied asker silent is short id = absurd is
 
 one_way_framed : (asker : Asker) (answer : Answer) → IsOneWay answer → (asker.txid == 0) ≡ true → AreFramed asker.endpoint asker.txid (frames_of asker answer)
 one_way_framed asker (binds birth announced) is zero = unasked asker.endpoint asker.txid _ zero (λ e. announced_none e asker.object birth.protocol announced)
@@ -310,16 +332,51 @@ read_framed moment id (Ok found) short has =
     (way_framed asker answer (is_one_way (method_of found.1)) (in_way moment.room moment.tree found.1 answer (act_answers (context_at moment) found.1).0)
     (ap (has_txid (is_one_way (method_of found.1))) has.0 ∙ has.1) (subst IsShort (sym has.0) short))
 
+-- what is read so has a reply: a request whose method has one, or an unknown method that asks for one
+abbrev pub HasReply : Read → Type 0
+HasReply (Ok found) = is_one_way (method_of found.1) ≡ false
+HasReply (Err (UnknownTwoWay txid ordinal)) = Unit {0}
+HasReply (Err (Malformed fault)) = ⊥
+HasReply (Err UnknownStrict) = ⊥
+HasReply (Err UnknownOneWay) = ⊥
+
+way_replied : (asker : Asker) (answer : Answer) (one_way : Bool) → one_way ≡ false → IsInWay one_way answer → has_txid one_way asker.txid ≡ true → IsShort asker.txid → IsReplied asker.endpoint asker.txid (frames_of asker answer)
+way_replied asker answer true two is id short = absurd (cc)
+way_replied asker answer false two is id short = two_way_replied asker answer is short (not_zero (asker.txid == 0) id)
+
+read_replied : (moment : Moment) (id : ℕ) (read : Read) → IsShort id → HasId id read → HasReply read → IsReplied moment.bound.endpoint id (outcome_of_read moment read).frames
+read_replied moment id (Ok found) short has two =
+    let asker = asker_of moment.bound found.0 (object_of found.1) in
+    let answer = (request_act moment found.1).answer in
+    subst (λ (n : ℕ). IsReplied moment.bound.endpoint n (frames_of asker answer)) has.0
+    (way_replied asker answer (is_one_way (method_of found.1)) two (in_way moment.room moment.tree found.1 answer (act_answers (context_at moment) found.1).0)
+    (ap (has_txid (is_one_way (method_of found.1))) has.0 ∙ has.1) (subst IsShort (sym has.0) short))
+read_replied moment id (Err (UnknownTwoWay txid ordinal)) short has two =
+    let asker = asker_of moment.bound txid 0 in
+    subst (λ (n : ℕ). IsReplied moment.bound.endpoint n (frames_of asker (replies (unknown ordinal)))) has.0
+    (two_way_replied asker (replies (unknown ordinal)) tt (subst IsShort (sym has.0) short) (ap (λ (n : ℕ). n == 0) has.0 ∙ has.1))
+read_replied moment id (Err (Malformed fault)) short has two = absurd two
+read_replied moment id (Err UnknownStrict) short has two = absurd two
+read_replied moment id (Err UnknownOneWay) short has two = absurd two
+
 -- a watcher's endpoint answers nothing, and each other one what is asked
 pub record IsFramed (p : Protocol) (own : ℕ) (sending : Sending) (frames : List Frame) : Type 0 where
   pub watcher : is_watcher p ≡ true → frames ≡ []
   pub framed : is_watcher p ≡ false → AreFramed own (txid_of sending) frames
+  pub replied : (bytes handles : List ℕ) → is_watcher p ≡ false → sending ≡ message bytes handles → HasReply (read_by p bytes handles) → IsReplied own (txid_of sending) frames
+
+-- what a sending is read as; a hang-up as nothing that asks for a reply
+abbrev read_as : Protocol → Sending → Read
+read_as p (message bytes handles) = read_by p bytes handles
+read_as p hang_up = Err UnknownOneWay
 
 other_framed : (moment : Moment) (p : Protocol) (bytes handles : List ℕ) → is_watcher p ≡ false → IsShort (txid_in bytes) →
     IsFramed p moment.bound.endpoint (message bytes handles) (outcome_of_read moment (read_by p bytes handles)).frames
 other_framed moment p bytes handles other short = record {
   watcher = λ w. absurd (cc);
   framed = λ n. read_framed moment (txid_in bytes) (read_by p bytes handles) short (read_has p bytes (map handle_with handles));
+  replied = λ bs hs n e has.
+      read_replied moment (txid_in bytes) (read_by p bytes handles) short (read_has p bytes (map handle_with handles)) (subst HasReply (ap (read_as p) (sym e)) has);
 }
 
 message_framed : (moment : Moment) (p : Protocol) (bytes handles : List ℕ) → IsShort (txid_in bytes) →
@@ -328,10 +385,14 @@ message_framed moment protocol.Directory bytes handles short = other_framed mome
 message_framed moment protocol.File bytes handles short = other_framed moment protocol.File bytes handles refl short
 message_framed moment protocol.Node bytes handles short = other_framed moment protocol.Node bytes handles refl short
 message_framed moment protocol.Echo bytes handles short = other_framed moment protocol.Echo bytes handles refl short
-message_framed moment protocol.Watcher bytes handles short = record { watcher = λ w. refl; framed = λ n. absurd (cc) }
+message_framed moment protocol.Watcher bytes handles short = record { watcher = λ w. refl; framed = λ n. absurd (cc); replied = λ bs hs n e has. absurd (cc) }
 
 pub sending_framed : (moment : Moment) (sending : Sending) → IsShort (txid_of sending) →
     IsFramed moment.bound.birth.protocol moment.bound.endpoint sending (outcome_of_sending moment sending).frames
 unfolding outcome_of_sending
 sending_framed moment (message bytes handles) short = message_framed moment moment.bound.birth.protocol bytes handles short
-sending_framed moment hang_up short = record { watcher = λ w. refl; framed = λ n. unasked moment.bound.endpoint 0 [] refl (λ e. refl) }
+sending_framed moment hang_up short = record {
+  watcher = λ w. refl;
+  framed = λ n. unasked moment.bound.endpoint 0 [] refl (λ e. refl);
+  replied = λ bs hs n e has. absurd (subst HasReply (ap (read_as moment.bound.birth.protocol) (sym e)) has);
+}

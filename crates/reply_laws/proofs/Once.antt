@@ -3,7 +3,6 @@ use Rattle.std.proofs.Common.{◌≡◌, ℕ, ◌==◌, ◌⊎◌, ◌∙◌, Bo
 use Rattle.std.proofs.lemmas.Bool.{eqb-true}
 use Rattle.std.proofs.lemmas.List.Elements.{Contains-append_left}
 use Rattle.std.proofs.lemmas.List.Kept.{AllPairs-cons}
-use Rattle.endpoint_link.specs.Frames.{Frame}
 use Rattle.endpoint_link.specs.Numbering.{among}
 use Rattle.fidl_names.specs.declared.statuses.Status.{Status}
 use Rattle.vfs_journal.specs.Entries.{Journal, Sent, sends, serves, refuses}
@@ -15,13 +14,13 @@ use Rattle.vfs_journal.specs.Starts.{Start}
 use Rattle.journal_laws.proofs.Members.{contains_none, none_passes}
 use Rattle.journal_laws.proofs.Places.{head_is, waits_unserved}
 use Rattle.journal_laws.proofs.Steps.{births-more}
-use Rattle.reply_laws.proofs.Framed.{AreFramed}
+use Rattle.reply_laws.proofs.Framed.{AreFramed, HasReply, IsReplied}
 use Rattle.reply_laws.proofs.Front.{bound_lives}
 use Rattle.reply_laws.proofs.Grown.{Grown, none, refusing, sending, serving}
 use Rattle.journal_laws.proofs.Filters.{all_of}
 use Rattle.reply_laws.proofs.Served.{IsServedOn, answer_before, answer_now, new_elsewhere, served_cases, served_on_bound}
 use Rattle.reply_laws.specs.Laws.{IsAnswered}
-use Rattle.reply_laws.specs.Pipelined.{EndsByEpitaph, HasOneReply, answer_to, is_reply_on, served_on, txid_in, txid_of}
+use Rattle.reply_laws.specs.Pipelined.{EndsByEpitaph, HasOneReply, answer_to, is_reply_on, served_on, txid_of}
 
 -- ---- answers
 
@@ -47,6 +46,8 @@ now_answered start past new h =
       watcher = λ is. answer ∙ h.framed.watcher is;
       one_way = λ is. ap (filter (is_reply_on new.endpoint)) answer ∙ none_by (is_watcher h.bound.birth.protocol) refl (swapped (txid_of new.sending == 0) is);
       two_way = λ other is. by_answer ((own other).two_way (unset (txid_of new.sending == 0) is));
+      request = λ bytes handles txid asked other is reads has. in_reply (h.framed.replied bytes handles other is (subst HasReply (sym reads) has));
+      unknown = λ bytes handles txid ordinal other is reads. in_reply (h.framed.replied bytes handles other is (subst HasReply (sym reads) tt));
     }
   where
     own : is_watcher h.bound.birth.protocol ≡ false → AreFramed new.endpoint (txid_of new.sending) (outcome_of start past new).frames
@@ -56,11 +57,16 @@ now_answered start past new h =
     none_by true is z = ap (filter (is_reply_on new.endpoint)) (h.framed.watcher is)
     none_by false is z = (own is).one_way z
 
-    by_answer : ((status : Status) × ((outcome_of start past new).frames ≡ ending new.endpoint status))
-        ⊎ ((reply : Frame) × (filter (is_reply_on new.endpoint) (outcome_of start past new).frames ≡ reply ∷ []) × (txid_in reply.bytes ≡ txid_of new.sending)) →
+    has_one : IsReplied new.endpoint (txid_of new.sending) (outcome_of start past new).frames → HasOneReply (behind start (serves new) past) new
+    has_one replied = (replied.0, ap (filter (is_reply_on new.endpoint)) (answer_now start past new) ∙ replied.1, replied.2)
+
+    in_reply : IsReplied h.bound.endpoint (txid_of new.sending) (outcome_of start past new).frames → HasOneReply (behind start (serves new) past) new
+    in_reply replied = has_one (subst (λ (n : ℕ). IsReplied n (txid_of new.sending) (outcome_of start past new).frames) h.on replied)
+
+    by_answer : ((status : Status) × ((outcome_of start past new).frames ≡ ending new.endpoint status)) ⊎ IsReplied new.endpoint (txid_of new.sending) (outcome_of start past new).frames →
         EndsByEpitaph (behind start (serves new) past) new ⊎ HasOneReply (behind start (serves new) past) new
     by_answer (inl ended) = inl (ended.0, answer_now start past new ∙ ended.1)
-    by_answer (inr replied) = inr (replied.0, ap (filter (is_reply_on new.endpoint)) (answer_now start past new) ∙ replied.1, replied.2)
+    by_answer (inr replied) = inr (has_one replied)
 
 -- what was answered before is so behind an event that leaves its answer
 still_answered : (start : Start) (event : Event) (past : History) (one : Sent) → answer_to (event ∷ past) one ≡ answer_to past one → IsAnswered start past one → IsAnswered start (event ∷ past) one
@@ -71,10 +77,15 @@ still_answered start event past one same h = record {
   watcher = λ is. same ∙ h.watcher is;
   one_way = λ is. ap (filter (is_reply_on one.endpoint)) same ∙ h.one_way is;
   two_way = λ other is. by_answer (h.two_way other is);
+  request = λ bytes handles txid asked other is reads has. still_one (h.request bytes handles txid asked other is reads has);
+  unknown = λ bytes handles txid ordinal other is reads. still_one (h.unknown bytes handles txid ordinal other is reads);
 } where
+  still_one : HasOneReply past one → HasOneReply (event ∷ past) one
+  still_one replied = (replied.0, ap (filter (is_reply_on one.endpoint)) same ∙ replied.1, replied.2)
+
   by_answer : EndsByEpitaph past one ⊎ HasOneReply past one → EndsByEpitaph (event ∷ past) one ⊎ HasOneReply (event ∷ past) one
   by_answer (inl ended) = inl (ended.0, same ∙ ended.1)
-  by_answer (inr replied) = inr (replied.0, ap (filter (is_reply_on one.endpoint)) same ∙ replied.1, replied.2)
+  by_answer (inr replied) = inr (still_one replied)
 
 -- an event that serves nothing
 served_earlier : (event : Event) (past : History) (endpoint : ℕ) (one : Sent) → served_by event.entry ≡ None → Contains (served_on (event ∷ past) endpoint) one → Contains (served_on past endpoint) one

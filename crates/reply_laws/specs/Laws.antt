@@ -1,8 +1,9 @@
 -- Pipelining: a client may send on, and has its replies in the order in which it sent.
-use Rattle.std.specs.Prelude.{◌≡◌, ◌⊎◌, ℕ, true, false, not, AllPairs, Contains, List, [], ◌++◌, flat_map, Ok}
+use Rattle.std.specs.Prelude.{◌≡◌, ◌⊎◌, ℕ, true, false, not, AllPairs, Contains, List, [], ◌++◌, flat_map, Ok, Err}
 use Rattle.endpoint_link.specs.Numbering.{among}
 use Rattle.io_messages.specs.Asked.{Asked, method_of}
 use Rattle.io_messages.specs.declared.protocols.Protocol.{Protocol}
+use Rattle.io_messages.specs.declared.requests.RequestFault.TheVariants.{UnknownTwoWay}
 use Rattle.io_messages.specs.Shapes.{is_one_way}
 use Rattle.vfs_journal.specs.Entries.{Journal, Sent, message}
 use Rattle.vfs_journal.specs.History.{History, births, is_dead, is_watcher, serves_on, waiting, was_served}
@@ -31,7 +32,9 @@ RepliesAreInOrder =
 -- ---- once
 
 -- what was served was served on an endpoint with a birth. A watcher's answers nothing. A message without a transaction id has no reply. On
--- any other endpoint one with such an id has exactly one, with this id, unless it ended its endpoint by an epitaph
+-- any other endpoint one with such an id has exactly one, with this id, unless it ended its endpoint by an epitaph. No epitaph stands in
+-- place of the reply to a request: a message that is read as a request whose method has a reply has exactly one, and so has one of an unknown
+-- method that is flexible and asks for one
 pub record IsAnswered (start : Start) (history : History) (sent : Sent) : Type 0 where
   pub bound : Bound
   pub born : Contains (births start history) bound
@@ -39,6 +42,10 @@ pub record IsAnswered (start : Start) (history : History) (sent : Sent) : Type 0
   pub watcher : is_watcher bound.birth.protocol ≡ true → answer_to history sent ≡ []
   pub one_way : is_two_way sent.sending ≡ false → replies_to history sent ≡ []
   pub two_way : is_watcher bound.birth.protocol ≡ false → is_two_way sent.sending ≡ true → EndsByEpitaph history sent ⊎ HasOneReply history sent
+  pub request : (bytes handles : List ℕ) (txid : ℕ) (asked : Asked) → is_watcher bound.birth.protocol ≡ false → sent.sending ≡ message bytes handles →
+      read_by bound.birth.protocol bytes handles ≡ Ok (txid, asked) → is_one_way (method_of asked) ≡ false → HasOneReply history sent
+  pub unknown : (bytes handles : List ℕ) (txid ordinal : ℕ) → is_watcher bound.birth.protocol ≡ false → sent.sending ≡ message bytes handles →
+      read_by bound.birth.protocol bytes handles ≡ Err (UnknownTwoWay txid ordinal) → HasOneReply history sent
 
 abbrev pub ServedIsAnswered : Type 0
 ServedIsAnswered =

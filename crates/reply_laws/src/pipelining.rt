@@ -12,7 +12,8 @@ pub fn replies_are_in_order()
 {}
 
 /// In a lawful journal a message that asks for a reply has exactly one once it is served, unless its endpoint is a watcher's or ends
-/// by an epitaph; any other has none.
+/// by an epitaph; any other has none. A message that is read as a request whose method has a reply has exactly one, and no epitaph in place
+/// of it.
 pub fn served_is_answered()
     ensures { ServedIsAnswered }
 {}
