@@ -6,7 +6,7 @@ use Rattle.vfs_world.proofs.beginning.begin_queues.Goals as goal
 
 pub bind_clients-requires-clause-none : goal.bind_clients-requires-clause-none
 bind_clients-requires-clause-none c =
-    none_bound c.args.start.now c.new-queues.result (subst (λ (n : ℕ). IsNew c.new-queues.result n) c.servers.ensures.count c.new-queues.ensures)
+    none_bound c.args.start.now c.in_ok-queues.queues (subst (λ (n : ℕ). IsNew c.in_ok-queues.queues n) c.servers.ensures.count c.in_ok-queues.ensures)
 
 pub returns : goal.returns
 returns c = holds_queues (start_of c.args.start.now) c.bind_mounts.new.queues c.in_ok-bind_mounts.ensures
