@@ -1,5 +1,6 @@
 -- What a session over a tree writes is the output of a lawful journal, or a front of it.
-use Rattle.std.proofs.Common.{◌≡◌, ℕ, ◌⊎◌, List, [], ◌∷◌, Option, Some, None, All, sym, ◌∙◌, subst, append-nil, inl, inr}
+use Rattle.std.proofs.Common.{◌≡◌, ℕ, ◌⊎◌, List, [], ◌∷◌, ◌++◌, Option, Some, None, All, drop, take, refl, sym, ap, ◌∙◌, subst, append-nil, take-append-drop, inl, inr}
+use Rattle.std.specs.Io.KnownBytes.{IsAtEnd}
 use Rattle.std.specs.Option.{option_map}
 use Rattle.fidl_wire.specs.Names.{AreDistinct}
 use Rattle.host_io.specs.Streams.{AppendsPart}
@@ -11,21 +12,19 @@ use Rattle.tree_file.specs.Items.{Lists}
 use Rattle.tree_file.specs.Rules.{document_of, failure_of, first_broken, first_failure, lists_of, rules_on_lists, start_from}
 use Rattle.tree_file.proofs.Accepted.{accepted_of}
 use Rattle.tree_file.proofs.GeneratedRules.{generated_accepted}
-use Rattle.endpoint_link.specs.Frames.{Frame, IsFrame}
+use Rattle.endpoint_link.specs.Frames.{Frame, Frames, IsFrame, spellings}
 use Rattle.endpoint_link.specs.declared.kinds.Mode.{Mode}
 use Rattle.endpoint_link.specs.declared.kinds.Mode.TheVariants.{Auto}
 use Rattle.endpoint_link.specs.declared.kinds.Side.TheVariants.{ToServers}
 use Rattle.vfs_journal.specs.Entries.{Journal}
 use Rattle.vfs_journal.specs.Lawful.{Lawful}
-use Rattle.vfs_journal.specs.Output.{output_of}
 use Rattle.vfs_journal.specs.Session.{ended, session}
 use Rattle.vfs_journal.specs.Starts.{start_of}
 use Rattle.journal_laws.proofs.Draining.{sessions_are_lawful}
-use Rattle.session_laws.specs.Laws.{IsLawfulOutput}
+use Rattle.session_laws.specs.Laws.{IsLawfulOver}
 use Rattle.session_laws.proofs.Keeping.{lawful_over}
-use Rattle.vfs_script.specs.Scripts.{calls_of, count_calls, frames_of, script_lines}
-use Rattle.transcripts.specs.Answering.{count_answers}
-use Rattle.script_session.specs.Playing.{play_all, transcript}
+use Rattle.vfs_script.specs.Scripts.{frames_of}
+use Rattle.script_session.specs.Playing.{transcript}
 use Rattle.script_session.proofs.Shown.{transcript_is}
 use Rattle.workload.specs.Workload.{workload}
 use Rattle.run_status.specs.declared.statuses.Status.{Status}
@@ -33,7 +32,7 @@ use Rattle.run_status.specs.declared.statuses.Status.TheVariants as status
 use Rattle.run_status.specs.Causes.{After, Collides}
 use Rattle.run_status.specs.Outside.{Outside, SinkTold, Streams, sink_of}
 use Rattle.run_status.specs.Texts.{WritesPieces, WritesText}
-use Rattle.link_session.specs.Session.{EndsBehind, IsCutOff, IsFront, IsPartByEnd, IsPartSoFar, SessionAnswers, Wrote}
+use Rattle.link_session.specs.Session.{EndsBehind, IsCutOff, IsFront, IsPartByEnd, IsPartSoFar, SessionAnswers, Took, Wrote}
 use Rattle.named_files.specs.FileCauses.{AfterTree, HasNoStart}
 use Rattle.named_files.specs.Trees.{Stands}
 use Rattle.tree_session.specs.TreeSession.{tree_course}
@@ -75,67 +74,94 @@ stands_accepted told lists h = text_accepted h.text lists h.unbroken h.is
 front_whole : (bytes : List ℕ) → IsFront bytes bytes
 front_whole bytes = ([], sym (append-nil bytes))
 
-module _ (apart : AreDistinct) (lists : Lists) (accepted : AreAccepted lists) where
-  pub front_lawful : (journal : Journal) (part : List ℕ) → Lawful (start_of lists) journal → IsFront part (output_of (start_of lists) journal) → IsLawfulOutput lists part
-  front_lawful journal part h front = record { journal = journal; over = lawful_over apart lists journal accepted h; more = front.0; front = front.1 }
+-- whole frames in front of what was taken
+frames_in_front : (taken front more : List ℕ) (frames : List Frame) → taken ≡ front ++ more → Frames ToServers front frames [] → IsFront (spellings frames) taken
+frames_in_front taken front more frames e read = (more, e ∙ ap (λ l. l ++ more) (read.split ∙ append-nil (spellings frames)))
 
-  so_far_lawful : (by : Mode) (frames : List Frame) (part : List ℕ) → All (IsFrame ToServers) frames → IsFront part ((tree_course (start_of lists) by).so_far frames) → IsLawfulOutput lists part
+ends_begin : (taken : List ℕ) (at_end : Type 0) (frames : List Frame) → EndsBehind ToServers taken at_end frames → IsFront (spellings frames) taken
+ends_begin taken at_end frames (inl h) = (h.0, h.1.split)
+ends_begin taken at_end frames (inr h) = frames_in_front taken (take h.0 taken) (drop h.0 taken) frames (sym (take-append-drop h.0 taken)) h.3
+
+ends_are_frames : (taken : List ℕ) (at_end : Type 0) (frames : List Frame) → EndsBehind ToServers taken at_end frames → All (IsFrame ToServers) frames
+ends_are_frames taken at_end frames (inl h) = h.1.each
+ends_are_frames taken at_end frames (inr h) = h.3.each
+
+-- ---- what a session writes
+
+module _ (apart : AreDistinct) (told : Told) (lists : Lists) (stands : Stands told lists) (by : Mode) (before after : Streams) where
+  over : (journal : Journal) → Lawful (start_of lists) journal → IsLawfulOver lists journal
+  over journal h = lawful_over apart lists journal (stands_accepted told lists stands) h
+
+  so_far_lawful : (taken part : List ℕ) (frames : List Frame) → Took before after taken → IsFront (spellings frames) taken → All (IsFrame ToServers) frames
+      → Wrote before after part → IsFront part ((tree_course (start_of lists) by).so_far frames) → IsLawfulServing told by before after
   unfolding tree_course
-  so_far_lawful by frames part each front =
-      front_lawful (session (start_of lists) by frames) part (sessions_are_lawful (start_of lists) by frames each).0 front
+  so_far_lawful taken part frames took begins each wrote front =
+      let journal = session (start_of lists) by frames in
+      record {
+        lists = lists;
+        stands = stands;
+        taken = taken;
+        took = took;
+        frames = frames;
+        each = each;
+        begins = begins;
+        bytes = part;
+        wrote = wrote;
+        lawful = record { journal = journal; over = over journal (sessions_are_lawful (start_of lists) by frames each).0; more = front.0; front = front.1 };
+        own = inl refl;
+      }
 
-  by_end_lawful : (by : Mode) (frames : List Frame) (part : List ℕ) → All (IsFrame ToServers) frames → IsFront part ((tree_course (start_of lists) by).by_end frames) → IsLawfulOutput lists part
+  by_end_lawful : (taken part : List ℕ) (frames : List Frame) → Took before after taken → EndsBehind ToServers taken (IsAtEnd after.left) frames
+      → Wrote before after part → IsFront part ((tree_course (start_of lists) by).by_end frames) → IsLawfulServing told by before after
   unfolding tree_course
-  by_end_lawful by frames part each front =
-      front_lawful (ended (start_of lists) by frames) part (sessions_are_lawful (start_of lists) by frames each).1 front
+  by_end_lawful taken part frames took ends wrote front =
+      let journal = ended (start_of lists) by frames in
+      let each = ends_are_frames taken (IsAtEnd after.left) frames ends in
+      record {
+        lists = lists;
+        stands = stands;
+        taken = taken;
+        took = took;
+        frames = frames;
+        each = each;
+        begins = ends_begin taken (IsAtEnd after.left) frames ends;
+        bytes = part;
+        wrote = wrote;
+        lawful = record { journal = journal; over = over journal (sessions_are_lawful (start_of lists) by frames each).1; more = front.0; front = front.1 };
+        own = inr (refl, ends);
+      }
 
-  -- ---- what a session writes
+  all_by_end : (taken : List ℕ) (frames : List Frame) → Took before after taken → EndsBehind ToServers taken (IsAtEnd after.left) frames
+      → Wrote before after ((tree_course (start_of lists) by).by_end frames) → IsLawfulServing told by before after
+  all_by_end taken frames took ends wrote =
+      let all = (tree_course (start_of lists) by).by_end frames in by_end_lawful taken all frames took ends wrote (front_whole all)
 
-  record WritesLawfully (before after : Streams) : Type 0 where
-    bytes : List ℕ
-    wrote : Wrote before after bytes
-    lawful : IsLawfulOutput lists bytes
+  part_lawful : (taken part : List ℕ) → Took before after taken → Wrote before after part
+      → IsPartSoFar ToServers (tree_course (start_of lists) by) taken part ⊎ IsPartByEnd ToServers (tree_course (start_of lists) by) taken (IsAtEnd after.left) part
+      → IsLawfulServing told by before after
+  part_lawful taken part took wrote (inl h) =
+      so_far_lawful taken part h.frames took (frames_in_front taken h.front h.begins.0 h.frames h.begins.1 h.read) h.read.each wrote h.lawful
+  part_lawful taken part took wrote (inr h) = by_end_lawful taken part h.frames took h.ends wrote h.lawful
 
-  wrote_so_far : (by : Mode) (before after : Streams) (frames : List Frame) → All (IsFrame ToServers) frames → Wrote before after ((tree_course (start_of lists) by).so_far frames) → WritesLawfully before after
-  wrote_so_far by before after frames each w = record {
-    bytes = (tree_course (start_of lists) by).so_far frames;
-    wrote = w;
-    lawful = so_far_lawful by frames ((tree_course (start_of lists) by).so_far frames) each (front_whole ((tree_course (start_of lists) by).so_far frames));
-  }
+  cut_lawful : IsCutOff ToServers (tree_course (start_of lists) by) before after → IsLawfulServing told by before after
+  cut_lawful h = part_lawful h.taken h.part h.took h.wrote h.lawful
 
-  wrote_by_end : (by : Mode) (before after : Streams) (frames : List Frame) → All (IsFrame ToServers) frames → Wrote before after ((tree_course (start_of lists) by).by_end frames) → WritesLawfully before after
-  wrote_by_end by before after frames each w = record {
-    bytes = (tree_course (start_of lists) by).by_end frames;
-    wrote = w;
-    lawful = by_end_lawful by frames ((tree_course (start_of lists) by).by_end frames) each (front_whole ((tree_course (start_of lists) by).by_end frames));
-  }
-
-  ends_are_frames : (taken : List ℕ) (at_end : Type 0) (frames : List Frame) → EndsBehind ToServers taken at_end frames → All (IsFrame ToServers) frames
-  ends_are_frames taken at_end frames (inl h) = h.1.each
-  ends_are_frames taken at_end frames (inr h) = h.3.each
-
-  part_lawful : (by : Mode) (taken part : List ℕ) (at_end : Type 0) →
-      IsPartSoFar ToServers (tree_course (start_of lists) by) taken part ⊎ IsPartByEnd ToServers (tree_course (start_of lists) by) taken at_end part → IsLawfulOutput lists part
-  part_lawful by taken part at_end (inl h) = so_far_lawful by h.frames part h.read.each h.lawful
-  part_lawful by taken part at_end (inr h) = by_end_lawful by h.frames part (ends_are_frames taken at_end h.frames h.ends) h.lawful
-
-  cut_lawful : (by : Mode) (before after : Streams) → IsCutOff ToServers (tree_course (start_of lists) by) before after → WritesLawfully before after
-  cut_lawful by before after h = record { bytes = h.part; wrote = h.wrote; lawful = part_lawful by h.taken h.part _ h.lawful }
-
-  session_lawful : (by : Mode) (before after : Streams) (same : Type 0) (answer : Status) → SessionAnswers ToServers (tree_course (start_of lists) by) before after same answer → WritesLawfully before after
-  session_lawful by before after same status.Done a = wrote_by_end by before after a.frames a.read.each a.wrote.0
-  session_lawful by before after same (status.Truncated at) a = wrote_by_end by before after a.frames a.read.each a.wrote.0
-  session_lawful by before after same (status.BadFrame at why) a = wrote_by_end by before after a.frames a.before_it.each a.wrote.0
-  session_lawful by before after same status.InputTooLong a = wrote_by_end by before after a.frames a.read.each a.wrote.0
-  session_lawful by before after same status.ReadFault a = wrote_so_far by before after a.frames a.read.each a.wrote
-  session_lawful by before after same status.WriteFault a = cut_lawful by before after a.0
-  session_lawful by before after same status.NoMemory a = cut_lawful by before after a.1
-  session_lawful by before after same status.Usage a = absurd a
-  session_lawful by before after same (status.TreeRefused rule item) a = absurd a
-  session_lawful by before after same (status.ScriptRefused line) a = absurd a
-  session_lawful by before after same (status.Collision first second) a = absurd a
-  session_lawful by before after same status.FileFault a = absurd a
-  session_lawful by before after same status.FileTooLarge a = absurd a
+  serving_lawful : (same : Type 0) (answer : Status) → SessionAnswers ToServers (tree_course (start_of lists) by) before after same answer → IsLawfulServing told by before after
+  serving_lawful same status.Done a = all_by_end a.taken a.frames a.took (inl ([], a.read, inl a.at_end)) a.wrote.0
+  serving_lawful same (status.Truncated at) a = all_by_end a.taken a.frames a.took (inl (a.rest, a.read, inl a.at_end)) a.wrote.0
+  serving_lawful same (status.BadFrame at why) a = all_by_end a.taken a.frames a.took (inr (at, why, a.bad, a.before_it)) a.wrote.0
+  serving_lawful same status.InputTooLong a = all_by_end a.taken a.frames a.took (inl (a.rest, a.read, inr a.many)) a.wrote.0
+  serving_lawful same status.ReadFault a =
+      let all = (tree_course (start_of lists) by).so_far a.frames in
+      so_far_lawful a.taken all a.frames a.took (a.rest, a.read.split) a.read.each a.wrote (front_whole all)
+  serving_lawful same status.WriteFault a = cut_lawful a.0
+  serving_lawful same status.NoMemory a = cut_lawful a.1
+  serving_lawful same status.Usage a = absurd a
+  serving_lawful same (status.TreeRefused rule item) a = absurd a
+  serving_lawful same (status.ScriptRefused line) a = absurd a
+  serving_lawful same (status.Collision first second) a = absurd a
+  serving_lawful same status.FileFault a = absurd a
+  serving_lawful same status.FileTooLarge a = absurd a
 
 -- ---- commands
 
@@ -143,12 +169,6 @@ after_either : {X : Type 0} (stops : Status → Type 0) (same : Type 0) (Found :
     → (same → Goal) → ((x : X) → Found x → rest x answer → Goal) → After stops same Found rest answer → Goal
 after_either stops same Found rest answer Goal still goes (inl a) = still a.1
 after_either stops same Found rest answer Goal still goes (inr a) = goes a.0 a.1 a.2
-
-serving_lawful : (apart : AreDistinct) (told : Told) (lists : Lists) (by : Mode) (before after : Streams) (same : Type 0) (answer : Status) → Stands told lists
-    → SessionAnswers ToServers (tree_course (start_of lists) by) before after same answer → IsLawfulServing told before after
-serving_lawful apart told lists by before after same answer stands a =
-    let h = session_lawful apart lists (stands_accepted told lists stands) by before after same answer a in
-    record { lists = lists; stands = stands; bytes = h.bytes; wrote = h.wrote; lawful = h.lawful }
 
 -- ---- scripts
 
@@ -169,9 +189,9 @@ text_part text starved before after status.InputTooLong part a = absurd a
 text_part text starved before after (status.Truncated at) part a = absurd a
 text_part text starved before after (status.BadFrame at why) part a = absurd a
 
-played_lawful : (apart : AreDistinct) (told : Told) (lists : Lists) (said : Said) (before after : Streams) (answer : Status) → Stands told lists → All (IsFrame ToServers) (frames_of said.text)
-    → WritesPieces (transcript (start_of lists) said.by said.text) (sink_of before) (sink_of after) answer → IsLawfulPlaying told before after
-played_lawful apart told lists said before after answer stands frames a =
+played_lawful : (apart : AreDistinct) (tree script : Told) (lists : Lists) (said : Said) (before after : Streams) (answer : Status) → Stands tree lists → IsPlayable script said
+    → WritesPieces (transcript (start_of lists) said.by said.text) (sink_of before) (sink_of after) answer → IsLawfulPlaying tree script before after
+played_lawful apart tree script lists said before after answer stands can a =
     let start = start_of lists in
     let text = transcript start said.by said.text in
     let part = text_part text (AppendsPart before.written after.written text) (sink_of before) (sink_of after) answer (λ part. part) a in
@@ -179,10 +199,11 @@ played_lawful apart told lists said before after answer stands frames a =
     record {
       lists = lists;
       stands = stands;
+      said = said;
+      says = can.says;
       journal = journal;
-      over = lawful_over apart lists journal (stands_accepted told lists stands) (sessions_are_lawful start said.by (frames_of said.text) frames).1;
-      calls = count_calls (calls_of said.text);
-      answers = count_answers (play_all start said.by (script_lines said.text));
+      own = refl;
+      over = lawful_over apart lists journal (stands_accepted tree lists stands) (sessions_are_lawful start said.by (frames_of said.text) can.frames).1;
       bytes = part.0;
       wrote = part.3;
       front = (part.1, sym (transcript_is start said.by said.text) ∙ part.2);
@@ -200,6 +221,7 @@ made_lawful apart rounds report before after answer is a =
     let journal = ended start Auto frames in
     record {
       journal = journal;
+      own = refl;
       over = lawful_over apart generated_lists journal generated_accepted (sessions_are_lawful start Auto frames is.sent).1;
       bytes = part.0;
       wrote = part.3;
@@ -209,15 +231,15 @@ made_lawful apart rounds report before after answer is a =
 pub lawful : (asks : Asks) (before after : Outside) (source_same sink_same : Type 0) (answer : Status) → (sink_same → WroteNothing before.streams after.streams)
     → Answers asks before after source_same sink_same answer → IsLawfulRun asks before after
 lawful (ServeOf tree by) before after S K answer none a =
-    let Goal : Type 0 = WroteNothing before.streams after.streams ⊎ IsLawfulServing (before.files.told tree) before.streams after.streams in
+    let Goal : Type 0 = WroteNothing before.streams after.streams ⊎ IsLawfulServing (before.files.told tree) by before.streams after.streams in
     let session : Lists → Status → Type 0 = λ lists. SessionAnswers ToServers (tree_course (start_of lists) by) before.streams after.streams K in
     let still : S × K → Goal = λ same. inl (none same.1) in
     after_either Collides (S × K) (λ (alone : Unit {0}). AreDistinct) (λ alone. AfterTree tree before.files after.files (S × K) session) answer Goal still
     (λ alone apart. after_either (HasNoStart tree before.files after.files) (S × K) (Stands (before.files.told tree)) session answer Goal still
-    (λ lists stands h. inr (serving_lawful apart (before.files.told tree) lists by before.streams after.streams K answer stands h))) a
+    (λ lists stands h. inr (serving_lawful apart (before.files.told tree) lists stands by before.streams after.streams K answer h))) a
 lawful (FileOf name) before after S K answer none a = tt
 lawful (RunOf tree script) before after S K answer none a =
-    let Goal : Type 0 = WroteNothing before.streams after.streams ⊎ IsLawfulPlaying (before.files.told tree) before.streams after.streams in
+    let Goal : Type 0 = WroteNothing before.streams after.streams ⊎ IsLawfulPlaying (before.files.told tree) (before.files.told script) before.streams after.streams in
     let told : Lists → Said → Status → Type 0 =
     λ lists said. WritesPieces (transcript (start_of lists) said.by said.text) (sink_of before.streams) (sink_of after.streams)
     in
@@ -226,7 +248,7 @@ lawful (RunOf tree script) before after S K answer none a =
     after_either Collides K (λ (alone : Unit {0}). AreDistinct) (λ alone. AfterTree tree before.files after.files K plays) answer Goal still
     (λ alone apart. after_either (HasNoStart tree before.files after.files) K (Stands (before.files.told tree)) plays answer Goal still
     (λ lists stands. after_either (HasNoScript script before.files after.files) K (IsPlayable (before.files.told script)) (told lists) answer Goal still
-    (λ said can h. inr (played_lawful apart (before.files.told tree) lists said before.streams after.streams answer stands can.frames h)))) a.1
+    (λ said can h. inr (played_lawful apart (before.files.told tree) (before.files.told script) lists said before.streams after.streams answer stands can h)))) a.1
 lawful (CheckOf tree) before after S K answer none a = tt
 lawful ShowAll before after S K answer none a = tt
 lawful (MakeOf rounds) before after S K answer none a =

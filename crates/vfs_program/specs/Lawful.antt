@@ -1,19 +1,28 @@
 -- That what a command writes is the output of a lawful journal, which keeps the laws of every session.
-use Rattle.std.specs.Prelude.{◌≡◌, ◌⊎◌, ℕ, List, ◌++◌}
+use Rattle.std.specs.Prelude.{◌≡◌, ◌⊎◌, ℕ, All, List, ◌++◌}
+use Rattle.std.specs.Io.KnownBytes.{IsAtEnd}
 use Rattle.host_io.specs.Told.{Told}
+use Rattle.endpoint_link.specs.Frames.{Frame, IsFrame, spellings}
+use Rattle.endpoint_link.specs.declared.kinds.Mode.{Mode}
+use Rattle.endpoint_link.specs.declared.kinds.Mode.TheVariants.{Auto}
+use Rattle.endpoint_link.specs.declared.kinds.Side.TheVariants.{ToServers}
 use Rattle.tree_file.specs.Generated.{generated_lists}
 use Rattle.tree_file.specs.Items.{Lists}
 use Rattle.vfs_journal.specs.Entries.{Journal}
-use Rattle.vfs_journal.specs.Starts.{start_of}
-use Rattle.vfs_script.specs.Scripts.{frames_of}
+use Rattle.vfs_journal.specs.Session.{ended, session}
+use Rattle.vfs_journal.specs.Starts.{Start, start_of}
+use Rattle.vfs_script.specs.Scripts.{calls_of, count_calls, frames_of, script_lines}
 use Rattle.vfs_script.specs.Transcripts.{counts_line}
+use Rattle.transcripts.specs.Answering.{count_answers}
+use Rattle.script_session.specs.Playing.{play_all}
 use Rattle.session_laws.specs.Laws.{IsLawfulOutput, IsLawfulOver}
 use Rattle.workload.specs.Workload.{workload}
 use Rattle.run_status.specs.Outside.{Outside, Streams}
-use Rattle.link_session.specs.Session.{IsFront, Wrote}
+use Rattle.link_session.specs.Session.{EndsBehind, IsFront, Took, Wrote}
 use Rattle.named_files.specs.Trees.{Stands}
 use Rattle.tree_session.specs.TreeSession.{frames_by}
 use Rattle.frame_printer.specs.Shown.{lines_of}
+use Rattle.script_commands.specs.Scripts.{Said, Says}
 use Rattle.script_commands.specs.Workloads.{report_for}
 use Rattle.vfs_program.specs.Words.{Asks, FileOf, ServeOf, RunOf, CheckOf, ShowAll, MakeOf}
 
@@ -21,31 +30,55 @@ use Rattle.vfs_program.specs.Words.{Asks, FileOf, ServeOf, RunOf, CheckOf, ShowA
 abbrev pub WroteNothing : Streams → Streams → Type 0
 WroteNothing before after = after.written ≡ before.written
 
--- the tree's file stands, and what was written is the output of a lawful journal over its start, or a front of it
-pub record IsLawfulServing (told : Told) (before after : Streams) : Type 0 where
+-- the journal is that of the session over these frames; or of that which they end, only where they are all whole frames of an input that
+-- ended, is bad behind them, or has the limit
+abbrev pub IsSessionOver : Start → Mode → List ℕ → Type 0 → List Frame → Journal → Type 0
+IsSessionOver start by taken at_end frames journal =
+    (journal ≡ session start by frames) ⊎ ((journal ≡ ended start by frames) × EndsBehind ToServers taken at_end frames)
+
+-- the tree's file stands, and what was written is the output of a lawful journal over its start, or a front of it; and that journal is the
+-- session's, in its mode, over the first frames that were taken
+pub record IsLawfulServing (told : Told) (by : Mode) (before after : Streams) : Type 0 where
   pub lists : Lists
   pub stands : Stands told lists
+  -- what was taken begins with these frames
+  pub taken : List ℕ
+  pub took : Took before after taken
+  pub frames : List Frame
+  pub each : All (IsFrame ToServers) frames
+  pub begins : IsFront (spellings frames) taken
+  -- what was written is lawful
   pub bytes : List ℕ
   pub wrote : Wrote before after bytes
   pub lawful : IsLawfulOutput lists bytes
+  -- by the journal of the session over these frames
+  pub own : IsSessionOver (start_of lists) by taken (IsAtEnd after.left) frames lawful.journal
+
+-- the counts behind a transcript: of the script's calls, and of the frames that answer one
+abbrev pub counts_of : Start → Said → List ℕ
+counts_of start said = counts_line (count_calls (calls_of said.text)) (count_answers (play_all start said.by (script_lines said.text)))
 
 -- and where a script was played: a front of the lines of all frames that such a journal stands for, and then of the counts of calls and
--- answers
-pub record IsLawfulPlaying (told : Told) (before after : Streams) : Type 0 where
+-- answers; and that journal is that of the session which the script's frames end, in the mode that it says
+pub record IsLawfulPlaying (tree script : Told) (before after : Streams) : Type 0 where
   pub lists : Lists
-  pub stands : Stands told lists
+  pub stands : Stands tree lists
+  -- the script's file is this script
+  pub said : Said
+  pub says : Says script said
+  -- the journal of its session
   pub journal : Journal
+  pub own : journal ≡ ended (start_of lists) said.by (frames_of said.text)
   pub over : IsLawfulOver lists journal
-  pub calls : ℕ
-  pub answers : ℕ
   pub bytes : List ℕ
   pub wrote : Wrote before after bytes
-  pub front : IsFront bytes (lines_of (frames_by (start_of lists) journal) ++ counts_line calls answers)
+  pub front : IsFront bytes (lines_of (frames_by (start_of lists) journal) ++ counts_of (start_of lists) said)
 
 -- and where a workload was played: a front of the report of what went in, and of all frames that such a journal over the generated start
--- stands for
+-- stands for; and that journal is that of the session which the workload's frames end, in mode auto
 pub record IsLawfulMaking (rounds : ℕ) (before after : Streams) : Type 0 where
   pub journal : Journal
+  pub own : journal ≡ ended (start_of generated_lists) Auto (frames_of (workload rounds))
   pub over : IsLawfulOver generated_lists journal
   pub bytes : List ℕ
   pub wrote : Wrote before after bytes
@@ -53,9 +86,11 @@ pub record IsLawfulMaking (rounds : ℕ) (before after : Streams) : Type 0 where
 
 -- a session over a tree wrote nothing, or what is lawful over that tree; the other commands have no such session
 abbrev pub IsLawfulRun : Asks → Outside → Outside → Type 0
-IsLawfulRun (ServeOf tree by) before after = WroteNothing before.streams after.streams ⊎ IsLawfulServing (before.files.told tree) before.streams after.streams
+IsLawfulRun (ServeOf tree by) before after =
+    WroteNothing before.streams after.streams ⊎ IsLawfulServing (before.files.told tree) by before.streams after.streams
 IsLawfulRun (FileOf name) before after = Unit {0}
-IsLawfulRun (RunOf tree script) before after = WroteNothing before.streams after.streams ⊎ IsLawfulPlaying (before.files.told tree) before.streams after.streams
+IsLawfulRun (RunOf tree script) before after =
+    WroteNothing before.streams after.streams ⊎ IsLawfulPlaying (before.files.told tree) (before.files.told script) before.streams after.streams
 IsLawfulRun (CheckOf tree) before after = Unit {0}
 IsLawfulRun ShowAll before after = Unit {0}
 IsLawfulRun (MakeOf rounds) before after = WroteNothing before.streams after.streams ⊎ IsLawfulMaking rounds before.streams after.streams
