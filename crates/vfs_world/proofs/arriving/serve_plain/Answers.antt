@@ -1,4 +1,4 @@
-use Rattle.std.proofs.Common.{◌≡◌, ℕ, ◌+◌, ◌-◌, ◌^◌, ◌∙◌, [], true, MatchOption, None, Some, Result, ap, refl, sym, arith}
+use Rattle.std.proofs.Common.{◌≡◌, ℕ, ◌+◌, ◌-◌, ◌^◌, ◌∙◌, [], true, MatchOption, None, Some, Result, ap, refl}
 use Rattle.endpoint_link.specs.Admission.{admission, look_ups, refusal_by}
 use Rattle.endpoint_link.specs.Frames.{Frame}
 use Rattle.fidl_names.specs.HandleNumber.{is_client}
@@ -14,7 +14,7 @@ use Rattle.vfs_session.specs.World.{World}
 use Rattle.vfs_world.specs.Steps.{IsAdmitted, IsFree, IsPlain}
 use Rattle.vfs_world.proofs.Answered.{let_in, on_both, on_ok, plain_passed, plain_refused, refused_for}
 use Rattle.vfs_world.proofs.AtOnce.{bound_lives, plain_admission, plain_admits, reached_by}
-use Rattle.vfs_world.proofs.Hearing.{places_low, refused_lasts, refused_leads}
+use Rattle.vfs_world.proofs.Hearing.{refused_lasts, refused_leads}
 use Rattle.vfs_world.proofs.arriving.serve_plain.Goals as goal
 
 lives : (world : World) (frame : Frame) (server : ℕ) → IsRunning (2 ^ 61 - 4098) world → IsFree frame server world → standing_of world.known frame.endpoint ≡ standing.Live
