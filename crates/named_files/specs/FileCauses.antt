@@ -7,7 +7,7 @@ use Rattle.run_status.specs.declared.statuses.Status.TheVariants as status
 use Rattle.run_status.specs.Causes.{After}
 use Rattle.run_status.specs.Outside.{FilesTold}
 use Rattle.named_files.specs.Files.{IsFileFault, IsFileTooLarge, IsWithin}
-use Rattle.named_files.specs.Trees.{IsBroken, Stands}
+use Rattle.named_files.specs.Trees.{IsBroken, IsTree}
 
 -- why a command has no file; for want of memory nothing else is said
 abbrev pub HasNoFile : ℕ → List ℕ → FilesTold → FilesTold → Status → Type 0
@@ -25,6 +25,6 @@ abbrev pub HasNoStart : List ℕ → FilesTold → FilesTold → Status → Type
 HasNoStart tree before after (status.TreeRefused rule item) = IsBroken (before.told tree) rule item
 HasNoStart tree before after status = HasNoFile limit.MAX_TEXT tree before after status
 
--- or the tree file, which breaks no rule
+-- or the tree file, which breaks no rule, and has bytes in its files
 abbrev pub AfterTree : List ℕ → FilesTold → FilesTold → Type 0 → (Lists → Status → Type 0) → Status → Type 0
-AfterTree tree before after same = After (HasNoStart tree before after) same (Stands (before.told tree))
+AfterTree tree before after same = After (HasNoStart tree before after) same (IsTree (before.told tree))

@@ -2,6 +2,7 @@
 use Rattle.std.specs.Prelude.{◌≡◌, ℕ, List, ◌++◌, length, codes, decimal, Some, None}
 use Rattle.fidl_names.specs.declared.limits.TheConstants as limit
 use Rattle.host_io.specs.Told.{Told}
+use Rattle.tree_file.specs.Accepted.{HasFilesOfBytes}
 use Rattle.tree_file.specs.Items.{Lists}
 use Rattle.tree_file.specs.Rules.{first_failure, start_from}
 use Rattle.named_files.specs.Files.{IsWithin}
@@ -12,6 +13,11 @@ pub record Stands (told : Told) (lists : Lists) : Type 0 where
   pub within : IsWithin limit.MAX_TEXT told text
   pub unbroken : first_failure text ≡ None
   pub is : start_from text ≡ Some lists
+
+-- and what it says is in its files are bytes
+pub record IsTree (told : Told) (lists : Lists) : Type 0 where
+  pub stands : Stands told lists
+  pub bytes : HasFilesOfBytes lists
 
 -- the first rule that the file breaks, with its first failing item
 pub record IsBroken (told : Told) (rule item : ℕ) : Type 0 where

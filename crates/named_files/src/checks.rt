@@ -2,6 +2,7 @@ ghost use Rattle.std.specs.Prelude.{◌≡◌, ◌∷◌, [], IfOk};
 ghost use Rattle.run_status.specs.Outside.{files_told, sink_told};
 ghost use Rattle.run_status.specs.Reads.{ReadsOnly};
 ghost use Rattle.run_status.specs.Texts.{WritesText};
+ghost use Rattle.tree_file.specs.Accepted.{HasFilesOfBytes};
 ghost use Rattle.named_files.specs.FileCauses.{AfterTree};
 ghost use Rattle.named_files.specs.Trees.{line_of};
 
@@ -39,7 +40,8 @@ pub fn check_tree<F: Files, K: Sink>(
 
 /// The line that tells how many servers, nodes, mounts and clients a tree has.
 fn line_of(alloc: Global, start: &Start) -> Result<Vec<u8>, AllocError>
-    ensures { IfOk result (λ line. line.items ≡ line_of start.now) }
+    ensures line { IfOk result (λ line. line.items ≡ line_of start.now) }
+    ensures bytes { HasFilesOfBytes start.now }
 {
     let mut line = Vec::new(alloc);
     put_number(&mut line, "ok servers ", u128::from(start.servers()))?;

@@ -41,6 +41,7 @@ pub fn play<K: Sink>(
     sink: &mut K,
 ) -> Result<(), TranscriptFault>
     requires { (text : List ℕ) × IsScript text script.now }
+    ensures bytes { HasFilesOfBytes start.now }
     ensures whole { (text : List ℕ) → IsScript text script.now →
         OnOk result (Appends (K.written sink.old) (K.written sink.new) (transcript (start_of start.now) script.now.mode text)) }
     ensures flushed { OnOk result (IsFlushed (K.written sink.new) (K.flushed sink.new)) }

@@ -2,6 +2,7 @@ ghost use Rattle.std.specs.Prelude.{◌≡◌, ◌<◌, ◌+◌, ◌^◌, List, 
 ghost use Rattle.endpoint_link.specs.Frames.{Frame, IsFrame};
 ghost use Rattle.endpoint_link.specs.Views.{frame_of};
 ghost use Rattle.endpoint_link.specs.declared.kinds.Side.TheVariants as side;
+ghost use Rattle.tree_file.specs.Accepted.{HasFilesOfBytes};
 ghost use Rattle.vfs_journal.specs.Starts.{Start as TheStart, start_of};
 ghost use Rattle.run_status.specs.Causes.{AfterNames};
 ghost use Rattle.run_status.specs.Outside.{files_told, streams_told};
@@ -73,6 +74,7 @@ impl TreeSession {
         start: &Start,
         mode: Mode,
     ) -> Result<TreeSession, NoMemory>
+        ensures bytes { HasFilesOfBytes start.now }
         ensures mode { IfOk result (λ s. s.mode ≡ mode) }
         ensures stands { IfOk result (λ s. StandsBehind (start_of start.now) mode s.world []) }
         ensures empty { IfOk result (λ s. s.outbox ≡ []) }

@@ -25,7 +25,7 @@ use Rattle.run_status.specs.Texts.{WritesPieces, WritesText}
 use Rattle.link_session.specs.Session.{Course, SessionAnswers, IsWhole, IsTooLong, IsTruncated, IsBad}
 use Rattle.named_files.specs.FileCauses.{AfterFile, AfterTree, HasNoFile, HasNoStart}
 use Rattle.named_files.specs.Files.{IsFileFault, IsWithin}
-use Rattle.named_files.specs.Trees.{Stands, IsBroken, line_of}
+use Rattle.named_files.specs.Trees.{IsBroken, IsTree, Stands, line_of}
 use Rattle.file_session.specs.OneFile.{file_course}
 use Rattle.tree_session.specs.TreeSession.{tree_course}
 use Rattle.frame_printer.specs.Shown.{lines_course}
@@ -220,7 +220,7 @@ complete (FileOf name) before after S K answer a s n =
 complete (ServeOf tree by) before after S K answer a s n =
     let session : Lists → Status → Type 0 = λ lists. SessionAnswers ToServers (tree_course (start_of lists) by) before.streams after.streams K in
     after_done Collides (S × K) (λ (none : Unit {0}). AreDistinct) (λ none. AfterTree tree before.files after.files (S × K) session) answer (no_collision s.0 answer)
-    (λ none distinct. after_done (HasNoStart tree before.files after.files) (S × K) (Stands (before.files.told tree)) session answer
+    (λ none distinct. after_done (HasNoStart tree before.files after.files) (S × K) (IsTree (before.files.told tree)) session answer
     (has_tree tree before.files after.files s.1.0 s.1.1 s.1.2 s.1.3 n.file answer)
     (λ lists stands. session_done ToServers (tree_course (start_of lists) by) before.streams after.streams K s.2 n.source n.sink answer)) a
 complete (RunOf tree script) before after S K answer a s n =
@@ -229,7 +229,7 @@ complete (RunOf tree script) before after S K answer a s n =
     in
     let plays : Lists → Status → Type 0 = λ lists. AfterScript script before.files after.files K (told lists) in
     after_done Collides K (λ (none : Unit {0}). AreDistinct) (λ none. AfterTree tree before.files after.files K plays) answer (no_collision s.0 answer)
-    (λ none distinct. after_done (HasNoStart tree before.files after.files) K (Stands (before.files.told tree)) plays answer
+    (λ none distinct. after_done (HasNoStart tree before.files after.files) K (IsTree (before.files.told tree)) plays answer
     (has_tree tree before.files after.files s.1.0 s.1.1 s.1.2 s.1.3 (λ f. n.file (inl f)) answer)
     (λ lists stands. after_done (HasNoScript script before.files after.files) K (IsPlayable (before.files.told script)) (told lists) answer
     (has_script script before.files after.files s.2.said s.2.told s.2.says (λ f. n.file (inr f)) answer)
@@ -237,7 +237,7 @@ complete (RunOf tree script) before after S K answer a s n =
     (AppendsPart before.streams.written after.streams.written (transcript (start_of lists) said.by said.text))
     (sink_of before.streams) (sink_of after.streams) n.sink answer))) a.1
 complete (CheckOf tree) before after S K answer a s n =
-    after_done (HasNoStart tree before.files after.files) K (Stands (before.files.told tree))
+    after_done (HasNoStart tree before.files after.files) K (IsTree (before.files.told tree))
     (λ lists. WritesText (line_of lists) ⊥ (sink_of before.streams) (sink_of after.streams)) answer
     (has_tree tree before.files after.files s.0 s.1 s.2 s.3 n.file answer)
     (λ lists stands. text_done (line_of lists) ⊥ (sink_of before.streams) (sink_of after.streams) n.sink answer) a.1

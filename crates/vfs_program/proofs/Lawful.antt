@@ -1,14 +1,16 @@
 -- What a session over a tree writes is the output of a lawful journal, or a front of it.
-use Rattle.std.proofs.Common.{◌≡◌, ℕ, ◌⊎◌, List, [], ◌∷◌, ◌++◌, Option, Some, None, All, drop, take, refl, sym, ap, ◌∙◌, subst, append-nil, take-append-drop, inl, inr}
+use Rattle.std.proofs.Common.{◌≡◌, ◌<◌, ℕ, ◌⊎◌, List, [], ◌∷◌, ◌++◌, Option, Some, None, All, drop, take, refl, sym, ap, ◌∙◌, subst, append-nil, take-append-drop, inl, inr}
+use Rattle.std.proofs.lemmas.List.Elements.{All-nil, All-cons}
 use Rattle.std.specs.Io.KnownBytes.{IsAtEnd}
 use Rattle.std.specs.Option.{option_map}
+use Rattle.fidl_names.specs.Numbers.{AreBytes}
 use Rattle.fidl_wire.specs.Names.{AreDistinct}
 use Rattle.host_io.specs.Streams.{AppendsPart}
 use Rattle.host_io.specs.Told.{Told}
 use Rattle.toml.specs.Data.{Data}
-use Rattle.tree_file.specs.Accepted.{AreAccepted}
-use Rattle.tree_file.specs.Generated.{generated_lists}
-use Rattle.tree_file.specs.Items.{Lists}
+use Rattle.tree_file.specs.Accepted.{AreAccepted, HasFilesOfBytes}
+use Rattle.tree_file.specs.Generated.{directory_of, generated_lists}
+use Rattle.tree_file.specs.Items.{Lists, NodeItem}
 use Rattle.tree_file.specs.Rules.{document_of, failure_of, first_broken, first_failure, lists_of, rules_on_lists, start_from}
 use Rattle.tree_file.proofs.Accepted.{accepted_of}
 use Rattle.tree_file.proofs.GeneratedRules.{generated_accepted}
@@ -21,6 +23,8 @@ use Rattle.vfs_journal.specs.Lawful.{Lawful}
 use Rattle.vfs_journal.specs.Session.{ended, session}
 use Rattle.vfs_journal.specs.Starts.{start_of}
 use Rattle.journal_laws.proofs.Draining.{sessions_are_lawful}
+use Rattle.frame_laws.specs.Bytes.{BeginsWithBytes}
+use Rattle.frame_laws.proofs.Begun.{starts_have_bytes}
 use Rattle.session_laws.specs.Laws.{IsLawfulOver}
 use Rattle.session_laws.proofs.Keeping.{lawful_over}
 use Rattle.vfs_script.specs.Scripts.{frames_of}
@@ -34,7 +38,7 @@ use Rattle.run_status.specs.Outside.{Outside, SinkTold, Streams, sink_of}
 use Rattle.run_status.specs.Texts.{WritesPieces, WritesText}
 use Rattle.link_session.specs.Session.{EndsBehind, IsCutOff, IsFront, IsPartByEnd, IsPartSoFar, SessionAnswers, Took, Wrote}
 use Rattle.named_files.specs.FileCauses.{AfterTree, HasNoStart}
-use Rattle.named_files.specs.Trees.{Stands}
+use Rattle.named_files.specs.Trees.{IsTree, Stands}
 use Rattle.tree_session.specs.TreeSession.{tree_course}
 use Rattle.script_commands.specs.ScriptCauses.{AfterReport, AfterScript, HasNoScript, IsStarved}
 use Rattle.script_commands.specs.Scripts.{IsPlayable, Said}
@@ -69,6 +73,20 @@ text_accepted text lists unbroken is = document_accepted (document_of text) list
 pub stands_accepted : (told : Told) (lists : Lists) → Stands told lists → AreAccepted lists
 stands_accepted told lists h = text_accepted h.text lists h.unbroken h.is
 
+-- ---- and its start begins with bytes
+
+tree_of_bytes : (told : Told) (lists : Lists) → IsTree told lists → BeginsWithBytes (start_of lists)
+tree_of_bytes told lists is = starts_have_bytes lists (stands_accepted told lists is.stands) is.bytes
+
+generated_of_bytes : BeginsWithBytes (start_of generated_lists)
+generated_of_bytes =
+    let holds : NodeItem → Type 0 = λ node. AreBytes node.bytes in
+    let none : AreBytes [] = All-nil (λ (byte : ℕ). byte < 256) in
+    let files : HasFilesOfBytes generated_lists =
+    All-cons holds (directory_of 0) (directory_of 1 ∷ []) none (All-cons holds (directory_of 1) [] none (All-nil holds))
+    in
+    starts_have_bytes generated_lists generated_accepted files
+
 -- ---- fronts of the output
 
 front_whole : (bytes : List ℕ) → IsFront bytes bytes
@@ -88,9 +106,9 @@ ends_are_frames taken at_end frames (inr h) = h.3.each
 
 -- ---- what a session writes
 
-module _ (apart : AreDistinct) (told : Told) (lists : Lists) (stands : Stands told lists) (by : Mode) (before after : Streams) where
+module _ (apart : AreDistinct) (told : Told) (lists : Lists) (is : IsTree told lists) (by : Mode) (before after : Streams) where
   over : (journal : Journal) → Lawful (start_of lists) journal → IsLawfulOver lists journal
-  over journal h = lawful_over apart lists journal (stands_accepted told lists stands) h
+  over journal h = lawful_over apart lists journal (stands_accepted told lists is.stands) h
 
   so_far_lawful : (taken part : List ℕ) (frames : List Frame) → Took before after taken → IsFront (spellings frames) taken → All (IsFrame ToServers) frames
       → Wrote before after part → IsFront part ((tree_course (start_of lists) by).so_far frames) → IsLawfulServing told by before after
@@ -99,7 +117,8 @@ module _ (apart : AreDistinct) (told : Told) (lists : Lists) (stands : Stands to
       let journal = session (start_of lists) by frames in
       record {
         lists = lists;
-        stands = stands;
+        stands = is.stands;
+        of_bytes = tree_of_bytes told lists is;
         taken = taken;
         took = took;
         frames = frames;
@@ -119,7 +138,8 @@ module _ (apart : AreDistinct) (told : Told) (lists : Lists) (stands : Stands to
       let each = ends_are_frames taken (IsAtEnd after.left) frames ends in
       record {
         lists = lists;
-        stands = stands;
+        stands = is.stands;
+        of_bytes = tree_of_bytes told lists is;
         taken = taken;
         took = took;
         frames = frames;
@@ -189,21 +209,22 @@ text_part text starved before after status.InputTooLong part a = absurd a
 text_part text starved before after (status.Truncated at) part a = absurd a
 text_part text starved before after (status.BadFrame at why) part a = absurd a
 
-played_lawful : (apart : AreDistinct) (tree script : Told) (lists : Lists) (said : Said) (before after : Streams) (answer : Status) → Stands tree lists → IsPlayable script said
+played_lawful : (apart : AreDistinct) (tree script : Told) (lists : Lists) (said : Said) (before after : Streams) (answer : Status) → IsTree tree lists → IsPlayable script said
     → WritesPieces (transcript (start_of lists) said.by said.text) (sink_of before) (sink_of after) answer → IsLawfulPlaying tree script before after
-played_lawful apart tree script lists said before after answer stands can a =
+played_lawful apart tree script lists said before after answer is can a =
     let start = start_of lists in
     let text = transcript start said.by said.text in
     let part = text_part text (AppendsPart before.written after.written text) (sink_of before) (sink_of after) answer (λ part. part) a in
     let journal = ended start said.by (frames_of said.text) in
     record {
       lists = lists;
-      stands = stands;
+      stands = is.stands;
+      of_bytes = tree_of_bytes tree lists is;
       said = said;
       says = can.says;
       journal = journal;
       own = refl;
-      over = lawful_over apart lists journal (stands_accepted tree lists stands) (sessions_are_lawful start said.by (frames_of said.text) can.frames).1;
+      over = lawful_over apart lists journal (stands_accepted tree lists is.stands) (sessions_are_lawful start said.by (frames_of said.text) can.frames).1;
       bytes = part.0;
       wrote = part.3;
       front = (part.1, sym (transcript_is start said.by said.text) ∙ part.2);
@@ -220,6 +241,7 @@ made_lawful apart rounds report before after answer is a =
     let part = text_part report ⊥ (sink_of before) (sink_of after) answer (λ none. absurd none) a in
     let journal = ended start Auto frames in
     record {
+      of_bytes = generated_of_bytes;
       journal = journal;
       own = refl;
       over = lawful_over apart generated_lists journal generated_accepted (sessions_are_lawful start Auto frames is.sent).1;
@@ -235,8 +257,8 @@ lawful (ServeOf tree by) before after S K answer none a =
     let session : Lists → Status → Type 0 = λ lists. SessionAnswers ToServers (tree_course (start_of lists) by) before.streams after.streams K in
     let still : S × K → Goal = λ same. inl (none same.1) in
     after_either Collides (S × K) (λ (alone : Unit {0}). AreDistinct) (λ alone. AfterTree tree before.files after.files (S × K) session) answer Goal still
-    (λ alone apart. after_either (HasNoStart tree before.files after.files) (S × K) (Stands (before.files.told tree)) session answer Goal still
-    (λ lists stands h. inr (serving_lawful apart (before.files.told tree) lists stands by before.streams after.streams K answer h))) a
+    (λ alone apart. after_either (HasNoStart tree before.files after.files) (S × K) (IsTree (before.files.told tree)) session answer Goal still
+    (λ lists is h. inr (serving_lawful apart (before.files.told tree) lists is by before.streams after.streams K answer h))) a
 lawful (FileOf name) before after S K answer none a = tt
 lawful (RunOf tree script) before after S K answer none a =
     let Goal : Type 0 = WroteNothing before.streams after.streams ⊎ IsLawfulPlaying (before.files.told tree) (before.files.told script) before.streams after.streams in
@@ -246,9 +268,9 @@ lawful (RunOf tree script) before after S K answer none a =
     let plays : Lists → Status → Type 0 = λ lists. AfterScript script before.files after.files K (told lists) in
     let still : K → Goal = λ same. inl (none same) in
     after_either Collides K (λ (alone : Unit {0}). AreDistinct) (λ alone. AfterTree tree before.files after.files K plays) answer Goal still
-    (λ alone apart. after_either (HasNoStart tree before.files after.files) K (Stands (before.files.told tree)) plays answer Goal still
-    (λ lists stands. after_either (HasNoScript script before.files after.files) K (IsPlayable (before.files.told script)) (told lists) answer Goal still
-    (λ said can h. inr (played_lawful apart (before.files.told tree) (before.files.told script) lists said before.streams after.streams answer stands can h)))) a.1
+    (λ alone apart. after_either (HasNoStart tree before.files after.files) K (IsTree (before.files.told tree)) plays answer Goal still
+    (λ lists is. after_either (HasNoScript script before.files after.files) K (IsPlayable (before.files.told script)) (told lists) answer Goal still
+    (λ said can h. inr (played_lawful apart (before.files.told tree) (before.files.told script) lists said before.streams after.streams answer is can h)))) a.1
 lawful (CheckOf tree) before after S K answer none a = tt
 lawful ShowAll before after S K answer none a = tt
 lawful (MakeOf rounds) before after S K answer none a =

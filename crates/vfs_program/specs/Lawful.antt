@@ -15,6 +15,7 @@ use Rattle.vfs_script.specs.Scripts.{calls_of, count_calls, frames_of, script_li
 use Rattle.vfs_script.specs.Transcripts.{counts_line}
 use Rattle.transcripts.specs.Answering.{count_answers}
 use Rattle.script_session.specs.Playing.{play_all}
+use Rattle.frame_laws.specs.Bytes.{BeginsWithBytes}
 use Rattle.session_laws.specs.Laws.{IsLawfulOutput, IsLawfulOver}
 use Rattle.workload.specs.Workload.{workload}
 use Rattle.run_status.specs.Outside.{Outside, Streams}
@@ -36,11 +37,12 @@ abbrev pub IsSessionOver : Start → Mode → List ℕ → Type 0 → List Frame
 IsSessionOver start by taken at_end frames journal =
     (journal ≡ session start by frames) ⊎ ((journal ≡ ended start by frames) × EndsBehind ToServers taken at_end frames)
 
--- the tree's file stands, and what was written is the output of a lawful journal over its start, or a front of it; and that journal is the
--- session's, in its mode, over the first frames that were taken
+-- the tree's file stands, its start begins with bytes, and what was written is the output of a lawful journal over that start, or a front
+-- of it; and that journal is the session's, in its mode, over the first frames that were taken
 pub record IsLawfulServing (told : Told) (by : Mode) (before after : Streams) : Type 0 where
   pub lists : Lists
   pub stands : Stands told lists
+  pub of_bytes : BeginsWithBytes (start_of lists)
   -- what was taken begins with these frames
   pub taken : List ℕ
   pub took : Took before after taken
@@ -63,6 +65,7 @@ counts_of start said = counts_line (count_calls (calls_of said.text)) (count_ans
 pub record IsLawfulPlaying (tree script : Told) (before after : Streams) : Type 0 where
   pub lists : Lists
   pub stands : Stands tree lists
+  pub of_bytes : BeginsWithBytes (start_of lists)
   -- the script's file is this script
   pub said : Said
   pub says : Says script said
@@ -77,6 +80,7 @@ pub record IsLawfulPlaying (tree script : Told) (before after : Streams) : Type 
 -- and where a workload was played: a front of the report of what went in, and of all frames that such a journal over the generated start
 -- stands for; and that journal is that of the session which the workload's frames end, in mode auto
 pub record IsLawfulMaking (rounds : ℕ) (before after : Streams) : Type 0 where
+  pub of_bytes : BeginsWithBytes (start_of generated_lists)
   pub journal : Journal
   pub own : journal ≡ ended (start_of generated_lists) Auto (frames_of (workload rounds))
   pub over : IsLawfulOver generated_lists journal

@@ -13,7 +13,7 @@ returns-in-Ok-play-clause-answers g c =
       c.in-Ok.ensures.distinct,
       inr (
         c.in-Ok-read_start.start,
-        c.in-Ok-read_start.ensures.stands,
+        record { stands = c.in-Ok-read_start.ensures.stands; bytes = c.in-Ok-play.ensures.bytes },
         inr (
           _,
           record {
@@ -33,7 +33,7 @@ returns-in-Err-Failed-clause-answers g c =
       c.in-Ok.ensures.distinct,
       inr (
         c.in-Ok-read_start.start,
-        c.in-Ok-read_start.ensures.stands,
+        record { stands = c.in-Ok-read_start.ensures.stands; bytes = c.in-Err-Failed.ensures.bytes },
         inr (
           _,
           record {
@@ -56,7 +56,7 @@ returns-clause-answers g c =
       c.in-Ok.ensures.distinct,
       inr (
         c.in-Ok-read_start.start,
-        c.in-Ok-read_start.ensures.stands,
+        record { stands = c.in-Ok-read_start.ensures.stands; bytes = c.in-Err-NoMemory.ensures.bytes },
         inr (
           _,
           record {

@@ -15,7 +15,7 @@ returns-clause-answers g c =
       c.in-Ok.ensures.distinct,
       inr (
         c.in-Ok-read_start.start,
-        c.in-Ok-read_start.ensures.stands,
+        record { stands = c.in-Ok-read_start.ensures.stands; bytes = c.in-Ok-new-2.ensures.bytes },
         c.run.ensures (tree_course start by) (tree_grows start by)
             (start, ap (tree_course start) (sym c.in-Ok-new-2.ensures.mode), subst (λ (m : Mode). StandsBehind start m session.world []) (sym c.in-Ok-new-2.ensures.mode) c.in-Ok-new-2.ensures.stands),
       ),
