@@ -1,6 +1,17 @@
-# Writes a makefile from crates.txt: each library below the crate `top` is proved by tools/prove.sh,
-# once those that it stands on are. The longer the chain of crates above it, the sooner it gets a
-# processor, since the whole takes no less than its longest chain.
+# Writes a makefile from the lines of source files, as `wc -l` counts them, and crates.txt: each library
+# below the crate `top` is proved by tools/prove.sh, once those that it stands on are.
+#
+# The whole takes no less than its longest chain, measured in lines: the longer the chain of crates above a
+# library, the sooner it gets a processor, and those of a longest chain get all `jobs`. Any other gets one,
+# since several jobs at one library are a third more work in sum.
+
+FNR == 1 { files++ }
+
+files == 1 {
+    split($2, parts, "/")
+    if (parts[1] == "crates") lines[parts[2]] += $1
+    next
+}
 
 { sub(/#.*/, "") }
 
@@ -14,16 +25,40 @@ END {
     visit(top)
     # Whoever stands on a crate comes behind it in the order.
     for (i = count; i > 0; i--) {
+        own = above[order[i]] + lines[order[i]]
         n = split(below[order[i]], parts, " ")
-        for (j = 1; j <= n; j++) if (above[parts[j]] <= above[order[i]]) above[parts[j]] = above[order[i]] + 1
+        for (j = 1; j <= n; j++) if (above[parts[j]] < own) above[parts[j]] = own
+    }
+    for (i = 1; i <= count; i++) {
+        name = order[i]
+        n = split(below[name], parts, " ")
+        for (j = 1; j <= n; j++) if (under[name] < chain[parts[j]]) under[name] = chain[parts[j]]
+        chain[name] = under[name] + lines[name]
+        if (longest < chain[name] + above[name]) longest = chain[name] + above[name]
     }
     print ".PHONY: all" below[top]
-    print "all:" below[top]
+    print "all:" by_urgency()
     for (i = 1; i < count; i++) {
         name = order[i]
         print name ":" below[name]
-        print "\t@nice -n " above[order[1]] - above[name] " tools/prove.sh " name below[name]
+        wait = int(19 * (1 - (above[name] + lines[name]) / longest))
+        work = chain[name] + above[name] == longest ? jobs : 1
+        print "\t@nice -n " wait " tools/prove.sh " name " " work below[name]
     }
+}
+
+# The libraries, those with the most above them first.
+function by_urgency(    text, names, n, i, j, next_one) {
+    n = split(below[top], names, " ")
+    for (i = 1; i <= n; i++) {
+        for (j = i; j > 1 && above[names[j]] > above[names[j - 1]]; j--) {
+            next_one = names[j]
+            names[j] = names[j - 1]
+            names[j - 1] = next_one
+        }
+    }
+    for (i = 1; i <= n; i++) text = text " " names[i]
+    return text
 }
 
 # Puts a crate behind all that it stands on, and finds what these are.

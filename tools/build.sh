@@ -16,7 +16,7 @@ is_new() {
 
 if ! is_new; then
     echo "proving and building $crate; what rt says of a crate is in build/CRATE.log"
-    awk -v top="$crate" -f tools/below.awk crates.txt > build/below.mk
+    wc -l crates/*/src/*.rt | awk -v top="$crate" -v jobs="$(nproc)" -f tools/below.awk - crates.txt > build/below.mk
     MAKEFLAGS='' make --no-print-directory -j "$(nproc)" -f build/below.mk
     if ! (cd "crates/$crate" && rt run -- "$@") < /dev/null > "$log" 2>&1; then
         tail -n 40 "$log"

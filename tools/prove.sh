@@ -1,11 +1,11 @@
 #!/usr/bin/env bash
-# prove.sh CRATE BELOW..: proves a library, over those below it, which are proved.
+# prove.sh CRATE JOBS BELOW..: proves a library with so many jobs, over those below it, which are proved.
 #
 # A run of rt keeps others out of all crates that it reads, so the library is proved in a copy of the
 # repository that has what is built of those below, and what it leaves is taken back.
 set -eu
-crate=$1
-shift
+crate=$1 jobs=$2
+shift 2
 log=$PWD/build/$crate.log
 copy=$(mktemp -d)
 trap 'rm -rf "$copy"' EXIT
@@ -28,7 +28,7 @@ if [ -d "crates/$crate/out" ]; then
     give "crates/$crate/out" "$copy/crates/$crate/out"
 fi
 SECONDS=0
-if ! (cd "$copy/crates/$crate" && rt lib) < /dev/null > "$log" 2>&1; then
+if ! (cd "$copy/crates/$crate" && rt lib --jobs "$jobs") < /dev/null > "$log" 2>&1; then
     echo "$crate is not proved:"
     tail -n 40 "$log"
     exit 1
