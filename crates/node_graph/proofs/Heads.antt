@@ -1,14 +1,13 @@
 -- Names stand to each other as their first eight bytes do, read as numbers, where these differ.
 use Rattle.std.proofs.Common.{◌≡◌, ℕ, zero, suc, List, [], ◌∷◌, refl, ap, sym, ◌∙◌, subst, arith}
-use Rattle.std.specs.Prelude.{◌+◌, ◌-◌, ◌*◌, ◌^◌, ◌<◌, ◌≤◌, ◌++◌, slice_index, take, drop, length, replicate}
-use Rattle.std.specs.declared.cmp.Ordering.{Ordering}
-use Rattle.std.specs.declared.cmp.Ordering.TheVariants.{Less, Equal, Greater}
-use Rattle.std.specs.Ordering.{nat_cmp, ordering_then, ordering_reverse, MatchOrdering}
+use Rattle.std.specs.Prelude.{◌+◌, ◌-◌, ◌*◌, ◌^◌, ◌<◌, ◌++◌, slice_index, drop, replicate}
+use Rattle.std.specs.declared.cmp.Ordering.TheVariants.{Less, Greater}
+use Rattle.std.specs.Ordering.{nat_cmp, ordering_then, ordering_reverse}
 use Rattle.std.specs.Cmp.Lexicographic.{slice_cmp}
 use Rattle.std.specs.Int.{w64, from_be_bytes, sum_through, byte_worth}
 use Rattle.std.proofs.Math.Nat.{pow-suc, one-le-pow, mul_comm}
 use Rattle.std.proofs.lemmas.Nat.{mul-add-lt}
-use Rattle.std.proofs.lemmas.Cmp.{ranked, by_ranked, nat_cmp_total, nat_list_cmp_total}
+use Rattle.std.proofs.lemmas.Cmp.{ranked, by_ranked, nat_list_cmp_total}
 use Rattle.node_graph.specs.Keys.{IsHead}
 
 -- the first bytes of a name as a number
@@ -55,22 +54,12 @@ whole (a ∷ b ∷ c ∷ d ∷ e ∷ f ∷ []) = omega arith
 whole (a ∷ b ∷ c ∷ d ∷ e ∷ f ∷ g ∷ []) = omega arith
 whole (a ∷ b ∷ c ∷ d ∷ e ∷ f ∷ g ∷ h ∷ more) = omega arith
 
-earlier : (h k : ℕ) (a b : List ℕ) → IsHead h a → IsHead k b → h < k → slice_cmp nat_cmp a b ≡ Less
+-- heads that differ stand as the names do
+pub earlier : (h k : ℕ) (a b : List ℕ) → IsHead h a → IsHead k b → h < k → slice_cmp nat_cmp a b ≡ Less
 earlier h k a b is js less = first 8 a b is.bytes js.bytes (let p = is.number ∙ whole a in let q = js.number ∙ whole b in omega arith)
 
--- heads that differ stand as the names do
-pub heads_first : (h k : ℕ) (a b : List ℕ) → IsHead h a → IsHead k b → (o : Ordering) → o ≡ nat_cmp h k → ordering_then o (slice_cmp nat_cmp a b) ≡ slice_cmp nat_cmp a b
-heads_first h k a b is js o e =
-    by_ranked (h < k) (h ≡ k) (k < h) o (ranked h k o e)
-    (λ e less. ap (λ o. ordering_then o (slice_cmp nat_cmp a b)) e ∙ sym (earlier h k a b is js less))
-    (λ e same. ap (λ o. ordering_then o (slice_cmp nat_cmp a b)) e)
-    (λ e more. ap (λ o. ordering_then o (slice_cmp nat_cmp a b)) e ∙ sym (nat_list_cmp_total.antisymm a b ∙ ap ordering_reverse (earlier k h b a js is more)))
-
--- a step that decides is the answer
-pub decided : (o rest : Ordering) → ¬ (o ≡ Equal) → o ≡ ordering_then o rest
-decided Less rest apart = refl
-decided Equal rest apart = absurd (apart refl)
-decided Greater rest apart = refl
+pub later : (h k : ℕ) (a b : List ℕ) → IsHead h a → IsHead k b → k < h → slice_cmp nat_cmp a b ≡ Greater
+later h k a b is js more = nat_list_cmp_total.antisymm a b ∙ ap ordering_reverse (earlier k h b a js is more)
 
 pub zeros_only : (n k place : ℕ) → slice_index (drop k (replicate n 0)) place ≡ 0
 zeros_only zero zero place = refl
@@ -89,18 +78,12 @@ same_sum : (f g : ℕ → ℕ) → ((n : ℕ) → f n ≡ g n) → (k : ℕ) →
 same_sum f g is zero = is 0
 same_sum f g is (suc k) = let p = same_sum f g is k in let q = is (suc k) in omega arith
 
-pub head_behind : (head : ℕ) (name zeros : List ℕ) → ((place : ℕ) → slice_index zeros place ≡ 0) → IsHead head (name ++ zeros) → IsHead head name
+head_behind : (head : ℕ) (name zeros : List ℕ) → ((place : ℕ) → slice_index zeros place ≡ 0) → IsHead head (name ++ zeros) → IsHead head name
 head_behind head name zeros are is = record {
   number = is.number ∙ same_sum _ _ (λ n. ap (byte_worth (7 - n)) (zeros_behind name zeros are n)) 7;
   bytes = λ place h. subst (λ n. n < 256) (zeros_behind name zeros are place) (is.bytes place h);
 }
 
-front : (name zeros : List ℕ) → take (length name) (name ++ zeros) ≡ name
-front [] zeros = refl
-front (x ∷ xs) zeros = ap (λ rest. x ∷ rest) (front xs zeros)
-
 -- what the head of a padded name is, is the head of the name
-pub head_of_padded : (head : ℕ) (name copied zeros : List ℕ) → copied ≡ name → ((place : ℕ) → slice_index zeros place ≡ 0) → IsHead head (copied ++ zeros) → IsHead head (take (length name) (copied ++ zeros))
-head_of_padded head name copied zeros e are is =
-    let kept : IsHead head (name ++ zeros) = subst (λ xs. IsHead head (xs ++ zeros)) e is in
-    subst (λ xs. IsHead head (take (length name) (xs ++ zeros))) (sym e) (subst (IsHead head) (sym (front name zeros)) (head_behind head name zeros are kept))
+pub head_of_padded : (head : ℕ) (name copied zeros : List ℕ) → copied ≡ name → ((place : ℕ) → slice_index zeros place ≡ 0) → IsHead head (copied ++ zeros) → IsHead head name
+head_of_padded head name copied zeros e are is = head_behind head name zeros are (subst (λ xs. IsHead head (xs ++ zeros)) e is)

@@ -66,7 +66,8 @@ impl Edges {
         if name.len() > MAX_NAME {
             return None;
         }
-        let key = EdgeName::new(directory, name);
+        let mut key = EdgeName::in_directory(directory);
+        key.set_name(name);
         names.get(&key).copied()
     }
 

@@ -1,11 +1,11 @@
-ghost use Rattle.std.specs.Prelude.{◌≡◌, ℕ, ◌≤◌, ◌<◌, length, refl, slice_index};
+ghost use Rattle.std.specs.Prelude.{◌≡◌, ℕ, ◌≤◌, ◌<◌, [], length, take, refl, slice_index};
 ghost use Rattle.std.specs.Int.{w64, from_be_bytes};
 ghost use Rattle.std.specs.Ordering.{nat_cmp};
 ghost use Rattle.std.specs.Cmp.Lexicographic.{slice_cmp};
 ghost use Rattle.std.specs.Cmp.{partial_order_from_total, partial_equiv_from_equiv, eq_by_cmp_equiv};
 ghost use Rattle.std.specs.Ordering.{eq_by_cmp, as_partial_cmp};
 ghost use Rattle.node_graph.specs.Tree.{EdgeKey, edge_cmp};
-ghost use Rattle.node_graph.specs.Keys.{edges_total};
+ghost use Rattle.node_graph.specs.Keys.{IsHead, edges_total};
 
 use fidl_names::MAX_NAME;
 use std::cmp::Ordering;
@@ -42,14 +42,30 @@ impl EdgeName {
         requires { length name.now ≤ MAX_NAME }
         ensures { result ≡ record { directory = directory; name = name.now } }
     {
-        let mut bytes = [0; MAX_NAME];
-        bytes[..name.len()].copy_from_slice(name);
+        let mut key = EdgeName::in_directory(directory);
+        key.set_name(name);
+        key
+    }
+
+    // The empty name in a directory.
+    pub fn in_directory(directory: u64) -> EdgeName
+        ensures { result ≡ record { directory = directory; name = [] } }
+    {
         EdgeName {
             directory,
-            head: head_of(&bytes),
-            bytes,
-            length: name.len(),
+            head: 0,
+            bytes: [0; MAX_NAME],
+            length: 0,
         }
+    }
+
+    // Changes the name in its place, so that a key that is only looked for is never copied.
+    pub fn set_name(&mut self, name: &[u8])
+        requires { length name.now ≤ MAX_NAME }
+        ensures { self.new ≡ record { directory = self.old.directory; name = name.now } }
+    {
+        self.head = write_padded(&mut self.bytes, name);
+        self.length = name.len();
     }
 
     pub fn name(&self) -> &[u8]
@@ -62,11 +78,25 @@ impl EdgeName {
     fn cmp_names(&self, other: &EdgeName) -> Ordering
         ensures { result ≡ slice_cmp nat_cmp self.now.name other.now.name }
     {
-        match self.head.cmp(&other.head) {
-            Ordering::Equal => self.name().cmp(other.name()),
-            apart => apart,
+        if self.head < other.head {
+            return Ordering::Less;
         }
+        if self.head > other.head {
+            return Ordering::Greater;
+        }
+        self.name().cmp(other.name())
     }
+}
+
+// Writes a name with zeros behind it, and answers its head.
+fn write_padded(bytes: &mut [u8; MAX_NAME], name: &[u8]) -> u64
+    requires { length name.now ≤ MAX_NAME }
+    ensures name { take (length name.now) bytes.new ≡ name.now }
+    ensures head { IsHead result name.now }
+{
+    *bytes = [0; MAX_NAME];
+    bytes[..name.len()].copy_from_slice(name);
+    head_of(bytes)
 }
 
 // The first eight bytes as one number, which is in the order of the bytes.
@@ -113,9 +143,12 @@ impl Ord for EdgeName {
     ghost matches_eq = { λ x y. refl };
 
     fn cmp(&self, other: &EdgeName) -> Ordering {
-        match self.directory.cmp(&other.directory) {
-            Ordering::Equal => self.cmp_names(other),
-            apart => apart,
+        if self.directory < other.directory {
+            return Ordering::Less;
         }
+        if self.directory > other.directory {
+            return Ordering::Greater;
+        }
+        self.cmp_names(other)
     }
 }

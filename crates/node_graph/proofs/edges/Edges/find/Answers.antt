@@ -1,6 +1,7 @@
 use Rattle.std.proofs.Common.{ap, sym, ◌∙◌, ◌≡◌, refl, arith, Option, Some, None}
 use Rattle.std.specs.FinMap as finite
 use Rattle.node_graph.specs.declared.edges.Target.{Target}
+use Rattle.node_graph.specs.Tree.{EdgeKey}
 use Rattle.node_graph.specs.Ends.{Ends, name_in}
 use Rattle.node_graph.proofs.Ordered.{get-map_of, map_of}
 use Rattle.node_graph.proofs.edges.Edges.find.Goals as goal
@@ -15,6 +16,6 @@ returns-then-name-gt-MAX_NAME-clause-found c = by_cases (finite.get c.args.self.
 pub returns-clause-found : goal.returns-clause-found
 returns-clause-found c =
     c.copied.ensures ∙ c.get.ensures.value
-    ∙ sym (get-map_of c.self.inside.names.entries c.new-key.result)
-    ∙ ap (finite.get (map_of c.self.inside.names.entries)) c.new-key.ensures
+    ∙ sym (get-map_of c.self.inside.names.entries c.set_name.new.self)
+    ∙ ap (finite.get (map_of c.self.inside.names.entries)) (c.set_name.ensures ∙ ap (λ (k : EdgeKey). name_in k.directory c.args.name.now) c.in_directory-key.ensures)
     ∙ ap (λ (m : Ends). finite.get m (name_in c.args.directory c.args.name.now)) c.self.view_is
