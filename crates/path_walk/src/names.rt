@@ -46,7 +46,7 @@ fn check_length(text: &[u8]) -> Result<(), PathFault>
 fn check_dots(text: &[u8]) -> Result<(), PathFault>
     ensures { result_err result ≡ dot_fault text.now }
 {
-    if text == b".".as_slice() || text == b"..".as_slice() {
+    if matches!(text, [b'.'] | [b'.', b'.']) {
         return Err(PathFault::DotName);
     }
     Ok(())

@@ -3,7 +3,8 @@ ghost use Rattle.std.specs.List.{slice_split, position_or_len};
 ghost use Rattle.std.specs.Option.{option_copied};
 ghost use Rattle.std.specs.Result.{result_err};
 ghost use Rattle.fidl_names.specs.First.{first_of};
-ghost use Rattle.path_walk.specs.Names.{slash, holds, IsName};
+ghost use Rattle.std.specs.Str.{bytes_eq};
+ghost use Rattle.path_walk.specs.Names.{slash, dot, holds, IsName};
 ghost use Rattle.path_walk.specs.Paths.{text_of, IsPath, names_of, text_faults, name_faults, path_fault};
 
 use crate::faults::PathFault;
@@ -12,23 +13,25 @@ use fidl_names::MAX_PATH;
 use memchr::memchr;
 use std::marker::Model;
 
-const DOT: &[u8] = b".";
-
 /// A path. Contracts see it as its list of names, which is empty for `.`.
 #[derive(Drop)]
 pub struct Path<'a> {
     text: &'a [u8],
+    // The place of the first slash, or the text's length.
+    end: usize,
 }
 
 impl<'a> Model for Path<'a> {
-    ghost use Rattle.std.specs.Prelude.{◌≡◌, ℕ, List, None};
+    ghost use Rattle.std.specs.Prelude.{◌≡◌, ◌==◌, ◌≤◌, ℕ, List, None, length};
+    ghost use Rattle.std.specs.List.{position_or_len};
+    ghost use Rattle.path_walk.specs.Names.{slash};
     ghost use Rattle.path_walk.specs.Paths.{names_of, path_fault};
 
     ghost Value = { List (List ℕ) };
 
     ghost view = { λ path. names_of path.text.now };
 
-    ghost invariant = { λ path. path_fault path.text.now ≡ None };
+    ghost invariant = { λ path. (path_fault path.text.now ≡ None) × ((path.end ≡ position_or_len (λ byte. byte == slash) path.text.now) × (path.end ≤ length path.text.now)) };
 }
 
 impl<'a> Path<'a> {
@@ -41,7 +44,16 @@ impl<'a> Path<'a> {
         ensures fault { result_err result ≡ path_fault text.now }
     {
         check_whole(text)?;
-        Ok(Path { text })
+        Ok(Path::of_checked(text))
+    }
+
+    // A text that is known to be a path.
+    fn of_checked(text: &'a [u8]) -> Path<'a>
+        requires { path_fault text.now ≡ None }
+        ensures { result ≡ names_of text.now }
+    {
+        let end = until_slash(text);
+        Path { text, end }
     }
 
     /// The text, of 1 to 4,095 bytes of UTF-8.
@@ -57,23 +69,20 @@ impl<'a> Path<'a> {
         ensures head { option_copied result ≡ slice_get self.now 0 }
         ensures name { IfSome result (λ name. IsName name.now) }
     {
-        if self.text == DOT {
+        if is_dot(self.text) {
             return None;
         }
-        Some(&self.text[..until_slash(self.text)])
+        Some(&self.text[..self.end])
     }
 
     /// The path of the names after the first; `.` after the last.
     pub fn rest(&self) -> Path<'a>
         ensures { result ≡ drop 1 self.now }
     {
-        let end = until_slash(self.text);
-        if end == self.text.len() {
-            return Path { text: DOT };
+        if self.end == self.text.len() {
+            return Path::of_checked(b".");
         }
-        Path {
-            text: behind(self.text, end),
-        }
+        Path::of_checked(behind(self.text, self.end))
     }
 }
 
@@ -81,10 +90,16 @@ fn check_whole(text: &[u8]) -> Result<(), PathFault>
     ensures { result_err result ≡ path_fault text.now }
 {
     check_text(text)?;
-    if text == DOT {
+    if is_dot(text) {
         return Ok(());
     }
     check_pieces(text)
+}
+
+fn is_dot(text: &[u8]) -> bool
+    ensures { result ≡ bytes_eq text.now dot }
+{
+    matches!(text, [b'.'])
 }
 
 // The rules on the whole text.

@@ -9,10 +9,10 @@ returns-in_err-check_text c =
     let p = err_from_is_err_and c.from_residual.result c.from_residual.ensures.1 in
     rw (p.1, p.2) (sym (path_fault-text c.args.text.now _ (sym c.in_err-check_text.ensures)))
 
-pub returns-then-eq : goal.returns-then-eq
-returns-then-eq c = sym (path_fault-at_dot c.args.text.now (sym c.eq.ensures ∙ c.if-eq.true))
+pub returns-then-is_dot : goal.returns-then-is_dot
+returns-then-is_dot c = sym (path_fault-at_dot c.args.text.now (sym c.is_dot.ensures ∙ c.if-is_dot.true))
 
 pub returns : goal.returns
 returns c =
     c.check_pieces.ensures
-    ∙ sym (path_fault-pieces c.args.text.now (sym c.in_ok-check_text.ensures) (sym c.eq.ensures ∙ c.if-eq.false))
+    ∙ sym (path_fault-pieces c.args.text.now (sym c.in_ok-check_text.ensures) (sym c.is_dot.ensures ∙ c.if-is_dot.false))

@@ -9,4 +9,4 @@ returns-clause-text c = sym (text_of-names_of c.self.inside.text.now) ∙ ap tex
 
 pub returns-clause-path : goal.returns-clause-path
 returns-clause-path c =
-    subst (IsPath c.self.inside.text.now) c.self.view_is (path_sound c.self.inside.text.now c.self.invariant)
+    subst (IsPath c.self.inside.text.now) c.self.view_is (path_sound c.self.inside.text.now c.self.invariant.0)

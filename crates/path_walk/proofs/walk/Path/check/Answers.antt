@@ -1,6 +1,7 @@
 -- A text without a fault is the path of its names, and only such a text is.
-use Rattle.std.proofs.Common.{sym}
+use Rattle.std.proofs.Common.{sym, subst, ◌∙◌}
 use Rattle.std.proofs.lemmas.Result.{err_from_is_err_and}
+use Rattle.path_walk.specs.Paths.{IsPath}
 use Rattle.path_walk.proofs.PathLemmas.{path_sound, path_complete, no_path}
 use Rattle.path_walk.proofs.walk.Path.check.Goals as goal
 
@@ -14,7 +15,7 @@ returns-in_err-check_whole-clause-fault c =
     rw (p.1, p.2) c.in_err-check_whole.ensures
 
 pub returns-clause-path : goal.returns-clause-path
-returns-clause-path c = path_sound c.args.text.now (sym c.in_ok-check_whole.ensures)
+returns-clause-path c = subst (IsPath c.args.text.now) (sym c.of_checked.ensures) (path_sound c.args.text.now (sym c.in_ok-check_whole.ensures))
 
 pub returns-clause-each_path : goal.returns-clause-each_path
-returns-clause-each_path c = λ names p. (path_complete c.args.text.now names p).1
+returns-clause-each_path c = λ names p. c.of_checked.ensures ∙ (path_complete c.args.text.now names p).1

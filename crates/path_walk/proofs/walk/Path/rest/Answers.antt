@@ -5,15 +5,15 @@ use Rattle.path_walk.specs.Paths.{path_fault, names_of}
 use Rattle.path_walk.proofs.PathLemmas.{path_fault-dot, rest_at_end, after_slash, names_of-dot, is_slash}
 use Rattle.path_walk.proofs.walk.Path.rest.Goals as goal
 
-pub invariant_of-result : goal.invariant_of-result
-invariant_of-result c = path_fault-dot
+pub of_checked-requires : goal.of_checked-requires
+of_checked-requires c = path_fault-dot
 
-pub returns-then-end-self : goal.returns-then-end-self
-returns-then-end-self c =
-    names_of-dot
+pub returns-then-self : goal.returns-then-self
+returns-then-self c =
+    c.of_checked.ensures ∙ names_of-dot
     ∙ sym
     (ap (drop 1) (sym c.self.view_is)
-    ∙ rest_at_end c.self.inside.text.now (sym c.until_slash-end.ensures.place ∙ c.if-end-self.true))
+    ∙ rest_at_end c.self.inside.text.now (sym c.self.invariant.1.0 ∙ c.if-self.true))
 
 below_end : (end size : ℕ) → end ≤ size → (end ≡ size → ⊥) → end < size
 below_end end size h other = omega arith
@@ -23,15 +23,19 @@ tail : (text after : List ℕ) (end : ℕ) → path_fault text ≡ None → end 
 tail text after end sound e within same =
     rw (same, e) (after_slash text sound (subst (λ k. k < length text) e within))
 
-pub invariant_of-result-2 : goal.invariant_of-result-2
-invariant_of-result-2 c =
-    (tail c.self.inside.text.now c.behind.result.now c.until_slash-end.result c.self.invariant c.until_slash-end.ensures.place
-    (below_end c.until_slash-end.result _ c.until_slash-end.ensures.within c.if-end-self.false)
+pub behind-requires : goal.behind-requires
+behind-requires c = below_end c.self.inside.end _ c.self.invariant.1.1 c.if-self.false
+
+pub of_checked-requires-2 : goal.of_checked-requires-2
+of_checked-requires-2 c =
+    (tail c.self.inside.text.now c.behind.result.now c.self.inside.end c.self.invariant.0 c.self.invariant.1.0
+    (below_end c.self.inside.end _ c.self.invariant.1.1 c.if-self.false)
     c.behind.ensures).0
 
 pub returns : goal.returns
 returns c =
-    (tail c.self.inside.text.now c.behind.result.now c.until_slash-end.result c.self.invariant c.until_slash-end.ensures.place
-    (below_end c.until_slash-end.result _ c.until_slash-end.ensures.within c.if-end-self.false)
+    c.of_checked-2.ensures
+    ∙ (tail c.self.inside.text.now c.behind.result.now c.self.inside.end c.self.invariant.0 c.self.invariant.1.0
+    (below_end c.self.inside.end _ c.self.invariant.1.1 c.if-self.false)
     c.behind.ensures).1
     ∙ ap (drop 1) c.self.view_is
