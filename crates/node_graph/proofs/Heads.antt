@@ -1,7 +1,7 @@
 -- Names stand to each other as their first eight bytes do, read as numbers, where these differ.
 use Rattle.std.proofs.Common.{◌≡◌, ℕ, zero, suc, List, [], ◌∷◌, refl, ap, sym, ◌∙◌, subst, arith}
-use Rattle.std.specs.Prelude.{◌+◌, ◌-◌, ◌*◌, ◌^◌, ◌<◌, ◌++◌, slice_index, drop, replicate}
-use Rattle.std.specs.declared.cmp.Ordering.TheVariants.{Less, Greater}
+use Rattle.std.specs.Prelude.{◌+◌, ◌-◌, ◌*◌, ◌^◌, ◌<◌, ◌≤◌, ◌++◌, slice_index, drop, length, replicate}
+use Rattle.std.specs.declared.cmp.Ordering.TheVariants.{Less, Equal, Greater}
 use Rattle.std.specs.Ordering.{nat_cmp, ordering_then, ordering_reverse}
 use Rattle.std.specs.Cmp.Lexicographic.{slice_cmp}
 use Rattle.std.specs.Int.{w64, from_be_bytes, sum_through, byte_worth}
@@ -60,6 +60,40 @@ earlier h k a b is js less = first 8 a b is.bytes js.bytes (let p = is.number �
 
 pub later : (h k : ℕ) (a b : List ℕ) → IsHead h a → IsHead k b → k < h → slice_cmp nat_cmp a b ≡ Greater
 later h k a b is js more = nat_list_cmp_total.antisymm a b ∙ ap ordering_reverse (earlier k h b a js is more)
+
+cmp_less : (n m : ℕ) → n < m → nat_cmp n m ≡ Less
+cmp_less n m h = by_ranked (n < m) (n ≡ m) (m < n) (nat_cmp n m) (ranked n m (nat_cmp n m) refl) (λ e less. e) (λ e same. absurd (omega arith)) (λ e more. absurd (omega arith))
+
+cmp_same : (n m : ℕ) → n ≡ m → nat_cmp n m ≡ Equal
+cmp_same n m h = by_ranked (n < m) (n ≡ m) (m < n) (nat_cmp n m) (ranked n m (nat_cmp n m) refl) (λ e less. absurd (omega arith)) (λ e same. e) (λ e more. absurd (omega arith))
+
+cmp_more : (n m : ℕ) → m < n → nat_cmp n m ≡ Greater
+cmp_more n m h = by_ranked (n < m) (n ≡ m) (m < n) (nat_cmp n m) (ranked n m (nat_cmp n m) refl) (λ e less. absurd (omega arith)) (λ e same. absurd (omega arith)) (λ e more. e)
+
+cmp_suc : (n m : ℕ) → nat_cmp n m ≡ nat_cmp (suc n) (suc m)
+cmp_suc n m =
+    by_ranked (n < m) (n ≡ m) (m < n) (nat_cmp n m) (ranked n m (nat_cmp n m) refl)
+    (λ e less. e ∙ sym (cmp_less (suc n) (suc m) (omega arith)))
+    (λ e same. e ∙ sym (cmp_same (suc n) (suc m) (omega arith)))
+    (λ e more. e ∙ sym (cmp_more (suc n) (suc m) (omega arith)))
+
+-- names that their digits have whole, and that have the same, stand as their lengths do
+by_length : (k : ℕ) (a b : List ℕ) → length a ≤ k → length b ≤ k → AreBytes k a → AreBytes k b → digits k a ≡ digits k b → slice_cmp nat_cmp a b ≡ nat_cmp (length a) (length b)
+by_length k [] [] la lb fa fb e = refl
+by_length k [] (y ∷ ys) la lb fa fb e = sym (cmp_less 0 (length (y ∷ ys)) (omega arith))
+by_length k (x ∷ xs) [] la lb fa fb e = sym (cmp_more (length (x ∷ xs)) 0 (omega arith))
+by_length zero (x ∷ xs) (y ∷ ys) la lb fa fb e = absurd (omega arith)
+by_length (suc k) (x ∷ xs) (y ∷ ys) la lb fa fb e =
+    by_ranked (x < y) (x ≡ y) (y < x) (nat_cmp x y) (ranked x y (nat_cmp x y) refl)
+    (λ o less. absurd (let q = lower x y (256 ^ k) (digits k xs) (digits k ys) less (below k xs (rest k x xs fa)) in omega arith))
+    (λ o same. ap (λ o. ordering_then o (slice_cmp nat_cmp xs ys)) o
+    ∙ by_length k xs ys (omega arith) (omega arith) (rest k x xs fa) (rest k y ys fb) (let q = ap (λ n. n * 256 ^ k) same in omega arith)
+    ∙ cmp_suc (length xs) (length ys))
+    (λ o more. absurd (let q = lower y x (256 ^ k) (digits k ys) (digits k xs) more (below k ys (rest k y ys fb)) in omega arith))
+
+-- names that end in their heads, which are the same, stand as their lengths do
+pub as_lengths : (h k : ℕ) (a b : List ℕ) → IsHead h a → IsHead k b → h ≡ k → length a ≤ 8 → length b ≤ 8 → slice_cmp nat_cmp a b ≡ nat_cmp (length a) (length b)
+as_lengths h k a b is js same la lb = by_length 8 a b la lb is.bytes js.bytes (sym (whole a) ∙ sym is.number ∙ same ∙ js.number ∙ whole b)
 
 pub zeros_only : (n k place : ℕ) → slice_index (drop k (replicate n 0)) place ≡ 0
 zeros_only zero zero place = refl

@@ -11,6 +11,9 @@ use fidl_names::MAX_NAME;
 use std::cmp::Ordering;
 use std::marker::Model;
 
+// How many bytes of a name its head has.
+const HEAD: usize = 8;
+
 /// Where an edge starts: the number of a directory, and a name in it, or what a name is compared with.
 #[derive(Drop)]
 pub struct EdgeName {
@@ -83,6 +86,10 @@ impl EdgeName {
         }
         if self.head > other.head {
             return Ordering::Greater;
+        }
+        // Names that are no longer than the head which they share can differ in their length alone.
+        if self.length <= HEAD && other.length <= HEAD {
+            return self.length.cmp(&other.length);
         }
         self.name().cmp(other.name())
     }
