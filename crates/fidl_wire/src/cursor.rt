@@ -1,4 +1,4 @@
-ghost use Rattle.std.specs.Prelude.{◌≡◌, ◌+◌, ◌<◌, ◌≤◌, true, false, [], ◌∷◌, Some, None, IsSome, IfSome, option_map, length, Ok, Err, IfOk, IfErr, OnOk, OnErr};
+ghost use Rattle.std.specs.Prelude.{◌≡◌, ◌+◌, ◌<◌, ◌≤◌, true, false, [], ◌∷◌, Some, None, IsSome, IfSome, option_map, length, replicate, Ok, Err, IfOk, IfErr, OnOk, OnErr};
 ghost use Rattle.std.specs.Int.{w32, w64, cast_unsigned};
 ghost use Rattle.fidl_wire.specs.Layout.{number, pad, handle, text, vector, table, num, blank, held, seq, members, is_kind};
 ghost use Rattle.fidl_wire.specs.Cursor.{start_of, outside_of, IsPart};
@@ -265,6 +265,18 @@ impl<'a, 'h> Body<'a, 'h> {
         ensures fault { IfErr result (λ e. cell_at (table known.now) self.old ≡ Err e) }
         ensures unchanged { OnErr result (self.new ≡ self.old) }
     {
+        forget(values);
+        self.table_into(known, values)
+    }
+
+    /// The same, where `values` has no number yet.
+    #[tactic(auto, unfolding(crate::specs::Reading::cell_at))]
+    fn table_into(&mut self, known: &[bool], values: &mut [Option<u64>]) -> Result<(), WireFault>
+        requires { values.old ≡ replicate (length known.now) None }
+        ensures value { OnOk result (cell_at (table known.now) self.old ≡ Ok (members values.new, self.new)) }
+        ensures fault { IfErr result (λ e. cell_at (table known.now) self.old ≡ Err e) }
+        ensures unchanged { OnErr result (self.new ≡ self.old) }
+    {
         let at = self.inline_place(16)?;
         let count = self.count_at(at)?;
         let first = self.out;
@@ -275,7 +287,6 @@ impl<'a, 'h> Body<'a, 'h> {
             out: first + 8 * count,
             left: self.handles.len(),
         };
-        forget(values);
         let rest = members(self.bytes, known, first, count, start, values)?;
         self.place += 16;
         self.out = rest.out;
@@ -290,7 +301,7 @@ impl<'a, 'h> Body<'a, 'h> {
         ensures unchanged { OnErr result (self.new ≡ self.old) }
     {
         let mut values = [None];
-        self.table(&[true], &mut values)?;
+        self.table_into(&[true], &mut values)?;
         Ok(values[0])
     }
 
