@@ -170,7 +170,7 @@ impl Client {
                 &mut self.graph,
                 ROOM,
                 txid,
-                request,
+                &request,
                 &mut self.writer.out,
             ),
         )

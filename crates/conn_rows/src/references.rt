@@ -69,7 +69,7 @@ fn ask(
         graph,
         ROOM,
         txid,
-        request,
+        &request,
         &mut writer.out,
     )
 }
@@ -218,7 +218,7 @@ fn a_text_is_echoed(rt: HostRuntime) -> Result<(), Fail> {
     let request = Request::EchoString {
         value: "hello".as_bytes(),
     };
-    let served = echo(&writer.ordinals, 7, request, &mut writer.out);
+    let served = echo(&writer.ordinals, 7, &request, &mut writer.out);
     assert_eq!(rt; served, Served::Reply);
     let bytes: &[u8] =
         b"\x07\x00\x00\x00\x02\x00\x00\x01\x16\xa6\xd9\x52\x4e\x27\xb8\x75\x05\x00\x00\x00\x00\x00\x00\x00\xff\xff\xff\xff\xff\xff\xff\xffhello\x00\x00\x00";

@@ -69,20 +69,20 @@ impl FileConn {
         graph: &mut Graph,
         room: Room,
         txid: u32,
-        request: Request<'_>,
+        request: &Request<'_>,
         out: &mut Out,
     ) -> Served
         requires can { CanBeBound graph.old self.old.birth }
         requires protocol { self.old.birth.protocol ≡ Protocol.File }
-        requires method { has_method Protocol.File (method_of (asked request)) ≡ true }
-        requires txid { has_txid (is_one_way (method_of (asked request))) txid ≡ true }
+        requires method { has_method Protocol.File (method_of (asked request.now)) ≡ true }
+        requires txid { has_txid (is_one_way (method_of (asked request.now))) txid ≡ true }
         requires empty { HasNothing out.old }
         ensures serves { (tree : Tree) (directory : ℕ → Option ℕ) → StandsFor graph.old tree → result ≢ Served.NoMemory →
-            IsServed (act_of (context_of self.old room tree directory) (asked request.entry)) txid result out.new self.new graph.old graph.new }
+            IsServed (act_of (context_of self.old room tree directory) (asked request.now)) txid result out.new self.new graph.old graph.new }
         ensures holds { KeepsHolds self.old self.new graph.old graph.new }
         // Only what leaves bytes in the file takes memory.
         ensures memory { (tree : Tree) (directory : ℕ → Option ℕ) → StandsFor graph.old tree → result ≡ Served.NoMemory →
-            takes_memory (act_of (context_of self.old room tree directory) (asked request.entry)).change ≡ true }
+            takes_memory (act_of (context_of self.old room tree directory) (asked request.now)).change ≡ true }
         ensures untouched { result ≡ Served.NoMemory → IsUntouched out.new self.old self.new graph.old graph.new }
     {
         let method = request.method();
@@ -100,35 +100,35 @@ impl FileConn {
         graph: &mut Graph,
         room: Room,
         txid: u32,
-        request: Request<'_>,
+        request: &Request<'_>,
         out: &mut Out,
     ) -> Served
         requires can { CanBeBound graph.old self.old.birth }
         requires protocol { self.old.birth.protocol ≡ Protocol.File }
-        requires method { has_method Protocol.File (method_of (asked request)) ≡ true }
-        requires txid { has_txid (is_one_way (method_of (asked request))) txid ≡ true }
+        requires method { has_method Protocol.File (method_of (asked request.now)) ≡ true }
+        requires txid { has_txid (is_one_way (method_of (asked request.now))) txid ≡ true }
         requires empty { HasNothing out.old }
         ensures serves { (tree : Tree) (directory : ℕ → Option ℕ) → StandsFor graph.old tree → result ≢ Served.NoMemory →
-            IsServed (row_act (context_of self.old room tree directory) (asked request.entry)) txid result out.new self.new graph.old graph.new }
+            IsServed (row_act (context_of self.old room tree directory) (asked request.now)) txid result out.new self.new graph.old graph.new }
         ensures holds { KeepsHolds self.old self.new graph.old graph.new }
         ensures memory { (tree : Tree) (directory : ℕ → Option ℕ) → StandsFor graph.old tree → result ≡ Served.NoMemory →
-            takes_memory (row_act (context_of self.old room tree directory) (asked request.entry)).change ≡ true }
+            takes_memory (row_act (context_of self.old room tree directory) (asked request.now)).change ≡ true }
         ensures untouched { result ≡ Served.NoMemory → IsUntouched out.new self.old self.new graph.old graph.new }
     {
         match request {
-            Request::Read { count } => self.read(ordinals, graph, txid, count, out),
+            Request::Read { count } => self.read(ordinals, graph, txid, *count, out),
             Request::ReadAt { count, offset } => {
-                self.read_at(ordinals, graph, txid, count, offset, out)
+                self.read_at(ordinals, graph, txid, *count, *offset, out)
             }
             Request::Write { bytes } => self.write(ordinals, graph, txid, bytes, out),
             Request::WriteAt { bytes, offset } => {
-                self.write_at(ordinals, graph, txid, bytes, offset, out)
+                self.write_at(ordinals, graph, txid, bytes, *offset, out)
             }
             Request::Seek { origin, offset } => {
-                self.seek(ordinals, graph, txid, origin, offset, out)
+                self.seek(ordinals, graph, txid, *origin, *offset, out)
             }
-            Request::Resize { length } => self.resize(ordinals, graph, txid, length, out),
-            _ => serve_node(&self.birth, ordinals, graph, room, txid, &request, out),
+            Request::Resize { length } => self.resize(ordinals, graph, txid, *length, out),
+            _ => serve_node(&self.birth, ordinals, graph, room, txid, request, out),
         }
     }
 }

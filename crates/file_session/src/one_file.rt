@@ -160,7 +160,7 @@ impl Connection {
             &mut self.graph,
             in_use,
             txid,
-            request,
+            &request,
             &mut self.out,
         );
         match served {

@@ -62,23 +62,23 @@ impl NodeConn {
         graph: &mut Graph,
         room: Room,
         txid: u32,
-        request: Request<'_>,
+        request: &Request<'_>,
         out: &mut Out,
     ) -> Served
         requires can { CanBeBound graph.old self.old.birth }
         requires protocol { self.old.birth.protocol ≡ Protocol.Node }
-        requires method { has_method Protocol.Node (method_of (asked request)) ≡ true }
-        requires txid { has_txid (is_one_way (method_of (asked request))) txid ≡ true }
+        requires method { has_method Protocol.Node (method_of (asked request.now)) ≡ true }
+        requires txid { has_txid (is_one_way (method_of (asked request.now))) txid ≡ true }
         requires empty { HasNothing out.old }
         ensures serves { (tree : Tree) (directory : ℕ → Option ℕ) → StandsFor graph.old tree → result ≢ Served.NoMemory →
-            IsServed (act_of (context_of self.old room tree directory) (asked request.entry)) txid result out.new self.new graph.old graph.new }
+            IsServed (act_of (context_of self.old room tree directory) (asked request.now)) txid result out.new self.new graph.old graph.new }
         ensures holds { KeepsHolds self.old self.new graph.old graph.new }
         ensures memory { result ≢ Served.NoMemory }
     {
         let method = request.method();
         match method_refusal(&self.birth, method) {
             Some(status) => fail(ordinals, txid, method, status, out),
-            None => serve_node(&self.birth, ordinals, graph, room, txid, &request, out),
+            None => serve_node(&self.birth, ordinals, graph, room, txid, request, out),
         }
     }
 }

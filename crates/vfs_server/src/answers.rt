@@ -20,7 +20,7 @@ use node_graph::NodeRef;
 use remote_forward::forward;
 
 /// The endpoint that a request carries, 0 for none.
-pub(crate) fn object_of(request: &Request<'_>) -> u32
+fn object_of(request: &Request<'_>) -> u32
     ensures { result ≡ object_of (asked request.now) }
 {
     match request {
@@ -31,17 +31,17 @@ pub(crate) fn object_of(request: &Request<'_>) -> u32
     }
 }
 
-/// Does what the connection that is asked, which is to `node`, gave to a request that carries `object`.
+/// Does what the connection that is asked, which is to `node`, gave to a request.
 pub(crate) fn answer(
     asking: &Asking<'_>,
     node: NodeRef,
-    object: u32,
+    request: &Request<'_>,
     given: Given<'_>,
     out: &mut Out,
     outbox: &mut Outbox,
 ) -> Result<Fate, NoMemory>
     requires connection { BindsConnection given }
-    ensures does { IfOk result (λ fate. DoesGiven asking.now.endpoint object node given.entry out.old fate out.new outbox.old outbox.new) }
+    ensures does { IfOk result (λ fate. DoesGiven asking.now.endpoint (object_of (asked request.now)) node given.entry out.old fate out.new outbox.old outbox.new) }
     ensures no_memory { OnErr result (outbox.new ≡ outbox.old) }
 {
     let endpoint = asking.endpoint;
@@ -54,21 +54,23 @@ pub(crate) fn answer(
             put_last(endpoint, out, outbox)?;
             Ok(Fate::Ends)
         }
-        Given::Bind(birth) => bind(asking.ordinals, object, birth, out, outbox),
+        Given::Bind(birth) => bind(asking.ordinals, object_of(request), birth, out, outbox),
         Given::WatchBy(mask) => {
             put_message(endpoint, out, outbox)?;
             Ok(Fate::Watches {
-                object,
+                object: object_of(request),
                 directory: node,
                 mask,
             })
         }
         Given::Forward { mount, flags, rest } => {
+            let object = object_of(request);
             out.clear();
             forward(asking.ordinals, flags, rest, object, out);
             Ok(Fate::Forwards { mount, object })
         }
         Given::Refused(status) => {
+            let object = object_of(request);
             put_ending(object, status, out, outbox)?;
             Ok(Fate::Refuses { object })
         }

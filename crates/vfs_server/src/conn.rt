@@ -86,7 +86,7 @@ impl Conn {
         graph: &mut Graph,
         tokens: &Tokens,
         txid: u32,
-        request: Request<'a>,
+        request: &Request<'a>,
         out: &mut Out,
         changes: &mut Changes<'a>,
     ) -> Given<'a>
@@ -95,22 +95,22 @@ impl Conn {
         requires made { graph.old.made < 2 ^ 63 }
         requires node { CanBeBound graph.old (connection_of self.old).birth }
         requires directories { NameDirectories graph.old tokens.now }
-        requires method { has_method (connection_of self.old).birth.protocol (method_of (asked request)) ≡ true }
-        requires txid { has_txid (is_one_way (method_of (asked request))) txid ≡ true }
-        requires echo { CanEcho (connection_of self.old).birth.protocol (asked request) }
+        requires method { has_method (connection_of self.old).birth.protocol (method_of (asked request.now)) ≡ true }
+        requires txid { has_txid (is_one_way (method_of (asked request.now))) txid ≡ true }
+        requires echo { CanEcho (connection_of self.old).birth.protocol (asked request.now) }
         requires empty { HasNothing out.old }
         requires none { told_by changes.old ≡ nothing_told }
         ensures acts { (tree : Tree) (directory : ℕ → Option ℕ) → StandsFor graph.old tree →
-            NamesAsThere tokens.now directory (asked request.entry) → result ≢ Given.NoMemory →
-            Acts (act_of (context_of (connection_of self.old) room tree directory) (asked request.entry)) txid result (told_by changes.new) out.new (connection_of self.new) graph.old graph.new }
+            NamesAsThere tokens.now directory (asked request.now) → result ≢ Given.NoMemory →
+            Acts (act_of (context_of (connection_of self.old) room tree directory) (asked request.now)) txid result (told_by changes.new) out.new (connection_of self.new) graph.old graph.new }
         ensures holds { KeepsHolds (connection_of self.old) (connection_of self.new) graph.old graph.new }
         ensures tree { HasTree graph.new }
         ensures kind { IsOfItsKind self.new }
     {
         match self {
             Conn::Directory(conn) => {
-                let target = tokens.target(&request);
-                let served = conn.serve(ordinals, graph, room, target, txid, request, out);
+                let target = tokens.target(request);
+                let served = conn.serve(ordinals, graph, room, target, txid, *request, out);
                 Given::of_directory(served, changes)
             }
             Conn::File(conn) => Given::of(conn.serve(ordinals, graph, room, txid, request, out)),

@@ -15,7 +15,7 @@ ghost use Rattle.vfs_journal.specs.Serving.{Moment, outcome_of_read};
 ghost use Rattle.vfs_server.specs.Kept.{HasTree, NameDirectories};
 ghost use Rattle.vfs_server.specs.Steps.{Answers, AreNamed, CanEcho, CanTell, IsAskedAt, NamesAsThere, done_with};
 
-use crate::answers::{answer, answer_fault, object_of};
+use crate::answers::{answer, answer_fault};
 use crate::asking::Asking;
 use crate::conn::Conn;
 use crate::fate::Fate;
@@ -100,7 +100,7 @@ impl Connection {
         out.clear();
         match read_request(asking.ordinals, self.conn.protocol(), bytes, handles) {
             Ok((txid, request)) => self.serve_request(
-                asking, graph, tokens, txid, request, out, outbox, changes,
+                asking, graph, tokens, txid, &request, out, outbox, changes,
             ),
             Err(fault) => answer_fault(asking, fault, out, outbox),
         }
@@ -113,7 +113,7 @@ impl Connection {
         graph: &mut Graph,
         tokens: &Tokens,
         txid: u32,
-        request: Request<'a>,
+        request: &Request<'a>,
         out: &mut Out,
         outbox: &mut Outbox,
         changes: &mut Changes<'a>,
@@ -122,21 +122,20 @@ impl Connection {
         requires made { graph.old.made < 2 ^ 63 }
         requires node { CanBeBound graph.old self.old.birth }
         requires directories { NameDirectories graph.old tokens.now }
-        requires method { has_method self.old.birth.protocol (method_of (asked request)) ≡ true }
-        requires txid { has_txid (is_one_way (method_of (asked request))) txid ≡ true }
-        requires echo { CanEcho self.old.birth.protocol (asked request) }
+        requires method { has_method self.old.birth.protocol (method_of (asked request.now)) ≡ true }
+        requires txid { has_txid (is_one_way (method_of (asked request.now))) txid ≡ true }
+        requires echo { CanEcho self.old.birth.protocol (asked request.now) }
         requires empty { HasNothing out.old }
         requires none { told_by changes.old ≡ nothing_told }
         ensures answers { (server : ℕ) (moment : Moment) → IsAskedAt server asking.now graph.old self.old moment →
-            NamesAsThere tokens.now moment.directory (asked request.entry) →
-            IfOk result (λ fate. Answers moment (outcome_of_read moment (Ok (txid, asked request.entry))) (done_with fate changes.new) out.new self.new graph.old graph.new outbox.old outbox.new) }
+            NamesAsThere tokens.now moment.directory (asked request.now) →
+            IfOk result (λ fate. Answers moment (outcome_of_read moment (Ok (txid, asked request.now))) (done_with fate changes.new) out.new self.new graph.old graph.new outbox.old outbox.new) }
         ensures tells { IfOk result (λ fate. CanTell (done_with fate changes.new) self.new outbox.old outbox.new) }
         ensures holds { KeepsHolds self.old self.new graph.old graph.new }
         ensures tree { HasTree graph.new }
         ensures no_memory { OnErr result (outbox.new ≡ outbox.old) }
     {
-        let object = object_of(&request);
-        let room = asking.room(graph.number(self.conn.node()), &request);
+        let room = asking.room(graph.number(self.conn.node()), request);
         let given = self.conn.serve(
             asking.ordinals,
             room,
@@ -147,6 +146,6 @@ impl Connection {
             out,
             changes,
         );
-        answer(asking, self.conn.node(), object, given, out, outbox)
+        answer(asking, self.conn.node(), request, given, out, outbox)
     }
 }

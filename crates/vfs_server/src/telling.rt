@@ -57,7 +57,7 @@ fn put_told(
     match fate {
         Ok(fate) => {
             put_first(graph, *fate, outbox)?;
-            watching.tell(*changes, outbox)?;
+            watching.tell(changes, outbox)?;
             Ok(*fate)
         }
         Err(_) => Err(NoMemory),

@@ -113,13 +113,13 @@ impl Watching {
 
     /// Tells those who watch of changes: a name is gone, a name is new, a directory is gone. For want of
     /// memory a part of that is told.
-    pub fn tell(&self, changes: Changes<'_>, outbox: &mut Outbox) -> Result<(), NoMemory>
-        requires short { All IsShort (told_by changes) }
-        ensures told { OnOk result (outbox.new ≡ outbox.old ++ spellings (told_of self.now (told_by changes.entry))) }
+    pub fn tell(&self, changes: &Changes<'_>, outbox: &mut Outbox) -> Result<(), NoMemory>
+        requires short { All IsShort (told_by changes.now) }
+        ensures told { OnOk result (outbox.new ≡ outbox.old ++ spellings (told_of self.now (told_by changes.now))) }
         ensures front { OnErr result (Extends outbox.old outbox.new) }
     {
-        self.tell_name(WatchEvent::Removed, changes.removed, outbox)?;
-        self.tell_name(WatchEvent::Added, changes.added, outbox)?;
+        self.tell_name(WatchEvent::Removed, &changes.removed, outbox)?;
+        self.tell_name(WatchEvent::Added, &changes.added, outbox)?;
         self.tell_gone(changes.deleted, outbox)
     }
 
@@ -127,11 +127,11 @@ impl Watching {
     fn tell_name(
         &self,
         event: WatchEvent,
-        at: Option<At<'_>>,
+        at: &Option<At<'_>>,
         outbox: &mut Outbox,
     ) -> Result<(), NoMemory>
-        requires short { (one : At) → at ≡ Some one → HasLength one.name.now }
-        ensures told { OnOk result (outbox.new ≡ outbox.old ++ spellings (name_told self.now (messages.number_of event) at.entry)) }
+        requires short { (one : At) → at.now ≡ Some one → HasLength one.name.now }
+        ensures told { OnOk result (outbox.new ≡ outbox.old ++ spellings (name_told self.now (messages.number_of event) at.now)) }
         ensures front { OnErr result (Extends outbox.old outbox.new) }
     {
         match at {

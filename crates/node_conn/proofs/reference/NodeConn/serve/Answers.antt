@@ -10,12 +10,12 @@ returns-clause-serves c tree directory stands some =
     elim c.match-method_refusal.branch [
       | in-Some w ↦
           rw (w.out-is, w.result-is)
-          (refused_is_served c.self.inside.birth c.args.self.now c.args.room tree directory (asked c.args.request) c.method-method.result w.in-Some.status
+          (refused_is_served c.self.inside.birth c.args.self.now c.args.room tree directory (asked c.args.request.now) c.method-method.result w.in-Some.status
           c.args.txid w.fail.result w.fail.new.out c.args.graph.now same c.method-method.ensures w.in-Some.ensures.first
           (w.fail.ensures.served c.args.self.now c.args.graph.now))
       | in-None w ↦
           rw (w.out-is, w.result-is)
-          (taken_is_served c.self.inside.birth c.args.self.now c.args.room tree directory (asked c.args.request) c.method-method.result
+          (taken_is_served c.self.inside.birth c.args.self.now c.args.room tree directory (asked c.args.request.now) c.method-method.result
           c.args.txid w.serve_node.result w.serve_node.new.out c.args.self.now c.args.graph.now c.args.graph.now same c.method-method.ensures w.in-None.ensures.first
           (rw same at w.serve_node.ensures.served c.args.self.now.position tree directory stands))
     ]

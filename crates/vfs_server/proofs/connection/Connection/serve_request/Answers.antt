@@ -25,30 +25,29 @@ pub answer-requires : goal.answer-requires
 answer-requires c = record {
   connection =
       let can = subst (λ connection. CanBeBound c.args.graph.now connection.birth) (sym c.self.view_is) c.requires.node in
-      binds_connection c.args.graph.now c.args.tokens.now (connection_of c.self.inside.conn) can c.requires.tree c.room-room.result (asked c.args.request) (known_here (asked c.args.request) c.self.view_is c.requires.method) c.args.txid c.serve-given.result (told_by c.serve-given.new.changes) c.serve-given.new.out
+      binds_connection c.args.graph.now c.args.tokens.now (connection_of c.self.inside.conn) can c.requires.tree c.room-room.result (asked c.args.request.now) (known_here (asked c.args.request.now) c.self.view_is c.requires.method) c.args.txid c.serve-given.result (told_by c.serve-given.new.changes) c.serve-given.new.out
       (connection_of c.serve-given.new.self) c.serve-given.new.graph c.serve-given.ensures.acts;
 }
 
 -- what is in use, as the connection sees it
-room_is : (c : goal.After-answer) → c.room-room.result ≡ looked_at (asked c.args.request) (room_for c.args.asking.now (number_of (connection_of c.self.inside.conn).birth.node))
-room_is c = c.room-room.ensures ∙ ap (λ (n : ℕ). looked_at (asked c.args.request) (room_for c.args.asking.now n)) (c.number.ensures ∙ ap number_of c.node.ensures)
+room_is : (c : goal.After-answer) → c.room-room.result ≡ looked_at (asked c.args.request.now) (room_for c.args.asking.now (number_of (connection_of c.self.inside.conn).birth.node))
+room_is c = c.room-room.ensures ∙ ap (λ (n : ℕ). looked_at (asked c.args.request.now) (room_for c.args.asking.now n)) (c.number.ensures ∙ ap number_of c.node.ensures)
 
 -- what is done, over whatever tree and tokens, doesn't look at more
 act_is : (c : goal.After-answer) (tree : Tree) (directory : ℕ → Option ℕ) →
-    act_of (context_of (connection_of c.self.inside.conn) c.room-room.result tree directory) (asked c.args.request)
-    ≡ act_of (context_of (connection_of c.self.inside.conn) (room_for c.args.asking.now (number_of (connection_of c.self.inside.conn).birth.node)) tree directory) (asked c.args.request)
+    act_of (context_of (connection_of c.self.inside.conn) c.room-room.result tree directory) (asked c.args.request.now)
+    ≡ act_of (context_of (connection_of c.self.inside.conn) (room_for c.args.asking.now (number_of (connection_of c.self.inside.conn).birth.node)) tree directory) (asked c.args.request.now)
 act_is c tree directory =
-    ap (λ (room : Room). act_of (context_of (connection_of c.self.inside.conn) room tree directory) (asked c.args.request)) (room_is c)
-    ∙ act_alike (connection_of c.self.inside.conn) (room_for c.args.asking.now (number_of (connection_of c.self.inside.conn).birth.node)) tree directory (asked c.args.request)
+    ap (λ (room : Room). act_of (context_of (connection_of c.self.inside.conn) room tree directory) (asked c.args.request.now)) (room_is c)
+    ∙ act_alike (connection_of c.self.inside.conn) (room_for c.args.asking.now (number_of (connection_of c.self.inside.conn).birth.node)) tree directory (asked c.args.request.now)
 
--- what was done, by the request's endpoint and the connection's node
+-- what was done, by the connection's node
 does : (c : goal.After-answer) (fate : Fate) →
-    DoesGiven c.args.asking.now.endpoint c.object_of-object.result c.node-2.result c.serve-given.result c.serve-given.new.out fate c.answer.new.out c.args.outbox.now c.answer.new.outbox →
-    DoesGiven c.args.asking.now.endpoint (object_of (asked c.args.request)) (connection_of c.self.inside.conn).birth.node c.serve-given.result c.serve-given.new.out fate c.answer.new.out c.args.outbox.now c.answer.new.outbox
+    DoesGiven c.args.asking.now.endpoint (object_of (asked c.args.request.now)) c.node-2.result c.serve-given.result c.serve-given.new.out fate c.answer.new.out c.args.outbox.now c.answer.new.outbox →
+    DoesGiven c.args.asking.now.endpoint (object_of (asked c.args.request.now)) (connection_of c.self.inside.conn).birth.node c.serve-given.result c.serve-given.new.out fate c.answer.new.out c.args.outbox.now c.answer.new.outbox
 does c fate done =
-    subst (λ object. DoesGiven c.args.asking.now.endpoint object (connection_of c.self.inside.conn).birth.node c.serve-given.result c.serve-given.new.out fate c.answer.new.out c.args.outbox.now c.answer.new.outbox) c.object_of-object.ensures
-    (subst (λ node. DoesGiven c.args.asking.now.endpoint c.object_of-object.result node c.serve-given.result c.serve-given.new.out fate c.answer.new.out c.args.outbox.now c.answer.new.outbox)
-    (c.node-2.ensures ∙ ap (λ birth. birth.node) c.serve-given.ensures.holds.birth) done)
+    subst (λ node. DoesGiven c.args.asking.now.endpoint (object_of (asked c.args.request.now)) node c.serve-given.result c.serve-given.new.out fate c.answer.new.out c.args.outbox.now c.answer.new.outbox)
+    (c.node-2.ensures ∙ ap (λ birth. birth.node) c.serve-given.ensures.holds.birth) done
 
 pub returns-clause-answers : goal.returns-clause-answers
 returns-clause-answers c server moment asks named =
@@ -58,7 +57,7 @@ returns-clause-answers c server moment asks named =
     (λ fate told.
     let done = does c fate told in
     request_answers server c.args.asking.now c.args.graph.now c.serve-given.new.graph (connection_of c.self.inside.conn) can moment here
-    c.args.txid (asked c.args.request) (known_here (asked c.args.request) c.self.view_is c.requires.method) c.serve-given.result (told_by c.serve-given.new.changes) c.serve-given.new.out (connection_of c.serve-given.new.self)
+    c.args.txid (asked c.args.request.now) (known_here (asked c.args.request.now) c.self.view_is c.requires.method) c.serve-given.result (told_by c.serve-given.new.changes) c.serve-given.new.out (connection_of c.serve-given.new.self)
     c.serve-given.ensures.holds.birth
     (subst
     (λ (act : Act). Acts act c.args.txid c.serve-given.result (told_by c.serve-given.new.changes) c.serve-given.new.out (connection_of c.serve-given.new.self)
@@ -72,8 +71,8 @@ returns-clause-tells c =
     let can = subst (λ connection. CanBeBound c.args.graph.now connection.birth) (sym c.self.view_is) c.requires.node in
     ok_map _ _ c.answer.result
     (λ fate told.
-    can_tell c.args.graph.now c.args.tokens.now (connection_of c.self.inside.conn) can c.requires.tree c.room-room.result (asked c.args.request) (known_here (asked c.args.request) c.self.view_is c.requires.method) c.args.txid c.serve-given.result
+    can_tell c.args.graph.now c.args.tokens.now (connection_of c.self.inside.conn) can c.requires.tree c.room-room.result (asked c.args.request.now) (known_here (asked c.args.request.now) c.self.view_is c.requires.method) c.args.txid c.serve-given.result
     (told_by c.serve-given.new.changes) c.serve-given.new.out
-    (connection_of c.serve-given.new.self) c.serve-given.new.graph c.serve-given.ensures.acts c.serve-given.ensures.holds.birth c.args.asking.now.endpoint (object_of (asked c.args.request))
+    (connection_of c.serve-given.new.self) c.serve-given.new.graph c.serve-given.ensures.acts c.serve-given.ensures.holds.birth c.args.asking.now.endpoint (object_of (asked c.args.request.now))
     (done_with fate c.serve-given.new.changes) c.answer.new.out c.args.outbox.now c.answer.new.outbox refl (does c fate told))
     c.answer.ensures.does
