@@ -1,11 +1,15 @@
 -- What entries carry, put behind what is there already.
-use Rattle.std.proofs.Common.{◌≡◌, ℕ, ◌+◌, ◌<◌, Bool, false, true, cond, List, [], ◌∷◌, ◌++◌, get_or, length, take, sym, ap, ◌∙◌}
+use Rattle.std.proofs.Common.{◌≡◌, ℕ, ◌+◌, ◌<◌, Bool, false, true, cond, List, [], ◌∷◌, ◌++◌, get_or, length, take, refl, sym, ap, ◌∙◌}
 use Rattle.std.specs.Prelude.{Option, Some, None, filter, flat_map, option_to_list}
 use Rattle.std.proofs.lemmas.Grind.{flat_map-append}
+use Rattle.std.proofs.lemmas.List.Concat.{flat_map-cons}
 use Rattle.std.proofs.lemmas.List.{flat_map_more, take_more}
 use Rattle.fidl_names.specs.declared.methods.Handle.{Handle}
 use Rattle.fidl_names.specs.HandleNumber.{number_of_handle}
 use Rattle.vfs_journal.specs.Handles.{numbers_of}
+use Rattle.vfs_journal.specs.Entries.{Sent, tokens_in}
+use Rattle.message_queues.specs.Dying.{tokens_on}
+use Rattle.message_queues.specs.Queues.{Queues, queue_of}
 use Rattle.message_queues.proofs.Spread.{append_both, append_nil, numbers_more}
 
 pub put_none : (old : List ℕ) → old ≡ old ++ []
@@ -53,3 +57,11 @@ put_first f first x old new is now =
 
 pub put_no_first : {A : Type 0} (f : A → List ℕ) (first : Option A) (old new : List ℕ) → first ≡ None → new ≡ old → new ≡ old ++ flat_map f (option_to_list first)
 put_no_first f first old new is same = same ∙ put_none old ∙ ap (λ o. old ++ flat_map f (option_to_list o)) (sym is)
+
+-- where nothing waits no tokens wait
+pub idle_tokens : (q : Queues) (endpoints : List ℕ) → ((endpoint : ℕ) → queue_of q endpoint ≡ []) → tokens_on q endpoints ≡ []
+idle_tokens q [] idle = refl
+idle_tokens q (endpoint ∷ endpoints) idle =
+    flat_map-cons (λ (one : ℕ). flat_map tokens_in (queue_of q one)) endpoint endpoints
+    ∙ ap (λ (queue : List Sent). flat_map tokens_in queue ++ tokens_on q endpoints) (idle endpoint)
+    ∙ idle_tokens q endpoints idle

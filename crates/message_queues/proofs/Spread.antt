@@ -243,3 +243,12 @@ pub spread_deaths : (q : Queues) (firsts found dead : List ℕ) (done : ℕ) →
 spread_deaths q firsts found dead done spread none is once =
     let P : List ℕ → Type 0 = λ (ns : List ℕ). AllPairs (λ one other. one ≢ other) ns → AreDeaths q firsts ns in
     subst P (sym is) (λ each. record { first = spread.first; closed = spread_all q firsts found done spread none; least = spread.least; once = each }) once
+
+-- where nothing waits nobody else dies
+pub idle_deaths : (q : Queues) (firsts dead : List ℕ) → ((endpoint : ℕ) → queue_of q endpoint ≡ []) → Adds firsts [] dead → AllPairs (λ one other. one ≢ other) dead → AreDeaths q firsts dead
+idle_deaths q firsts dead idle adds once = record {
+  first = λ number there. adds.members number ∙ there;
+  closed = λ endpoint there. subst (λ (queue : List Sent). All (λ sent. HasAll (λ other. among other dead) (endpoints_in sent)) queue) (sym (idle endpoint)) (All-nil _);
+  least = λ set has closed number there. has number (sym (adds.members number) ∙ there);
+  once = once;
+}

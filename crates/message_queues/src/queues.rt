@@ -194,6 +194,9 @@ impl Queues {
         ensures { IfOk result (λ dead. AreDeaths self.now firsts.items dead.items) }
     {
         let mut dying = Dying::of(alloc, firsts)?;
+        if self.count == 0 {
+            return Ok(dying.into_list());
+        }
         let mut index = 0;
         while let Some(endpoint) = dying.get(index) {
             self.add_carried(endpoint, &mut dying)?;
@@ -217,6 +220,9 @@ impl Queues {
         ensures { IfOk result (λ tokens. tokens.items ≡ tokens_on self.now endpoints.now) }
     {
         let mut tokens = Vec::new(alloc);
+        if self.count == 0 {
+            return Ok(tokens);
+        }
         for endpoint in endpoints {
             self.push_tokens(*endpoint, &mut tokens)?;
         }
