@@ -6,7 +6,6 @@ ghost use Rattle.vfs_session.specs.Steps.{carried_but, end_told, first_told, is_
 
 use fidl_names::{NoMemory, is_client};
 use message_queues::Lent;
-use std::alloc::Global;
 use vfs_server::Fate;
 
 /// The endpoint that ends.
@@ -61,20 +60,19 @@ fn add_carried(sent: &Lent<'_>, but: Option<u32>, dying: &mut Vec<u32>) -> Resul
     Ok(())
 }
 
-/// The endpoint that ends, and those that the entry carries and nothing is done with.
-pub(crate) fn first_deaths(
-    alloc: Global,
+/// Lists the endpoint that ends, and those that the entry carries and nothing is done with.
+pub(crate) fn list_first_deaths(
     sent: &Lent<'_>,
     fate: &Fate,
-) -> Result<Vec<u32>, NoMemory>
-    ensures { IfOk result (λ dying. dying.items ≡ first_told sent.now fate.now) }
+    dying: &mut Vec<u32>,
+) -> Result<(), NoMemory>
+    ensures { OnOk result (dying.new.items ≡ first_told sent.now fate.now) }
 {
-    let mut dying = Vec::new(alloc);
+    dying.clear();
     if let Some(end) = end_told(sent.endpoint, fate) {
         dying.push(end)?;
     }
-    add_carried(sent, settled_told(sent.endpoint, fate), &mut dying)?;
-    Ok(dying)
+    add_carried(sent, settled_told(sent.endpoint, fate), dying)
 }
 
 /// Whether a serving leaves all others as they are: the endpoint stays, and the entry carries nothing.

@@ -13,13 +13,14 @@ ghost use Rattle.vfs_session.specs.World.{World};
 
 use crate::answering::answer;
 use crate::closing::close_others;
-use crate::deaths::{end_told, first_deaths, is_quiet};
+use crate::deaths::{end_told, is_quiet, list_first_deaths};
 use crate::forgetting::{give, spend};
 use crate::session::Session;
 use crate::settling::{bind, bury, send_on};
 use endpoint_link::Outbox;
 use fidl_names::{MAX_WAITING, NoMemory};
 use message_queues::{Lent, Sent};
+use std::mem;
 use vfs_server::Fate;
 
 impl Session {
@@ -141,10 +142,11 @@ impl Session {
         ensures out { self.new.out ≡ self.old.out }
         ensures begins { Begins outbox.old outbox.new }
     {
-        let dying = first_deaths(self.alloc, sent, fate)?;
-        if dying.is_empty() {
+        list_first_deaths(sent, fate, &mut self.dying)?;
+        if self.dying.is_empty() {
             return Ok(Vec::new(self.alloc));
         }
+        let dying = mem::replace(&mut self.dying, Vec::new(self.alloc));
         let buried = bury(
             self.alloc,
             &mut self.servers,
@@ -158,6 +160,7 @@ impl Session {
             &buried.dead,
             outbox,
         )?;
+        self.dying = buried.dead;
         Ok(buried.tokens)
     }
 

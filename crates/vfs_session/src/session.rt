@@ -20,4 +20,6 @@ pub struct Session {
     pub out: Out,
     /// Where the bytes of the message were that was served last. The next one's go there.
     pub room: Vec<u8>,
+    /// Where the list was of who died last.
+    pub dying: Vec<u32>,
 }

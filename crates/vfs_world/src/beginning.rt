@@ -110,5 +110,6 @@ pub(crate) fn begin(alloc: Global, ordinals: Ordinals, start: &Start) -> Result<
         places: 0,
         out,
         room: Vec::new(alloc),
+        dying: Vec::new(alloc),
     })
 }

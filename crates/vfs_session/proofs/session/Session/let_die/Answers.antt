@@ -10,17 +10,17 @@ use Rattle.vfs_session.proofs.session.Session.let_die.Goals as goal
 pub returns-then-is_empty-clause-dead : goal.returns-then-is_empty-clause-dead
 returns-then-is_empty-clause-dead c =
     none_die (whole c.args.self.now) c.args.sent.now c.args.fate.now _ c.args.outbox.now c.new.ensures.items
-    (sym c.in_ok-dying.ensures ∙ no_items c.in_ok-dying.dying.items c.in_ok-dying.dying.len c.in_ok-dying.dying.ok.0 (sym c.is_empty.ensures ∙ c.if-is_empty.true)) c.requires.counted
+    (sym c.in_ok-list_first_deaths.ensures ∙ no_items c.list_first_deaths.new.dying.items c.list_first_deaths.new.dying.len c.list_first_deaths.new.dying.ok.0 (sym c.is_empty.ensures ∙ c.if-is_empty.true)) c.requires.counted
 
 pub bury-requires-clause-live : goal.bury-requires-clause-live
 bury-requires-clause-live c =
-    λ dead died. c.requires.live dead (subst (λ (firsts : List ℕ). AreDeaths c.args.self.now.queues firsts dead) c.in_ok-dying.ensures died)
+    λ dead died. c.requires.live dead (subst (λ (firsts : List ℕ). AreDeaths c.args.self.now.queues firsts dead) (ap (λ taken. taken.items) c.replace-dying.ensures.value ∙ c.in_ok-list_first_deaths.ensures) died)
 
 pub returns-clause-dead : goal.returns-clause-dead
 returns-clause-dead c =
     record {
       dead = c.in_ok-buried.buried.dead.items;
-      died = subst (λ (firsts : List ℕ). AreDeaths c.args.self.now.queues firsts c.in_ok-buried.buried.dead.items) c.in_ok-dying.ensures c.in_ok-buried.ensures.died;
+      died = subst (λ (firsts : List ℕ). AreDeaths c.args.self.now.queues firsts c.in_ok-buried.buried.dead.items) (ap (λ taken. taken.items) c.replace-dying.ensures.value ∙ c.in_ok-list_first_deaths.ensures) c.in_ok-buried.ensures.died;
       buried = c.in_ok-buried.ensures.buried;
       tokens = c.in_ok-buried.ensures.tokens;
       goes = c.in_ok-buried.ensures.gone;
