@@ -188,7 +188,8 @@ fn serve_sending(
     }
 }
 
-/// Serves what an admitted frame sends, which waits nowhere. It takes a place.
+/// Serves what an admitted frame sends, which waits nowhere. It takes a place. A list of at most one handle, as
+/// most frames have, takes no memory.
 fn serve_admitted(
     session: &mut Session,
     server: u32,
@@ -204,8 +205,17 @@ fn serve_admitted(
         OnOk result (IsRunning (most + 4098) (whole session.new)) }
     ensures begins { Begins outbox.old outbox.new }
 {
-    let handles = handles_in(session.alloc, frame.handles)?;
-    serve_with(session, server, frame, &handles, outbox)
+    match frame.handles.len() {
+        0 => serve_with(session, server, frame, &[], outbox),
+        1 => {
+            let handle = Handle::with_number(frame.handles.at(0));
+            serve_with(session, server, frame, &[handle], outbox)
+        }
+        _ => {
+            let handles = handles_in(session.alloc, frame.handles)?;
+            serve_with(session, server, frame, &handles, outbox)
+        }
+    }
 }
 
 /// Serves what an admitted frame with these handles sends, which waits nowhere. It takes a place.
