@@ -1,6 +1,5 @@
 -- What a client waits for, and how its calls change that.
-use Rattle.std.specs.Prelude.{◌≡◌, ℕ, Bool, nat_lt, is_some, if◌then◌else◌, [], ◌∷◌, map, length, Option, Some, None, Result, Err, IfErr, refl}
-use Rattle.std.specs.Coded.{Coded, code_by, coded×, coded_ℕ}
+use Rattle.std.specs.Prelude.{◌≡◌, ℕ, Bool, nat_lt, is_some, if◌then◌else◌, [], ◌∷◌, map, length, Option, Some, None, Result, Err, IfErr}
 use Rattle.std.specs.FinMap as finite
 use Rattle.std.specs.FinSet as set
 use Rattle.std.specs.declared.cmp.Ordering.{Ordering}

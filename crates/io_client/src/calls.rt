@@ -1,31 +1,67 @@
 // The calls that wait, and the endpoints that are watched.
 
-ghost use Rattle.std.specs.Prelude.{◌≡◌, OnOk, OnErr, IfOk, is_some};
+ghost use Rattle.std.specs.Prelude.{◌≡◌, None, OnOk, OnErr, IfOk, is_some};
 ghost use Rattle.std.specs.FinMap as finite;
 ghost use Rattle.std.specs.FinSet as set;
+ghost use Rattle.io_client.specs.Latest.{method_there, with_latest};
 
 use fidl_names::{Method, NoMemory};
 use std::alloc::Global;
 use std::collections::{BTreeMap, BTreeSet};
 use std::marker::Model;
 
-/// The methods of the calls that wait, by endpoint and transaction id.
+/// The method of a call, if it waits there.
+fn method_there(call: Option<((u32, u32), Method)>, endpoint: u32, txid: u32) -> Option<Method>
+    ensures { result ≡ method_there call (endpoint, txid) }
+{
+    let (key, method) = call?;
+    if key == (endpoint, txid) {
+        Some(method)
+    } else {
+        None
+    }
+}
+
+/// Puts a call, if there is one, into the table of the others.
+fn put_back(
+    call: Option<((u32, u32), Method)>,
+    others: &mut BTreeMap<(u32, u32), Method>,
+) -> Result<(), NoMemory>
+    ensures put { OnOk result (finite.from_entries others.new.entries ≡ with_latest call (finite.from_entries others.old.entries)) }
+    ensures no_memory { OnErr result (others.new.entries ≡ others.old.entries) }
+{
+    match call {
+        None => Ok(()),
+        Some((key, method)) => {
+            others.insert(key, method)?;
+            Ok(())
+        }
+    }
+}
+
+/// The methods of the calls that wait, by endpoint and transaction id. The one that was made last stands beside the
+/// table of the others, since it is mostly answered before the next is made.
 #[derive(Drop)]
 pub(crate) struct Waiting {
-    methods: BTreeMap<(u32, u32), Method>,
+    latest: Option<((u32, u32), Method)>,
+    others: BTreeMap<(u32, u32), Method>,
 }
 
 impl Model for Waiting {
+    ghost use Rattle.std.specs.Prelude.{◌≡◌, ⊤, None, Some};
     ghost use Rattle.std.specs.FinMap as finite;
     ghost use Rattle.fidl_names.specs.declared.methods.Method.{Method};
     ghost use Rattle.io_client.specs.Calls.{call_cmp};
     ghost use Rattle.io_client.specs.Codes.{waiting_code};
+    ghost use Rattle.io_client.specs.Latest.{IsApart, with_latest};
 
     ghost Value = { finite.FinMap call_cmp Method };
 
     ghost coded = { waiting_code };
 
-    ghost view = { λ w. finite.from_entries w.methods.entries };
+    ghost view = { λ w. with_latest w.latest (finite.from_entries w.others.entries) };
+
+    ghost invariant = { λ w. IsApart w.latest (finite.from_entries w.others.entries) };
 }
 
 impl Waiting {
@@ -33,7 +69,8 @@ impl Waiting {
         ensures { result ≡ finite.empty }
     {
         Waiting {
-            methods: BTreeMap::new(alloc),
+            latest: None,
+            others: BTreeMap::new(alloc),
         }
     }
 
@@ -41,22 +78,30 @@ impl Waiting {
     pub(crate) fn len(&self) -> usize
         ensures { result ≡ finite.len self.now }
     {
-        self.methods.len()
+        match self.latest {
+            Some(_) => self.others.len() + 1,
+            None => self.others.len(),
+        }
     }
 
     /// The method of the call that waits there.
     pub(crate) fn at(&self, endpoint: u32, txid: u32) -> Option<Method>
         ensures { result ≡ finite.get self.now (endpoint, txid) }
     {
-        self.methods.get(&(endpoint, txid)).copied()
+        match method_there(self.latest, endpoint, txid) {
+            Some(method) => Some(method),
+            None => self.others.get(&(endpoint, txid)).copied(),
+        }
     }
 
-    /// A call waits there.
+    /// A call waits where none did.
     pub(crate) fn add(&mut self, endpoint: u32, txid: u32, method: Method) -> Result<(), NoMemory>
+        requires { finite.get self.old (endpoint, txid) ≡ None }
         ensures added { OnOk result (self.new ≡ finite.insert self.old (endpoint, txid) method) }
         ensures no_memory { OnErr result (self.new ≡ self.old) }
     {
-        self.methods.insert((endpoint, txid), method)?;
+        put_back(self.latest, &mut self.others)?;
+        self.latest = Some(((endpoint, txid), method));
         Ok(())
     }
 
@@ -64,7 +109,12 @@ impl Waiting {
     pub(crate) fn remove(&mut self, endpoint: u32, txid: u32)
         ensures { self.new ≡ finite.remove self.old (endpoint, txid) }
     {
-        let _ = self.methods.remove(&(endpoint, txid));
+        match method_there(self.latest, endpoint, txid) {
+            Some(_) => self.latest = None,
+            None => {
+                let _ = self.others.remove(&(endpoint, txid));
+            }
+        }
     }
 }
 
