@@ -65,7 +65,6 @@ function is_there(name,    part, count, i) {
     if (name ~ /^(docs|examples|tools|crates|specs|src|proofs|must-fail|\.ci)\//) return 0
     if (name ~ /^[A-Z][A-Za-z]*::[a-z]/) return name in call
     if (name ~ /^make /) return 0
-    if (name ~ /^rattle-kit-/) return 1
     if (name ~ /^[A-Z]+(_[A-Z]+)+$/) return name in word || variant(name) in word
     # Numbers and bytes, sets of rights, and parts of paths.
     if (name ~ /^[-0-9a-f ]*$/ || name ~ /^c?r?w?x?g?u?e?t?m?$/) return 1
