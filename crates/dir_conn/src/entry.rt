@@ -53,7 +53,7 @@ fn lacks_rights(have: Rights, text: &[u8], flags: OpenFlags) -> bool
     ensures lacks { result ≡ ((not (bytes_eq text.now dot) && lacks have (single op.Traverse)) || lacks have (asked_rights flags)) }
     ensures explicit { result ≡ false → IsTrue (is_within (explicit_rights flags) have) }
 {
-    if text != b".".as_slice() && !Rights::of(Operation::Traverse).within(have) {
+    if !matches!(text, [b'.']) && !Rights::of(Operation::Traverse).within(have) {
         return true;
     }
     !asked(flags).within(have)
