@@ -1,12 +1,12 @@
 // Frames to be written.
 
-ghost use Rattle.std.specs.Prelude.{◌≡◌, ◌≤◌, ◌+◌, ◌*◌, ◌++◌, ◌↔◌, [], IsTrue, length, take, vec_len, vec_capacity, map, OnOk, OnErr, IfOk};
+ghost use Rattle.std.specs.Prelude.{◌≡◌, ◌≤◌, ◌+◌, ◌*◌, ◌++◌, ◌↔◌, [], IsTrue, length, take, map, OnOk, OnErr, IfOk};
 ghost use Rattle.fidl_names.specs.HandleNumber.{number_of_handle};
 ghost use Rattle.endpoint_link.specs.Frames.{HasShape, fixed_part, spelling, spelled_len, frame_with};
 ghost use Rattle.endpoint_link.specs.Numbers.{word_of};
 ghost use Rattle.std.specs.List.{flat_map};
 
-use crate::fixed::{FIXED_LEN, number_of};
+use crate::fixed::{FIXED_LEN, MAX_FRAME_LEN, number_of};
 use crate::kinds::FrameKind;
 use byteorder::{ByteOrder, LittleEndian};
 use fidl_names::{Handle, MAX_BYTES, MAX_HANDLES, NoMemory};
@@ -16,7 +16,7 @@ use std::marker::Model;
 /// Frames to be written, one after another.
 #[derive(Drop)]
 pub struct Outbox {
-    bytes: Vec<u8>,
+    frames: FrameRoom,
 }
 
 impl Model for Outbox {
@@ -24,7 +24,7 @@ impl Model for Outbox {
 
     ghost Value = { List ℕ };
 
-    ghost view = { λ o. o.bytes.items };
+    ghost view = { λ o. o.frames.bytes };
 }
 
 impl Outbox {
@@ -33,7 +33,7 @@ impl Outbox {
         ensures { result ≡ [] }
     {
         Outbox {
-            bytes: Vec::new(alloc),
+            frames: FrameRoom::none(alloc),
         }
     }
 
@@ -41,84 +41,95 @@ impl Outbox {
     pub fn as_bytes(&self) -> &[u8]
         ensures { result.now ≡ self.now }
     {
-        &self.bytes
+        self.frames.as_bytes()
     }
 
     /// The number of bytes.
     pub fn len(&self) -> usize
         ensures { result ≡ length self.now }
     {
-        self.bytes.len()
+        self.frames.len
     }
 
     /// Whether there is nothing to be written.
     pub fn is_empty(&self) -> bool
         ensures { IsTrue result ↔ (self.now ≡ []) }
     {
-        self.bytes.is_empty()
+        self.as_bytes().is_empty()
     }
 
     /// Forgets the frames.
     pub fn clear(&mut self)
         ensures { self.new ≡ [] }
     {
-        self.bytes.clear();
+        self.frames.clear();
     }
 
     /// Cuts back to an earlier length.
     pub fn truncate(&mut self, len: usize)
         ensures { self.new ≡ take len self.old }
     {
-        self.bytes.truncate(len);
+        self.frames.truncate(len);
     }
 }
 
-/// Frames to be written, gathered in room that was reserved for them.
+/// Frames to be written, gathered in room that was taken for them.
 #[derive(Drop)]
 pub struct FrameRoom {
-    size: usize,
-    bytes: Vec<u8>,
+    /// The frames, up to `len`, and what earlier ones left behind them.
+    room: Vec<u8>,
+    len: usize,
 }
 
 impl Model for FrameRoom {
-    ghost use Rattle.std.specs.Prelude.{◌≤◌, length, vec_capacity};
+    ghost use Rattle.std.specs.Prelude.{◌≤◌, length, take};
     ghost use Rattle.endpoint_link.specs.Gathering.{Gathered};
 
     ghost Value = { Gathered };
 
-    ghost view = { λ r. record { bytes = r.bytes.items; size = r.size } };
+    ghost view = { λ r. record { bytes = take r.len r.room.items; size = length r.room.items } };
 
-    ghost invariant = { λ r. (length r.bytes.items ≤ r.size) × (r.size ≤ vec_capacity r.bytes) };
+    ghost invariant = { λ r. r.len ≤ length r.room.items };
 }
 
 impl FrameRoom {
-    /// Room for so many bytes, reserved at once.
+    /// Room for so many bytes, taken at once.
     pub fn new(alloc: Global, size: usize) -> Result<FrameRoom, NoMemory>
         ensures { IfOk result (λ r. (r.bytes ≡ []) × (r.size ≡ size)) }
     {
-        let bytes = Vec::with_capacity(alloc, size)?;
-        Ok(FrameRoom { size, bytes })
+        let room = vec![in alloc; 0; size]?;
+        Ok(FrameRoom { room, len: 0 })
+    }
+
+    /// No room yet.
+    fn none(alloc: Global) -> FrameRoom
+        ensures { result.bytes ≡ [] }
+    {
+        FrameRoom {
+            room: Vec::new(alloc),
+            len: 0,
+        }
     }
 
     /// The spellings of the frames.
     pub fn as_bytes(&self) -> &[u8]
         ensures { result.now ≡ self.now.bytes }
     {
-        &self.bytes
+        &self.room[..self.len]
     }
 
     /// How many bytes there is room for yet.
     pub fn room(&self) -> usize
         ensures { length self.now.bytes + result ≡ self.now.size }
     {
-        self.size - self.bytes.len()
+        self.room.len() - self.len
     }
 
     /// Forgets the frames, and keeps the room.
     pub fn clear(&mut self)
         ensures { self.new ≡ record self.old { bytes = [] } }
     {
-        self.bytes.clear();
+        self.len = 0;
     }
 
     /// Appends the whole frame. It takes no memory.
@@ -132,7 +143,92 @@ impl FrameRoom {
         ensures len { length self.new.bytes ≡
             length self.old.bytes + spelled_len (length handles.now) (length bytes.now) }
     {
-        put_spelling(&mut self.bytes, endpoint, kind, handles, bytes);
+        self.put_fixed_part(endpoint, kind, handles.len(), bytes.len());
+        self.put_words(handles);
+        self.put_bytes(bytes);
+    }
+
+    /// Takes room for so many bytes more, where there isn't.
+    #[inline(always)]
+    fn reserve(&mut self, more: usize) -> Result<(), NoMemory>
+        requires { more ≤ MAX_FRAME_LEN }
+        ensures room { OnOk result (length self.old.bytes + more ≤ self.new.size) }
+        ensures bytes { self.new.bytes ≡ self.old.bytes }
+    {
+        let end = self.len + more;
+        if self.room.len() < end {
+            self.room.resize(end, 0)?;
+        }
+        Ok(())
+    }
+
+    /// Cuts back to an earlier length.
+    fn truncate(&mut self, len: usize)
+        ensures { self.new ≡ record self.old { bytes = take len self.old.bytes } }
+    {
+        self.len = self.len.min(len);
+    }
+
+    /// Appends bytes.
+    #[inline]
+    fn put_bytes(&mut self, part: &[u8])
+        requires { length self.old.bytes + length part.now ≤ self.old.size }
+        ensures bytes { self.new.bytes ≡ self.old.bytes ++ part.now }
+        ensures len { length self.new.bytes ≡ length self.old.bytes + length part.now }
+        ensures size { self.new.size ≡ self.old.size }
+    {
+        let end = self.len + part.len();
+        self.room[self.len..end].copy_from_slice(part);
+        self.len = end;
+    }
+
+    /// Appends a number of 32 bits.
+    fn put_word(&mut self, word: u32)
+        requires { length self.old.bytes + 4 ≤ self.old.size }
+        ensures bytes { self.new.bytes ≡ self.old.bytes ++ word_of word }
+        ensures len { length self.new.bytes ≡ length self.old.bytes + 4 }
+        ensures size { self.new.size ≡ self.old.size }
+    {
+        self.put_bytes(&word_array(word));
+    }
+
+    /// Appends a fixed part.
+    #[inline]
+    fn put_fixed_part(&mut self, endpoint: u32, kind: FrameKind, handles: usize, bytes: usize)
+        requires few_handles { handles ≤ MAX_HANDLES }
+        requires few_bytes { bytes ≤ MAX_BYTES }
+        requires room { length self.old.bytes + FIXED_LEN ≤ self.old.size }
+        ensures bytes { self.new.bytes ≡ self.old.bytes ++ fixed_part endpoint kind handles bytes }
+        ensures len { length self.new.bytes ≡ length self.old.bytes + FIXED_LEN }
+        ensures size { self.new.size ≡ self.old.size }
+    {
+        self.put_bytes(&fixed_array(endpoint, kind, handles, bytes));
+    }
+
+    /// Appends numbers of 32 bits.
+    #[inline]
+    fn put_words(&mut self, words: &[u32])
+        requires { length self.old.bytes + 4 * length words.now ≤ self.old.size }
+        ensures bytes { self.new.bytes ≡ self.old.bytes ++ flat_map word_of words.now }
+        ensures len { length self.new.bytes ≡ length self.old.bytes + 4 * length words.now }
+        ensures size { self.new.size ≡ self.old.size }
+    {
+        for word in words {
+            self.put_word(*word);
+        }
+    }
+
+    /// Appends the numbers of handles.
+    #[inline]
+    fn put_handles(&mut self, handles: &[Handle])
+        requires { length self.old.bytes + 4 * length handles.now ≤ self.old.size }
+        ensures bytes { self.new.bytes ≡ self.old.bytes ++ flat_map word_of (map number_of_handle handles.now) }
+        ensures len { length self.new.bytes ≡ length self.old.bytes + 4 * length handles.now }
+        ensures size { self.new.size ≡ self.old.size }
+    {
+        for handle in handles {
+            self.put_word(handle.number());
+        }
     }
 }
 
@@ -157,8 +253,8 @@ pub fn write_frame(
     ensures written { OnOk result (to.new ≡ to.old ++ spelling (frame_with endpoint kind handles.now bytes.now)) }
     ensures no_memory { OnErr result (to.new ≡ to.old) }
 {
-    to.bytes.reserve(spelled_len(handles.len(), bytes.len()))?;
-    put_spelling(&mut to.bytes, endpoint, kind, handles, bytes);
+    to.frames.reserve(spelled_len(handles.len(), bytes.len()))?;
+    to.frames.put_frame(endpoint, kind, handles, bytes);
     Ok(())
 }
 
@@ -174,40 +270,12 @@ pub fn write_message(
     ensures written { OnOk result (to.new ≡ to.old ++ spelling (frame_with endpoint FrameKind.Message (map number_of_handle handles.now) bytes.now)) }
     ensures no_memory { OnErr result (to.new ≡ to.old) }
 {
-    to.bytes.reserve(spelled_len(handles.len(), bytes.len()))?;
-    put_fixed_part(
-        &mut to.bytes,
-        endpoint,
-        FrameKind::Message,
-        handles.len(),
-        bytes.len(),
-    );
-    put_handles(&mut to.bytes, handles);
-    append(&mut to.bytes, bytes);
+    to.frames.reserve(spelled_len(handles.len(), bytes.len()))?;
+    to.frames
+        .put_fixed_part(endpoint, FrameKind::Message, handles.len(), bytes.len());
+    to.frames.put_handles(handles);
+    to.frames.put_bytes(bytes);
     Ok(())
-}
-
-/// Appends to bytes that have room for them.
-#[inline]
-fn append(to: &mut Vec<u8>, part: &[u8])
-    requires { vec_len to.old + length part.now ≤ vec_capacity to.old }
-    ensures items { to.new.items ≡ to.old.items ++ part.now }
-    ensures len { vec_len to.new ≡ vec_len to.old + length part.now }
-    ensures room { vec_capacity to.old ≤ vec_capacity to.new }
-{
-    if to.extend_from_slice(part).is_err() {
-        unreachable!();
-    }
-}
-
-/// Appends a number of 32 bits to bytes that have room for it.
-fn put_word(to: &mut Vec<u8>, word: u32)
-    requires { vec_len to.old + 4 ≤ vec_capacity to.old }
-    ensures items { to.new.items ≡ to.old.items ++ word_of word }
-    ensures len { vec_len to.new ≡ vec_len to.old + 4 }
-    ensures room { vec_capacity to.old ≤ vec_capacity to.new }
-{
-    append(to, &word_array(word));
 }
 
 /// A number of 32 bits as bytes.
@@ -246,56 +314,4 @@ fn fixed_array(endpoint: u32, kind: FrameKind, handles: usize, bytes: usize) -> 
         b[2],
         b[3],
     ]
-}
-
-/// Appends a fixed part to bytes that have room for it.
-#[inline]
-fn put_fixed_part(to: &mut Vec<u8>, endpoint: u32, kind: FrameKind, handles: usize, bytes: usize)
-    requires few_handles { handles ≤ MAX_HANDLES }
-    requires few_bytes { bytes ≤ MAX_BYTES }
-    requires room { vec_len to.old + FIXED_LEN ≤ vec_capacity to.old }
-    ensures items { to.new.items ≡ to.old.items ++ fixed_part endpoint kind handles bytes }
-    ensures len { vec_len to.new ≡ vec_len to.old + FIXED_LEN }
-    ensures room { vec_capacity to.old ≤ vec_capacity to.new }
-{
-    append(to, &fixed_array(endpoint, kind, handles, bytes));
-}
-
-/// Appends numbers of 32 bits to bytes that have room for them.
-#[inline]
-fn put_words(to: &mut Vec<u8>, words: &[u32])
-    requires { vec_len to.old + 4 * length words.now ≤ vec_capacity to.old }
-    ensures items { to.new.items ≡ to.old.items ++ flat_map word_of words.now }
-    ensures len { vec_len to.new ≡ vec_len to.old + 4 * length words.now }
-    ensures room { vec_capacity to.old ≤ vec_capacity to.new }
-{
-    for word in words {
-        put_word(to, *word);
-    }
-}
-
-/// Appends the numbers of handles to bytes that have room for them.
-#[inline]
-fn put_handles(to: &mut Vec<u8>, handles: &[Handle])
-    requires { vec_len to.old + 4 * length handles.now ≤ vec_capacity to.old }
-    ensures items { to.new.items ≡ to.old.items ++ flat_map word_of (map number_of_handle handles.now) }
-    ensures len { vec_len to.new ≡ vec_len to.old + 4 * length handles.now }
-    ensures room { vec_capacity to.old ≤ vec_capacity to.new }
-{
-    for handle in handles {
-        put_word(to, handle.number());
-    }
-}
-
-/// Appends a whole frame to bytes that have room for it.
-#[inline(always)]
-fn put_spelling(to: &mut Vec<u8>, endpoint: u32, kind: FrameKind, handles: &[u32], bytes: &[u8])
-    requires shape { HasShape kind (length handles.now) (length bytes.now) }
-    requires room { vec_len to.old + spelled_len (length handles.now) (length bytes.now) ≤ vec_capacity to.old }
-    ensures items { to.new.items ≡ to.old.items ++ spelling (frame_with endpoint kind handles.now bytes.now) }
-    ensures room { vec_capacity to.old ≤ vec_capacity to.new }
-{
-    put_fixed_part(to, endpoint, kind, handles.len(), bytes.len());
-    put_words(to, handles);
-    append(to, bytes);
 }

@@ -47,6 +47,7 @@ fn front_of(kind: FrameKind, bytes: &[u8]) -> Reading<'_>
 
 /// What stands in front of these bytes: a whole frame that may go this way, the beginning of one, or a bad fixed part.
 #[tactic(auto, unfolding(crate::specs::Frames::first_reason))]
+#[inline(always)]
 pub fn frame_at(side: Side, bytes: &[u8]) -> Reading<'_>
     ensures { Reads side bytes.now result }
 {
