@@ -1,2 +1,3 @@
 mod Latest
+mod Passing
 mod Tables

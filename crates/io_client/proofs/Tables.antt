@@ -84,6 +84,14 @@ module _ {K X : Type 0} {R : K → K → Ordering} (o : IsTotalOrder R) (same : 
       same_map o same (finite.remove (finite.insert m k v) k) m
       (λ q. get-remove o (finite.insert m k v) k q ∙ (ap (cond (eq_by_cmp R q k) None) (get-insert o m k v q) ∙ undone m k q v (eq_by_cmp R q k) refl none))
 
+  as_was : (m : FinMap R X) (k q : K) (b : Bool) → eq_by_cmp R q k ≡ b → finite.get m k ≡ None → cond b None (finite.get m q) ≡ finite.get m q
+  as_was m k q true at none = sym (ap (finite.get m) (same q k ((Equal-is (R q k)).0 at)) ∙ none)
+  as_was m k q false at none = refl
+
+  -- to take out what isn't there changes nothing
+  pub remove-none : (m : FinMap R X) (k : K) → finite.get m k ≡ None → finite.remove m k ≡ m
+  remove-none m k none = same_map o same (finite.remove m k) m (λ q. get-remove o m k q ∙ as_was m k q (eq_by_cmp R q k) refl none)
+
 or_cond : (a b : Bool) → cond a true b ≡ a || b
 or_cond true b = refl
 or_cond false b = refl

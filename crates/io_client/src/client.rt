@@ -13,7 +13,7 @@ ghost use Rattle.io_messages.specs.Requests.{has_txid};
 ghost use Rattle.io_messages.specs.Shapes.{is_one_way};
 ghost use Rattle.io_messages.specs.Writing.{HasTexts};
 ghost use Rattle.io_client.specs.Calls.{Answers, call_at, none_yet, note_refusal, noted, request_frame, send_refusal, sent, watcher_of};
-ghost use Rattle.io_client.specs.Taking.{LendsPayload, Takes, TakesMessage, answer_to, by_header, is_from_servers, taking, told_event};
+ghost use Rattle.io_client.specs.Taking.{LendsPayload, Takes, TakesMessage, Taking, answer_to, by_header, is_from_servers, taking, told_event};
 
 use crate::calls::{Waiting, Watched};
 use crate::faults::ClientFault;
@@ -161,6 +161,19 @@ impl Client {
             FrameKind::Turn | FrameKind::Pick => unreachable!(),
         }
     }
+
+    /// Lets a frame from the servers pass: the call that it answers, if any, waits no more, as behind `take`. What the frame says isn't read.
+    ///
+    /// It takes no memory. The caller sees to it that the frame is a sound Message, Close or Refused frame.
+    pub fn pass(&mut self, ordinals: &Ordinals, frame: FrameView<'_>)
+        requires sound { IsFrame side.Any (frame_of frame) }
+        requires way { is_from_servers frame.kind ≡ true }
+        ensures passes { (told : Taking) × Takes frame.entry.kind self.old (frame_of frame.entry) told self.new }
+    {
+        if let FrameKind::Message = frame.kind {
+            self.pass_message(ordinals, frame);
+        }
+    }
 }
 
 /// The private steps.
@@ -207,6 +220,33 @@ impl Client {
                 self.waiting.remove(endpoint, txid);
                 Err(ClientFault::NoMemory)
             }
+        }
+    }
+
+    /// A message passes.
+    fn pass_message(&mut self, ordinals: &Ordinals, frame: FrameView<'_>)
+        ensures { (told : Taking) × TakesMessage self.old (frame_of frame.entry) told self.new }
+    {
+        let endpoint = frame.endpoint;
+        if self.watched.has(endpoint) {
+            return;
+        }
+        if let Some(_) = read_epitaph(frame.bytes) {
+            return;
+        }
+        self.pass_headed(ordinals, frame);
+    }
+
+    /// A message passes that is neither to a watcher nor an epitaph.
+    fn pass_headed(&mut self, ordinals: &Ordinals, frame: FrameView<'_>)
+        ensures { self.new ≡ (by_header self.old (frame_of frame.entry) (header_of frame.entry.bytes.now)).1 }
+    {
+        let Ok(header) = Header::read(frame.bytes) else {
+            return;
+        };
+        let Header { txid, ordinal, .. } = header;
+        if ordinal != ordinals.event() {
+            self.waiting.remove(frame.endpoint, txid);
         }
     }
 
