@@ -1,4 +1,4 @@
-ghost use Rattle.std.specs.Prelude.{◌≡◌, ◌≤◌, ◌++◌, ◌↔◌, [], IsTrue, length, take, OnErr, OnOk};
+ghost use Rattle.std.specs.Prelude.{◌≡◌, ◌≤◌, ◌++◌, ◌↔◌, [], ◌∷◌, IsTrue, length, take, OnErr, OnOk};
 ghost use Rattle.hex.specs.Hex.{encode_lower};
 
 use crate::digits::write_digits;
@@ -73,6 +73,17 @@ impl Outtext {
         ensures grows { take (length self.old) self.new ≡ self.old }
     {
         self.bytes.extend_from_slice(part)?;
+        Ok(())
+    }
+
+    /// Appends one byte, or for want of memory nothing.
+    #[inline(always)]
+    pub(crate) fn put_byte(&mut self, byte: u8) -> Result<(), NoMemory>
+        ensures put { OnOk result (self.new ≡ self.old ++ byte ∷ []) }
+        ensures no_memory { OnErr result (self.new ≡ self.old) }
+        ensures grows { take (length self.old) self.new ≡ self.old }
+    {
+        self.bytes.push(byte)?;
         Ok(())
     }
 

@@ -61,7 +61,7 @@ fn put_counts(calls: u32, answered: u32, to: &mut Outtext) -> Result<(), NoMemor
     put_number(calls, to)?;
     to.put(b" answered ")?;
     put_number(answered, to)?;
-    to.put(b"\n")
+    to.put_byte(b'\n')
 }
 
 fn put_number(number: u32, to: &mut Outtext) -> Result<(), NoMemory>
@@ -88,7 +88,7 @@ fn put_line(ordinals: &Ordinals, frame: FrameView<'_>, to: &mut Outtext) -> Resu
 {
     put_number(frame.endpoint, to)?;
     put_told(ordinals, frame, to)?;
-    to.put(b"\n")
+    to.put_byte(b'\n')
 }
 
 fn put_told(ordinals: &Ordinals, frame: FrameView<'_>, to: &mut Outtext) -> Result<(), NoMemory>
@@ -117,9 +117,9 @@ fn put_message(
 {
     to.put(b" message ")?;
     to.put(label_of(ordinals, bytes))?;
-    to.put(b" ")?;
+    to.put_byte(b' ')?;
     put_handles(handles, to)?;
-    to.put(b" ")?;
+    to.put_byte(b' ')?;
     put_bytes(bytes, to)
 }
 
@@ -157,11 +157,11 @@ fn put_handles(handles: HandleBytes<'_>, to: &mut Outtext) -> Result<(), NoMemor
     ensures grows { take (length to.old) to.new ≡ to.old }
 {
     if handles.is_empty() {
-        return to.put(b"-");
+        return to.put_byte(b'-');
     }
     put_number(handles.at(0), to)?;
     for place in 1..handles.len() {
-        to.put(b",")?;
+        to.put_byte(b',')?;
         put_number(handles.at(place), to)?;
     }
     Ok(())
@@ -174,7 +174,7 @@ fn put_bytes(bytes: &[u8], to: &mut Outtext) -> Result<(), NoMemory>
     ensures grows { take (length to.old) to.new ≡ to.old }
 {
     if bytes.is_empty() {
-        return to.put(b"-");
+        return to.put_byte(b'-');
     }
     to.put_digits(bytes)
 }

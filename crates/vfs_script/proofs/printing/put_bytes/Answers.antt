@@ -11,6 +11,6 @@ returns-clause-put c =
 
 pub returns-then-is_empty-clause-put : goal.returns-then-is_empty-clause-put
 returns-then-is_empty-clause-put c =
-    on_ok_weaker c.put.result
+    on_ok_weaker c.put_byte.result
     (λ put. put ∙ ap (λ t. c.args.to.now ++ t) (sym (bytes_text-empty c.args.bytes.now (sym c.is_empty.ensures ∙ c.if-is_empty.true))))
-    c.put.ensures.put
+    c.put_byte.ensures.put
