@@ -108,7 +108,7 @@ impl Scribe {
     {
         print_frame(&self.ordinals, frame, &mut self.text)?;
         if let FrameKind::Message = frame.kind {
-            let _ = self.client.take(&self.ordinals, frame);
+            self.client.pass(&self.ordinals, frame);
         }
         Ok(())
     }
