@@ -34,8 +34,8 @@ pub fn serve_file<F: Files, S: Source, K: Sink>(
         (AfterFile name.now (files_told F.told F.faults F.overlong files.old) (files_told F.told F.faults F.overlong files.new)
         ((source.new ≡ source.old) × (sink.new ≡ sink.old))
         (λ file. SessionAnswers side.ToServers (file_course file)
-        (streams_told S.left S.faults K.written K.flushed K.faults source.old sink.old)
-        (streams_told S.left S.faults K.written K.flushed K.faults source.new sink.new)
+        (streams_told S.left S.last S.faults K.written K.flushed K.faults source.old sink.old)
+        (streams_told S.left S.last S.faults K.written K.flushed K.faults source.new sink.new)
         (sink.new ≡ sink.old))) result }
     ensures reads { ReadsOnly F.reads (name.now ∷ []) files.old files.new }
 {

@@ -1,5 +1,5 @@
 -- The lines of frames, one by one.
-use Rattle.std.proofs.Common.{◌≡◌, ℕ, List, [], ◌∷◌, ◌++◌, IsTrue, length, refl, sym, ap, ◌∙◌, subst, arith, append-nil, length-append, inl}
+use Rattle.std.proofs.Common.{◌≡◌, ℕ, List, [], ◌∷◌, ◌++◌, IsTrue, length, refl, sym, ap, ◌∙◌, subst, arith, append-nil, inl}
 use Rattle.std.proofs.lemmas.List.Concat.{flat_map-append}
 use Rattle.std.proofs.lemmas.List.Elements.{All-nil}
 use Rattle.std.proofs.KnownBytes.{Appends-nil, Consumes-nil}
@@ -50,6 +50,11 @@ shown_end course frames held e = record {
 pub course_starves : (course : Course) → course ≡ lines_course → IsTrue course.starves
 course_starves course e = subst (λ (k : Course). IsTrue k.starves) (sym e) lines_starve
 
+-- nothing has no front
+no_front : (front rest : List ℕ) → [] ≡ front ++ rest → front ≡ []
+no_front [] rest e = refl
+no_front (x ∷ front) rest e = absurd (omega (arith, ap length e))
+
 -- before the first read nothing is written
 pub cut_at_once : (side : Side) (course : Course) (told : Streams) → IsCutOff side course told told
 cut_at_once side course told = record {
@@ -64,6 +69,7 @@ cut_at_once side course told = record {
     read = record { split = refl; each = All-nil (IsFrame side); partial = inl (omega arith) };
     lawful = (course.so_far [], refl);
   });
-  keeps_up = λ early late frames rest cut far read. absurd (omega (arith, ap length cut, length-append early late, far));
+  keeps_up = λ early last frames rest cut far some read. absurd (some (no_front early last cut));
   wrote = Appends-nil told.written;
+  source = refl;
 }

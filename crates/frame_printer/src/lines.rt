@@ -18,8 +18,8 @@ use vfs_script::{Outtext, print_frame};
 pub fn show<S: Source, K: Sink>(alloc: Global, source: &mut S, sink: &mut K) -> Status
     ensures { AfterNames ((source.new ≡ source.old) × (sink.new ≡ sink.old))
         (SessionAnswers side.Any lines_course
-        (streams_told S.left S.faults K.written K.flushed K.faults source.old sink.old)
-        (streams_told S.left S.faults K.written K.flushed K.faults source.new sink.new)
+        (streams_told S.left S.last S.faults K.written K.flushed K.faults source.old sink.old)
+        (streams_told S.left S.last S.faults K.written K.flushed K.faults source.new sink.new)
         (sink.new ≡ sink.old)) result }
 {
     let ordinals = match Ordinals::new() {

@@ -1,5 +1,5 @@
 -- Counts of faults, and failures that have their cause in one.
-use Rattle.std.specs.Prelude.{ℕ, ◌+◌, ◌-◌, ◌^◌, ◌≤◌, min, List, OnErr}
+use Rattle.std.specs.Prelude.{◌≡◌, ℕ, ◌+◌, ◌-◌, ◌^◌, ◌≤◌, min, List, OnOk, OnErr}
 use Rattle.std.specs.Prelude.{Result}
 
 -- one more; a count stands still at its last value
@@ -10,9 +10,10 @@ next_count count = min (count + 1) (2 ^ 64 - 1)
 abbrev pub Rose : ℕ → ℕ → Type 0
 Rose before now = next_count before ≤ now
 
--- the count never falls, and a failure comes only where it rose
+-- the count never falls; it stays where the call went well, and a failure comes only where it rose
 pub record HasCause {T E : Type 0} (before now : ℕ) (result : Result T E) : Type 0 where
   pub later : before ≤ now
+  pub stays : OnOk result (now ≡ before)
   pub failed : OnErr result (Rose before now)
 
 -- no name's count falls

@@ -38,7 +38,8 @@ impl Model for MemSink {
         } };
 
     ghost invariant = { λ s.
-        (vec_len s.bytes ≤ s.room) × (s.room ≤ vec_capacity s.bytes) × (1 ≤ s.piece) };
+        (s.flushed ≤ vec_len s.bytes) × (vec_len s.bytes ≤ s.room) × (s.room ≤ vec_capacity s.bytes)
+        × (1 ≤ s.piece) };
 }
 
 impl MemSink {
@@ -118,6 +119,7 @@ impl Sink for MemSink {
     fn flush(&mut self) -> Result<(), Failed>
         ensures bytes { Keeps (Some self.old.written) (Some self.new.written) }
         ensures all { OnOk result (IsFlushed (Some self.new.written) self.new.flushed) }
+        ensures kept { self.old.flushed ≤ self.new.flushed }
         ensures cause { HasCause self.old.calls.faults self.new.calls.faults result }
 
         ensures fails { IsErr result ↔ IsListed self.old.calls }

@@ -2,6 +2,7 @@ ghost use Rattle.std.specs.Prelude.{◌≡◌, ◌≤◌, ◌++◌, ◌↔◌, m
 ghost use Rattle.std.specs.Io.KnownBytes.{ReadConsumes};
 ghost use Rattle.host_io.specs.Causes.{HasCause};
 ghost use Rattle.host_io.specs.Calls.{no_calls, IsListed, after_success, after_failure};
+ghost use Rattle.host_io.specs.Streams.{IsLast};
 
 use crate::calls::Calls;
 use crate::streams::{Failed, Source};
@@ -12,6 +13,7 @@ use std::marker::Model;
 pub struct MemSource {
     bytes: Vec<u8>,
     taken: usize,
+    last: usize,
     piece: usize,
     calls: Calls,
 }
@@ -23,7 +25,12 @@ impl Model for MemSource {
     ghost Value = { SourceState };
 
     ghost view = { λ s.
-        record { left = drop s.taken s.bytes.items; piece = s.piece; calls = s.calls } };
+        record {
+          left = drop s.taken s.bytes.items;
+          last = s.last;
+          piece = s.piece;
+          calls = s.calls;
+        } };
 
     ghost invariant = { λ s. (s.taken ≤ vec_len s.bytes) × (1 ≤ s.piece) };
 }
@@ -34,6 +41,7 @@ impl MemSource {
     pub fn new(bytes: Vec<u8>, piece: usize, failing: Vec<u64>) -> MemSource
         ensures { result ≡ record {
           left = bytes.items;
+          last = 0;
           piece = max piece 1;
           calls = no_calls failing.items;
         } }
@@ -41,6 +49,7 @@ impl MemSource {
         MemSource {
             bytes,
             taken: 0,
+            last: 0,
             piece: piece.max(1),
             calls: Calls::new(failing),
         }
@@ -50,11 +59,14 @@ impl MemSource {
 impl Source for MemSource {
     ghost left = { λ s. Some s.left };
 
+    ghost last = { λ s. s.last };
+
     ghost faults = { λ s. s.calls.faults };
 
     fn read(&mut self, buffer: &mut [u8]) -> Result<usize, Failed>
         ensures bound { IfOk result (λ n. n ≤ length buffer.new) }
         ensures bytes { ReadConsumes (Some self.old.left) (Some self.new.left) result buffer.new }
+        ensures last { IsLast self.old.last self.new.last result }
         ensures cause { HasCause self.old.calls.faults self.new.calls.faults result }
 
         ensures fails { IsErr result ↔ IsListed self.old.calls }
@@ -64,6 +76,7 @@ impl Source for MemSource {
         ensures taken { IfOk result (λ n.
             self.new ≡ record self.old {
               left = drop n self.old.left;
+              last = n;
               calls = after_success self.old.calls;
             }) }
         ensures unfilled { OnErr result (buffer.new ≡ buffer.old) }
@@ -78,6 +91,7 @@ impl Source for MemSource {
         let n = buffer.len().min(self.piece).min(left.len());
         copy_front(buffer, &left[..n]);
         self.taken += n;
+        self.last = n;
         Ok(n)
     }
 }

@@ -16,9 +16,9 @@ pub struct StdSink<W: Write> {
 }
 
 impl<W: Write> Model for StdSink<W> {
-    ghost use Rattle.host_io.specs.Over.{Over};
+    ghost use Rattle.host_io.specs.Over.{SinkOver};
 
-    ghost Value = { Over W };
+    ghost Value = { SinkOver W };
 
     ghost view = { λ s. record { stream = s.output; faults = s.faults } };
 }

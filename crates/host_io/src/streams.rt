@@ -1,7 +1,7 @@
 ghost use Rattle.std.specs.Prelude.{ℕ, ◌≡◌, ◌<◌, ◌≤◌, List, Option, length, IfOk, OnOk, OnErr};
 ghost use Rattle.std.specs.Io.KnownBytes.{Appends, Keeps, ReadConsumes, WriteAppends};
 ghost use Rattle.host_io.specs.Causes.{HasCause};
-ghost use Rattle.host_io.specs.Streams.{AppendsPart, IsFlushed};
+ghost use Rattle.host_io.specs.Streams.{AppendsPart, IsFlushed, IsLast};
 
 /// A read, a write or a flush that failed. The object's count of faults rose, or stands at its last
 /// value.
@@ -13,6 +13,9 @@ pub trait Source {
     /// The bytes that reads will give from here on, where the object tells them.
     ghost left: { Self → Option (List ℕ) };
 
+    /// How many bytes the last read gave that went well.
+    ghost last: { Self → ℕ };
+
     /// The count of reads that failed. It never falls.
     ghost faults: { Self → ℕ };
 
@@ -22,6 +25,7 @@ pub trait Source {
         requires { 0 < length buffer.old }
         ensures bound { IfOk result (λ n. n ≤ length buffer.new) }
         ensures bytes { ReadConsumes (left self.old) (left self.new) result buffer.new }
+        ensures last { IsLast (last self.old) (last self.new) result }
         ensures cause { HasCause (faults self.old) (faults self.new) result };
 }
 
@@ -45,10 +49,12 @@ pub trait Sink {
         ensures unflushed { flushed self.new ≡ flushed self.old }
         ensures cause { HasCause (faults self.old) (faults self.new) result };
 
-    /// Passes on what was written. After an `Ok` all of it is flushed.
+    /// Passes on what was written. After an `Ok` all of it is flushed, and what was flushed before
+    /// stays so.
     fn flush(&mut self) -> Result<(), Failed>
         ensures bytes { Keeps (written self.old) (written self.new) }
         ensures all { OnOk result (IsFlushed (written self.new) (flushed self.new)) }
+        ensures kept { flushed self.old ≤ flushed self.new }
         ensures cause { HasCause (faults self.old) (faults self.new) result };
 }
 

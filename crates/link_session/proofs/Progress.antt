@@ -1,19 +1,19 @@
 -- How far a session has come: what was taken, which frames these bytes hold, and what was written for them.
-use Rattle.std.proofs.Common.{◌≡◌, ℕ, ◌+◌, ◌≤◌, List, [], ◌∷◌, ◌++◌, Option, length, drop, refl, sym, ap, ◌∙◌, subst, arith, append_assoc, append-nil, length-append, inl}
-use Rattle.std.specs.Prelude.{All, ◌⊎◌}
+use Rattle.std.proofs.Common.{◌≡◌, ℕ, ◌+◌, ◌≤◌, List, [], ◌∷◌, ◌++◌, Option, Some, None, length, drop, refl, sym, ap, ◌∙◌, subst, arith, append_assoc, append-nil, length-append, inl, inr}
+use Rattle.std.specs.Prelude.{All, ◌⊎◌, min}
 use Rattle.std.proofs.lemmas.List.Elements.{All-append, All-nil}
 use Rattle.std.proofs.lemmas.List.Concat.{flat_map-append}
 use Rattle.std.specs.Io.KnownBytes.{Appends, Consumes, IsAtEnd}
 use Rattle.fidl_names.specs.declared.limits.TheConstants as limit
 use Rattle.std.proofs.KnownBytes.{Appends-trans, Appends-nil, Consumes-trans, Consumes-nil}
-use Rattle.host_io.specs.Streams.{AppendsPart}
+use Rattle.host_io.specs.Streams.{AppendsPart, AreFlushed, IsFlushed}
 use Rattle.endpoint_link.specs.Frames.{Frame, Frames, IsFrame, spelling, spellings, IsPartial}
 use Rattle.endpoint_link.specs.declared.kinds.Side.{Side}
 use Rattle.endpoint_link.proofs.Streams.{frames_stay}
 use Rattle.run_status.specs.Outside.{Streams}
 use Rattle.link_session.specs.Pieces.{TakesPiece}
 use Rattle.link_session.specs.Serving.{IsGrowing, Passes, Heard, HeardPart}
-use Rattle.link_session.specs.Session.{Course, KeepsUp, IsCutOff, IsPartSoFar, IsPartByEnd}
+use Rattle.link_session.specs.Session.{Course, KeepsUp, IsCutOff, IsFront, IsPartSoFar, IsPartByEnd}
 
 -- frames behind a rest that they complete
 pub split-more : (bytes piece kept kept' rest : List ℕ) (frames more : List Frame) → bytes ≡ spellings frames ++ kept → kept' ≡ kept ++ piece
@@ -36,6 +36,18 @@ cut_before (x ∷ early) late (y ∷ bytes) piece e h =
     let heads : y ≡ x = cc in
     let tails : bytes ++ piece ≡ early ++ late = cc in
     ap (λ z. z ∷ bytes) heads ∙ ap (λ l. x ∷ l) (cut_before early late bytes piece tails h)
+
+-- told bytes that grew by these were all flushed, and stay so
+flushed_since : (old now : Option (List ℕ)) (bytes : List ℕ) (count later : ℕ) → Appends old now bytes → IsFlushed now count → count ≤ later
+    → AreFlushed old bytes later
+flushed_since None now bytes count later a f l = tt
+flushed_since (Some old) None bytes count later a f l = absurd a
+flushed_since (Some old) (Some now) bytes count later a f l = omega (arith, ap length a, length-append old bytes, f, l)
+
+-- a front of what is flushed is flushed
+flushed_front : (old : Option (List ℕ)) (front whole : List ℕ) (count : ℕ) → IsFront front whole → AreFlushed old whole count → AreFlushed old front count
+flushed_front None front whole count f all = tt
+flushed_front (Some old) front whole count f all = omega (arith, ap length f.1, length-append front f.0, all)
 
 module _ (side : Side) where
   pub record Progress (course : Course) (Stands : List Frame → Type 0) (left left' written written' : Option (List ℕ)) (taken : ℕ) (kept : List ℕ) : Type 0 where
@@ -137,15 +149,31 @@ module _ (side : Side) where
         stands = g.stands;
       }
 
-  -- what is written keeps up with all pieces but the last
-  pub keeps_up : (course : Course) → IsGrowing course → (bytes piece kept part : List ℕ) (frames : List Frame)
-      → Frames side bytes frames kept → length piece ≤ limit.MAX_PIECE → KeepsUp side course (bytes ++ piece) (course.so_far frames ++ part)
-  keeps_up course grows bytes piece kept part frames read small early late answered rest e far early_read =
-      let before = cut_before early late bytes piece e (omega arith) in
-      let next = frames_stay side early (drop (length early) bytes) answered frames rest kept early_read (subst (λ b. Frames side b frames kept) before read) in
-      let longer = grows.more answered next.0 in (
-        longer.0 ++ part,
-        ap (λ l. l ++ part) (ap course.so_far next.1 ∙ longer.1) ∙ append_assoc (course.so_far answered) longer.0 part,
+  -- nothing was taken, or all that is written for the frames so far is flushed
+  abbrev pub IsPassedOn : Course → Option (List ℕ) → List ℕ → List Frame → ℕ → Type 0
+  IsPassedOn course written bytes frames flushed = (bytes ≡ []) ⊎ AreFlushed written (course.so_far frames) flushed
+
+  pub Progress-passed : (course : Course) (Stands : List Frame → Type 0) (l l' w w' : Option (List ℕ)) (t : ℕ) (kept : List ℕ) (same : Type 0) (count later : ℕ)
+      → (g : Progress course Stands l l' w w' t kept) → ((t ≡ 0) × same) ⊎ IsFlushed w' count → count ≤ later
+      → IsPassedOn course w g.bytes g.frames later
+  Progress-passed course Stands l l' w w' t kept same count later g (inl none) still = inl (empty g.bytes (g.size ∙ none.0))
+  Progress-passed course Stands l l' w w' t kept same count later g (inr all) still =
+      inr (flushed_since w w' (course.so_far g.frames) count later g.got all still)
+
+  -- what is written and flushed keeps up with all pieces but the last
+  pub keeps_up : (course : Course) → IsGrowing course → (before after_it : Streams) (bytes piece kept part : List ℕ) (frames : List Frame)
+      → Frames side bytes frames kept → length piece ≤ min after_it.last limit.MAX_PIECE → IsPassedOn course before.written bytes frames after_it.flushed
+      → KeepsUp side course before after_it (bytes ++ piece) (course.so_far frames ++ part)
+  keeps_up course grows before after_it bytes piece kept part frames read small passed early last answered rest e far some early_read =
+      let cut = cut_before early last bytes piece e (omega arith) in
+      let next = frames_stay side early (drop (length early) bytes) answered frames rest kept early_read (subst (λ b. Frames side b frames kept) cut read) in
+      let longer = grows.more answered next.0 in
+      let more : course.so_far frames ≡ course.so_far answered ++ longer.0 = ap course.so_far next.1 ∙ longer.1 in (
+        (longer.0 ++ part, ap (λ l. l ++ part) more ∙ append_assoc (course.so_far answered) longer.0 part),
+        elim passed as (λ _. AreFlushed before.written (course.so_far answered) after_it.flushed) [
+          | inl none ↦ absurd (some (empty early (omega (arith, ap length none, ap length cut, length-append early (drop (length early) bytes)))))
+          | inr all ↦ flushed_front before.written (course.so_far answered) (course.so_far frames) after_it.flushed (longer.0, more) all
+        ],
       )
 
   -- whole frames alone
@@ -155,9 +183,10 @@ module _ (side : Side) where
   -- an output couldn't be written, or not be made, for frames behind those that were answered
   pub cut_off : (course : Course) → IsGrowing course → (Stands : List Frame → Type 0) (before after_it : Streams)
       (left' written' : Option (List ℕ)) (t n : ℕ) (kept kept' : List ℕ)
-      → (g : Progress course Stands before.left left' before.written written' t kept) → TakesPiece left' after_it.left kept kept' n → n ≤ limit.MAX_PIECE
-      → t + n ≤ limit.MAX_INPUT → HeardPart side course g.frames kept' written' after_it.written → IsCutOff side course before after_it
-  cut_off course grows Stands before after_it left' written' t n kept kept' g piece small within h = record {
+      → (g : Progress course Stands before.left left' before.written written' t kept) → TakesPiece left' after_it.left kept kept' n → n ≤ min after_it.last limit.MAX_PIECE
+      → t + n ≤ limit.MAX_INPUT → IsPassedOn course before.written g.bytes g.frames after_it.flushed → after_it.read_faults ≡ before.read_faults
+      → HeardPart side course g.frames kept' written' after_it.written → IsCutOff side course before after_it
+  cut_off course grows Stands before after_it left' written' t n kept kept' g piece last within passed source h = record {
     taken = g.bytes ++ piece.0;
     part = course.so_far g.frames ++ h.part;
     took = Consumes-trans _ _ _ _ _ g.took piece.1;
@@ -169,8 +198,9 @@ module _ (side : Side) where
       read = whole (g.frames ++ h.frames) (All-append (IsFrame side) g.frames h.frames g.read.each h.each);
       lawful = h.lawful;
     });
-    keeps_up = keeps_up course grows g.bytes piece.0 kept h.part g.frames g.read (omega (arith, piece.3, small));
+    keeps_up = keeps_up course grows before after_it g.bytes piece.0 kept h.part g.frames g.read (omega (arith, piece.3, last)) passed;
     wrote = Appends-trans _ _ _ _ _ g.got h.got;
+    source = source;
   }
 
   -- the end, which the input has reached, couldn't be written whole
@@ -178,16 +208,18 @@ module _ (side : Side) where
       (written' : Option (List ℕ)) (t : ℕ) (kept part : List ℕ)
       → (g : Progress course Stands before.left after_it.left before.written written' t kept) → t ≤ limit.MAX_INPUT
       → IsPartSoFar side course g.bytes (course.so_far g.frames ++ part) ⊎ IsPartByEnd side course g.bytes (IsAtEnd after_it.left) (course.so_far g.frames ++ part)
-      → Appends written' after_it.written part → IsCutOff side course before after_it
-  cut_behind course grows Stands before after_it written' t kept part g within lawful a = record {
+      → Appends written' after_it.written part → IsPassedOn course before.written g.bytes g.frames after_it.flushed
+      → after_it.read_faults ≡ before.read_faults → IsCutOff side course before after_it
+  cut_behind course grows Stands before after_it written' t kept part g within lawful a passed source = record {
     taken = g.bytes;
     part = course.so_far g.frames ++ part;
     took = g.took;
     within = omega (arith, g.size, within);
     lawful = lawful;
-    keeps_up = subst (λ b. KeepsUp side course b (course.so_far g.frames ++ part)) (append-nil g.bytes)
-        (keeps_up course grows g.bytes [] kept part g.frames g.read (omega arith));
+    keeps_up = subst (λ b. KeepsUp side course before after_it b (course.so_far g.frames ++ part)) (append-nil g.bytes)
+        (keeps_up course grows before after_it g.bytes [] kept part g.frames g.read (omega arith) passed);
     wrote = Appends-trans _ _ _ _ _ g.got a;
+    source = source;
   }
 
   -- nothing of the end was written

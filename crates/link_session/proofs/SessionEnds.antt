@@ -1,5 +1,5 @@
 -- How a session ends.
-use Rattle.std.proofs.Common.{◌≡◌, ℕ, ◌+◌, ◌<◌, ◌≤◌, List, [], ◌∷◌, ◌++◌, Option, length, take, drop, refl, sym, ap, ◌∙◌, subst, arith, append_assoc, append-nil, length-append, ◌⊎◌, inl, inr}
+use Rattle.std.proofs.Common.{◌≡◌, ℕ, ◌+◌, ◌<◌, ◌≤◌, min, List, [], ◌∷◌, ◌++◌, Option, length, take, drop, refl, sym, ap, ◌∙◌, subst, arith, append_assoc, append-nil, length-append, ◌⊎◌, inl, inr}
 use Rattle.std.proofs.lemmas.List.{take_at}
 use Rattle.std.proofs.lemmas.Bool.{cases_lt}
 use Rattle.std.specs.Io.KnownBytes.{Appends, Keeps, IsAtEnd}
@@ -17,11 +17,11 @@ use Rattle.run_status.specs.declared.statuses.Status.TheVariants as status
 use Rattle.run_status.specs.Outside.{Streams}
 use Rattle.link_session.specs.Pieces.{TakesPiece}
 use Rattle.link_session.specs.Serving.{IsGrowing, Heard, HeardPart, PassedOn, Finishes, end_of}
-use Rattle.link_session.specs.Session.{Course, SessionAnswers, WroteAll, IsCutOff, EndsBehind}
-use Rattle.link_session.proofs.Progress.{Progress, Progress-heard, Grown, empty, cut_off, cut_behind, part_so_far, heard_part, keeps_up}
+use Rattle.link_session.specs.Session.{Course, SessionAnswers, MetNoFault, WroteAll, IsCutOff, EndsBehind}
+use Rattle.link_session.proofs.Progress.{Progress, Progress-heard, Grown, IsPassedOn, empty, cut_off, cut_behind, part_so_far, heard_part, keeps_up}
 
--- a count that rose since later rose since earlier
-pub rose_since : (earlier later now : ℕ) → earlier ≤ later → Rose later now → Rose earlier now
+-- a count that rose since later rose since earlier, where it had stayed
+pub rose_since : (earlier later now : ℕ) → later ≡ earlier → Rose later now → Rose earlier now
 rose_since earlier later now e rose = omega (arith, e, rose)
 
 -- what isn't at least that is less
@@ -74,8 +74,8 @@ module _ (side : Side) where
   pub fault : (course : Course) (Stands : List Frame → Type 0) (before after_it : Streams) (same : Type 0) (left' : Option (List ℕ)) (t : ℕ) (kept : List ℕ)
       → (g : Progress side course Stands before.left left' before.written after_it.written t kept) → t < limit.MAX_INPUT → Keeps left' after_it.left
       → ((t ≡ 0) × same) ⊎ IsFlushed after_it.written after_it.flushed → Rose before.read_faults after_it.read_faults
-      → SessionAnswers side course before after_it same status.ReadFault
-  fault course Stands before after_it same left' t kept g few kept_it flushed rose = record {
+      → after_it.write_faults ≡ before.write_faults → SessionAnswers side course before after_it same status.ReadFault
+  fault course Stands before after_it same left' t kept g few kept_it flushed rose sink = record {
     taken = g.bytes;
     frames = g.frames;
     rest = kept;
@@ -86,49 +86,55 @@ module _ (side : Side) where
     flushed = elim flushed as (λ _. ((g.bytes ≡ []) × same) ⊎ IsFlushed after_it.written after_it.flushed)
         [ inl none ↦ inl (empty g.bytes (g.size ∙ none.0), none.1) | inr all ↦ inr all ];
     rose = rose;
+    sink = sink;
   }
 
-  module _ (course : Course) (grows : IsGrowing course) (Stands : List Frame → Type 0) (before after_it : Streams) (same : Type 0) where
+  module _ (course : Course) (grows : IsGrowing course) (Stands : List Frame → Type 0) (before after_it : Streams) (same : Type 0)
+      (source : after_it.read_faults ≡ before.read_faults) where
     -- a part of the output for frames behind those that were answered is written
     pub unheard : (left' written' : Option (List ℕ)) (t n : ℕ) (kept kept' : List ℕ)
-        → (g : Progress side course Stands before.left left' before.written written' t kept) → TakesPiece left' after_it.left kept kept' n → n ≤ limit.MAX_PIECE
-        → t + n ≤ limit.MAX_INPUT → HeardPart side course g.frames kept' written' after_it.written → IsCutOff side course before after_it
-    unheard left' written' t n kept kept' g piece small within h = cut_off side course grows Stands before after_it left' written' t n kept kept' g piece small within h
+        → (g : Progress side course Stands before.left left' before.written written' t kept) → TakesPiece left' after_it.left kept kept' n → n ≤ min after_it.last limit.MAX_PIECE
+        → t + n ≤ limit.MAX_INPUT → IsPassedOn side course before.written g.bytes g.frames after_it.flushed
+        → HeardPart side course g.frames kept' written' after_it.written → IsCutOff side course before after_it
+    unheard left' written' t n kept kept' g piece last within passed h =
+        cut_off side course grows Stands before after_it left' written' t n kept kept' g piece last within passed source h
 
     -- the end behind all frames that were taken: it is written whole, or in part, or wants memory
-    ends : (written' : Option (List ℕ)) (t : ℕ) (kept : List ℕ) (wanted : Status) (rose : Type 0)
+    ends : (written' : Option (List ℕ)) (t : ℕ) (kept : List ℕ) (wanted : Status) (faults : ℕ)
         → (g : Progress side course Stands before.left after_it.left before.written written' t kept) → t ≤ limit.MAX_INPUT
         → EndsBehind side g.bytes (IsAtEnd after_it.left) g.frames
-        → ((last : List ℕ) → course.by_end g.frames ≡ course.so_far g.frames ++ last → PassedOn written' after_it.written last after_it.flushed
+        → IsPassedOn side course before.written g.bytes g.frames after_it.flushed → faults ≡ before.write_faults
+        → (MetNoFault before after_it → (last : List ℕ) → course.by_end g.frames ≡ course.so_far g.frames ++ last → PassedOn written' after_it.written last after_it.flushed
         → SessionAnswers side course before after_it same wanted)
-        → (rose → Rose before.write_faults after_it.write_faults)
-        → (answer : Status) → Finishes course g.frames wanted [] written' after_it.written after_it.flushed rose answer
+        → (answer : Status) → Finishes course g.frames wanted [] written' after_it.written after_it.flushed faults after_it.write_faults answer
         → SessionAnswers side course before after_it same answer
-    ends written' t kept wanted rose g within ended done risen answer (inl f) =
-        subst (SessionAnswers side course before after_it same) (sym f.0) (done f.1.0 f.1.1 f.1.2)
-    ends written' t kept wanted rose g within ended done risen answer (inr (inl f)) =
+    ends written' t kept wanted faults g within ended passed still done answer (inl f) =
+        subst (SessionAnswers side course before after_it same) (sym f.0) (done (record { source = source; sink = f.1 ∙ still }) f.2.0 f.2.1 f.2.2)
+    ends written' t kept wanted faults g within ended passed still done answer (inr (inl f)) =
         subst (SessionAnswers side course before after_it same) (sym f.0) (
           cut_behind side course grows Stands before after_it written' t kept f.2.2.0 g within
               (inr (record {
                 frames = g.frames;
                 ends = ended;
                 lawful = (f.2.2.1, f.2.1 ∙ ap (λ l. course.so_far g.frames ++ l) f.2.2.2 ∙ sym (append_assoc (course.so_far g.frames) f.2.2.0 f.2.2.1));
-              })) f.2.2.3,
-          risen f.1,
+              })) f.2.2.3 passed source,
+          rose_since before.write_faults faults after_it.write_faults still f.1,
         )
-    ends written' t kept wanted rose g within ended done risen answer (inr (inr f)) =
+    ends written' t kept wanted faults g within ended passed still done answer (inr (inr f)) =
         subst (SessionAnswers side course before after_it same) (sym f.0) (
           f.1,
           cut_behind side course grows Stands before after_it written' t kept [] g within
-              (inl (part_so_far side course g.bytes kept g.frames g.read)) (subst (λ w. Appends written' w []) (sym f.2) (Appends-nil written')),
+              (inl (part_so_far side course g.bytes kept g.frames g.read)) (subst (λ w. Appends written' w []) (sym f.3) (Appends-nil written'))
+              passed source,
+          f.2 ∙ still,
         )
 
     -- between frames, or inside one
-    at_the_end : (written' : Option (List ℕ)) (t : ℕ) (kept last : List ℕ)
+    at_the_end : (written' : Option (List ℕ)) (t : ℕ) (kept last : List ℕ) → MetNoFault before after_it
         → (g : Progress side course Stands before.left after_it.left before.written written' t kept) → t < limit.MAX_INPUT → IsAtEnd after_it.left
         → course.by_end g.frames ≡ course.so_far g.frames ++ last → PassedOn written' after_it.written last after_it.flushed
         → SessionAnswers side course before after_it same (end_of kept t)
-    at_the_end written' t [] last g few end e p = record {
+    at_the_end written' t [] last calm g few end e p = record {
       taken = g.bytes;
       frames = g.frames;
       took = g.took;
@@ -136,8 +142,9 @@ module _ (side : Side) where
       read = g.read;
       at_end = end;
       wrote = all_written course g.frames before after_it written' last g.got e p;
+      faultless = calm;
     }
-    at_the_end written' t (byte ∷ kept) last g few end e p = record {
+    at_the_end written' t (byte ∷ kept) last calm g few end e p = record {
       taken = g.bytes;
       frames = g.frames;
       rest = byte ∷ kept;
@@ -148,27 +155,28 @@ module _ (side : Side) where
       place = omega (arith, g.size, ap length g.read.split, length-append (spellings g.frames) (byte ∷ kept));
       at_end = end;
       wrote = all_written course g.frames before after_it written' last g.got e p;
+      faultless = calm;
     }
 
     -- the input ended
-    pub ended : (written' : Option (List ℕ)) (t : ℕ) (kept : List ℕ) (rose : Type 0)
+    pub ended : (written' : Option (List ℕ)) (t : ℕ) (kept : List ℕ) (faults : ℕ)
         → (g : Progress side course Stands before.left after_it.left before.written written' t kept) → t < limit.MAX_INPUT → IsAtEnd after_it.left
-        → (rose → Rose before.write_faults after_it.write_faults)
-        → (answer : Status) → Finishes course g.frames (end_of kept t) [] written' after_it.written after_it.flushed rose answer
+        → IsPassedOn side course before.written g.bytes g.frames after_it.flushed → faults ≡ before.write_faults
+        → (answer : Status) → Finishes course g.frames (end_of kept t) [] written' after_it.written after_it.flushed faults after_it.write_faults answer
         → SessionAnswers side course before after_it same answer
-    ended written' t kept rose g few end =
-        ends written' t kept (end_of kept t) rose g (omega (arith, few)) (inl (kept, g.read, inl end))
-        (λ last e p. at_the_end written' t kept last g few end e p)
+    ended written' t kept faults g few end passed still =
+        ends written' t kept (end_of kept t) faults g (omega (arith, few)) (inl (kept, g.read, inl end)) passed still
+        (λ calm last e p. at_the_end written' t kept last calm g few end e p)
 
     -- as many bytes were taken as one session takes
-    pub long : (written' : Option (List ℕ)) (t : ℕ) (kept : List ℕ) (rose : Type 0)
+    pub long : (written' : Option (List ℕ)) (t : ℕ) (kept : List ℕ) (faults : ℕ)
         → (g : Progress side course Stands before.left after_it.left before.written written' t kept) → t ≡ limit.MAX_INPUT
-        → (rose → Rose before.write_faults after_it.write_faults)
-        → (answer : Status) → Finishes course g.frames status.InputTooLong [] written' after_it.written after_it.flushed rose answer
+        → IsPassedOn side course before.written g.bytes g.frames after_it.flushed → faults ≡ before.write_faults
+        → (answer : Status) → Finishes course g.frames status.InputTooLong [] written' after_it.written after_it.flushed faults after_it.write_faults answer
         → SessionAnswers side course before after_it same answer
-    long written' t kept rose g many =
-        ends written' t kept status.InputTooLong rose g (omega (arith, many)) (inl (kept, g.read, inr (g.size ∙ many)))
-        (λ last e p. record {
+    long written' t kept faults g many passed still =
+        ends written' t kept status.InputTooLong faults g (omega (arith, many)) (inl (kept, g.read, inr (g.size ∙ many))) passed still
+        (λ calm last e p. record {
           taken = g.bytes;
           frames = g.frames;
           rest = kept;
@@ -176,6 +184,7 @@ module _ (side : Side) where
           many = g.size ∙ many;
           read = g.read;
           wrote = all_written course g.frames before after_it written' last g.got e p;
+          faultless = calm;
         })
 
     -- what the bytes are, of which the fixed part behind the frames is bad
@@ -198,16 +207,15 @@ module _ (side : Side) where
         }
 
     -- a bad frame
-    pub bad : (Stands' : List Frame → Type 0) (left' written' written'' : Option (List ℕ)) (t n k at : ℕ) (why : FrameReason) (kept kept' held : List ℕ) (rose : Type 0)
-        → (g : Progress side course Stands before.left left' before.written written' t kept) → TakesPiece left' after_it.left kept kept' n → n ≤ limit.MAX_PIECE
-        → t + n ≤ limit.MAX_INPUT
+    pub bad : (Stands' : List Frame → Type 0) (left' written' written'' : Option (List ℕ)) (t n k at : ℕ) (why : FrameReason) (kept kept' held : List ℕ) (faults : ℕ)
+        → (g : Progress side course Stands before.left left' before.written written' t kept) → TakesPiece left' after_it.left kept kept' n → n ≤ min after_it.last limit.MAX_PIECE
+        → t + n ≤ limit.MAX_INPUT → IsPassedOn side course before.written g.bytes g.frames after_it.flushed → faults ≡ before.write_faults
         → (h : Heard side course Stands' g.frames kept' written' written'' held k) → IsBadFront side (drop k kept') why → at + length (drop k kept') ≡ t + n
-        → (rose → Rose before.write_faults after_it.write_faults)
         → (answer : Status)
-        → Finishes course (g.frames ++ h.frames) (status.BadFrame at why) held written'' after_it.written after_it.flushed rose answer
+        → Finishes course (g.frames ++ h.frames) (status.BadFrame at why) held written'' after_it.written after_it.flushed faults after_it.write_faults answer
         → SessionAnswers side course before after_it same answer
     unfolding Progress-heard
-    bad Stands' left' written' written'' t n k at why kept kept' held rose g piece small within h front place risen answer (inl f) =
+    bad Stands' left' written' written'' t n k at why kept kept' held faults g piece last within passed still h front place answer (inl f) =
         let grown = Progress-heard side course Stands Stands' _ _ _ _ _ _ t n k kept kept' held g piece h in
         let is = bad_at Stands' _ _ _ _ (t + n) at why held (drop k kept') grown front place in
         let near = bad_in_piece g.bytes piece.0 g.frames kept at why g.read is.bad in
@@ -216,17 +224,18 @@ module _ (side : Side) where
           frames = grown.frames;
           took = grown.took;
           within = omega (arith, grown.size, within);
-          near = omega (arith, grown.size, g.size, near, small);
+          near = omega (arith, grown.size, g.size, near, last);
           bad = is.bad;
           before_it = is.before_it;
           wrote = (
             subst (Appends before.written after_it.written)
-                (sym (append_assoc grown.passed.0 held f.1.0) ∙ ap (λ l. l ++ f.1.0) grown.passed.2 ∙ sym f.1.1)
-                (Appends-trans _ _ _ _ _ grown.passed.1 f.1.2.0),
-            f.1.2.1,
+                (sym (append_assoc grown.passed.0 held f.2.0) ∙ ap (λ l. l ++ f.2.0) grown.passed.2 ∙ sym f.2.1)
+                (Appends-trans _ _ _ _ _ grown.passed.1 f.2.2.0),
+            f.2.2.1,
           );
+          faultless = record { source = source; sink = f.1 ∙ still };
         })
-    bad Stands' left' written' written'' t n k at why kept kept' held rose g piece small within h front place risen answer (inr (inl f)) =
+    bad Stands' left' written' written'' t n k at why kept kept' held faults g piece last within passed still h front place answer (inr (inl f)) =
         let grown = Progress-heard side course Stands Stands' _ _ _ _ _ _ t n k kept kept' held g piece h in
         let is = bad_at Stands' _ _ _ _ (t + n) at why held (drop k kept') grown front place in
         let part = h.passed.0 ++ f.2.2.0 in
@@ -246,15 +255,17 @@ module _ (side : Side) where
                     ∙ ap (λ l. l ++ f.2.2.1) (append_assoc (course.so_far g.frames) h.passed.0 f.2.2.0),
               );
             });
-            keeps_up = keeps_up side course grows g.bytes piece.0 kept part g.frames g.read (omega (arith, piece.3, small));
+            keeps_up = keeps_up side course grows before after_it g.bytes piece.0 kept part g.frames g.read (omega (arith, piece.3, last)) passed;
             wrote = Appends-trans _ _ _ _ _ g.got (Appends-trans _ _ _ _ _ h.passed.1 f.2.2.3);
+            source = source;
           },
-          risen f.1,
+          rose_since before.write_faults faults after_it.write_faults still f.1,
         )
-    bad Stands' left' written' written'' t n k at why kept kept' held rose g piece small within h front place risen answer (inr (inr f)) =
+    bad Stands' left' written' written'' t n k at why kept kept' held faults g piece last within passed still h front place answer (inr (inr f)) =
         subst (SessionAnswers side course before after_it same) (sym f.0) (
           f.1,
-          unheard left' written' t n kept kept' g piece small within
+          unheard left' written' t n kept kept' g piece last within passed
               (heard_part side course Stands' g.frames kept' written' written'' after_it.written held k h
-              ([], held, refl, subst (λ w. Appends written'' w []) (sym f.2) (Appends-nil written''))),
+              ([], held, refl, subst (λ w. Appends written'' w []) (sym f.3) (Appends-nil written''))),
+          f.2 ∙ still,
         )

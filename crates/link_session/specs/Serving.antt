@@ -1,6 +1,7 @@
 -- Words of steps: what one piece of the input led to, in a session that heard some frames before.
 use Rattle.std.specs.Prelude.{◌≡◌, ℕ, ◌+◌, ◌≤◌, ◌-◌, ◌⊎◌, IsTrue, List, [], ◌∷◌, ◌++◌, length, drop, All, Option}
 use Rattle.std.specs.Io.KnownBytes.{Appends}
+use Rattle.host_io.specs.Causes.{Rose}
 use Rattle.host_io.specs.Streams.{AppendsPart, IsFlushed}
 use Rattle.endpoint_link.specs.Frames.{Frame, IsFrame, spellings, IsPartial, IsBadFront}
 use Rattle.endpoint_link.specs.declared.kinds.Side.{Side}
@@ -67,10 +68,10 @@ Leaves side bytes count count' (served.Rest n) = (n ≤ length bytes) × (count'
 Leaves side bytes count count' (served.Bad n why) = n ≤ length bytes
 Leaves side bytes count count' served.Failed = Unit {0}
 
--- it holds where a write failed
-abbrev pub FailsOnly : Served → Type 0 → Type 0
-FailsOnly served.Failed P = P
-FailsOnly _ P = Unit {0}
+-- the sink's count of faults rose where a write failed, and else stays
+abbrev pub HasWriteCause : ℕ → ℕ → Served → Type 0
+HasWriteCause before now served.Failed = Rose before now
+HasWriteCause before now _ = now ≡ before
 
 -- what was held back is written, and all is flushed
 abbrev pub PassedOn : Option (List ℕ) → Option (List ℕ) → List ℕ → ℕ → Type 0
@@ -81,11 +82,11 @@ abbrev pub end_of : List ℕ → ℕ → Status
 end_of [] taken = status.Done
 end_of (byte ∷ rest) taken = status.Truncated (taken - length (byte ∷ rest))
 
--- the end behind some frames: what it adds is written behind what was held back, and all is flushed; else a part of that is written;
--- or it can't be had for want of memory, and nothing is written
-abbrev pub Finishes : Course → List Frame → Status → List ℕ → Option (List ℕ) → Option (List ℕ) → ℕ → Type 0 → Status → Type 0
-Finishes course frames wanted held written written' flushed rose answer =
-    ((answer ≡ wanted) × ((last : List ℕ) × (course.by_end frames ≡ course.so_far frames ++ last) × PassedOn written written' (held ++ last) flushed))
-    ⊎ (((answer ≡ status.WriteFault) × rose
+-- the end behind some frames: what it adds is written behind what was held back, and all is flushed; or a part of that is written, since the
+-- sink failed; or it can't be had for want of memory, and nothing is written
+abbrev pub Finishes : Course → List Frame → Status → List ℕ → Option (List ℕ) → Option (List ℕ) → ℕ → ℕ → ℕ → Status → Type 0
+Finishes course frames wanted held written written' flushed faults faults' answer =
+    ((answer ≡ wanted) × (faults' ≡ faults) × ((last : List ℕ) × (course.by_end frames ≡ course.so_far frames ++ last) × PassedOn written written' (held ++ last) flushed))
+    ⊎ (((answer ≡ status.WriteFault) × Rose faults faults'
     × ((last : List ℕ) × (course.by_end frames ≡ course.so_far frames ++ last) × AppendsPart written written' (held ++ last)))
-    ⊎ ((answer ≡ status.NoMemory) × IsTrue course.starves × (written' ≡ written)))
+    ⊎ ((answer ≡ status.NoMemory) × IsTrue course.starves × (faults' ≡ faults) × (written' ≡ written)))

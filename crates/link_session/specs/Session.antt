@@ -1,9 +1,9 @@
 -- How a session may end, and what its source gave and its sink got by then.
-use Rattle.std.specs.Prelude.{◌≡◌, ◌≢◌, ℕ, Bool, IsTrue, ◌+◌, ◌<◌, ◌≤◌, ◌⊎◌, List, [], ◌++◌, length, take, Some}
+use Rattle.std.specs.Prelude.{◌≡◌, ◌≢◌, ℕ, Bool, IsTrue, ◌+◌, ◌<◌, ◌≤◌, ◌⊎◌, min, List, [], ◌++◌, length, take, Some}
 use Rattle.std.specs.Io.KnownBytes.{Appends, Consumes, IsAtEnd}
 use Rattle.fidl_names.specs.declared.limits.TheConstants as limit
 use Rattle.host_io.specs.Causes.{Rose}
-use Rattle.host_io.specs.Streams.{IsFlushed}
+use Rattle.host_io.specs.Streams.{AreFlushed, IsFlushed}
 use Rattle.endpoint_link.specs.Frames.{Frame, Frames, Bad}
 use Rattle.endpoint_link.specs.declared.fixed.TheConstants as fixed
 use Rattle.endpoint_link.specs.declared.kinds.FrameReason.{FrameReason}
@@ -31,6 +31,11 @@ Wrote before after bytes = Appends before.written after.written bytes
 abbrev pub WroteAll : Streams → Streams → List ℕ → Type 0
 WroteAll before after bytes = Wrote before after bytes × IsFlushed after.written after.flushed
 
+-- no call of the source or the sink failed
+pub record MetNoFault (before after : Streams) : Type 0 where
+  pub source : after.read_faults ≡ before.read_faults
+  pub sink : after.write_faults ≡ before.write_faults
+
 -- these bytes stand at the front of the whole
 abbrev pub IsFront : List ℕ → List ℕ → Type 0
 IsFront front whole = (more : List ℕ) × (whole ≡ front ++ more)
@@ -44,6 +49,7 @@ pub record IsDone (side : Side) (course : Course) (before after : Streams) : Typ
   pub read : Frames side taken frames []
   pub at_end : IsAtEnd after.left
   pub wrote : WroteAll before after (course.by_end frames)
+  pub faultless : MetNoFault before after
 
 -- the input was read to its end, which lies inside the frame that begins there
 pub record IsTruncated (side : Side) (course : Course) (before after : Streams) (at : ℕ) : Type 0 where
@@ -57,6 +63,7 @@ pub record IsTruncated (side : Side) (course : Course) (before after : Streams) 
   pub place : at + length rest ≡ length taken
   pub at_end : IsAtEnd after.left
   pub wrote : WroteAll before after (course.by_end frames)
+  pub faultless : MetNoFault before after
 
 -- the first bad frame stands there; nothing was read behind the piece in which its fixed part ended
 pub record IsBad (side : Side) (course : Course) (before after : Streams) (at : ℕ) (why : FrameReason) : Type 0 where
@@ -68,6 +75,7 @@ pub record IsBad (side : Side) (course : Course) (before after : Streams) (at : 
   pub bad : Bad side taken at why
   pub before_it : Frames side (take at taken) frames []
   pub wrote : WroteAll before after (course.by_end frames)
+  pub faultless : MetNoFault before after
 
 -- as many bytes were taken as one session takes, and no frame in them is bad
 pub record IsTooLong (side : Side) (course : Course) (before after : Streams) : Type 0 where
@@ -78,6 +86,7 @@ pub record IsTooLong (side : Side) (course : Course) (before after : Streams) : 
   pub many : length taken ≡ limit.MAX_INPUT
   pub read : Frames side taken frames rest
   pub wrote : WroteAll before after (course.by_end frames)
+  pub faultless : MetNoFault before after
 
 -- a read failed; the whole frames that were taken are answered, and the answers are flushed, unless nothing was taken and the sink left alone
 pub record IsReadFault (side : Side) (course : Course) (before after : Streams) (sink_same : Type 0) : Type 0 where
@@ -90,6 +99,7 @@ pub record IsReadFault (side : Side) (course : Course) (before after : Streams) 
   pub wrote : Wrote before after (course.so_far frames)
   pub flushed : ((taken ≡ []) × sink_same) ⊎ IsFlushed after.written after.flushed
   pub rose : Rose before.read_faults after.read_faults
+  pub sink : after.write_faults ≡ before.write_faults
 
 -- a front of the output for some of the whole frames that were taken
 pub record IsPartSoFar (side : Side) (course : Course) (taken part : List ℕ) : Type 0 where
@@ -111,21 +121,24 @@ pub record IsPartByEnd (side : Side) (course : Course) (taken : List ℕ) (at_en
   pub ends : EndsBehind side taken at_end frames
   pub lawful : IsFront part (course.by_end frames)
 
--- the part holds at least the output for the frames that lie whole in the bytes taken without their last 65,536
-abbrev pub KeepsUp : Side → Course → List ℕ → List ℕ → Type 0
-KeepsUp side course taken part =
-    (early late : List ℕ) (frames : List Frame) (rest : List ℕ) → taken ≡ early ++ late → limit.MAX_PIECE ≤ length late
-    → Frames side early frames rest → IsFront (course.so_far frames) part
+-- the output for the frames that were whole before the last read is in the part, and flushed; before the first read none were. The last
+-- read is what it gave, and no more than 65,536 bytes of it
+abbrev pub KeepsUp : Side → Course → Streams → Streams → List ℕ → List ℕ → Type 0
+KeepsUp side course before after taken part =
+    (early last : List ℕ) (frames : List Frame) (rest : List ℕ) → taken ≡ early ++ last → min after.last limit.MAX_PIECE ≤ length last → early ≢ []
+    → Frames side early frames rest
+    → IsFront (course.so_far frames) part × AreFlushed before.written (course.so_far frames) after.flushed
 
--- a part of the output is written
+-- a part of the output is written, and no read failed
 pub record IsCutOff (side : Side) (course : Course) (before after : Streams) : Type 0 where
   pub taken : List ℕ
   pub part : List ℕ
   pub took : Took before after taken
   pub within : length taken ≤ limit.MAX_INPUT
   pub lawful : IsPartSoFar side course taken part ⊎ IsPartByEnd side course taken (IsAtEnd after.left) part
-  pub keeps_up : KeepsUp side course taken part
+  pub keeps_up : KeepsUp side course before after taken part
   pub wrote : Wrote before after part
+  pub source : after.read_faults ≡ before.read_faults
 
 -- a session, by the side that its frames come to
 abbrev pub SessionAnswers : Side → Course → Streams → Streams → Type 0 → Status → Type 0
@@ -136,7 +149,8 @@ SessionAnswers side course before after sink_same status.InputTooLong = IsTooLon
 SessionAnswers side course before after sink_same status.ReadFault = IsReadFault side course before after sink_same
 SessionAnswers side course before after sink_same status.WriteFault =
     IsCutOff side course before after × Rose before.write_faults after.write_faults
-SessionAnswers side course before after sink_same status.NoMemory = IsTrue course.starves × IsCutOff side course before after
+SessionAnswers side course before after sink_same status.NoMemory =
+    IsTrue course.starves × IsCutOff side course before after × (after.write_faults ≡ before.write_faults)
 SessionAnswers side course before after sink_same _ = ⊥
 
 -- the input is told, has few enough bytes, and is whole frames

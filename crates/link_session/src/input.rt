@@ -1,6 +1,7 @@
 ghost use Rattle.std.specs.Prelude.{◌≡◌, ◌<◌, ◌≤◌, ◌+◌, List, [], ◌++◌, length, take, drop, IfOk, OnErr};
 ghost use Rattle.std.specs.Io.KnownBytes.{Consumes, IsAtEnd, Keeps};
 ghost use Rattle.host_io.specs.Causes.{HasCause};
+ghost use Rattle.host_io.specs.Streams.{IsLast};
 ghost use Rattle.link_session.specs.Pieces.{TakesPiece};
 
 use endpoint_link::MAX_FRAME_LEN;
@@ -53,6 +54,7 @@ impl Input {
         requires piece { most ≤ MAX_PIECE }
         ensures piece { IfOk result (λ n. TakesPiece (S.left source.old) (S.left source.new) self.old self.new n) }
         ensures bound { IfOk result (λ n. n ≤ most) }
+        ensures last { IsLast (S.last source.old) (S.last source.new) result }
         ensures err { OnErr result ((self.new ≡ self.old) × Keeps (S.left source.old) (S.left source.new)) }
         ensures cause { HasCause (S.faults source.old) (S.faults source.new) result }
     {
@@ -83,6 +85,7 @@ fn read_behind<S: Source>(
     ensures piece { IfOk result (λ n. TakesPiece (S.left source.old) (S.left source.new)
         (take kept buffer.old) (take (kept + n) buffer.new) n) }
     ensures bound { IfOk result (λ n. (n ≤ most) × (kept + n ≤ length buffer.old)) }
+    ensures last { IsLast (S.last source.old) (S.last source.new) result }
     ensures err { OnErr result ((take kept buffer.new ≡ take kept buffer.old) × Keeps (S.left source.old) (S.left source.new)) }
     ensures cause { HasCause (S.faults source.old) (S.faults source.new) result }
 {

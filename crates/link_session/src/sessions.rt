@@ -1,12 +1,12 @@
 ghost use Rattle.std.specs.Prelude.{◌≡◌, ◌≤◌, ◌<◌, ◌+◌, ◌⊎◌, ℕ, IsTrue, List, [], length, IfOk, OnOk, OnErr};
 ghost use Rattle.fidl_names.specs.declared.limits.TheConstants as limit;
-ghost use Rattle.host_io.specs.Causes.{HasCause, Rose};
+ghost use Rattle.host_io.specs.Causes.{HasCause};
 ghost use Rattle.host_io.specs.Streams.{AppendsPart, IsFlushed};
 ghost use Rattle.endpoint_link.specs.Frames.{Frame, IsFrame};
 ghost use Rattle.endpoint_link.specs.Views.{frame_of};
 ghost use Rattle.endpoint_link.specs.declared.kinds.Side.{Side};
 ghost use Rattle.run_status.specs.Outside.{streams_told};
-ghost use Rattle.link_session.specs.Serving.{IsGrowing, PassedOn, Passes, HeardOne, HeardEnd, HeardPart, IsServing, FailsOnly, Leaves, Finishes, end_of};
+ghost use Rattle.link_session.specs.Serving.{IsGrowing, PassedOn, Passes, HeardOne, HeardEnd, HeardPart, IsServing, HasWriteCause, Leaves, Finishes, end_of};
 ghost use Rattle.link_session.specs.Session.{Course, SessionAnswers};
 
 use crate::input::Input;
@@ -89,8 +89,8 @@ pub fn run<H: Session, S: Source, K: Sink>(
     requires empty { H.holds session.old ≡ [] }
     requires count { H.heard session.old ≡ 0 }
     ensures { (course : Course) → IsGrowing course → H.stands session.old course [] → SessionAnswers H.side course
-        (streams_told S.left S.faults K.written K.flushed K.faults source.old sink.old)
-        (streams_told S.left S.faults K.written K.flushed K.faults source.new sink.new)
+        (streams_told S.left S.last S.faults K.written K.flushed K.faults source.old sink.old)
+        (streams_told S.left S.last S.faults K.written K.flushed K.faults source.new sink.new)
         (sink.new ≡ sink.old) result }
 {
     let mut taken = 0;
@@ -141,8 +141,9 @@ fn serve<H: Session, K: Sink>(
         OnErr result (IsTrue course.starves × HeardPart H.side course before bytes.now (K.written sink.old) (K.written sink.new)) }
     ensures leaves { IfOk result (Leaves H.side bytes.now (H.heard session.old) (H.heard session.new)) }
     ensures ready { OnOk result (H.ready session.new) }
-    ensures faults { K.faults sink.old ≤ K.faults sink.new }
-    ensures cause { IfOk result (λ served. FailsOnly served (Rose (K.faults sink.old) (K.faults sink.new))) }
+    ensures unflushed { K.flushed sink.new ≡ K.flushed sink.old }
+    ensures cause { IfOk result (HasWriteCause (K.faults sink.old) (K.faults sink.new)) }
+    ensures stays { OnErr result (K.faults sink.new ≡ K.faults sink.old) }
 {
     let mut at = 0;
     'frames: loop {
@@ -168,6 +169,7 @@ fn make_room<H: Session, K: Sink>(session: &mut H, sink: &mut K) -> Result<(), F
     ensures passed { OnOk result (Passes (K.written sink.old) (K.written sink.new) (H.holds session.old) (H.holds session.new)) }
     ensures bounded { OnOk result (length (H.holds session.new) < limit.MAX_PIECE) }
     ensures part { OnErr result (AppendsPart (K.written sink.old) (K.written sink.new) (H.holds session.old)) }
+    ensures unflushed { K.flushed sink.new ≡ K.flushed sink.old }
     ensures stands { (course : Course) (frames : List Frame) → H.stands session.old course frames → H.stands session.new course frames }
     ensures count { H.heard session.new ≡ H.heard session.old }
     ensures ready { H.ready session.old → H.ready session.new }
@@ -186,6 +188,7 @@ fn pass_on<H: Session, K: Sink>(session: &mut H, sink: &mut K) -> Result<(), Fai
     ensures whole { OnOk result (PassedOn (K.written sink.old) (K.written sink.new) (H.holds session.old) (K.flushed sink.new)) }
     ensures empty { OnOk result (H.holds session.new ≡ []) }
     ensures part { OnErr result (AppendsPart (K.written sink.old) (K.written sink.new) (H.holds session.old)) }
+    ensures flushed { K.flushed sink.old ≤ K.flushed sink.new }
     ensures stands { (course : Course) (frames : List Frame) → H.stands session.old course frames → H.stands session.new course frames }
     ensures count { H.heard session.new ≡ H.heard session.old }
     ensures ready { H.ready session.old → H.ready session.new }
@@ -201,8 +204,8 @@ fn pass_on<H: Session, K: Sink>(session: &mut H, sink: &mut K) -> Result<(), Fai
 fn finish<H: Session, K: Sink>(session: &mut H, sink: &mut K, status: Status) -> Status
     ensures finished { (course : Course) (frames : List Frame) → H.stands session.old course frames →
         Finishes course frames status (H.holds session.old)
-        (K.written sink.old) (K.written sink.new) (K.flushed sink.new) (Rose (K.faults sink.old) (K.faults sink.new)) result }
-    ensures faults { K.faults sink.old ≤ K.faults sink.new }
+        (K.written sink.old) (K.written sink.new) (K.flushed sink.new) (K.faults sink.old) (K.faults sink.new) result }
+    ensures flushed { K.flushed sink.old ≤ K.flushed sink.new }
 {
     let Ok(()) = session.finish() else {
         return Status::NoMemory;

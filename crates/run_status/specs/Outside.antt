@@ -11,6 +11,7 @@ pub record FilesTold : Type 0 where
 -- the source and the sink
 pub record Streams : Type 0 where
   pub left : Option (List ℕ)
+  pub last : ℕ
   pub read_faults : ℕ
   pub written : Option (List ℕ)
   pub flushed : ℕ
@@ -36,14 +37,21 @@ files_told told faults overlong files = record { told = told files; faults = fau
 abbrev pub sink_told : {K : Type 0} → (K → Option (List ℕ)) → (K → ℕ) → (K → ℕ) → K → SinkTold
 sink_told written flushed faults sink = record { written = written sink; flushed = flushed sink; faults = faults sink }
 
-abbrev pub streams_told : {S K : Type 0} → (S → Option (List ℕ)) → (S → ℕ) → (K → Option (List ℕ)) → (K → ℕ) → (K → ℕ) → S → K → Streams
-streams_told left read_faults written flushed write_faults source sink =
-    record { left = left source; read_faults = read_faults source; written = written sink; flushed = flushed sink; write_faults = write_faults sink }
+abbrev pub streams_told : {S K : Type 0} → (S → Option (List ℕ)) → (S → ℕ) → (S → ℕ) → (K → Option (List ℕ)) → (K → ℕ) → (K → ℕ) → S → K → Streams
+streams_told left last read_faults written flushed write_faults source sink =
+    record {
+      left = left source;
+      last = last source;
+      read_faults = read_faults source;
+      written = written sink;
+      flushed = flushed sink;
+      write_faults = write_faults sink;
+    }
 
-abbrev pub outside_told : {F S K : Type 0} → (F → List ℕ → Told) → (F → List ℕ → ℕ) → (F → List ℕ → ℕ) → (S → Option (List ℕ)) → (S → ℕ)
+abbrev pub outside_told : {F S K : Type 0} → (F → List ℕ → Told) → (F → List ℕ → ℕ) → (F → List ℕ → ℕ) → (S → Option (List ℕ)) → (S → ℕ) → (S → ℕ)
     → (K → Option (List ℕ)) → (K → ℕ) → (K → ℕ) → F → S → K → Outside
-outside_told told faults overlong left read_faults written flushed write_faults files source sink =
+outside_told told faults overlong left last read_faults written flushed write_faults files source sink =
     record {
       files = files_told told faults overlong files;
-      streams = streams_told left read_faults written flushed write_faults source sink;
+      streams = streams_told left last read_faults written flushed write_faults source sink;
     }

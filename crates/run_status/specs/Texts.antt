@@ -1,5 +1,5 @@
 -- How a command ends that writes one text, and how the note is told.
-use Rattle.std.specs.Prelude.{List, ℕ}
+use Rattle.std.specs.Prelude.{◌≡◌, List, ℕ}
 use Rattle.std.specs.Io.KnownBytes.{Appends}
 use Rattle.host_io.specs.Causes.{Rose}
 use Rattle.host_io.specs.Streams.{AppendsPart, IsFlushed}
@@ -11,9 +11,10 @@ use Rattle.run_status.specs.Outside.{SinkTold}
 abbrev pub GotAll : SinkTold → SinkTold → List ℕ → Type 0
 GotAll before after text = Appends before.written after.written text × IsFlushed after.written after.flushed
 
--- the text is written and flushed; or a front of it is, and the sink failed. What stands after want of memory is a parameter
+-- the text is written and flushed, and no call of the sink failed; or a front of it is written, and one failed. What stands after want of
+-- memory is a parameter
 abbrev pub WritesText : List ℕ → Type 0 → SinkTold → SinkTold → Status → Type 0
-WritesText text starved before after status.Done = GotAll before after text
+WritesText text starved before after status.Done = GotAll before after text × (after.faults ≡ before.faults)
 WritesText text starved before after status.WriteFault = AppendsPart before.written after.written text × Rose before.faults after.faults
 WritesText text starved before after status.NoMemory = starved
 WritesText text starved before after _ = ⊥

@@ -36,8 +36,8 @@ pub fn serve_tree<F: Files, S: Source, K: Sink>(
         (AfterTree tree.now (files_told F.told F.faults F.overlong files.old) (files_told F.told F.faults F.overlong files.new)
         ((source.new ≡ source.old) × (sink.new ≡ sink.old))
         (λ lists. SessionAnswers side.ToServers (tree_course (start_of lists) mode)
-        (streams_told S.left S.faults K.written K.flushed K.faults source.old sink.old)
-        (streams_told S.left S.faults K.written K.flushed K.faults source.new sink.new)
+        (streams_told S.left S.last S.faults K.written K.flushed K.faults source.old sink.old)
+        (streams_told S.left S.last S.faults K.written K.flushed K.faults source.new sink.new)
         (sink.new ≡ sink.old))) result }
     ensures reads { ReadsOnly F.reads (tree.now ∷ []) files.old files.new }
 {

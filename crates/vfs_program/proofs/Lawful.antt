@@ -195,7 +195,7 @@ after_either stops same Found rest answer Goal still goes (inr a) = goes a.0 a.1
 -- a text of which a front was written
 text_part : (text : List ℕ) (starved : Type 0) (before after : SinkTold) (answer : Status) → (starved → AppendsPart before.written after.written text)
     → WritesText text starved before after answer → AppendsPart before.written after.written text
-text_part text starved before after status.Done part a = (text, [], sym (append-nil text), a.0)
+text_part text starved before after status.Done part a = (text, [], sym (append-nil text), a.0.0)
 text_part text starved before after status.WriteFault part a = a.0
 text_part text starved before after status.NoMemory part a = part a
 text_part text starved before after status.Usage part a = absurd a

@@ -34,7 +34,7 @@ pub fn run_words<F: Files, S: Source, K: Sink, N: Sink>(
         (result ≡ status.Usage) × (files.new ≡ files.old) × (source.new ≡ source.old) × (sink.new ≡ sink.old) }
 
     // What each command answers, and what it did by then.
-    ensures answers { let told = outside_told F.told F.faults F.overlong S.left S.faults K.written K.flushed K.faults in
+    ensures answers { let told = outside_told F.told F.faults F.overlong S.left S.last S.faults K.written K.flushed K.faults in
         (asks : Asks) → Means (map string_bytes words.now) asks →
         Answers asks (told files.old source.old sink.old) (told files.new source.new sink.new)
         (source.new ≡ source.old) (sink.new ≡ sink.old) result }
@@ -43,12 +43,12 @@ pub fn run_words<F: Files, S: Source, K: Sink, N: Sink>(
     ensures reads { (asks : Asks) → Means (map string_bytes words.now) asks → ReadsOnly F.reads (files_of asks) files.old files.new }
 
     // A command that has all that it needs, and meets no fault, is done unless memory runs out.
-    ensures complete { let told = outside_told F.told F.faults F.overlong S.left S.faults K.written K.flushed K.faults in
+    ensures complete { let told = outside_told F.told F.faults F.overlong S.left S.last S.faults K.written K.flushed K.faults in
         (asks : Asks) → Means (map string_bytes words.now) asks → IsServable asks (told files.old source.old sink.old) →
         NoFault asks (told files.old source.old sink.old) (told files.new source.new sink.new) → IsDoneOrNoMemory result }
 
     // What a session over a tree writes is the output of a lawful journal, which keeps the laws, or a front of it.
-    ensures lawful { let told = outside_told F.told F.faults F.overlong S.left S.faults K.written K.flushed K.faults in
+    ensures lawful { let told = outside_told F.told F.faults F.overlong S.left S.last S.faults K.written K.flushed K.faults in
         (asks : Asks) → Means (map string_bytes words.now) asks →
         IsLawfulRun asks (told files.old source.old sink.old) (told files.new source.new sink.new) }
 
@@ -70,7 +70,7 @@ fn answer<F: Files, S: Source, K: Sink>(
 ) -> Status
     ensures usage { MeanNothing (map string_bytes words.now) →
         (result ≡ status.Usage) × (files.new ≡ files.old) × (source.new ≡ source.old) × (sink.new ≡ sink.old) }
-    ensures answers { let told = outside_told F.told F.faults F.overlong S.left S.faults K.written K.flushed K.faults in
+    ensures answers { let told = outside_told F.told F.faults F.overlong S.left S.last S.faults K.written K.flushed K.faults in
         (asks : Asks) → Means (map string_bytes words.now) asks →
         Answers asks (told files.old source.old sink.old) (told files.new source.new sink.new)
         (source.new ≡ source.old) (sink.new ≡ sink.old) result }

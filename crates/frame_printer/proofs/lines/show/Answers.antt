@@ -8,4 +8,4 @@ pub returns : goal.returns
 returns g c = inr (tt, c.in-Ok.ensures.distinct, c.run.ensures lines_course lines_grow refl)
 
 pub returns-in_default : goal.returns-in_default
-returns-in_default g c = inr (tt, c.in-Ok.ensures.distinct, (lines_starve, cut_at_once Any lines_course _))
+returns-in_default g c = inr (tt, c.in-Ok.ensures.distinct, (lines_starve, cut_at_once Any lines_course _, refl))

@@ -8,7 +8,7 @@ pub loop-rest-preserved : goal.loop-rest-preserved
 loop-rest-preserved g c = record {
   sent = Sent-more _ _ _ _ _ _ c.loop-rest.invariant.sent c.in_ok-n.ensures.bytes;
   unflushed = search rules;
-  later = search rules;
+  stays = search rules;
 }
 
 pub returns : goal.returns
@@ -18,7 +18,7 @@ returns g c =
       whole = Sent-all _ _ _ _ c.loop-rest.invariant.sent none;
       part = tt;
       unflushed = c.loop-rest.invariant.unflushed;
-      cause = record { later = c.loop-rest.invariant.later; failed = tt };
+      cause = record { later = omega (arith, c.loop-rest.invariant.stays); stays = c.loop-rest.invariant.stays; failed = tt };
     }
 
 pub returns-in_err-n : goal.returns-in_err-n
@@ -28,5 +28,9 @@ returns-in_err-n g c =
       whole = tt;
       part = Sent-part _ _ _ _ _ c.loop-rest.invariant.sent c.in_err-n.ensures.bytes;
       unflushed = search rules;
-      cause = record { later = omega (arith, c.in_err-n.ensures.cause.later); failed = omega (arith, c.in_err-n.ensures.cause.failed) };
+      cause = record {
+        later = omega (arith, c.in_err-n.ensures.cause.later, c.loop-rest.invariant.stays);
+        stays = tt;
+        failed = omega (arith, c.in_err-n.ensures.cause.failed, c.loop-rest.invariant.stays);
+      };
     })

@@ -19,8 +19,8 @@ invariant-loop-taken g l = record {
   ready : g.H.Session.ready l.session;
   empty : g.H.Session.holds l.session ≡ [];
   flushed : ((l.taken ≡ 0) × (l.sink ≡ l.initial.sink)) ⊎ IsFlushed (g.K.Sink.written l.sink) (g.K.Sink.flushed l.sink);
-  read_faults : g.S.Source.faults l.initial.source ≤ g.S.Source.faults l.source;
-  write_faults : g.K.Sink.faults l.initial.sink ≤ g.K.Sink.faults l.sink;
+  read_faults : g.S.Source.faults l.source ≡ g.S.Source.faults l.initial.source;
+  write_faults : g.K.Sink.faults l.sink ≡ g.K.Sink.faults l.initial.sink;
 }
 
 abbrev pub decreases-loop-taken : goal.decreases-loop-taken

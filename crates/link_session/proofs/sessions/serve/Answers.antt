@@ -14,7 +14,8 @@ frames-init g c = record {
   room = omega (arith, ap length c.requires.empty);
   few = omega arith;
   bound = omega arith;
-  faults = omega arith;
+  unflushed = refl;
+  stays = refl;
 }
 
 pub frames-preserved : goal.frames-preserved
@@ -36,7 +37,8 @@ frames-preserved g c =
       room = c.in_default-make_room.ensures.bounded;
       few = omega (arith, c.make_room.ensures.count, c.in_default.ensures.count, c.frames.invariant.few, ap length front.split, front.size, length-append (spelling frame) (drop size (drop at bytes)), spelling_long frame);
       bound = omega (arith, ap length front.split, length-append (spelling frame) (drop size (drop at bytes)), front.size, length-drop at bytes, c.frames.invariant.bound);
-      faults = omega (arith, c.frames.invariant.faults, c.make_room.ensures.cause.later);
+      unflushed = omega (arith, c.frames.invariant.unflushed, c.make_room.ensures.unflushed);
+      stays = omega (arith, c.frames.invariant.stays, c.in_default-make_room.ensures.cause.stays);
     }
 
 pub returns-in-Err-clause-starved : goal.returns-in-Err-clause-starved

@@ -1,4 +1,4 @@
-use Rattle.std.proofs.Common.{◌≤◌, ◌<◌, ◌+◌, ◌-◌, length, List}
+use Rattle.std.proofs.Common.{◌≡◌, ◌≤◌, ◌<◌, ◌+◌, ◌-◌, length, List}
 use Rattle.endpoint_link.specs.Frames.{Frame}
 use Rattle.fidl_names.specs.declared.limits.TheConstants as limit
 use Rattle.link_session.specs.Serving.{Heard}
@@ -14,7 +14,8 @@ invariant-frames g l = record {
   room : length (g.H.Session.holds l.session) < limit.MAX_PIECE;
   few : g.H.Session.heard l.session ≤ g.H.Session.heard l.initial.session + l.at;
   bound : l.at ≤ length l.bytes;
-  faults : g.K.Sink.faults l.initial.sink ≤ g.K.Sink.faults l.sink;
+  unflushed : g.K.Sink.flushed l.sink ≡ g.K.Sink.flushed l.initial.sink;
+  stays : g.K.Sink.faults l.sink ≡ g.K.Sink.faults l.initial.sink;
 }
 
 abbrev pub decreases-frames : goal.decreases-frames

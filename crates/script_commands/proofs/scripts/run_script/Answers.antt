@@ -20,7 +20,7 @@ returns-in-Ok-play-clause-answers g c =
             says = still_says c.args.script.now _ _ (record { text = says.0; by = c.in-Ok-read_script.script.mode }) c.in-Ok-read_start.ensures.files says.2;
             frames = c.in-Ok-play.ensures.sent says.0 says.1;
           },
-          (c.in-Ok-play.ensures.whole says.0 says.1, c.in-Ok-play.ensures.flushed),
+          ((c.in-Ok-play.ensures.whole says.0 says.1, c.in-Ok-play.ensures.flushed), c.in-Ok-play.ensures.cause.stays),
         ),
       ),
     )

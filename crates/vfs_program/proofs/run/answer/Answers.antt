@@ -10,8 +10,8 @@ pub returns-in-Some-Serve-clause-answers : goal.returns-in-Some-Serve-clause-ans
 returns-in-Some-Serve-clause-answers g c = λ asks means.
     subst
     (λ (one : Asks). Answers one
-    (outside_told g.F.Files.told g.F.Files.faults g.F.Files.overlong g.S.Source.left g.S.Source.faults g.K.Sink.written g.K.Sink.flushed g.K.Sink.faults c.args.files.now c.args.source.now c.args.sink.now)
-    (outside_told g.F.Files.told g.F.Files.faults g.F.Files.overlong g.S.Source.left g.S.Source.faults g.K.Sink.written g.K.Sink.flushed g.K.Sink.faults c.serve_tree.new.files c.serve_tree.new.source c.serve_tree.new.sink)
+    (outside_told g.F.Files.told g.F.Files.faults g.F.Files.overlong g.S.Source.left g.S.Source.last g.S.Source.faults g.K.Sink.written g.K.Sink.flushed g.K.Sink.faults c.args.files.now c.args.source.now c.args.sink.now)
+    (outside_told g.F.Files.told g.F.Files.faults g.F.Files.overlong g.S.Source.left g.S.Source.last g.S.Source.faults g.K.Sink.written g.K.Sink.flushed g.K.Sink.faults c.serve_tree.new.files c.serve_tree.new.source c.serve_tree.new.sink)
     (c.serve_tree.new.source ≡ c.args.source.now) (c.serve_tree.new.sink ≡ c.args.sink.now) c.serve_tree.result)
     (sym (serves_alone _ c.in-Some-Serve.tree.now c.in-Some-Serve.mode asks
     (subst (λ (k : Command). Means (map string_bytes c.args.words.now) (command_seen k)) c.in-Some-Serve.field-0-is c.in-Some-Serve.ensures.meant) means))
@@ -21,8 +21,8 @@ pub returns-in-Some-Run-clause-answers : goal.returns-in-Some-Run-clause-answers
 returns-in-Some-Run-clause-answers g c = λ asks means.
     subst
     (λ (one : Asks). Answers one
-    (outside_told g.F.Files.told g.F.Files.faults g.F.Files.overlong g.S.Source.left g.S.Source.faults g.K.Sink.written g.K.Sink.flushed g.K.Sink.faults c.args.files.now c.args.source.now c.args.sink.now)
-    (outside_told g.F.Files.told g.F.Files.faults g.F.Files.overlong g.S.Source.left g.S.Source.faults g.K.Sink.written g.K.Sink.flushed g.K.Sink.faults c.run_script.new.files c.args.source.now c.run_script.new.sink)
+    (outside_told g.F.Files.told g.F.Files.faults g.F.Files.overlong g.S.Source.left g.S.Source.last g.S.Source.faults g.K.Sink.written g.K.Sink.flushed g.K.Sink.faults c.args.files.now c.args.source.now c.args.sink.now)
+    (outside_told g.F.Files.told g.F.Files.faults g.F.Files.overlong g.S.Source.left g.S.Source.last g.S.Source.faults g.K.Sink.written g.K.Sink.flushed g.K.Sink.faults c.run_script.new.files c.args.source.now c.run_script.new.sink)
     (c.args.source.now ≡ c.args.source.now) (c.run_script.new.sink ≡ c.args.sink.now) c.run_script.result)
     (sym (runs_alone _ c.in-Some-Run.tree.now c.in-Some-Run.script.now asks
     (subst (λ (k : Command). Means (map string_bytes c.args.words.now) (command_seen k)) c.in-Some-Run.field-0-is c.in-Some-Run.ensures.meant) means))
@@ -32,8 +32,8 @@ pub returns-in-Some-Make-clause-answers : goal.returns-in-Some-Make-clause-answe
 returns-in-Some-Make-clause-answers g c = λ asks means.
     subst
     (λ (one : Asks). Answers one
-    (outside_told g.F.Files.told g.F.Files.faults g.F.Files.overlong g.S.Source.left g.S.Source.faults g.K.Sink.written g.K.Sink.flushed g.K.Sink.faults c.args.files.now c.args.source.now c.args.sink.now)
-    (outside_told g.F.Files.told g.F.Files.faults g.F.Files.overlong g.S.Source.left g.S.Source.faults g.K.Sink.written g.K.Sink.flushed g.K.Sink.faults c.args.files.now c.args.source.now c.make.new.sink)
+    (outside_told g.F.Files.told g.F.Files.faults g.F.Files.overlong g.S.Source.left g.S.Source.last g.S.Source.faults g.K.Sink.written g.K.Sink.flushed g.K.Sink.faults c.args.files.now c.args.source.now c.args.sink.now)
+    (outside_told g.F.Files.told g.F.Files.faults g.F.Files.overlong g.S.Source.left g.S.Source.last g.S.Source.faults g.K.Sink.written g.K.Sink.flushed g.K.Sink.faults c.args.files.now c.args.source.now c.make.new.sink)
     (c.args.source.now ≡ c.args.source.now) (c.make.new.sink ≡ c.args.sink.now) c.make.result)
     (sym (makes_alone _ c.in-Some-Make.rounds asks
     (subst (λ (k : Command). Means (map string_bytes c.args.words.now) (command_seen k)) c.in-Some-Make.field-0-is c.in-Some-Make.ensures.meant) means))

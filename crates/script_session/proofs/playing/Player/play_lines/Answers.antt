@@ -97,7 +97,7 @@ loop-i-preserved g c =
           subst (λ (m : Mode). IsTold first now new.scribe.gathered (lines_of (play_line start m played next.said).past)) c.loop-i.invariant.2 (c.in_ok-play_line.ensures.told start played next.said first p front.0 at t)))),
       c.in_ok-play_line.ensures.frames ∙ ap (λ n. n + 1) c.loop-i.invariant.1,
       c.play_line.ensures.mode ∙ c.loop-i.invariant.2,
-      omega (arith, c.loop-i.invariant.3, c.play_line.ensures.cause.later),
+      c.in_ok-play_line.ensures.cause.stays ∙ c.loop-i.invariant.3,
     )
 
 pub returns-clause-told : goal.returns-clause-told

@@ -41,7 +41,7 @@ loop-frame-preserved g c =
           (λ past k. subst (Knows (gets f ∷ past)) (sym same) (c.in_ok-gets.ensures.knows past k)) c.in_ok-gets.ensures.line c.in_ok-make_room.ensures.told)
           (c.loop-frame.invariant.0 all are is)),
       λ low most within. subst (IsWithin low most) (sym same) (c.in_ok-gets.ensures.within low most (c.loop-frame.invariant.1 low most within)),
-      omega (arith, c.loop-frame.invariant.2, c.in_ok-make_room.ensures.cause.later),
+      c.in_ok-make_room.ensures.cause.stays ∙ c.loop-frame.invariant.2,
     )
 
 pub returns : goal.returns
@@ -57,5 +57,5 @@ returns g c =
       told = λ past first all are is t. (end all are is).told past first t;
       part = λ past first all are is t. tt;
       within = c.loop-frame.invariant.1;
-      cause = record { later = c.loop-frame.invariant.2; failed = tt };
+      cause = record { later = omega (arith, c.loop-frame.invariant.2); stays = c.loop-frame.invariant.2; failed = tt };
     }

@@ -1,4 +1,4 @@
-use Rattle.std.proofs.Common.{◌≡◌, ◌≤◌, ℕ, List, Option, All, length}
+use Rattle.std.proofs.Common.{◌≡◌, ℕ, List, Option, All, length}
 use Rattle.endpoint_link.specs.Frames.{Frame, IsFrame, spellings}
 use Rattle.endpoint_link.specs.declared.kinds.Side.TheVariants as side
 use Rattle.transcripts.specs.Answering.{Past}
@@ -12,7 +12,7 @@ invariant-loop-frame g l =
     ((all : List Frame) → All (IsFrame side.Any) all → l.fn.frames ≡ spellings all →
     Split all l.rest (Stage l.fn.self.calls l.fn.self.gathered (g.K.Sink.written l.fn.sink) l.self.calls l.self.gathered (g.K.Sink.written l.sink)))
     × ((low most : ℕ) → IsWithin low most l.fn.self.calls → IsWithin low most l.self.calls)
-    × (g.K.Sink.faults l.fn.sink ≤ g.K.Sink.faults l.sink)
+    × (g.K.Sink.faults l.sink ≡ g.K.Sink.faults l.fn.sink)
 
 abbrev pub decreases-loop-frame : goal.decreases-loop-frame
 decreases-loop-frame g l = length l.rest
