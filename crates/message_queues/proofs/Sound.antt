@@ -1,7 +1,7 @@
 -- What is kept of the mailboxes, behind each change of one.
 use Rattle.std.proofs.Common.{◌≡◌, ℕ, ◌+◌, ◌-◌, ◌<◌, ◌≤◌, Bool, true, false, eqb, List, [], ◌∷◌, ◌++◌, refl, sym, ap, ◌∙◌, subst, arith, length, length-append}
-use Rattle.std.specs.Prelude.{Option, Some, None, Result, Ok, Err, OnErr, IfSome, IsSome, if◌then◌else◌, drop, is_none, slice_get, unwrap_or}
-use Rattle.std.specs.HashMap.{IsUnique, UpdatesBy, WritesThrough}
+use Rattle.std.specs.Prelude.{Option, Some, None, Result, Ok, Err, OnOk, OnErr, MatchOption, IfSome, IsOk, IsSome, if◌then◌else◌, drop, is_none, slice_get, unwrap_or}
+use Rattle.std.specs.HashMap.{IsUnique, PutsEntry, UpdatesBy, WritesThrough}
 use Rattle.std.specs.List.Sorted.{IsPermutation}
 use Rattle.std.specs.Map.{lookup, remove_entry, set_value}
 use Rattle.std.specs.Option.{option_map}
@@ -12,7 +12,7 @@ use Rattle.endpoint_link.specs.Numbering.{among}
 use Rattle.vfs_journal.specs.Entries.{Sent}
 use Rattle.message_queues.specs.Queues.{Binds, IsAbove, IsReady, Mailbox, Requeues, count, head_of, queue_of, server_of}
 use Rattle.message_queues.specs.Dying.{Buries}
-use Rattle.message_queues.specs.Steps.{Heads, IsKept, IsSound, bound_box, drop_turn, first_pushed, popped_box, pushed_box, put_turn, queues_with, turn_by, turn_of}
+use Rattle.message_queues.specs.Steps.{Heads, IsKept, IsSound, bound_box, drop_turn, first_pushed, no_box, popped_box, pushed_box, put_turn, queues_with, turn_by, turn_of}
 use Rattle.message_queues.proofs.Changed.{Boxes, binds_from, buries_from, count-entries, count_cut, count_put, count_set, found, queue_in, requeues_from, server_in, weigh}
 use Rattle.message_queues.proofs.Numbers.{among-one, same_number}
 use Rattle.message_queues.proofs.Kept.{kept_bound, kept_closed, kept_pushed, kept_taken, known_server}
@@ -52,22 +52,21 @@ view_same (Err e) same = same
 
 -- ---- binding
 
-pub bound_there : (m n : Boxes) (heads now : List Heads) (counted servers endpoint server : ℕ) (was box : Mailbox) → IsSound m.entries heads counted servers → box_at m endpoint ≡ Some was
-    → server_of (queues_with m.entries servers) endpoint ≡ None → server < servers → box ≡ bound_box was server → WritesThrough eqb (eqb endpoint) m box n → now ≡ put_turn heads (turn_by (Some server) (slice_get was.queue 0)) endpoint
+bound_there : (m n : Boxes) (heads now : List Heads) (counted servers endpoint server : ℕ) (was : Mailbox) → IsSound m.entries heads counted servers → box_at m endpoint ≡ Some was
+    → server_of (queues_with m.entries servers) endpoint ≡ None → server < servers → UpdatesBy eqb (eqb endpoint) m n (Some (bound_box was server))
+    → n.entries ≡ set_value (eqb endpoint) m.entries (bound_box was server) → IsUnique eqb n → now ≡ put_turn heads (turn_by (Some server) (slice_get was.queue 0)) endpoint
     → IsSound n.entries now counted servers × Binds (queues_with m.entries servers) endpoint server (queues_with n.entries servers) × (count (queues_with n.entries servers) ≡ count (queues_with m.entries servers))
-bound_there m n heads now counted servers endpoint server was box sound there unbound known is writes put =
+bound_there m n heads now counted servers endpoint server was sound there unbound known changes written unique put =
     let q = queues_with m.entries servers in
     let queue : queue_of q endpoint ≡ was.queue = queue_is m endpoint servers (Some was) there in
-    let changes : UpdatesBy eqb (eqb endpoint) m n (Some (bound_box was server)) = subst (λ (b : Mailbox). UpdatesBy eqb (eqb endpoint) m n (Some b)) is (writes.3 (some_box _ was there)) in
     let binds = binds_from m n endpoint server servers was.queue changes queue in
-    let set = count_set m n endpoint was box servers sound.distinct writes.4 there writes.0 in
-    let long : length box.queue ≡ length was.queue = ap (λ (b : Mailbox). length b.queue) is in
-    let counts : count (queues_with n.entries servers) ≡ count q = omega (arith, set, long) in
+    let set = count_set m n endpoint was (bound_box was server) servers sound.distinct unique there written in
+    let counts : count (queues_with n.entries servers) ≡ count q = omega (arith, set) in
     let kept = kept_bound q (queues_with n.entries servers) heads counted endpoint server sound.kept unbound binds known counts in
     let is_now : put_turn heads (turn_by (Some server) (head_of q endpoint)) endpoint ≡ now = ap (λ (entries : List Sent). put_turn heads (turn_by (Some server) (slice_get entries 0)) endpoint) queue ∙ sym put in
-    (record { kept = subst (λ (h : List Heads). IsKept (queues_with n.entries servers) h counted) is_now kept; distinct = writes.4 }, binds, counts)
+    (record { kept = subst (λ (h : List Heads). IsKept (queues_with n.entries servers) h counted) is_now kept; distinct = unique }, binds, counts)
 
-pub bound_new : (m n : Boxes) (heads : List Heads) (counted servers endpoint server : ℕ) (box : Mailbox) → IsSound m.entries heads counted servers → box_at m endpoint ≡ None
+bound_new : (m n : Boxes) (heads : List Heads) (counted servers endpoint server : ℕ) (box : Mailbox) → IsSound m.entries heads counted servers → box_at m endpoint ≡ None
     → server < servers → box ≡ record { server = Some server; queue = [] } → UpdatesBy eqb (eqb endpoint) m n (Some box) → IsPermutation ((endpoint, box) ∷ m.entries) n.entries → IsUnique eqb n
     → IsSound n.entries heads counted servers × Binds (queues_with m.entries servers) endpoint server (queues_with n.entries servers) × (count (queues_with n.entries servers) ≡ count (queues_with m.entries servers))
 bound_new m n heads counted servers endpoint server box sound none known is updates entries unique =
@@ -81,6 +80,42 @@ bound_new m n heads counted servers endpoint server box sound none known is upda
     let kept = kept_bound q (queues_with n.entries servers) heads counted endpoint server sound.kept (server_is m endpoint servers None none) binds known counts in
     let is_now : put_turn heads (turn_by (Some server) (head_of q endpoint)) endpoint ≡ heads = ap (λ (waits : List Sent). put_turn heads (turn_by (Some server) (slice_get waits 0)) endpoint) queue in
     (record { kept = subst (λ (h : List Heads). IsKept (queues_with n.entries servers) h counted) is_now kept; distinct = unique }, binds, counts)
+
+-- an endpoint is bound at its mailbox, or at a new one
+module _ (m n : Boxes) (heads now : List Heads) (counted servers endpoint server : ℕ) (sound : IsSound m.entries heads counted servers) (unbound : server_of (queues_with m.entries servers) endpoint ≡ None) (known : server < servers) (unique : IsUnique eqb n) where
+  bound_by : (box : Option Mailbox) → box_at m endpoint ≡ box → UpdatesBy eqb (eqb endpoint) m n (Some (bound_box (unwrap_or box no_box) server)) → PutsEntry eqb m n endpoint (bound_box (unwrap_or box no_box) server) box
+      → now ≡ put_turn heads (turn_by (Some server) (slice_get (unwrap_or box no_box).queue 0)) endpoint
+      → IsSound n.entries now counted servers × Binds (queues_with m.entries servers) endpoint server (queues_with n.entries servers) × (count (queues_with n.entries servers) ≡ count (queues_with m.entries servers))
+  bound_by None none updates puts put =
+      let three = bound_new m n heads counted servers endpoint server (bound_box no_box server) sound none known refl updates puts unique in
+      (subst (λ (h : List Heads). IsSound n.entries h counted servers) (sym put) three.0, three.1, three.2)
+  bound_by (Some was) there updates puts put = bound_there m n heads now counted servers endpoint server was sound there unbound known updates puts unique put
+
+  -- whether it is bound or nothing changed
+  pub bound_or_not : {A E : Type 0} (r : Result A E) → OnOk r (UpdatesBy eqb (eqb endpoint) m n (Some (bound_box (unwrap_or (box_at m endpoint) no_box) server)))
+      → OnOk r (PutsEntry eqb m n endpoint (bound_box (unwrap_or (box_at m endpoint) no_box) server) (box_at m endpoint))
+      → OnOk r (now ≡ put_turn heads (turn_by (Some server) (slice_get (unwrap_or (box_at m endpoint) no_box).queue 0)) endpoint)
+      → OnErr r ((n.entries ≡ m.entries) × (now ≡ heads))
+      → IsSound n.entries now counted servers × OnOk r (Binds (queues_with m.entries servers) endpoint server (queues_with n.entries servers))
+      × OnOk r (count (queues_with n.entries servers) ≡ count (queues_with m.entries servers))
+  bound_or_not (Ok v) updates puts put same = bound_by (box_at m endpoint) refl updates puts put
+  bound_or_not (Err e) updates puts put same = (sound_same m n heads now counted servers sound same.0 same.1, tt, tt)
+
+-- where binding fails the mailbox was there, and is written back as it was
+pub none_bound : {A E : Type 0} (r : Result A E) (m : Boxes) (entries : List (ℕ × Mailbox)) (endpoint : ℕ) (was now : Mailbox) (heads later : List Heads)
+    → was ≡ unwrap_or (box_at m endpoint) no_box → MatchOption (box_at m endpoint) (IsPermutation ((endpoint, now) ∷ m.entries) entries) (λ _. entries ≡ set_value (eqb endpoint) m.entries now)
+    → OnErr r ((now ≡ was) × (later ≡ heads)) → (slice_get was.queue 0 ≡ None → IsOk r)
+    → OnErr r ((entries ≡ m.entries) × (later ≡ heads))
+none_bound (Ok v) m entries endpoint was now heads later is puts err able = tt
+none_bound (Err e) m entries endpoint was now heads later is puts err able = (by_box (box_at m endpoint) refl, err.1)
+  where
+    by_box : (box : Option Mailbox) → box_at m endpoint ≡ box → entries ≡ m.entries
+    by_box None none = let fails = able (ap (λ (b : Mailbox). slice_get b.queue 0) (is ∙ ap (λ (o : Option Mailbox). unwrap_or o no_box) none)) in absurd (cc)
+    by_box (Some box) there =
+        let written : entries ≡ set_value (eqb endpoint) m.entries now =
+        subst (λ (o : Option Mailbox). MatchOption o (IsPermutation ((endpoint, now) ∷ m.entries) entries) (λ _. entries ≡ set_value (eqb endpoint) m.entries now)) there puts in
+        let same : now ≡ box = err.0 ∙ is ∙ ap (λ (o : Option Mailbox). unwrap_or o no_box) there in
+        written ∙ ap (λ (b : Mailbox). set_value (eqb endpoint) m.entries b) same ∙ set_value_same (eqb endpoint) m.entries box there
 
 -- ---- pushing
 

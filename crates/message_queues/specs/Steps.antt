@@ -80,6 +80,10 @@ older (Some one) (Some other) = if nat_lt other.0 one.0 then Some other else Som
 older (Some one) None = Some one
 older None other = other
 
+-- a mailbox of an endpoint that isn't bound and on which nothing waits
+abbrev pub no_box : Mailbox
+no_box = record { server = None; queue = [] }
+
 -- a mailbox that is bound, has one entry more, or has lost its first
 abbrev pub bound_box : Mailbox → ℕ → Mailbox
 bound_box box server = record { server = Some server; queue = box.queue }

@@ -1,13 +1,13 @@
 //! What waits, over all endpoints.
 
-ghost use Rattle.std.specs.Prelude.{◌≡◌, ◌≢◌, ◌↔◌, AllPairs, ◌≤◌, ◌<◌, ◌+◌, ◌++◌, ◌∷◌, [], Some, None, IfOk, IfSome, IsSome, IsTrue, OnOk, OnErr, MatchOption, drop, flat_map, length, nat_eq, slice_get, sum_by};
-ghost use Rattle.std.specs.HashMap.{IsUnique, Updates, get};
+ghost use Rattle.std.specs.Prelude.{◌≡◌, ◌≢◌, ◌↔◌, AllPairs, ◌≤◌, ◌<◌, ◌+◌, ◌++◌, ◌∷◌, [], Some, None, IfOk, IfSome, IsOk, IsSome, IsTrue, OnOk, OnErr, MatchOption, drop, flat_map, length, nat_eq, slice_get, sum_by, unwrap_or};
+ghost use Rattle.std.specs.HashMap.{IsUnique, PutsEntry, Updates, get};
 ghost use Rattle.std.specs.List.Sorted.{IsPermutation};
 ghost use Rattle.vfs_journal.specs.Entries.{endpoints_in, tokens_in};
 ghost use Rattle.message_queues.specs.Queues.{Binds, IsAbove, IsNew, IsReady, Requeues, count, head_of, queue_of, server_of};
 ghost use Rattle.message_queues.specs.Oldest.{IsBound, IsBoundAt, IsOldest, NothingWaits};
 ghost use Rattle.message_queues.specs.Dying.{AreDeaths, Buries, tokens_on};
-ghost use Rattle.message_queues.specs.Steps.{Adds, bound_box, drop_turn, first_pushed, older, popped_box, pushed_box, put_turn, turn_by};
+ghost use Rattle.message_queues.specs.Steps.{Adds, bound_box, drop_turn, first_pushed, no_box, older, popped_box, pushed_box, put_turn, turn_by};
 
 use crate::dying::{Buried, Dying};
 use crate::heads::Heads;
@@ -126,14 +126,13 @@ impl Queues {
         ensures len { OnOk result (count self.new ≡ count self.old) }
         ensures err { OnErr result (self.new ≡ self.old) }
     {
-        match self.boxes.get_mut(&endpoint) {
-            Some(mailbox) => bind_waiting(mailbox, &mut self.heads, endpoint, server)?,
-            None => {
-                let mailbox = Mailbox::new(self.alloc, Some(server), None);
-                add_box(&mut self.boxes, endpoint, mailbox)?;
-            }
-        }
-        Ok(())
+        bind_at(
+            &mut self.boxes,
+            &mut self.heads,
+            self.alloc,
+            endpoint,
+            server,
+        )
     }
 
     /// Puts an entry behind all that waits on its endpoint. Want of memory leaves all as it was.
@@ -289,6 +288,26 @@ fn add_box(
     Ok(())
 }
 
+/// Binds an endpoint at its mailbox, or at a new one where it has none.
+fn bind_at(
+    boxes: &mut HashMap<u32, Mailbox>,
+    heads: &mut Vec<Heads>,
+    alloc: Global,
+    endpoint: u32,
+    server: u32,
+) -> Result<(), NoMemory>
+    requires { server < length heads.old.items }
+    ensures updates { OnOk result (Updates nat_eq boxes.old boxes.new endpoint (Some (bound_box (unwrap_or (get nat_eq boxes.old endpoint) no_box) server))) }
+    ensures puts { OnOk result (PutsEntry nat_eq boxes.old boxes.new endpoint (bound_box (unwrap_or (get nat_eq boxes.old endpoint) no_box) server) (get nat_eq boxes.old endpoint)) }
+    ensures put { OnOk result (heads.new.items ≡ put_turn heads.old.items (turn_by (Some server) (slice_get (unwrap_or (get nat_eq boxes.old endpoint) no_box).queue 0)) endpoint) }
+    ensures unique { IsUnique nat_eq boxes.new }
+    ensures err { OnErr result ((boxes.new.entries ≡ boxes.old.entries) × (heads.new.items ≡ heads.old.items)) }
+{
+    let empty = Mailbox::new(alloc, None, None);
+    let mailbox = boxes.entry(endpoint)?.or_insert(empty);
+    bind_waiting(mailbox, heads, endpoint, server)
+}
+
 /// Binds an endpoint that has a mailbox. Its first entry is put in order.
 fn bind_waiting(
     mailbox: &mut Mailbox,
@@ -300,6 +319,7 @@ fn bind_waiting(
     ensures bound { OnOk result (mailbox.new ≡ bound_box mailbox.old server) }
     ensures put { OnOk result (heads.new.items ≡ put_turn heads.old.items (turn_by (Some server) (slice_get mailbox.old.queue 0)) endpoint) }
     ensures err { OnErr result ((mailbox.new ≡ mailbox.old) × (heads.new.items ≡ heads.old.items)) }
+    ensures empty { slice_get mailbox.old.queue 0 ≡ None → IsOk result }
 {
     if let Some(head) = mailbox.head() {
         heads[server as usize].put(head.place, endpoint)?;
