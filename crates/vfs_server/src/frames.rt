@@ -12,6 +12,7 @@ use fidl_wire::{Ordinals, Out, epitaph};
 use io_messages::{Protocol, write_event};
 
 /// Writes the message in an output on an endpoint.
+#[inline(always)]
 pub(crate) fn put_message(endpoint: u32, out: &Out, outbox: &mut Outbox) -> Result<(), NoMemory>
     ensures written { OnOk result (outbox.new ≡ outbox.old ++ spelling (message_frame endpoint out.now)) }
     ensures no_memory { OnErr result (outbox.new ≡ outbox.old) }
