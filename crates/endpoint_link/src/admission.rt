@@ -1,10 +1,10 @@
 // The first refusal of a frame, over whatever can be looked up.
 
-ghost use Rattle.std.specs.Prelude.{◌≡◌, ◌≤◌, ◌<◌, ◌+◌, ◌^◌, [], ◌∷◌, nat_lt, length, drop, count_by};
+ghost use Rattle.std.specs.Prelude.{◌≡◌, ◌≤◌, ◌<◌, ◌+◌, ◌^◌, [], ◌∷◌, nat_lt, not, length, drop, count_by};
 ghost use Rattle.fidl_names.specs.First.{cause_if, first_of};
 ghost use Rattle.fidl_names.specs.HandleNumber.{is_client};
 ghost use Rattle.endpoint_link.specs.Numbering.{among};
-ghost use Rattle.endpoint_link.specs.Admission.{LookUps, by_standing, may_travel, all_may_travel, is_full, refusal_by, admission};
+ghost use Rattle.endpoint_link.specs.Admission.{LookUps, by_standing, may_travel, all_may_travel, is_full, too_many, refusal_by, admission};
 ghost use Rattle.endpoint_link.specs.Views.{frame_of, handle_numbers};
 
 use crate::frame::{FrameView, HandleBytes};
@@ -54,6 +54,19 @@ pub fn first_refusal<L: LookUp>(look_ups: &L, frame: FrameView<'_>) -> Option<Re
     }
 }
 
+/// The same of a frame on an endpoint that lives, which isn't looked up.
+pub(crate) fn live_refusal<L: LookUp>(look_ups: &L, frame: FrameView<'_>) -> Option<Refusal>
+    requires live { (L.tells look_ups.now).standing frame.endpoint ≡ Standing.Live }
+    ensures { result ≡ admission (L.tells look_ups.now) (frame_of frame.entry) }
+{
+    match frame.kind {
+        FrameKind::Message => live_message_refusal(look_ups, frame.endpoint, frame.handles),
+        FrameKind::Close => live_close_refusal(look_ups, frame.endpoint),
+        FrameKind::Turn => turn_refusal(look_ups, frame.endpoint),
+        FrameKind::Pick | FrameKind::Refused => None,
+    }
+}
+
 fn message_refusal<L: LookUp>(
     look_ups: &L,
     endpoint: u32,
@@ -64,6 +77,17 @@ fn message_refusal<L: LookUp>(
     if let Some(why) = by_standing(look_ups.standing_at(endpoint)) {
         return Some(why);
     }
+    live_message_refusal(look_ups, endpoint, handles)
+}
+
+/// The refusal of a message behind that for how its endpoint stands.
+fn live_message_refusal<L: LookUp>(
+    look_ups: &L,
+    endpoint: u32,
+    handles: HandleBytes<'_>,
+) -> Option<Refusal>
+    ensures { result ≡ first_of (cause_if (not (is_client endpoint)) Refusal.BadHandle ∷ cause_if (not (all_may_travel (L.tells look_ups.now) (handle_numbers handles.entry))) Refusal.BadHandle ∷ cause_if (is_full (L.tells look_ups.now)) Refusal.ShouldWait ∷ cause_if (too_many (L.tells look_ups.now) (handle_numbers handles.entry)) Refusal.NoResources ∷ []) }
+{
     if !is_client(endpoint) {
         return Some(Refusal::BadHandle);
     }
@@ -93,6 +117,13 @@ fn close_refusal<L: LookUp>(look_ups: &L, endpoint: u32) -> Option<Refusal>
     if let Some(why) = by_standing(look_ups.standing_at(endpoint)) {
         return Some(why);
     }
+    live_close_refusal(look_ups, endpoint)
+}
+
+/// The refusal of a Close behind that for how its endpoint stands.
+fn live_close_refusal<L: LookUp>(look_ups: &L, endpoint: u32) -> Option<Refusal>
+    ensures { result ≡ first_of (cause_if (not (is_client endpoint)) Refusal.BadHandle ∷ cause_if (is_full (L.tells look_ups.now)) Refusal.ShouldWait ∷ []) }
+{
     if !is_client(endpoint) {
         return Some(Refusal::BadHandle);
     }

@@ -1,6 +1,6 @@
 // The endpoints of the link: which numbers are used, and which frames are admitted.
 
-ghost use Rattle.std.specs.Prelude.{◌≡◌, ◌≢◌, ◌≤◌, ◌<◌, ◌+◌, ◌-◌, ◌⊎◌, ℕ, true, false, [], All, Some, IsTrue, length, count_by, IfOk, OnOk, OnErr, MatchOption};
+ghost use Rattle.std.specs.Prelude.{◌≡◌, ◌≢◌, ◌≤◌, ◌<◌, ◌+◌, ◌-◌, ◌⊎◌, ℕ, true, false, [], All, Some, None, IsTrue, length, count_by, IfOk, OnOk, OnErr, MatchOption};
 ghost use Rattle.std.specs.FinMap as map;
 ghost use Rattle.fidl_names.specs.HandleNumber.{is_client};
 ghost use Rattle.endpoint_link.specs.Tables.{AreDistinct};
@@ -10,7 +10,7 @@ ghost use Rattle.endpoint_link.specs.Frames.{goes_to};
 ghost use Rattle.endpoint_link.specs.declared.kinds.Side.TheVariants as side;
 ghost use Rattle.endpoint_link.specs.Views.{frame_of, handle_numbers};
 
-use crate::admission::{LookUp, first_refusal, room_refusal};
+use crate::admission::{LookUp, first_refusal, live_refusal, room_refusal};
 use crate::frame::{FrameView, HandleBytes};
 use crate::kinds::{AdmitFault, FrameKind, Refusal, Standing, TokenFault};
 use crate::standings::Standings;
@@ -93,6 +93,25 @@ impl LookUp for Endpoints {
 
 /// What an admitted frame changes.
 impl Endpoints {
+    /// Changes what a frame changes that nothing refuses.
+    fn take(&mut self, frame: FrameView<'_>) -> Result<(), AdmitFault>
+        requires way { IsTrue (goes_to side.ToServers frame.kind) }
+        requires none { admission (look_ups self.old) (frame_of frame) ≡ None }
+        ensures answer { (result ≡ Ok tt) ⊎ (result ≡ Err AdmitFault.NoMemory) }
+        ensures admitted { OnOk result (Admits self.old (frame_of frame.entry) self.new) }
+        ensures unchanged { OnErr result (self.new ≡ self.old) }
+        ensures memory { (frame_of frame.entry).handles ≡ [] → result ≢ Err AdmitFault.NoMemory }
+    {
+        match frame.kind {
+            FrameKind::Message => self.take_message(frame.handles),
+            FrameKind::Close => {
+                self.take_close(frame.endpoint);
+                Ok(())
+            }
+            FrameKind::Turn | FrameKind::Pick | FrameKind::Refused => Ok(()),
+        }
+    }
+
     /// Lets a message with these handles wait.
     fn take_message(&mut self, handles: HandleBytes<'_>) -> Result<(), AdmitFault>
         requires travel { all_may_travel (look_ups self.old) (handle_numbers handles) ≡ true }
@@ -158,13 +177,23 @@ impl Endpoints {
         if let Some(why) = first_refusal(self, frame) {
             return Err(AdmitFault::Refused(why));
         }
-        match frame.kind {
-            FrameKind::Message => self.take_message(frame.handles),
-            FrameKind::Close => {
-                self.take_close(frame.endpoint);
-                Ok(())
-            }
-            FrameKind::Turn | FrameKind::Pick | FrameKind::Refused => Ok(()),
+        self.take(frame)
+    }
+
+    /// Admits a frame on an endpoint that lives, or refuses it, as `admit` does. The endpoint isn't looked up.
+    pub fn admit_live(&mut self, frame: FrameView<'_>) -> Result<(), AdmitFault>
+        requires way { IsTrue (goes_to side.ToServers frame.kind) }
+        requires live { standing_of self.old frame.endpoint ≡ Standing.Live }
+        ensures first { MatchOption (admission (look_ups self.old) (frame_of frame.entry))
+            ((result ≡ Ok tt) ⊎ (result ≡ Err AdmitFault.NoMemory))
+            (λ why. result ≡ Err (AdmitFault.Refused why)) }
+        ensures admitted { OnOk result (Admits self.old (frame_of frame.entry) self.new) }
+        ensures unchanged { OnErr result (self.new ≡ self.old) }
+        ensures memory { (frame_of frame.entry).handles ≡ [] → result ≢ Err AdmitFault.NoMemory }
+    {
+        match live_refusal(self, frame) {
+            Some(why) => Err(AdmitFault::Refused(why)),
+            None => self.take(frame),
         }
     }
 

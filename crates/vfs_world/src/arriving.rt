@@ -181,7 +181,7 @@ fn serve_sending(
     ensures running { (most : ℕ) → IsRunning most (whole session.old) → OnOk result (IsRunning (most + 4098) (whole session.new)) }
     ensures begins { Begins outbox.old outbox.new }
 {
-    match session.endpoints.admit(frame) {
+    match session.endpoints.admit_live(frame) {
         Ok(()) => serve_admitted(session, server, frame, outbox),
         Err(AdmitFault::Refused(why)) => refuse(session, frame.endpoint, why, outbox),
         Err(AdmitFault::NoMemory) => Err(NoMemory),

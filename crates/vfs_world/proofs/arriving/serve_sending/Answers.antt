@@ -6,9 +6,13 @@ use Rattle.vfs_journal.specs.Session.{arrives}
 use Rattle.vfs_session.specs.Running.{whole}
 use Rattle.vfs_session.specs.World.{World}
 use Rattle.vfs_world.proofs.Answered.{none_refused, on_both, on_ok, refused_why}
-use Rattle.vfs_world.proofs.AtOnce.{reached_by}
+use Rattle.vfs_world.proofs.AtOnce.{bound_lives, reached_by}
 use Rattle.vfs_world.proofs.Hearing.{places_low, refused_lasts, refused_leads}
 use Rattle.vfs_world.proofs.arriving.serve_sending.Goals as goal
+
+pub admit_live-requires-clause-live : goal.admit_live-requires-clause-live
+admit_live-requires-clause-live c =
+    bound_lives (2 ^ 61 - 4098) (whole c.args.session.now) c.args.frame.endpoint c.args.server c.requires.running c.requires.free.bound c.requires.free.none
 
 pub serve_admitted-requires : goal.serve_admitted-requires
 serve_admitted-requires c = record {

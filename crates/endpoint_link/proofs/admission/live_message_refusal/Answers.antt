@@ -3,7 +3,7 @@ use Rattle.std.proofs.lemmas.List.Sums.{count_by-le-length}
 use Rattle.endpoint_link.specs.Views.{handle_numbers}
 use Rattle.fidl_names.specs.HandleNumber.{is_client}
 use Rattle.endpoint_link.proofs.Words.{length-words_in}
-use Rattle.endpoint_link.proofs.admission.message_refusal.Goals as goal
+use Rattle.endpoint_link.proofs.admission.live_message_refusal.Goals as goal
 
 pub room_refusal-requires : goal.room_refusal-requires
 room_refusal-requires g c =
