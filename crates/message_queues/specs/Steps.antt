@@ -1,5 +1,5 @@
 -- Words of the steps: which first entries are kept in order, and what every value keeps. No public clause cites them.
-use Rattle.std.specs.Prelude.{◌≡◌, ◌↔◌, ◌≤◌, ◌<◌, ◌^◌, ◌++◌, ◌||◌, ℕ, Bool, true, false, List, [], ◌∷◌, IsSome, drop, flat_map, get_or, is_none, length, map, nat_eq, nat_lt, set, slice_get, Option, Some, None, if◌then◌else◌}
+use Rattle.std.specs.Prelude.{◌≡◌, ◌↔◌, ◌≤◌, ◌<◌, ◌^◌, ◌++◌, ◌||◌, ◌==◌, ℕ, Bool, true, false, List, [], ◌∷◌, IsSome, drop, filter, flat_map, get_or, is_none, length, map, nat_eq, nat_lt, not, set, slice_get, Option, Some, None, if◌then◌else◌}
 use Rattle.std.specs.FinMap as finite
 use Rattle.std.specs.List.{IsDistinct, list_any}
 use Rattle.std.specs.Map.{keys_of}
@@ -107,15 +107,28 @@ abbrev pub drop_turn : List Heads → Option (ℕ × ℕ) → List Heads
 drop_turn heads (Some key) = set heads key.0 (finite.remove (heads_of heads key.0) key.1)
 drop_turn heads None = heads
 
--- the heads of which the least stands beside the others
-abbrev pub heads_with : Option (ℕ × ℕ) → Heads → Heads
-heads_with None later = later
-heads_with (Some least) later = finite.insert later least.0 least.1
+-- the heads of a line beside others: at a place in the line counts what stands there
+abbrev pub heads_with : List (ℕ × ℕ) → Heads → Heads
+heads_with [] others = others
+heads_with (head ∷ line) others = finite.insert (heads_with line others) head.0 head.1
 
--- the least is before all others, and there are none where it isn't there
-abbrev pub IsBefore : Option (ℕ × ℕ) → Heads → Type 0
-IsBefore None later = (place : ℕ) → finite.get later place ≡ None
-IsBefore (Some least) later = (place : ℕ) → IsSome (finite.get later place) → least.0 < place
+-- all of a line stand behind a place, or before it
+abbrev pub AreBehind : ℕ → List (ℕ × ℕ) → Type 0
+AreBehind place [] = Unit {0}
+AreBehind place (head ∷ line) = (place < head.0) × AreBehind place line
+
+abbrev pub AreBefore : ℕ → List (ℕ × ℕ) → Type 0
+AreBefore place [] = Unit {0}
+AreBefore place (head ∷ line) = (head.0 < place) × AreBefore place line
+
+-- the places in a line rise
+abbrev pub IsRising : List (ℕ × ℕ) → Type 0
+IsRising [] = Unit {0}
+IsRising (head ∷ line) = AreBehind head.0 line × IsRising line
+
+-- a line without what stands at a place
+abbrev pub without_place : ℕ → List (ℕ × ℕ) → List (ℕ × ℕ)
+without_place place line = filter (λ head. not (head.0 == place)) line
 
 -- the least place of these heads with its endpoint, or that nothing stands there
 abbrev pub IsLeast : Heads → Option (ℕ × ℕ) → Type 0

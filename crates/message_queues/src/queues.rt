@@ -10,7 +10,7 @@ ghost use Rattle.message_queues.specs.Dying.{AreDeaths, Buries, tokens_on};
 ghost use Rattle.message_queues.specs.Steps.{Adds, bound_box, drop_turn, first_pushed, no_box, older, popped_box, pushed_box, put_turn, turn_by};
 
 use crate::dying::{Buried, Dying};
-use crate::heads::Heads;
+use crate::heads::{Heads, older};
 use crate::mailbox::Mailbox;
 use crate::parcel::Sent;
 use fidl_names::{MAX_WAITING, NoMemory};
@@ -258,17 +258,6 @@ impl Queues {
             return;
         };
         self.count -= discard(mailbox, &mut self.heads);
-    }
-}
-
-/// Of two first entries the older one.
-fn older(one: Option<(u64, u32)>, other: Option<(u64, u32)>) -> Option<(u64, u32)>
-    ensures { result ≡ older one other }
-{
-    match (one, other) {
-        (Some(first), Some(second)) if second.0 < first.0 => other,
-        (Some(_), _) => one,
-        (None, _) => other,
     }
 }
 
