@@ -23,6 +23,9 @@ use message_queues::{Lent, Sent};
 use std::mem;
 use vfs_server::Fate;
 
+/// The most bytes of a small room, as most messages need.
+const SMALL_ROOM: usize = 256;
+
 impl Session {
     /// Serves the first entry of an endpoint that is bound and on which something waits.
     pub(crate) fn serve_head(&mut self, endpoint: u32, outbox: &mut Outbox) -> Result<(), NoMemory>
@@ -164,12 +167,17 @@ impl Session {
         Ok(buried.tokens)
     }
 
-    /// Keeps the room that the bytes of a message took.
+    /// Keeps the room that the bytes of a message took: as many small ones as messages may wait, and a larger one
+    /// where there is no other. For want of memory it is let go.
     fn keep_room(&mut self, sent: Sent)
         ensures { whole self.new ≡ whole self.old }
     {
-        if let Some(room) = sent.parcel.into_room() {
-            self.room = room;
+        let Some(room) = sent.parcel.into_room() else {
+            return;
+        };
+        let few = self.rooms.len() < MAX_WAITING as usize;
+        if self.rooms.is_empty() || few && room.capacity() <= SMALL_ROOM {
+            let _ = self.rooms.push(room);
         }
     }
 }

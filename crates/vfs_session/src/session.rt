@@ -18,8 +18,9 @@ pub struct Session {
     pub places: u64,
     /// Where an answer is put together, and an Open that goes on.
     pub out: Out,
-    /// Where the bytes of the message were that was served last. The next one's go there.
-    pub room: Vec<u8>,
+    /// Where the bytes of messages were that had waited and were served. Those of the next ones that wait go
+    /// there.
+    pub rooms: Vec<Vec<u8>>,
     /// Where the list was of who died last.
     pub dying: Vec<u32>,
 }

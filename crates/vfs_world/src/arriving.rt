@@ -22,7 +22,6 @@ use byteorder::{ByteOrder, LittleEndian};
 use endpoint_link::{AdmitFault, FrameKind, FrameView, Mode, Outbox, Refusal, write_frame};
 use fidl_names::{Handle, NoMemory, is_client};
 use message_queues::{Lent, Parcel, Sent, handles_in};
-use std::mem;
 use vfs_session::Session;
 
 /// Accepts a frame.
@@ -273,7 +272,10 @@ fn send_message(session: &mut Session, frame: FrameView<'_>) -> Result<(), NoMem
     requires short { length frame.bytes.now ≤ limit.MAX_BYTES }
     ensures { OnOk result (WaitsLast (whole session.old) frame.entry.endpoint (message frame.entry.bytes.now (handle_numbers frame.entry.handles)) (whole session.new)) }
 {
-    let room = mem::replace(&mut session.room, Vec::new(session.alloc));
+    let room = match session.rooms.pop() {
+        Some(room) => room,
+        None => Vec::new(session.alloc),
+    };
     let parcel = Parcel::of_message(session.alloc, room, frame)?;
     send(session, frame.endpoint, parcel)
 }

@@ -109,7 +109,7 @@ pub(crate) fn begin(alloc: Global, ordinals: Ordinals, start: &Start) -> Result<
         endpoints,
         places: 0,
         out,
-        room: Vec::new(alloc),
+        rooms: Vec::new(alloc),
         dying: Vec::new(alloc),
     })
 }
