@@ -2,7 +2,6 @@
 pub mod Maps
 pub mod Counts
 pub mod Seats
-pub mod Joined
 pub mod Walking
 pub mod Acting
 pub mod Looked

@@ -1,16 +1,18 @@
 -- Maps by numbers: what a change leaves, how many of their values pass a test, and their lengths.
-use Rattle.std.proofs.Common.{◌≡◌, ◌≢◌, ℕ, ◌+◌, ◌≤◌, Bool, true, false, cond, List, [], ◌∷◌, map, Option, Some, None, refl, sym, ap, ◌∙◌, subst, arith}
+use Rattle.std.proofs.Common.{◌≡◌, ◌≢◌, ℕ, ◌+◌, ◌≤◌, Bool, true, false, cond, eqb, List, [], ◌∷◌, length, map, Option, Some, None, refl, sym, ap, ◌∙◌, subst, arith}
 use Rattle.std.specs.Prelude.{is_some, count_by}
 use Rattle.std.specs.Cmp.{nat_cmp_total, tied_itself}
 use Rattle.std.specs.FinMap as finite
 use Rattle.std.specs.FinMap.Entries as entry
 use Rattle.std.specs.BTreeMap.{is_at}
-use Rattle.std.specs.Map.{lookup}
+use Rattle.std.specs.List.{AllByRecursion, IsDistinct}
+use Rattle.std.specs.Map.{keys_of, lookup}
 use Rattle.std.specs.Ordering.{is_eq, eq_by_cmp, nat_cmp}
 use Rattle.std.specs.declared.cmp.Ordering.{Ordering}
 use Rattle.std.specs.declared.cmp.Ordering.TheVariants.{Less, Equal, Greater}
 use Rattle.std.proofs.lemmas.List.{length-map}
 use Rattle.std.proofs.lemmas.List.Sums.{count_by-le-length, sum_by-cons}
+use Rattle.endpoint_link.proofs.Tabled as Tabled
 
 abbrev pub Numbered : Type 0 → Type 0
 Numbered V = finite.FinMap nat_cmp V
@@ -150,7 +152,7 @@ count_none {V} p =
     let none = finite.len-empty nat_cmp V in
     omega (arith, few, none)
 
--- ---- tables, seen as maps
+-- ---- tables in order, seen as maps
 
 find_lookup : {V : Type 0} (es : List (ℕ × V)) (q : ℕ) → entry.find nat_cmp q es ≡ lookup (is_at (nat_cmp q)) es
 find_lookup [] q = refl
@@ -185,3 +187,19 @@ remove-table old new k is = same_map _ _ (λ q. elim (standing k q) [
       get-table new q ∙ is q ∙ ap (λ t. cond t None (lookup (is_at (nat_cmp q)) old)) b
       ∙ sym (get_cut_other (finite.from_entries old) k q (λ same. e (sym same)) ∙ get-table old q)
 ])
+
+-- ---- tables by hashes, seen as maps
+
+-- what stands apart from all keys is no key
+apart_from : {V : Type 0} (k : ℕ) (es : List (ℕ × V)) → AllByRecursion (λ y. eqb k y ≡ false) (keys_of es) → lookup (eqb k) es ≡ None
+apart_from k [] d = refl
+apart_from k (e ∷ es) d = ap (λ b. cond b (Some e.1) (lookup (eqb k) es)) d.0 ∙ apart_from k es d.1
+
+-- a table in which no number stands twice has as many entries as its map
+pub len-table : {V : Type 0} (es : List (ℕ × V)) → IsDistinct eqb (keys_of es) → finite.len (finite.from_entries {R = nat_cmp} es) ≡ length es
+unfolding IsDistinct
+len-table {V} [] d = finite.len-empty nat_cmp V
+len-table (e ∷ es) d =
+    let one = longer (finite.from_entries es) e.0 e.1 (Tabled.get-table es e.0 ∙ apart_from e.0 es d.0) in
+    let rest = len-table es d.1 in
+    omega (arith, one, rest)

@@ -1,10 +1,7 @@
 -- How a server keeps what is connected, and what holds of every server. No public clause needs this.
-use Rattle.std.specs.Prelude.{◌≡◌, ℕ, ◌+◌, ◌≤◌, ◌==◌, List, All, eqb, length, filter_map, count_by, Option, Some, None, IsSome}
+use Rattle.std.specs.Prelude.{◌≡◌, ℕ, ◌+◌, ◌≤◌, ◌==◌, All, length, count_by, Some, None, IsSome}
 use Rattle.std.specs.FinMap as finite
-use Rattle.std.specs.Map.{lookup}
-use Rattle.std.specs.Option.{option_map}
 use Rattle.std.specs.Ordering.{nat_cmp}
-use Rattle.slab.specs.Slab as slab
 use Rattle.fidl_names.specs.declared.limits.TheConstants as limit
 use Rattle.node_graph.specs.declared.nodes.NodeRef.{NodeRef}
 use Rattle.node_graph.specs.Graph.{Kept, StandsFor, holds_at, number_of}
@@ -16,24 +13,6 @@ use Rattle.vfs_server.specs.Watched.{Seats, is_at, seat_at}
 
 abbrev pub Connections : Type 0
 Connections = finite.FinMap nat_cmp Connection
-
--- an endpoint with the connection at its place
-abbrev pub entry_at : slab.Slab Connection → ℕ × ℕ → Option (ℕ × Connection)
-entry_at kept entry = option_map (λ connection. (entry.0, connection)) (slab.get kept entry.1)
-
--- the connections by their endpoints
-unfoldable pub connections_of : slab.Slab Connection → List (ℕ × ℕ) → Connections
-connections_of kept places = finite.from_entries (filter_map (entry_at kept) places)
-
--- the place of an endpoint
-abbrev pub place_at : List (ℕ × ℕ) → ℕ → Option ℕ
-place_at places endpoint = lookup (eqb endpoint) places
-
--- each endpoint has a place of its own with a connection, and there are no others
-pub record AreJoined (kept : slab.Slab Connection) (places : List (ℕ × ℕ)) : Type 0 where
-  pub there : (endpoint place : ℕ) → place_at places endpoint ≡ Some place → IsSome (slab.get kept place)
-  pub apart : (one other place : ℕ) → place_at places one ≡ Some place → place_at places other ≡ Some place → one ≡ other
-  pub count : finite.len (connections_of kept places) ≡ slab.slab_len kept
 
 -- how many connections are to a node
 abbrev pub connected_to : ℕ → Connections → ℕ

@@ -22,21 +22,18 @@ use endpoint_link::Outbox;
 use fidl_names::{Handle, NoMemory};
 use fidl_wire::Out;
 use node_graph::Graph;
-use slab::Slab;
 use std::alloc::Global;
 use std::collections::HashMap;
 use std::marker::Model;
 
-/// Connections, each at the place that an endpoint has.
+/// Connections, each at its endpoint.
 #[derive(Drop)]
 pub(crate) struct Connections {
-    kept: Slab<Connection>,
-    places: HashMap<u32, usize>,
+    kept: HashMap<u32, Connection>,
 }
 
 impl Model for Connections {
     ghost use Rattle.vfs_server.specs.Codes.{connections_code};
-    ghost use Rattle.vfs_server.specs.Kept.{AreJoined, connections_of};
     ghost use Rattle.std.specs.FinMap as finite;
     ghost use Rattle.std.specs.Ordering.{nat_cmp};
     ghost use Rattle.conn_rules.specs.Births as births;
@@ -45,9 +42,7 @@ impl Model for Connections {
 
     ghost coded = { connections_code };
 
-    ghost view = { λ connections. connections_of connections.kept connections.places.entries };
-
-    ghost invariant = { λ connections. AreJoined connections.kept connections.places.entries };
+    ghost view = { λ connections. finite.from_entries connections.kept.entries };
 }
 
 impl Connections {
@@ -56,8 +51,7 @@ impl Connections {
         ensures { result ≡ finite.empty }
     {
         Connections {
-            kept: Slab::new(alloc),
-            places: HashMap::new(alloc),
+            kept: HashMap::new(alloc),
         }
     }
 
@@ -68,16 +62,13 @@ impl Connections {
         self.kept.len()
     }
 
-    /// Puts one at an endpoint that has none. Room is made before anything changes.
+    /// Puts one at an endpoint that has none.
     pub fn insert(&mut self, endpoint: u32, connection: Connection) -> Result<(), NoMemory>
         requires free { finite.get self.old endpoint ≡ None }
         ensures inserted { OnOk result (self.new ≡ finite.insert self.old endpoint connection) }
         ensures unchanged { OnErr result (self.new ≡ self.old) }
     {
-        self.kept.reserve(1)?;
-        let place = self.kept.vacant_key();
-        self.places.insert(endpoint, place)?;
-        self.kept.insert_reserved(connection);
+        self.kept.insert(endpoint, connection)?;
         Ok(())
     }
 
@@ -86,8 +77,7 @@ impl Connections {
         ensures given { result ≡ finite.get self.old endpoint }
         ensures removed { self.new ≡ finite.remove self.old endpoint }
     {
-        let place = self.places.remove(&endpoint)?;
-        Some(self.kept.remove(place))
+        self.kept.remove(&endpoint)
     }
 
     /// Serves a message on the one of the endpoint that is asked. No other changes. What watchers are to be
@@ -120,12 +110,9 @@ impl Connections {
         ensures tree { HasTree graph.new }
         ensures no_memory { OnErr result (outbox.new ≡ outbox.old) }
     {
-        match self.places.get(&asking.endpoint) {
-            Some(place) => {
-                let connection = &mut self.kept[*place];
-                connection.serve(asking, graph, tokens, bytes, handles, out, outbox, changes)
-            }
-            None => Ok(Fate::Stays),
-        }
+        let Some(connection) = self.kept.get_mut(&asking.endpoint) else {
+            return Ok(Fate::Stays);
+        };
+        connection.serve(asking, graph, tokens, bytes, handles, out, outbox, changes)
     }
 }
