@@ -128,7 +128,11 @@ impl FileConn {
                 self.seek(ordinals, graph, txid, *origin, *offset, out)
             }
             Request::Resize { length } => self.resize(ordinals, graph, txid, *length, out),
-            _ => serve_node(&self.birth, ordinals, graph, room, txid, request, out),
+            _ => {
+                // A copy is lent, so that the request itself need not lie in memory.
+                let request = *request;
+                serve_node(&self.birth, ordinals, graph, room, txid, &request, out)
+            }
         }
     }
 }

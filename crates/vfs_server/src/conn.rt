@@ -114,8 +114,15 @@ impl Conn {
                 Given::of_directory(served, changes)
             }
             Conn::File(conn) => Given::of(conn.serve(ordinals, graph, room, txid, request, out)),
-            Conn::Node(conn) => Given::of(conn.serve(ordinals, graph, room, txid, request, out)),
-            Conn::Echo(_) => Given::of(echo(ordinals, txid, request, out)),
+            // Copies are lent here, so that a request to a file need not lie in memory.
+            Conn::Node(conn) => {
+                let request = *request;
+                Given::of(conn.serve(ordinals, graph, room, txid, &request, out))
+            }
+            Conn::Echo(_) => {
+                let request = *request;
+                Given::of(echo(ordinals, txid, &request, out))
+            }
         }
     }
 }

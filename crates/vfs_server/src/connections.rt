@@ -82,6 +82,7 @@ impl Connections {
 
     /// Serves a message on the one of the endpoint that is asked. No other changes. What watchers are to be
     /// told is put into the changes. Where it has none, the message is passed over.
+    #[inline(always)]
     pub fn serve<'a>(
         &mut self,
         asking: &Asking<'_>,

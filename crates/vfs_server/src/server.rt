@@ -107,6 +107,7 @@ impl Server {
     /// nothing yet. A message to a watcher is passed over.
     ///
     /// For want of memory no frame is written.
+    #[inline(never)]
     pub fn serve(
         &mut self,
         ordinals: &Ordinals,
@@ -149,6 +150,7 @@ impl Server {
 
     /// Binds an endpoint that isn't bound here, and holds its node. Of want of memory the server is as
     /// it was.
+    #[inline(never)]
     pub fn bind(&mut self, endpoint: u32, birth: Birth) -> Result<(), NoMemory>
         requires free { seen self.old endpoint ≡ None }
         requires place { HasPlace self.old birth }
@@ -164,6 +166,7 @@ impl Server {
 
     /// Lets an endpoint that isn't bound here watch a directory, and holds that. Of want of memory the
     /// server is as it was.
+    #[inline(never)]
     pub fn watch(&mut self, endpoint: u32, directory: NodeRef, mask: u32) -> Result<(), NoMemory>
         requires free { seen self.old endpoint ≡ None }
         requires directory { CanWatch self.old directory }
@@ -177,6 +180,7 @@ impl Server {
 
     /// Lets a token name a directory of this server, and holds that. Of want of memory the server is as it
     /// was.
+    #[inline(never)]
     pub fn give(&mut self, token: u32, directory: NodeRef) -> Result<(), NoMemory>
         requires free { named self.old token ≡ None }
         requires directory { IsDirectory self.old.graph directory }

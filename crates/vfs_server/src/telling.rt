@@ -12,11 +12,12 @@ use crate::watching::Watching;
 use conn_rules::Changes;
 use endpoint_link::Outbox;
 use fidl_names::NoMemory;
-use node_graph::Graph;
+use node_graph::{Graph, NodeRef};
 use watch_events::snapshot;
 
 /// Tells watchers of what was done, and what becomes of endpoints. For want of memory, then or before, the
 /// outbox is cut back to a length.
+#[inline(always)]
 pub(crate) fn tell(
     watching: &Watching,
     graph: &Graph,
@@ -42,6 +43,7 @@ pub(crate) fn tell(
 
 /// Writes what watchers are told: a new one of the names that are there, and those of a directory of its
 /// changes. For want of memory a part of that is written.
+#[inline(always)]
 fn put_told(
     watching: &Watching,
     graph: &Graph,
@@ -65,6 +67,7 @@ fn put_told(
 }
 
 /// Writes what a new watcher is told of the names in its directory, if there is one.
+#[inline(always)]
 fn put_first(graph: &Graph, fate: Fate, outbox: &mut Outbox) -> Result<(), NoMemory>
     requires directory { (object mask : ℕ) (directory : NodeRef) → fate ≡ Fate.Watches object directory mask → IsDirectory graph.now directory }
     ensures told { OnOk result (outbox.new ≡ outbox.old ++ spellings (first_of graph.now.edges fate)) }
@@ -75,7 +78,23 @@ fn put_first(graph: &Graph, fate: Fate, outbox: &mut Outbox) -> Result<(), NoMem
             object,
             directory,
             mask,
-        } => snapshot(object, mask, graph.names_after(directory, None), outbox),
+        } => put_names(graph, object, directory, mask, outbox),
         _ => Ok(()),
     }
+}
+
+/// Writes the names in a directory to a new watcher. Few messages come here, and it takes much of the stack.
+#[inline(never)]
+fn put_names(
+    graph: &Graph,
+    object: u32,
+    directory: NodeRef,
+    mask: u32,
+    outbox: &mut Outbox,
+) -> Result<(), NoMemory>
+    requires directory { IsDirectory graph.now directory }
+    ensures told { OnOk result (outbox.new ≡ outbox.old ++ spellings (first_of graph.now.edges (Fate.Watches object directory mask))) }
+    ensures front { OnErr result (Extends outbox.old outbox.new) }
+{
+    snapshot(object, mask, graph.names_after(directory, None), outbox)
 }

@@ -14,6 +14,7 @@ use message_queues::Lent;
 use vfs_server::{Fate, Server};
 
 /// Answers an entry of an endpoint that is bound at this server. Where its client hung up the endpoint ends.
+#[inline(always)]
 pub(crate) fn answer(
     servers: &mut Vec<Server>,
     ordinals: &Ordinals,

@@ -64,6 +64,7 @@ impl Session {
     }
 
     /// Answers what was taken from an endpoint at its server, and binds what its fate binds.
+    #[inline(always)]
     fn answer_taken(
         &mut self,
         endpoint: u32,
@@ -115,9 +116,11 @@ impl Session {
             self.places += 1;
             return Ok(());
         }
-        let dropped = self.let_die(sent, fate, outbox)?;
+        // A copy is lent, so that the fate of a quiet serving need not lie in memory.
+        let fate = *fate;
+        let dropped = self.let_die(sent, &fate, outbox)?;
         spend(&mut self.servers, &mut self.endpoints, sent, &dropped);
-        give(&mut self.endpoints, fate)?;
+        give(&mut self.endpoints, &fate)?;
         let place = self.places + 1;
         let more = send_on(
             self.alloc,
@@ -126,7 +129,7 @@ impl Session {
             &self.out,
             place,
             sent.place,
-            fate,
+            &fate,
         )?;
         self.places = place + more;
         Ok(())

@@ -23,6 +23,7 @@ use vfs_server::{Fate, Server};
 
 /// Binds what a fate binds, a watcher or another, at a server and for what waits on it, or lets the token
 /// that it gives name its directory there.
+#[inline(always)]
 pub(crate) fn bind(
     servers: &mut Vec<Server>,
     queues: &mut Queues,

@@ -166,6 +166,7 @@ fn serve_plain(
 }
 
 /// Serves whatever a frame sends, which waits nowhere, or answers that it is refused. It takes a place.
+#[inline(never)]
 fn serve_sending(
     session: &mut Session,
     server: u32,
@@ -218,6 +219,7 @@ fn serve_admitted(
 }
 
 /// Serves what an admitted frame with these handles sends, which waits nowhere. It takes a place.
+#[inline(always)]
 fn serve_with(
     session: &mut Session,
     server: u32,

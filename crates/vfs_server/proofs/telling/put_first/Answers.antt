@@ -1,16 +1,13 @@
-use Rattle.std.proofs.Common.{◌≡◌, ◌∙◌, ◌++◌, List, OnOk, ap, subst, sym}
-use Rattle.endpoint_link.specs.Frames.{Frame, spellings}
-use Rattle.watch_events.specs.Messages.{first_frames}
+use Rattle.std.proofs.Common.{◌≡◌, ◌++◌, OnOk, subst, sym}
+use Rattle.endpoint_link.specs.Frames.{spellings}
+use Rattle.vfs_server.specs.declared.fate.Fate.{Fate}
 use Rattle.vfs_server.specs.Watched.{first_of}
-use Rattle.vfs_server.proofs.Told.{names_are}
 use Rattle.vfs_server.proofs.telling.put_first.Goals as goal
 
-pub names_after-requires-clause-directory : goal.names_after-requires-clause-directory
-names_after-requires-clause-directory c = let here = c.requires.directory c.in-Watches.object c.in-Watches.mask c.in-Watches.directory c.in-Watches.is in here.kind
+pub put_names-requires : goal.put_names-requires
+put_names-requires c = record { directory = c.requires.directory c.in-Watches.object c.in-Watches.mask c.in-Watches.directory c.in-Watches.is }
 
 pub returns-in-Watches-clause-told : goal.returns-in-Watches-clause-told
 returns-in-Watches-clause-told c =
-    subst (λ (frames : List Frame). OnOk c.snapshot.result (c.snapshot.new.to ≡ c.args.outbox.now ++ spellings frames))
-    (ap (first_frames c.in-Watches.object c.in-Watches.mask) (names_are c.args.graph.now.edges c.in-Watches.directory.number c.names_after.result c.names_after.ensures.names)
-    ∙ sym (ap (first_of c.args.graph.now.edges) c.in-Watches.is))
-    c.snapshot.ensures.told
+    subst (λ (fate : Fate). OnOk c.put_names.result (c.put_names.new.outbox ≡ c.args.outbox.now ++ spellings (first_of c.args.graph.now.edges fate)))
+    (sym c.in-Watches.is) c.put_names.ensures.told
