@@ -1,21 +1,23 @@
 -- Words as numbers.
-use Rattle.std.proofs.Common.{◌≡◌, ℕ, ◌+◌, ◌-◌, ◌*◌, ◌<◌, ◌≤◌, ◌^◌, nat_lt, nat_le, Bool, true, false, ◌&&◌, List, [], ◌∷◌, ◌++◌, length, map, get_or, take, drop, Option, Some, None, Result, Ok, Err, refl, sym, ap, ◌∙◌, subst, arith, inl, inr, append_assoc, append-nil}
+use Rattle.std.proofs.Common.{◌≡◌, ℕ, zero, suc, ◌+◌, ◌-◌, ◌*◌, ◌<◌, ◌≤◌, ◌^◌, nat_lt, nat_le, Bool, true, false, ◌&&◌, List, [], ◌∷◌, ◌++◌, length, map, get_or, take, drop, ◌||◌, ◌==◌, slice_index, Option, Some, None, Result, Ok, Err, refl, sym, ap, ◌∙◌, subst, arith, inl, inr, append_assoc, append-nil}
 use Rattle.std.specs.Prelude.{IfSome, MatchResult, is_ok}
+use Rattle.memchr.specs.Find.{Nowhere, Passes, is_byte}
 use Rattle.std.specs.List.{list_all}
 use Rattle.std.specs.Char.{digit_value}
 use Rattle.std.specs.Option.{option_map}
 use Rattle.std.specs.Result.{OkIff, result_ok}
 use Rattle.std.specs.Str.{IsUtf8, IsAscii, is_utf8}
 use Rattle.std.specs.Str.Parse.{AllDigits, IsNumeral, ParsesUnsigned, digits_value}
-use Rattle.std.proofs.lemmas.Bool.{and_parts, cases_lt, false_from_ne_true, le-ltb, leb-true, lt-ltb, or_cases}
+use Rattle.std.proofs.lemmas.Bool.{and_parts, cases_lt, eqb-true, false_from_ne_true, le-ltb, leb-true, lt-ltb, ne_eqb, or_cases}
 use Rattle.std.proofs.lemmas.Str.{IsUtf8-from_ascii, IsUtf8-from_is_utf8, is_utf8-from_IsUtf8}
 use Rattle.std.proofs.lemmas.Str.Ascii.{IsAscii-nil, IsAscii-cons}
 use Rattle.std.proofs.Math.Nat.{pow-le-pow_right}
 use Rattle.std.proofs.lemmas.Int.Digits.{digits_value-lt, digits_value_more}
-use Rattle.std.proofs.lemmas.List.{length-take-le}
+use Rattle.std.proofs.lemmas.List.{length-take-le, take_all}
 use Rattle.std.proofs.lemmas.List.Folds.{list_all_more}
 use Rattle.std.proofs.lemmas.Str.Parse.{without_leading_plus_none}
-use Rattle.vfs_script.specs.Words.{◌>>=◌, all_given, comma, given, has_prefix, is_decimal, is_decimal_digit, is_digit, is_hexadecimal, number_in, number_of, numbers_of, pieces}
+use Rattle.vfs_script.specs.Parsed.{first_in}
+use Rattle.vfs_script.specs.Words.{◌>>=◌, all_given, comma, given, has_prefix, is_decimal, is_decimal_digit, is_digit, is_hexadecimal, is_led, number_in, number_of, numbers_of, pieces}
 
 -- a digit is of ASCII and no sign
 digit_low : (radix c : ℕ) → radix ≤ 36 → digit_value c < radix → c < 123
@@ -88,16 +90,16 @@ all_hexadecimal (c ∷ word) h =
 
 -- ---- few digits, one behind the other
 
-few_fit : (radix most : ℕ) (word : List ℕ) (i : ℕ) → 0 < radix → length word ≤ most → radix ^ most ≤ 2 ^ 64 → i ≤ length word → AllDigits radix (take i word) →
+few_fit : (radix most : ℕ) (word : List ℕ) (i : ℕ) → 0 < radix → i ≤ most → radix ^ most ≤ 2 ^ 64 → i ≤ length word → AllDigits radix (take i word) →
     digits_value radix (take i word) < 2 ^ 64
 few_fit radix most word i some few fits within all =
     let small = digits_value-lt radix (take i word) all in
     let size = length-take-le i word within in
-    let bound : radix ^ length (take i word) ≤ radix ^ most = pow-le-pow_right some (omega (arith, size, few, within)) in
+    let bound : radix ^ length (take i word) ≤ radix ^ most = pow-le-pow_right some (omega (arith, size, few)) in
     omega (arith, small, bound, fits)
 
 -- one digit more
-pub decimal_step : (word : List ℕ) (i : ℕ) → length word ≤ 19 → list_all is_decimal_digit (take i word) ≡ true → i < length word → is_decimal_digit (get_or word i 0) ≡ true →
+pub decimal_step : (word : List ℕ) (i : ℕ) → i < 19 → list_all is_decimal_digit (take i word) ≡ true → i < length word → is_decimal_digit (get_or word i 0) ≡ true →
     (48 ≤ get_or word i 0)
     × (digits_value 10 (take (i + 1) word) ≡ digits_value 10 (take i word) * 10 + (get_or word i 0 - 48))
     × (digits_value 10 (take (i + 1) word) < 2 ^ 64)
@@ -107,7 +109,7 @@ decimal_step word i few all within digit =
     let more : list_all is_decimal_digit (take (i + 1) word) ≡ true = list_all_more is_decimal_digit word i 0 within ∙ rw (all, digit) refl in (
       code.0,
       digits_value_more 10 word i within ∙ ap (λ d. digits_value 10 (take i word) * 10 + d) code.1,
-      few_fit 10 19 word (i + 1) (omega arith) few (omega arith) (omega (arith, within)) (all_decimal (take (i + 1) word) more),
+      few_fit 10 19 word (i + 1) (omega arith) (omega (arith, few)) (omega arith) (omega (arith, within)) (all_decimal (take (i + 1) word) more),
       more,
     )
 
@@ -118,7 +120,7 @@ pub hexadecimal_step : (word : List ℕ) (i : ℕ) → length word ≤ 16 → li
 hexadecimal_step word i few all within digit =
     let more : list_all is_digit (take (i + 1) word) ≡ true = list_all_more is_digit word i 0 within ∙ rw (all, digit) refl in (
       digits_value_more 16 word i within,
-      few_fit 16 16 word (i + 1) (omega arith) few (omega arith) (omega (arith, within)) (all_hexadecimal (take (i + 1) word) more),
+      few_fit 16 16 word (i + 1) (omega arith) (omega (arith, few, within)) (omega arith) (omega (arith, within)) (all_hexadecimal (take (i + 1) word) more),
       more,
     )
 
@@ -148,6 +150,11 @@ number_plain word found prefix e = rw prefix (e ∙ both_tests (is_decimal word)
 pub decimal_numeral : (word : List ℕ) → 0 < length word → list_all is_decimal_digit word ≡ true → IsNumeral 10 word
 decimal_numeral word some h = (some, all_decimal word h)
 
+pub led_some : (word : List ℕ) → is_led word ≡ true → 0 < length word
+unfolding is_led
+led_some [] h = absurd (cc)
+led_some (c ∷ word) h = omega arith
+
 -- an answer on UTF-8 is the test's
 pub text_test : {A E : Type 0} (r : Result A E) (bytes : List ℕ) (P : A → Type 0) (Q : E → Type 0) →
     MatchResult r (λ s. P s × IsUtf8 bytes) (λ e. (IsUtf8 bytes → ⊥) × Q e) → is_ok r ≡ is_utf8 bytes
@@ -159,6 +166,87 @@ pub numeral_read : {A E : Type 0} (r : Result A E) (word : List ℕ) (P : A → 
     MatchResult r (λ s. P s × IsUtf8 word) (λ e. (IsUtf8 word → ⊥) × Q e) → IsUtf8 word → result_ok r ≡ None → ⊥
 numeral_read (Ok s) word P Q h utf8 e = cc
 numeral_read (Err f) word P Q h utf8 e = h.0 utf8
+
+-- ---- a number in front of others
+
+or_true : (a : Bool) → a || true ≡ true
+or_true true = refl
+or_true false = refl
+
+led : (word : List ℕ) → 0 < length word → (slice_index word 0 ≡ 48 → ⊥) → is_led word ≡ true
+unfolding is_led
+led word some other = rw (ne_eqb (length word) 0 (λ e. omega (arith, some, e)), ne_eqb (slice_index word 0) 48 other) (or_true (length word == 1))
+
+no_prefix : (word : List ℕ) → (slice_index word 0 ≡ 48 → ⊥) → has_prefix word ≡ false
+no_prefix word other = rw (ne_eqb (slice_index word 0) 48 other) refl
+
+-- few decimal digits with no zero in front are a number
+pub few_digits_are : (word : List ℕ) → 0 < length word → (slice_index word 0 ≡ 48 → ⊥) → list_all is_decimal_digit word ≡ true → digits_value 10 word < 2 ^ 64 →
+    number_in 64 word ≡ Some (digits_value 10 word)
+few_digits_are word some other all small =
+    sym
+    (number_plain word (Some (digits_value 10 word)) (no_prefix word other)
+    (rw (all, led word some other, lt-ltb (digits_value 10 word) (2 ^ 64) small) refl))
+
+some_front : (text : List ℕ) (by i : ℕ) → slice_index text i ≡ by → (slice_index text 0 ≡ by → ⊥) → 0 < i
+some_front text by zero at other = absurd (other at)
+some_front text by (suc i) at other = omega arith
+
+front_taken : (text : List ℕ) (i : ℕ) → 0 < i → slice_index (take i text) 0 ≡ slice_index text 0
+front_taken text zero some = absurd (omega arith)
+front_taken [] (suc i) some = refl
+front_taken (x ∷ text) (suc i) some = refl
+
+-- the number that stands in front of a byte
+pub front_number : (text : List ℕ) (by i number : ℕ) → slice_index text i ≡ by → (slice_index text 0 ≡ by → ⊥) → (slice_index text 0 ≡ 48 → ⊥) → i ≤ length text →
+    list_all is_decimal_digit (take i text) ≡ true → number ≡ digits_value 10 (take i text) → number < 2 ^ 64 → number_in 64 (take i text) ≡ Some number
+front_number text by i number at other no_zero within all value small =
+    let some = some_front text by i at other in
+    let size = length-take-le i text within in
+    let front = front_taken text i some in
+    few_digits_are (take i text) (omega (arith, size, some)) (λ e. no_zero (sym front ∙ e)) all (omega (arith, small, value)) ∙ ap Some (sym value)
+
+-- the number that a text is
+pub whole_number : (text : List ℕ) (i number : ℕ) → (length text == 0) ≡ false → (slice_index text 0 ≡ 48 → ⊥) → length text ≤ i →
+    list_all is_decimal_digit (take i text) ≡ true → number ≡ digits_value 10 (take i text) → number < 2 ^ 64 → number_in 64 text ≡ Some number
+whole_number [] i number some no_zero within all value small = cc
+whole_number (x ∷ text) i number some no_zero within all value small =
+    let same : take i (x ∷ text) ≡ x ∷ text = take_all i (x ∷ text) within in
+    few_digits_are (x ∷ text) (omega arith) no_zero (ap (list_all is_decimal_digit) (sym same) ∙ all) (omega (arith, small, value, ap (digits_value 10) same))
+    ∙ ap Some (sym (value ∙ ap (digits_value 10) same))
+
+-- one byte more that is another
+pub nowhere_more : (text : List ℕ) (by i : ℕ) → Nowhere (Passes (is_byte by) text) 0 i → (slice_index text i ≡ by → ⊥) → Nowhere (Passes (is_byte by) text) 0 (i + 1)
+nowhere_more text by i before other k low below passes =
+    elim (cases_lt k i) [
+      | inl lower ↦ before k low lower passes
+      | inr here ↦
+          let same : k ≡ i = omega (arith, here, below) in
+          other (ap (slice_index text) (sym same) ∙ eqb-true (slice_index text k) by passes)
+    ]
+
+-- a number of 32 bits, by the same of 64
+narrowed : (found : Option ℕ) → (found >>= (λ n. given (nat_lt n (2 ^ 32)) n)) ≡ ((found >>= (λ n. given (nat_lt n (2 ^ 64)) n)) >>= (λ n. given (nat_lt n (2 ^ 32)) n))
+narrowed None = refl
+narrowed (Some n) =
+    elim (cases_lt n (2 ^ 64)) [
+      | inl small ↦ rw (lt-ltb n (2 ^ 64) small) refl
+      | inr large ↦ rw (le-ltb n (2 ^ 64) large, le-ltb n (2 ^ 32) (omega (arith, large))) refl
+    ]
+
+-- what `try_from` answers
+pub fitted : {E : Type 0} (v : ℕ) (r : Result ℕ E) → OkIff r (v < 4294967296) v → result_ok r ≡ given (nat_lt v (2 ^ 32)) v
+fitted v (Ok x) h = rw (lt-ltb v (2 ^ 32) h.0) (ap Some h.1)
+fitted v (Err e) h =
+    elim (cases_lt v (2 ^ 32)) [
+      | inl small ↦ absurd (h small)
+      | inr large ↦ rw (le-ltb v (2 ^ 32) large) refl
+    ]
+
+pub narrower : (words : List (List ℕ)) (found : Option ℕ) → found ≡ first_in 64 words → (found >>= (λ n. given (nat_lt n (2 ^ 32)) n)) ≡ first_in 32 words
+unfolding number_in
+narrower [] found is = ap (λ (f : Option ℕ). f >>= (λ n. given (nat_lt n (2 ^ 32)) n)) is
+narrower (word ∷ words) found is = ap (λ (f : Option ℕ). f >>= (λ n. given (nat_lt n (2 ^ 32)) n)) is ∙ sym (narrowed (number_of word))
 
 -- ---- numbers joined by commas
 

@@ -1,16 +1,16 @@
 -- What stands between certain bytes of a text, and that it is UTF-8 where the text is.
-use Rattle.std.proofs.Common.{◌≡◌, ℕ, zero, suc, ◌+◌, ◌-◌, ◌<◌, ◌≤◌, ◌==◌, Bool, true, false, List, [], ◌∷◌, length, get_or, take, drop, Some, None, sym, ap, ◌∙◌, subst, arith, inl, inr, cond}
+use Rattle.std.proofs.Common.{◌≡◌, ℕ, zero, suc, ◌+◌, ◌-◌, ◌<◌, ◌≤◌, ◌==◌, Bool, true, false, List, [], ◌∷◌, length, get_or, take, drop, Option, Some, None, sym, ap, ◌∙◌, subst, arith, inl, inr, cond}
 use Rattle.std.specs.List.{onto_first, position_or_len}
 use Rattle.std.specs.Str.{IsUtf8}
-use Rattle.std.proofs.lemmas.Bool.{cases_lt, eqb-true, false_from_ne_true}
+use Rattle.std.proofs.lemmas.Bool.{cases_lt, eqb-true, false_from_ne_true, ne_eqb}
 use Rattle.std.proofs.lemmas.List.{length-drop, take_all}
 use Rattle.std.proofs.lemmas.List.Elements.{All-from_get_or}
 use Rattle.std.proofs.lemmas.List.Splits.{slice_split_none, slice_split_first, length-slice_split}
 use Rattle.std.proofs.lemmas.List.Sums.{fails_before_first, passes_at_first, position_or_len_is}
 use Rattle.std.proofs.lemmas.Str.{IsUtf8-take, IsUtf8-drop, IsCharBoundary-before_ascii, IsCharBoundary-after_ascii}
 use Rattle.memchr.specs.Find.{IsFirstByte, is_byte}
-use Rattle.vfs_script.specs.Parsed.{AreTexts}
-use Rattle.vfs_script.specs.Words.{pieces}
+use Rattle.vfs_script.specs.Parsed.{AreTexts, first_in, piece_at}
+use Rattle.vfs_script.specs.Words.{number_in, pieces}
 
 abbrev is_by : ℕ → ℕ → Bool
 is_by by byte = byte == by
@@ -94,6 +94,20 @@ texts_up_to (suc size) by text low few utf8 =
 -- the pieces of a text between bytes of ASCII are texts
 pub pieces_are_texts : (by : ℕ) (text : List ℕ) → by < 128 → IsUtf8 text → AreTexts (pieces by text)
 pieces_are_texts by text low utf8 = texts_up_to (length text) by text low (omega arith) utf8
+
+-- there is a first piece
+pub pieces_some : (by : ℕ) (text : List ℕ) → (length (pieces by text) == 0) ≡ false
+pieces_some by text = ne_eqb (length (pieces by text)) 0 (λ none. omega (arith, none, length-slice_split (is_by by) text))
+
+-- whether none is left
+pub none_left : (is_done : Bool) (by : ℕ) (rest : List ℕ) (now : List (List ℕ)) → cond is_done [] (pieces by rest) ≡ now → is_done ≡ (length now == 0)
+none_left true by rest now is = ap (λ (words : List (List ℕ)). length words == 0) is
+none_left false by rest now is = sym (pieces_some by rest) ∙ ap (λ (words : List (List ℕ)). length words == 0) is
+
+-- a number in front is the first piece
+pub first_is : (bits by : ℕ) (text : List ℕ) (end : Option ℕ) → IsFirstByte (is_byte by) text end → first_in bits (pieces by text) ≡ number_in bits (piece_at text end)
+first_is bits by text None found = ap (first_in bits) (pieces_none by text found)
+first_is bits by text (Some end) found = ap (first_in bits) (pieces_found by text end found)
 
 pub tail_is : (n : ℕ) (xs : List ℕ) → take (length xs - n) (drop n xs) ≡ drop n xs
 tail_is n xs = take_all (length xs - n) (drop n xs) (let size = length-drop n xs in omega (arith, size))

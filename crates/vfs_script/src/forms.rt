@@ -1,10 +1,10 @@
 // The forms of lines.
 
-ghost use Rattle.std.specs.Prelude.{◌≡◌, IfSome};
+ghost use Rattle.std.specs.Prelude.{◌≡◌, IfSome, false};
 ghost use Rattle.io_messages.specs.Asked.{asked};
 ghost use Rattle.io_messages.specs.Asked as asks;
 ghost use Rattle.vfs_script.specs.Lines.{echo_form, form_of, four, hang_up_form, line_in, line_of, long_form, names_form, one, open_form, pick_form, plain_form, raw_form, read_at_form, seek_form, short_form, three, turn_form, two, unlink_form, watch_form, write_at_form, write_form};
-ghost use Rattle.vfs_script.specs.Parsed.{AreTexts, Forms, IsText};
+ghost use Rattle.vfs_script.specs.Parsed.{AreTexts, Forms, IsText, is_read_at_once};
 ghost use Rattle.vfs_script.specs.Words.{pieces, space};
 ghost use Rattle.std.specs.Str.{IsUtf8};
 ghost use Rattle.io_messages.specs.Writing.{HasTexts};
@@ -57,7 +57,7 @@ fn plain_form<'a>(request: Request<'a>, fields: Pieces<'a>) -> Option<Parsed<'a>
     ensures form { Forms (one fields.entry (plain_form (asked request.entry))) result }
     ensures texts { IfSome result IsText }
 {
-    let endpoint = short(fields.one()?)?;
+    let endpoint = fields.only_short()?;
     Some(Parsed::Request { endpoint, request })
 }
 
@@ -80,9 +80,7 @@ fn attributes_form<'a>(fields: Pieces<'a>) -> Option<Parsed<'a>>
     ensures form { Forms (two fields.entry (long_form asks.get_attributes)) result }
     ensures texts { IfSome result IsText }
 {
-    let (endpoint, query) = fields.two()?;
-    let endpoint = short(endpoint)?;
-    let query = long(query)?;
+    let (endpoint, query) = fields.short_and_long()?;
     Some(Parsed::Request {
         endpoint,
         request: Request::GetAttributes { query },
@@ -94,9 +92,7 @@ fn list_form<'a>(fields: Pieces<'a>) -> Option<Parsed<'a>>
     ensures form { Forms (two fields.entry (long_form asks.read_dirents)) result }
     ensures texts { IfSome result IsText }
 {
-    let (endpoint, max_bytes) = fields.two()?;
-    let endpoint = short(endpoint)?;
-    let max_bytes = long(max_bytes)?;
+    let (endpoint, max_bytes) = fields.short_and_long()?;
     Some(Parsed::Request {
         endpoint,
         request: Request::ReadDirents { max_bytes },
@@ -108,9 +104,7 @@ fn read_form<'a>(fields: Pieces<'a>) -> Option<Parsed<'a>>
     ensures form { Forms (two fields.entry (long_form asks.read)) result }
     ensures texts { IfSome result IsText }
 {
-    let (endpoint, count) = fields.two()?;
-    let endpoint = short(endpoint)?;
-    let count = long(count)?;
+    let (endpoint, count) = fields.short_and_long()?;
     Some(Parsed::Request {
         endpoint,
         request: Request::Read { count },
@@ -122,9 +116,7 @@ fn resize_form<'a>(fields: Pieces<'a>) -> Option<Parsed<'a>>
     ensures form { Forms (two fields.entry (long_form asks.resize)) result }
     ensures texts { IfSome result IsText }
 {
-    let (endpoint, length) = fields.two()?;
-    let endpoint = short(endpoint)?;
-    let length = long(length)?;
+    let (endpoint, length) = fields.short_and_long()?;
     Some(Parsed::Request {
         endpoint,
         request: Request::Resize { length },
@@ -132,15 +124,15 @@ fn resize_form<'a>(fields: Pieces<'a>) -> Option<Parsed<'a>>
 }
 
 // `open E PATH FLAGS N`
-fn open_form<'a>(fields: Pieces<'a>) -> Option<Parsed<'a>>
+fn open_form<'a>(mut fields: Pieces<'a>) -> Option<Parsed<'a>>
     requires { AreTexts fields }
     ensures form { Forms (four fields.entry open_form) result }
     ensures texts { IfSome result IsText }
 {
-    let (endpoint, path, flags, object) = fields.four()?;
-    let endpoint = short(endpoint)?;
-    let flags = long(flags)?;
-    let object = short(object)?;
+    let endpoint = fields.short()?;
+    let path = fields.next()?;
+    let flags = fields.long()?;
+    let object = fields.only_short()?;
     let request = Request::OpenPath {
         path,
         flags,
@@ -282,7 +274,7 @@ fn hang_up_form<'a>(fields: Pieces<'a>) -> Option<Parsed<'a>>
     ensures form { Forms (one fields.entry hang_up_form) result }
     ensures texts { IfSome result IsText }
 {
-    let endpoint = short(fields.one()?)?;
+    let endpoint = fields.only_short()?;
     Some(Parsed::HangUp { endpoint })
 }
 
@@ -302,7 +294,7 @@ fn pick_form<'a>(fields: Pieces<'a>) -> Option<Parsed<'a>>
     ensures form { Forms (one fields.entry pick_form) result }
     ensures texts { IfSome result IsText }
 {
-    let endpoint = short(fields.one()?)?;
+    let endpoint = fields.only_short()?;
     Some(Parsed::Pick { endpoint })
 }
 
@@ -328,7 +320,6 @@ fn form_of<'a>(verb: Verb, fields: Pieces<'a>) -> Option<Parsed<'a>>
 {
     match verb {
         Verb::Open => open_form(fields),
-        Verb::Clone => clone_form(fields),
         Verb::Close => plain_form(Request::Close, fields),
         Verb::Query => plain_form(Request::Query, fields),
         Verb::Sync => plain_form(Request::Sync, fields),
@@ -336,21 +327,36 @@ fn form_of<'a>(verb: Verb, fields: Pieces<'a>) -> Option<Parsed<'a>>
         Verb::Token => plain_form(Request::GetToken, fields),
         Verb::Attributes => attributes_form(fields),
         Verb::List => list_form(fields),
+        Verb::Read => read_form(fields),
+        Verb::Resize => resize_form(fields),
+        Verb::HangUp => hang_up_form(fields),
+        Verb::Pick => pick_form(fields),
+        _ => other_form(verb, fields),
+    }
+}
+
+// The same of the other forms, whose words are parted before they are read. It stands apart for the room that this takes.
+#[inline(never)]
+fn other_form<'a>(verb: Verb, fields: Pieces<'a>) -> Option<Parsed<'a>>
+    requires texts { AreTexts fields }
+    requires other { is_read_at_once verb ≡ false }
+    ensures form { Forms (form_of verb fields.entry) result }
+    ensures texts { IfSome result IsText }
+{
+    match verb {
+        Verb::Clone => clone_form(fields),
         Verb::Rename => rename_form(fields),
         Verb::Link => link_form(fields),
         Verb::Unlink => unlink_form(fields),
         Verb::Watch => watch_form(fields),
-        Verb::Read => read_form(fields),
         Verb::ReadAt => read_at_form(fields),
         Verb::Write => write_form(fields),
         Verb::WriteAt => write_at_form(fields),
         Verb::Seek => seek_form(fields),
-        Verb::Resize => resize_form(fields),
         Verb::Echo => echo_form(fields),
-        Verb::HangUp => hang_up_form(fields),
         Verb::Turn => turn_form(fields),
-        Verb::Pick => pick_form(fields),
         Verb::Raw => raw_form(fields),
+        _ => unreachable!(),
     }
 }
 

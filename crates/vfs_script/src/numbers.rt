@@ -1,11 +1,13 @@
 // The words of a line: numbers, bytes as hexadecimal digits, handles.
 
-ghost use Rattle.std.specs.Prelude.{◌≡◌, ◌^◌, ◌<◌, ◌≤◌, ◌&&◌, true, length, nat_lt, IfOk, IfSome, IsTrue};
+ghost use Rattle.std.specs.Prelude.{◌≡◌, ◌^◌, ◌<◌, ◌≤◌, ◌&&◌, true, length, nat_lt, Some, IfOk, IfSome, IsTrue};
 ghost use Rattle.std.specs.List.{list_all};
 ghost use Rattle.std.specs.Option.{option_map};
 ghost use Rattle.std.specs.Str.{IsUtf8, is_utf8};
+ghost use Rattle.memchr.specs.Find.{IsFirstByte, is_byte};
 ghost use Rattle.std.specs.Char.{digit_value};
 ghost use Rattle.std.specs.Str.Parse.{IsNumeral, digits_value};
+ghost use Rattle.vfs_script.specs.Parsed.{piece_at};
 ghost use Rattle.vfs_script.specs.Words.{bytes_of, given, handles_of, has_prefix, is_decimal, is_decimal_digit, is_digit, is_hexadecimal, is_led, negative_of, number_in, numbers_of, signed_of};
 
 use crate::pieces::Pieces;
@@ -14,6 +16,9 @@ use hex::FromHexError;
 use std::alloc::Global;
 
 const NONE: &[u8] = b"-";
+
+/// So many decimal digits fit 64 bits, whatever they are.
+const FEW_DIGITS: usize = 19;
 
 fn is_decimal_digit(byte: u8) -> bool
     ensures { result ≡ is_decimal_digit byte }
@@ -83,37 +88,38 @@ fn decimal(word: &[u8]) -> Option<u64>
     if !is_led(word) {
         return None;
     }
-    if word.len() > 19 {
-        return many_digits(word);
-    }
-    few_digits(word)
-}
-
-// The number that many digits write, if they are decimal, and if it fits 64 bits.
-fn many_digits(word: &[u8]) -> Option<u64>
-    requires { 0 < length word.now }
-    ensures { result ≡ given (list_all is_decimal_digit word.now && nat_lt (digits_value 10 word.now) (2 ^ 64)) (digits_value 10 word.now) }
-{
     if !all_decimal(word) {
         return None;
     }
     digits(word, 10)
 }
 
-// The number that digits write which are so few that it fits, if they are decimal.
-fn few_digits(word: &[u8]) -> Option<u64>
-    requires { length word.now ≤ 19 }
-    ensures value { result ≡ given (list_all is_decimal_digit word.now) (digits_value 10 word.now) }
-    ensures fits { IfSome result (λ number. number < 2 ^ 64) }
+/// The number that the first piece of a text is, where few decimal digits write it with no zero in front, and the end of the piece. They
+/// are read while its end is looked for.
+#[inline(always)]
+pub(crate) fn decimal_in_front(by: u8, text: &[u8]) -> Option<(Option<usize>, u64)>
+    ensures end { IfSome result (λ found. IsFirstByte (is_byte by) text.now found.0) }
+    ensures number { IfSome result (λ found. number_in 64 (piece_at text.now found.0) ≡ Some found.1) }
 {
+    if text.is_empty() || text[0] == by || text[0] == b'0' {
+        return None;
+    }
+    let most = text.len().min(FEW_DIGITS);
     let mut number = 0;
-    for byte in word {
-        if !is_decimal_digit(*byte) {
+    for i in 0..most {
+        let byte = text[i];
+        if byte == by {
+            return Some((Some(i), number));
+        }
+        if !is_decimal_digit(byte) {
             return None;
         }
-        number = 10 * number + u64::from(*byte - b'0');
+        number = 10 * number + u64::from(byte - b'0');
     }
-    Some(number)
+    if most < text.len() {
+        return None;
+    }
+    Some((None, number))
 }
 
 // The value of a hexadecimal digit.

@@ -1,9 +1,12 @@
 // What stands between certain bytes of a text, piece by piece.
 
-ghost use Rattle.std.specs.Prelude.{◌≡◌, ◌≢◌, ◌∷◌, [], length, IfSome, IfNone};
+ghost use Rattle.std.specs.Prelude.{◌≡◌, ◌≢◌, ◌==◌, ◌∷◌, [], drop, length, IfSome, IfNone};
 ghost use Rattle.memchr.specs.Find.{IsFirstByte, is_byte};
-ghost use Rattle.vfs_script.specs.Words.{pieces};
+ghost use Rattle.vfs_script.specs.Lines.{one, two};
+ghost use Rattle.vfs_script.specs.Parsed.{first_in, short_and_long};
+ghost use Rattle.vfs_script.specs.Words.{number_in, pieces};
 
+use crate::numbers::{decimal_in_front, long};
 use memchr::memchr;
 use std::marker::Model;
 
@@ -68,6 +71,14 @@ impl<'a> Pieces<'a> {
         }
     }
 
+    /// Whether no piece is left.
+    #[inline(always)]
+    fn is_empty(&self) -> bool
+        ensures { result ≡ (length self.now == 0) }
+    {
+        self.is_done
+    }
+
     /// The next piece.
     #[inline(always)]
     pub(crate) fn next(&mut self) -> Option<&'a [u8]>
@@ -97,6 +108,34 @@ impl<'a> Pieces<'a> {
         Some(piece)
     }
 
+    /// The next piece, if it is a number of 64 bits.
+    #[inline(always)]
+    pub(crate) fn long(&mut self) -> Option<u64>
+        ensures number { result ≡ first_in 64 self.old }
+        ensures left { IfSome result (λ number. self.new ≡ drop 1 self.old) }
+    {
+        if self.is_done {
+            return None;
+        }
+        match decimal_in_front(self.by, self.rest) {
+            Some((end, number)) => {
+                let (_, others) = cut(self.by, self.rest, end);
+                *self = others;
+                Some(number)
+            }
+            None => long(self.next()?),
+        }
+    }
+
+    /// The next piece, if it is a number of 32 bits.
+    #[inline(always)]
+    pub(crate) fn short(&mut self) -> Option<u32>
+        ensures number { result ≡ first_in 32 self.old }
+        ensures left { IfSome result (λ number. self.new ≡ drop 1 self.old) }
+    {
+        u32::try_from(self.long()?).ok()
+    }
+
     /// The pieces, if there is exactly one.
     pub(crate) fn one(mut self) -> Option<&'a [u8]>
         ensures found { IfSome result (λ only. self.entry ≡ only.now ∷ []) }
@@ -106,6 +145,29 @@ impl<'a> Pieces<'a> {
         match self.next() {
             None => Some(only),
             Some(_) => None,
+        }
+    }
+
+    /// The number of 32 bits that the one piece is.
+    #[inline(always)]
+    pub(crate) fn only_short(mut self) -> Option<u32>
+        ensures { result ≡ one self.entry (number_in 32) }
+    {
+        let number = self.short()?;
+        if self.is_empty() { Some(number) } else { None }
+    }
+
+    /// The numbers of 32 and of 64 bits that the two pieces are.
+    #[inline(always)]
+    pub(crate) fn short_and_long(mut self) -> Option<(u32, u64)>
+        ensures { result ≡ two self.entry short_and_long }
+    {
+        let first = self.short()?;
+        let second = self.long()?;
+        if self.is_empty() {
+            Some((first, second))
+        } else {
+            None
         }
     }
 

@@ -18,6 +18,9 @@ use itoa::Buffer;
 /// The ordinal of an epitaph.
 const EPITAPH: u64 = 0xffff_ffff_ffff_ffff;
 
+/// What stands in front of the handles of a message without a label of its own.
+const RAW: &[u8] = b" message raw ";
+
 /// Appends the line of a frame, with its end; for want of memory nothing.
 ///
 /// The caller sees to it that the frame is sound.
@@ -115,9 +118,7 @@ fn put_message(
     ensures put { OnOk result (to.new ≡ to.old ++ told_of FrameKind.Message (handle_numbers handles.entry) bytes.now) }
     ensures grows { take (length to.old) to.new ≡ to.old }
 {
-    to.put(b" message ")?;
-    to.put(label_of(ordinals, bytes))?;
-    to.put_byte(b' ')?;
+    to.put(front_of(ordinals, bytes))?;
     put_handles(handles, to)?;
     to.put_byte(b' ')?;
     put_bytes(bytes, to)
@@ -179,56 +180,56 @@ fn put_bytes(bytes: &[u8], to: &mut Outtext) -> Result<(), NoMemory>
     to.put_digits(bytes)
 }
 
-// The label of a message.
+// What stands in the line of a message in front of its handles: it tells the label.
 #[tactic(auto, unfolding(crate::specs::Transcripts::label_of, fidl_names::specs::Numbers::number_at))]
-fn label_of(ordinals: &Ordinals, bytes: &[u8]) -> &'static [u8]
-    ensures { result.now ≡ label_of bytes.now }
+fn front_of(ordinals: &Ordinals, bytes: &[u8]) -> &'static [u8]
+    ensures { result.now ≡ codes " message " ++ label_of bytes.now ++ codes " " }
 {
     if bytes.len() < 16 || bytes[7] != 1 {
-        return b"raw";
+        return RAW;
     }
-    label_with(ordinals, LittleEndian::read_u64(&bytes[8..]))
+    front_with(ordinals, LittleEndian::read_u64(&bytes[8..]))
 }
 
-fn label_with(ordinals: &Ordinals, ordinal: u64) -> &'static [u8]
-    ensures { result.now ≡ label_with ordinal }
+fn front_with(ordinals: &Ordinals, ordinal: u64) -> &'static [u8]
+    ensures { result.now ≡ codes " message " ++ label_with ordinal ++ codes " " }
 {
     if ordinal == EPITAPH {
-        return b"epitaph";
+        return b" message epitaph ";
     }
     if ordinal == ordinals.event() {
-        return b"OnRepresentation";
+        return b" message OnRepresentation ";
     }
     match ordinals.method(ordinal) {
-        Some(method) => name_of(method),
-        None => b"raw",
+        Some(method) => front_by(method),
+        None => RAW,
     }
 }
 
-// The name of a method.
-fn name_of(method: Method) -> &'static [u8]
-    ensures { result.now ≡ name_of method }
+// The same by the name of a method.
+fn front_by(method: Method) -> &'static [u8]
+    ensures { result.now ≡ codes " message " ++ name_of method ++ codes " " }
 {
     match method {
-        Method::Clone => b"Clone",
-        Method::Close => b"Close",
-        Method::Query => b"Query",
-        Method::GetAttributes => b"GetAttributes",
-        Method::Sync => b"Sync",
-        Method::OpenPath => b"Open",
-        Method::ReadDirents => b"ReadDirents",
-        Method::Rewind => b"Rewind",
-        Method::GetToken => b"GetToken",
-        Method::Rename => b"Rename",
-        Method::Link => b"Link",
-        Method::Unlink => b"Unlink",
-        Method::Watch => b"Watch",
-        Method::Read => b"Read",
-        Method::ReadAt => b"ReadAt",
-        Method::Write => b"Write",
-        Method::WriteAt => b"WriteAt",
-        Method::Seek => b"Seek",
-        Method::Resize => b"Resize",
-        Method::EchoString => b"EchoString",
+        Method::Clone => b" message Clone ",
+        Method::Close => b" message Close ",
+        Method::Query => b" message Query ",
+        Method::GetAttributes => b" message GetAttributes ",
+        Method::Sync => b" message Sync ",
+        Method::OpenPath => b" message Open ",
+        Method::ReadDirents => b" message ReadDirents ",
+        Method::Rewind => b" message Rewind ",
+        Method::GetToken => b" message GetToken ",
+        Method::Rename => b" message Rename ",
+        Method::Link => b" message Link ",
+        Method::Unlink => b" message Unlink ",
+        Method::Watch => b" message Watch ",
+        Method::Read => b" message Read ",
+        Method::ReadAt => b" message ReadAt ",
+        Method::Write => b" message Write ",
+        Method::WriteAt => b" message WriteAt ",
+        Method::Seek => b" message Seek ",
+        Method::Resize => b" message Resize ",
+        Method::EchoString => b" message EchoString ",
     }
 }
