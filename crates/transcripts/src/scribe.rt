@@ -77,6 +77,7 @@ impl Scribe {
 
     /// These frames come back, one after the other: their lines are gathered, or written, and the calls that
     /// they answer wait no more. Where that fails, a front of all lines so far was written.
+    #[inline(always)]
     pub fn gets_all<K: Sink>(&mut self, frames: &[u8], sink: &mut K) -> Result<(), TranscriptFault>
         ensures knows { (past : Past) (all : List Frame) → All (IsFrame side.Any) all → frames.now ≡ spellings all → Knows past self.old.calls →
             OnOk result (Knows (with_frames past all) self.new.calls) }
