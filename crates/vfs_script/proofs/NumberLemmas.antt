@@ -10,7 +10,8 @@ use Rattle.std.specs.Str.{IsUtf8, IsAscii, is_utf8}
 use Rattle.std.specs.Str.Parse.{AllDigits, IsNumeral, ParsesUnsigned, digits_value}
 use Rattle.std.proofs.lemmas.Bool.{and_parts, cases_lt, eqb-true, false_from_ne_true, le-ltb, leb-true, lt-ltb, ne_eqb, or_cases}
 use Rattle.std.proofs.lemmas.Str.{IsUtf8-from_ascii, IsUtf8-from_is_utf8, is_utf8-from_IsUtf8}
-use Rattle.std.proofs.lemmas.Str.Ascii.{IsAscii-nil, IsAscii-cons}
+use Rattle.std.proofs.lemmas.List.Elements.{All-from_get_or}
+use Rattle.std.proofs.lemmas.Str.Ascii.{IsAscii-from_all, IsAscii-nil, IsAscii-cons}
 use Rattle.std.proofs.Math.Nat.{pow-le-pow_right}
 use Rattle.std.proofs.lemmas.Int.Digits.{digits_value-lt, digits_value_more}
 use Rattle.std.proofs.lemmas.List.{length-take-le, take_all}
@@ -154,6 +155,19 @@ pub led_some : (word : List ℕ) → is_led word ≡ true → 0 < length word
 unfolding is_led
 led_some [] h = absurd (cc)
 led_some (c ∷ word) h = omega arith
+
+-- the greatest of bytes
+pub greatest_more : (bytes : List ℕ) (i old new : ℕ) → old ≤ new → slice_index bytes i ≤ new → ((k : ℕ) → k < i → slice_index bytes k ≤ old) → (k : ℕ) → k < i + 1 → slice_index bytes k ≤ new
+greatest_more bytes i old new grown here before k below =
+    elim (cases_lt k i) [
+      | inl lower ↦ let least = before k lower in omega (arith, least, grown)
+      | inr at ↦ let same : k ≡ i = omega (arith, at, below) in rw same here
+    ]
+
+-- bytes of ASCII are a text
+pub low_is_text : (bytes : List ℕ) (top : ℕ) → ((k : ℕ) → k < length bytes → slice_index bytes k ≤ top) → top < 128 → IsUtf8 bytes
+low_is_text bytes top all low =
+    IsUtf8-from_ascii bytes (IsAscii-from_all bytes (All-from_get_or (λ byte. byte < 128) bytes 0 (λ k below. let least = all k below in omega (arith, least, low))))
 
 -- an answer on UTF-8 is the test's
 pub text_test : {A E : Type 0} (r : Result A E) (bytes : List ℕ) (P : A → Type 0) (Q : E → Type 0) →

@@ -1,6 +1,6 @@
 // The words of a line: numbers, bytes as hexadecimal digits, handles.
 
-ghost use Rattle.std.specs.Prelude.{◌≡◌, ◌^◌, ◌<◌, ◌≤◌, ◌&&◌, true, length, nat_lt, Some, IfOk, IfSome, IsTrue};
+ghost use Rattle.std.specs.Prelude.{◌≡◌, ◌^◌, ◌<◌, ◌≤◌, ◌&&◌, ℕ, true, length, nat_lt, slice_index, Some, IfOk, IfSome, IsTrue};
 ghost use Rattle.std.specs.List.{list_all};
 ghost use Rattle.std.specs.Option.{option_map};
 ghost use Rattle.std.specs.Str.{IsUtf8, is_utf8};
@@ -33,11 +33,25 @@ fn is_digit(byte: u8) -> bool
     is_decimal_digit(byte) || (byte >= b'a' && byte <= b'f')
 }
 
-/// Whether these bytes are UTF-8.
+// The greatest of some bytes, or 0. No byte ends the loop, so that many are read at once.
+fn greatest(bytes: &[u8]) -> u8
+    ensures { (k : ℕ) → k < length bytes.now → slice_index bytes.now k ≤ result }
+{
+    let mut greatest = 0;
+    for i in 0..bytes.len() {
+        greatest = bytes[i].max(greatest);
+    }
+    greatest
+}
+
+/// Whether these bytes are UTF-8. Bytes of ASCII are, and are told by the greatest of them.
 pub(crate) fn is_text(bytes: &[u8]) -> bool
     ensures value { result ≡ is_utf8 bytes.now }
     ensures text { IsTrue result → IsUtf8 bytes.now }
 {
+    if greatest(bytes) < 0x80 {
+        return true;
+    }
     str::from_utf8(bytes).is_ok()
 }
 
