@@ -19,9 +19,9 @@ WritesText text starved before after status.WriteFault = AppendsPart before.writ
 WritesText text starved before after status.NoMemory = starved
 WritesText text starved before after _ = ⊥
 
--- a text that is written piece by piece: where memory is wanting a front of it was written
+-- a text that is written piece by piece: where memory is wanting a front of it was written, and no call of the sink failed
 abbrev pub WritesPieces : List ℕ → SinkTold → SinkTold → Status → Type 0
-WritesPieces text before after = WritesText text (AppendsPart before.written after.written text) before after
+WritesPieces text before after = WritesText text (AppendsPart before.written after.written text × (after.faults ≡ before.faults)) before after
 
 -- the note is all that is told, and it is passed on, where telling it met no fault; where it met one, a front of it is all
 pub record Tells (note : List ℕ) (before after : SinkTold) : Type 0 where

@@ -6,3 +6,5 @@ mod Answered
 mod Whole
 mod Counting
 mod Metering
+pub mod ScriptLemmas
+pub mod WorkloadLemmas

@@ -1,13 +1,17 @@
-//! A script that is played over a tree: its frames are heard one by one in a session, and its transcript is written, or its output is
-//! measured.
+//! Scripts that are played over a tree: their frames are heard one by one in a session, and a transcript is written, or the output is
+//! measured. `run_script` plays one that is named, and `make` a generated one.
 #![tactic(auto)]
 
 mod laws;
+mod makes;
 mod measuring;
 mod meter;
 mod playing;
+mod scripts;
 mod tally;
 
 pub use laws::transcripts_show_the_output;
+pub use makes::make;
 pub use measuring::{Measured, measure};
 pub use playing::play;
+pub use scripts::run_script;

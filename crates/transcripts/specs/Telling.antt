@@ -1,5 +1,5 @@
 -- What is known of a transcript while it is written.
-use Rattle.std.specs.Prelude.{◌≡◌, ◌≤◌, ◌<◌, ◌+◌, ℕ, true, false, ⊤, List, ◌++◌, Option, Some, None, Result, Ok, Err, OnOk, refl}
+use Rattle.std.specs.Prelude.{◌≡◌, ◌≤◌, ◌<◌, ◌+◌, ℕ, true, false, ⊤, List, ◌++◌, Option, Some, None, Result, Ok, Err, refl}
 use Rattle.std.specs.Coded.{Coded, code_by, coded×, coded_list, coded_ℕ}
 use Rattle.std.specs.FinMap as finite
 use Rattle.std.specs.Io.KnownBytes.{Appends}
@@ -52,8 +52,14 @@ FailedOnly (Ok u) P = ⊤
 FailedOnly (Err fault.Failed) P = P
 FailedOnly (Err fault.NoMemory) P = ⊤
 
--- the sink's count of faults never falls; it stays where all went well, and only where it rose the sink failed
+-- it holds but where the sink failed
+abbrev pub UnlessFailed : Result (Unit {0}) TranscriptFault → Type 0 → Type 0
+UnlessFailed (Ok u) P = P
+UnlessFailed (Err fault.Failed) P = ⊤
+UnlessFailed (Err fault.NoMemory) P = P
+
+-- the sink's count of faults never falls; it rose where the sink failed, and there alone
 pub record HasSinkCause (before now : ℕ) (result : Result (Unit {0}) TranscriptFault) : Type 0 where
   pub later : before ≤ now
-  pub stays : OnOk result (now ≡ before)
+  pub stays : UnlessFailed result (now ≡ before)
   pub failed : FailedOnly result (Rose before now)

@@ -29,9 +29,9 @@ use Rattle.named_files.specs.Trees.{IsBroken, IsTree, Stands, line_of}
 use Rattle.file_session.specs.OneFile.{file_course}
 use Rattle.tree_session.specs.TreeSession.{tree_course}
 use Rattle.frame_printer.specs.Shown.{lines_course}
-use Rattle.script_commands.specs.ScriptCauses.{AfterReport, AfterScript, HasNoScript, IsStarved}
-use Rattle.script_commands.specs.Scripts.{IsBadAt, IsPlayable, Said, Says}
-use Rattle.script_commands.specs.Workloads.{IsReport}
+use Rattle.script_session.specs.ScriptCauses.{AfterReport, AfterScript, HasNoScript, IsStarved}
+use Rattle.script_session.specs.Scripts.{IsBadAt, IsPlayable, Said, Says}
+use Rattle.script_session.specs.Workloads.{IsReport}
 use Rattle.vfs_program.specs.Answers.{Answers, IsServable, NoFault, IsDoneOrNoMemory}
 use Rattle.vfs_program.specs.Words.{Asks, FileOf, ServeOf, RunOf, CheckOf, ShowAll, MakeOf}
 
@@ -234,7 +234,7 @@ complete (RunOf tree script) before after S K answer a s n =
     (λ lists stands. after_done (HasNoScript script before.files after.files) K (IsPlayable (before.files.told script)) (told lists) answer
     (has_script script before.files after.files s.2.said s.2.told s.2.says (λ f. n.file (inr f)) answer)
     (λ said says. text_done (transcript (start_of lists) said.by said.text)
-    (AppendsPart before.streams.written after.streams.written (transcript (start_of lists) said.by said.text))
+    (AppendsPart before.streams.written after.streams.written (transcript (start_of lists) said.by said.text) × (after.streams.write_faults ≡ before.streams.write_faults))
     (sink_of before.streams) (sink_of after.streams) n.sink answer))) a.1
 complete (CheckOf tree) before after S K answer a s n =
     after_done (HasNoStart tree before.files after.files) K (IsTree (before.files.told tree))

@@ -40,9 +40,9 @@ use Rattle.link_session.specs.Session.{EndsBehind, IsCutOff, IsFront, IsPartByEn
 use Rattle.named_files.specs.FileCauses.{AfterTree, HasNoStart}
 use Rattle.named_files.specs.Trees.{IsTree, Stands}
 use Rattle.tree_session.specs.TreeSession.{tree_course}
-use Rattle.script_commands.specs.ScriptCauses.{AfterReport, AfterScript, HasNoScript, IsStarved}
-use Rattle.script_commands.specs.Scripts.{IsPlayable, Said}
-use Rattle.script_commands.specs.Workloads.{IsReport, report_of}
+use Rattle.script_session.specs.ScriptCauses.{AfterReport, AfterScript, HasNoScript, IsStarved}
+use Rattle.script_session.specs.Scripts.{IsPlayable, Said}
+use Rattle.script_session.specs.Workloads.{IsReport, report_of}
 use Rattle.vfs_program.specs.Answers.{Answers}
 use Rattle.vfs_program.specs.Lawful.{IsLawfulMaking, IsLawfulPlaying, IsLawfulRun, IsLawfulServing, WroteNothing}
 use Rattle.vfs_program.specs.Words.{Asks, FileOf, ServeOf, RunOf, CheckOf, ShowAll, MakeOf}
@@ -214,7 +214,7 @@ played_lawful : (apart : AreDistinct) (tree script : Told) (lists : Lists) (said
 played_lawful apart tree script lists said before after answer is can a =
     let start = start_of lists in
     let text = transcript start said.by said.text in
-    let part = text_part text (AppendsPart before.written after.written text) (sink_of before) (sink_of after) answer (λ part. part) a in
+    let part = text_part text (AppendsPart before.written after.written text × (after.write_faults ≡ before.write_faults)) (sink_of before) (sink_of after) answer (λ starved. starved.0) a in
     let journal = ended start said.by (frames_of said.text) in
     record {
       lists = lists;

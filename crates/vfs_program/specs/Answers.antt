@@ -20,8 +20,8 @@ use Rattle.named_files.specs.Trees.{Stands, line_of}
 use Rattle.file_session.specs.OneFile.{file_course}
 use Rattle.tree_session.specs.TreeSession.{tree_course}
 use Rattle.frame_printer.specs.Shown.{lines_course}
-use Rattle.script_commands.specs.ScriptCauses.{AfterReport, AfterScript}
-use Rattle.script_commands.specs.Scripts.{Said, Says}
+use Rattle.script_session.specs.ScriptCauses.{AfterReport, AfterScript}
+use Rattle.script_session.specs.Scripts.{Said, Says}
 use Rattle.vfs_program.specs.Words.{Asks, FileOf, ServeOf, RunOf, CheckOf, ShowAll, MakeOf}
 
 -- what each command answers: its causes in their order, and then its work

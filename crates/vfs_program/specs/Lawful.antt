@@ -23,8 +23,8 @@ use Rattle.link_session.specs.Session.{EndsBehind, IsFront, Took, Wrote}
 use Rattle.named_files.specs.Trees.{Stands}
 use Rattle.tree_session.specs.TreeSession.{frames_by}
 use Rattle.frame_printer.specs.Shown.{lines_of}
-use Rattle.script_commands.specs.Scripts.{Said, Says}
-use Rattle.script_commands.specs.Workloads.{report_for}
+use Rattle.script_session.specs.Scripts.{Said, Says}
+use Rattle.script_session.specs.Workloads.{report_for}
 use Rattle.vfs_program.specs.Words.{Asks, FileOf, ServeOf, RunOf, CheckOf, ShowAll, MakeOf}
 
 -- nothing was written

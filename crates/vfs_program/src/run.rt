@@ -14,7 +14,7 @@ use frame_printer::show;
 use host_io::{Files, Sink, Source};
 use named_files::check_tree;
 use run_status::{Status, tell};
-use script_commands::{make, run_script};
+use script_session::{make, run_script};
 use std::alloc::Global;
 use tree_session::serve_tree;
 

@@ -138,9 +138,9 @@ impl World {
     }
 
     /// Serves the oldest entries of a server's endpoints, at most `n`, and tells how many it served: fewer
-    /// only where nothing more of that server can be served. Its endpoints are those that are bound at it.
+    /// only where nothing more of that server can be served, and none where no server has that number. Its
+    /// endpoints are those that are bound at it.
     pub fn turn(&mut self, server: u32, n: u32, outbox: &mut Outbox) -> Result<u32, WorldFault>
-        requires server { server < self.old.queues.servers }
         ensures turned { (start : Start) (journal : Journal) → StandsFor start self.old journal →
             OnOk result (LeadsTo start (turned start server n journal) self.new journal outbox.old outbox.new) }
         ensures number { (start : Start) (journal : Journal) → StandsFor start self.old journal →
@@ -235,7 +235,7 @@ impl World {
     /// How many nodes of a server are kept: its root, those that names lead to, and those that the births of
     /// bound endpoints, watchers, and tokens that are held or waiting name. A spent world tells 0.
     pub fn kept(&self, server: u32) -> u32
-        requires server { server < self.now.queues.servers }
+        requires server { self.now.spent ≡ false → server < self.now.queues.servers }
         ensures kept { (start : Start) (journal : Journal) → StandsFor start self.now journal → result ≡ kept_in (view_behind start journal) server }
         ensures spent { self.now.spent ≡ true → result ≡ 0 }
     {

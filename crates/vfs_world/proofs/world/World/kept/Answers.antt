@@ -4,10 +4,10 @@ use Rattle.vfs_world.proofs.world.World.kept.Goals as goal
 
 pub overflow_cast-result : goal.overflow_cast-result
 overflow_cast-result c =
-    let low = count_low c.self.inside c.self.view_is c.self.invariant (when_ok c.able.result c.if-is_err.ensures.negation c.able.ensures.able) c.args.server c.requires.server c.index.result.now c.kept.result c.index.ensures c.kept.ensures.few in
+    let low = count_low c.self.inside c.self.view_is c.self.invariant (when_ok c.able.result c.if-is_err.ensures.negation c.able.ensures.able) c.args.server (c.requires.server (when_ok c.able.result c.if-is_err.ensures.negation c.able.ensures.able)) c.index.result.now c.kept.result c.index.ensures c.kept.ensures.few in
     omega (arith, low)
 
 pub returns-clause-kept : goal.returns-clause-kept
 returns-clause-kept c =
     λ start journal stands.
-    counted_there c.self.inside c.self.view_is c.self.invariant stands.able c.args.server c.requires.server start journal stands c.index.result.now c.kept.result c.index.ensures c.kept.ensures.kept
+    counted_there c.self.inside c.self.view_is c.self.invariant stands.able c.args.server (c.requires.server stands.able) start journal stands c.index.result.now c.kept.result c.index.ensures c.kept.ensures.kept

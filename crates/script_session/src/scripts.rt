@@ -7,15 +7,15 @@ ghost use Rattle.run_status.specs.Outside.{files_told, sink_told};
 ghost use Rattle.run_status.specs.Reads.{ReadsOnly};
 ghost use Rattle.run_status.specs.Texts.{WritesPieces};
 ghost use Rattle.named_files.specs.FileCauses.{AfterTree};
-ghost use Rattle.script_commands.specs.ScriptCauses.{AfterScript, HasNoScript};
-ghost use Rattle.script_commands.specs.Scripts.{Says};
+ghost use Rattle.script_session.specs.ScriptCauses.{AfterScript, HasNoScript};
+ghost use Rattle.script_session.specs.Scripts.{Says};
 
+use crate::playing::play;
 use fidl_names::MAX_TEXT;
 use fidl_wire::{OrdinalFault, Ordinals};
 use host_io::{Files, Sink};
 use named_files::{read_file, read_start};
 use run_status::Status;
-use script_session::play;
 use std::alloc::Global;
 use transcripts::TranscriptFault;
 use vfs_script::{Script, ScriptFault, script_of};

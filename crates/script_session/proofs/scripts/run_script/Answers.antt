@@ -1,9 +1,9 @@
-use Rattle.std.proofs.Common.{Err, subst, inr}
+use Rattle.std.proofs.Common.{◌≡◌, Err, subst, inr}
 use Rattle.host_io.specs.Causes.{Rose}
 use Rattle.transcripts.specs.declared.faults.TranscriptFault.{TranscriptFault}
-use Rattle.transcripts.specs.Telling.{FailedOnly}
-use Rattle.script_commands.proofs.ScriptLemmas.{still_says}
-use Rattle.script_commands.proofs.scripts.run_script.Goals as goal
+use Rattle.transcripts.specs.Telling.{FailedOnly, UnlessFailed}
+use Rattle.script_session.proofs.ScriptLemmas.{still_says}
+use Rattle.script_session.proofs.scripts.run_script.Goals as goal
 
 pub returns-in-Ok-play-clause-answers : goal.returns-in-Ok-play-clause-answers
 returns-in-Ok-play-clause-answers g c =
@@ -63,7 +63,10 @@ returns-clause-answers g c =
             says = still_says c.args.script.now _ _ (record { text = says.0; by = c.in-Ok-read_script.script.mode }) c.in-Ok-read_start.ensures.files says.2;
             frames = c.in-Err-NoMemory.ensures.sent says.0 says.1;
           },
-          c.in-Err-NoMemory.ensures.part says.0 says.1,
+          (
+            c.in-Err-NoMemory.ensures.part says.0 says.1,
+            subst (λ (fault : TranscriptFault). UnlessFailed (Err fault) (g.K.Sink.faults c.play.new.sink ≡ g.K.Sink.faults c.args.sink.now)) c.in-Err-NoMemory.field-0-is c.in-Err-NoMemory.ensures.cause.stays,
+          ),
         ),
       ),
     )

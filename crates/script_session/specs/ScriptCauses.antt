@@ -6,8 +6,8 @@ use Rattle.run_status.specs.declared.statuses.Status.TheVariants as status
 use Rattle.run_status.specs.Causes.{After}
 use Rattle.run_status.specs.Outside.{FilesTold}
 use Rattle.named_files.specs.FileCauses.{HasNoFile}
-use Rattle.script_commands.specs.Scripts.{IsBadAt, IsPlayable, Said}
-use Rattle.script_commands.specs.Workloads.{IsReport}
+use Rattle.script_session.specs.Scripts.{IsBadAt, IsPlayable, Said}
+use Rattle.script_session.specs.Workloads.{IsReport}
 
 -- why a command has no script: it has no file, or the first bad line of the file
 abbrev pub HasNoScript : List ℕ → FilesTold → FilesTold → Status → Type 0

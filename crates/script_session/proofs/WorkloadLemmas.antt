@@ -15,7 +15,7 @@ use Rattle.vfs_journal.specs.Starts.{start_of}
 use Rattle.workload.specs.Laws.{IsGoodScript}
 use Rattle.workload.specs.Workload.{workload}
 use Rattle.workload.proofs.Whole.{workloads}
-use Rattle.script_commands.specs.Workloads.{report_of, report_with}
+use Rattle.script_session.specs.Workloads.{report_of, report_with}
 
 -- so many rounds are a script
 pub is_good : (rounds : ℕ) → 1 ≤ rounds → rounds ≤ 10000 → IsGoodScript rounds

@@ -5,14 +5,14 @@ ghost use Rattle.workload.specs.Workload.{workload};
 ghost use Rattle.run_status.specs.Causes.{AfterNames};
 ghost use Rattle.run_status.specs.Outside.{sink_told};
 ghost use Rattle.run_status.specs.Texts.{WritesText};
-ghost use Rattle.script_commands.specs.ScriptCauses.{AfterReport};
-ghost use Rattle.script_commands.specs.Workloads.{IsReport, report_with};
+ghost use Rattle.script_session.specs.ScriptCauses.{AfterReport};
+ghost use Rattle.script_session.specs.Workloads.{IsReport, report_with};
 
+use crate::{Measured, measure};
 use fidl_names::NoMemory;
 use fidl_wire::{OrdinalFault, Ordinals};
 use host_io::{Failed, Sink};
 use run_status::{Status, pass_on, put_number};
-use script_session::{Measured, measure};
 use std::alloc::{AllocError, Global};
 use tree_file::generated_start;
 use vfs_script::{Script, ScriptFault, script_of};

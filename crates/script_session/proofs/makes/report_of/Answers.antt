@@ -1,6 +1,6 @@
 use Rattle.workload.specs.Workload.{workload}
-use Rattle.script_commands.proofs.WorkloadLemmas.{is_report}
-use Rattle.script_commands.proofs.makes.report_of.Goals as goal
+use Rattle.script_session.proofs.WorkloadLemmas.{is_report}
+use Rattle.script_session.proofs.makes.report_of.Goals as goal
 
 pub returns : goal.returns
 returns c =

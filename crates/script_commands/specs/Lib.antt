@@ -1,3 +1,0 @@
-pub mod Scripts
-pub mod Workloads
-pub mod ScriptCauses
