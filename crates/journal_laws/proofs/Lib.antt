@@ -42,7 +42,6 @@ pub mod Spent
 pub mod KnowingBehind
 pub mod Hears
 pub mod Waits
-pub mod Edges
 pub mod Orderly
 pub mod Placed
 pub mod OnTrees

@@ -8,10 +8,11 @@ use Rattle.io_rights.specs.Operations.{OperationSet}
 use Rattle.node_graph.specs.declared.nodes.NodeKind.{NodeKind}
 use Rattle.node_graph.specs.declared.nodes.NodeKind.TheVariants.{Directory, File, Service, Mount}
 use Rattle.node_graph.specs.Tree.{NodeRow, Tree, Edges, EdgeKey, EdgeTo, Change, make, add, cut, move, fill, stay, after, filled, kind_of, moved, row_of}
+use Rattle.node_graph.proofs.Ordered.{comes, fresh, known, get-cut_other, get-put_other, stays}
+use Rattle.node_graph.proofs.RowLists.{cases, same, other, filled_rows, mapped, row_of-push_same, row_of-push_other, row_of-set_same, row_of-set_other, row_within}
 use Rattle.tree_file.specs.Sound.{HasOneEdge}
 use Rattle.conn_rules.specs.Nodes.{is_mount, kind_here}
 use Rattle.journal_laws.proofs.Acts.{IsMade}
-use Rattle.journal_laws.proofs.Edges.{cases, comes, filled_rows, fresh, known, same, other, get-cut_other, get-put_other, mapped, row_of-push_same, row_of-push_other, row_of-set_same, row_of-set_other, row_within, stays}
 
 -- each name leads to a node
 abbrev pub HasChildren : Tree → Type 0

@@ -25,6 +25,7 @@ use Rattle.io_messages.specs.declared.protocols.Home.TheVariants as homes
 use Rattle.io_messages.specs.declared.protocols.Protocol.{Protocol}
 use Rattle.io_messages.specs.declared.protocols.Protocol.TheVariants as protocol
 use Rattle.io_messages.specs.declared.requests.RequestFault.TheVariants.{Malformed, UnknownStrict, UnknownOneWay, UnknownTwoWay}
+use Rattle.io_messages.proofs.RequestLaws.{what_is_read}
 use Rattle.io_rights.specs.Operations.{OperationSet, is_within}
 use Rattle.node_graph.specs.Graph.{resize_refusal, write_change}
 use Rattle.node_graph.specs.Refusals.{is_loop, is_same_name, leads_to, link_change, link_refusal, rename_change, rename_refusal, replace_refusal, unlink_refusal}
@@ -32,6 +33,7 @@ use Rattle.node_graph.specs.Tree.{Tree, EdgeKey, EdgeTo, Change, add, after, fil
 use Rattle.node_graph.specs.declared.faults.GraphFault.TheVariants as fault
 use Rattle.node_graph.specs.declared.nodes.NodeKind.{NodeKind}
 use Rattle.node_graph.specs.declared.nodes.NodeKind.TheVariants.{Directory, File, Service, Mount}
+use Rattle.node_graph.proofs.RowLists.{row_of-push_same}
 use Rattle.path_walk.specs.Paths.{names_of}
 use Rattle.conn_rules.specs.Acts.{act_of, is_beyond, is_of_every_node, method_refusals, row_act}
 use Rattle.conn_rules.specs.Answers.{Answer, replies, closes, binds, watches, forwards, refuses, ends, hangs_up, silent, Act, only, failure_of}
@@ -50,9 +52,7 @@ use Rattle.vfs_journal.specs.Serving.{context_at, Moment, Read, asker_of, object
 use Rattle.vfs_journal.specs.Starts.{Bound}
 use Rattle.journal_laws.specs.Trees.{suits}
 use Rattle.journal_laws.proofs.Acts.{IsMade, first_none, graph_allows, none_there, not_refused, only_none, unless_holds}
-use Rattle.journal_laws.proofs.Edges.{row_of-push_same}
 use Rattle.journal_laws.proofs.Orderly.{HasChildren, IsOrderly, NoMountAt, kind_stays}
-use Rattle.journal_laws.proofs.Requests.{what_is_read}
 
 -- ---- where a walk leads
 

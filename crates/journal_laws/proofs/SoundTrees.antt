@@ -26,6 +26,7 @@ use Rattle.node_graph.specs.Tree.{IsSound, NodeRow, Tree, Edges, EdgeKey, EdgeTo
 use Rattle.node_graph.specs.declared.faults.GraphFault.TheVariants as fault
 use Rattle.node_graph.specs.declared.nodes.NodeKind.{NodeKind}
 use Rattle.node_graph.specs.declared.nodes.NodeKind.TheVariants.{Directory, File, Service, Mount}
+use Rattle.node_graph.proofs.RowLists.{mapped}
 use Rattle.node_graph.proofs.SoundNames.{cut_sound, link_sound, rename_sound}
 use Rattle.node_graph.proofs.Soundness.{bare_sound, filled_sound, made_sound, resized_sound, written_sound}
 use Rattle.path_walk.specs.Names.{IsName, name_fault}
@@ -53,7 +54,6 @@ use Rattle.journal_laws.specs.Soundness.{IsStart}
 use Rattle.journal_laws.specs.Trees.{IsOnNode, NamesDirectory, suits}
 use Rattle.journal_laws.proofs.Acts.{first_none, graph_allows, not_refused, only_none, path_passes, unless_holds, none_there}
 use Rattle.journal_laws.proofs.Below.{Below}
-use Rattle.journal_laws.proofs.Edges.{mapped}
 use Rattle.journal_laws.proofs.Kept.{is_serving, lawful_kept}
 use Rattle.journal_laws.proofs.Members.{found}
 use Rattle.journal_laws.proofs.OnTrees.{lawful_stand, sound_children}

@@ -11,8 +11,7 @@ use Rattle.node_graph.specs.Tree.{EdgeKey, EdgeTo, Edges, edge_cmp, link_count, 
 use Rattle.node_graph.specs.Graph.{Seat, Kept, seat_of, kind_at, holds_at, StandsFor}
 use Rattle.node_graph.specs.Ends.{Ends}
 use Rattle.node_graph.specs.Rows.{seat_from, kept_of, is_needed, AreRows}
-use Rattle.node_graph.proofs.RowLists.{same_some}
-use Rattle.node_graph.proofs.States.{cases, same, other}
+use Rattle.node_graph.proofs.RowLists.{same_some, cases, same, other}
 use Rattle.node_graph.proofs.Ordered.{entries-map_of}
 use Rattle.node_graph.proofs.Linked.{edges_of-empty}
 use Rattle.node_graph.proofs.Loops.{NoLoop, no_loop_bare}

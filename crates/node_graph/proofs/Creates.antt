@@ -16,8 +16,8 @@ use Rattle.node_graph.specs.Tree.{Edges, EdgeKey, is_linked, is_removed, link_co
 use Rattle.node_graph.specs.Graph.{Seat, Kept, seat_of, Names, kind_at, create_refusal}
 use Rattle.node_graph.specs.Ends.{Ends, end_of, edges_of, name_in}
 use Rattle.node_graph.specs.Rows.{seat_from, seat_map, kept_of, is_reached, Sits, AreRows}
-use Rattle.node_graph.proofs.RowLists.{same_some}
-use Rattle.node_graph.proofs.States.{Adds, cases, same, other, unrefused, refusal_of}
+use Rattle.node_graph.proofs.RowLists.{same_some, cases, same, other}
+use Rattle.node_graph.proofs.States.{Adds, unrefused, refusal_of}
 use Rattle.node_graph.proofs.Linked.{get-edges_of, edges_of-insert, len-edges_of, linked_counted}
 use Rattle.node_graph.proofs.Seats.{seat_came, seat_at, here, same_seat}
 use Rattle.node_graph.proofs.Steps.{Made, made_rows}

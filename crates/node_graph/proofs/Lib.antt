@@ -10,9 +10,9 @@ mod Listed
 mod Loops
 mod Losses
 mod Needed
-mod Ordered
+pub mod Ordered
 mod Readings
-mod RowLists
+pub mod RowLists
 mod Seats
 mod Sheds
 mod Shifts

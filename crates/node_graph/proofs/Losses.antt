@@ -15,8 +15,8 @@ use Rattle.node_graph.specs.Refusals.{has_names}
 use Rattle.node_graph.specs.Graph.{Kept, Leads, SameHolds, KeepsNames}
 use Rattle.node_graph.specs.Ends.{Ends, end_of, edges_of}
 use Rattle.node_graph.specs.Rows.{seat_from, kept_of, Sits, AreAlmost, AreRows, Forgets, LosesName}
-use Rattle.node_graph.proofs.RowLists.{same_some}
-use Rattle.node_graph.proofs.States.{Replaces, cases, same, other, named_still, same_holds, leads_stay}
+use Rattle.node_graph.proofs.RowLists.{same_some, cases, same, other}
+use Rattle.node_graph.proofs.States.{Replaces, named_still, same_holds, leads_stay}
 use Rattle.node_graph.proofs.Ordered.{edges_total, same_or_other, same, other, stays}
 use Rattle.node_graph.proofs.Linked.{get-edges_of, edges_of-remove, link_count-cut, one_if}
 use Rattle.node_graph.proofs.Loops.{NoLoop, no_loop_cut}

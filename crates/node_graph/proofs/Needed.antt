@@ -12,8 +12,7 @@ use Rattle.node_graph.specs.Tree.{EdgeTo, is_linked, link_count}
 use Rattle.node_graph.specs.Graph.{Seat, Kept, seat_of, holds_at, is_kept, numbers_to}
 use Rattle.node_graph.specs.Ends.{Ends, end_of, edges_of}
 use Rattle.node_graph.specs.Rows.{seat_from, seat_entry, kept_of, AreRows}
-use Rattle.node_graph.proofs.RowLists.{mapped}
-use Rattle.node_graph.proofs.States.{cases, same, other}
+use Rattle.node_graph.proofs.RowLists.{mapped, cases, same, other}
 use Rattle.node_graph.proofs.Linked.{get-edges_of, linked_by, linked_counted}
 use Rattle.node_graph.proofs.Seats.{seat_came, seat_at, came_from, some_from, get-seat_map, equal}
 

@@ -120,14 +120,11 @@ pub data Comes {X : Type 0} (m : finite.FinMap edge_cmp X) (key : EdgeKey) (to :
   fresh : from ≡ key → to ≡ x → Comes m key to from x
   known : ¬ (from ≡ key) → finite.get m from ≡ Some x → Comes m key to from x
 
-same_value : {X : Type 0} (x y : X) → Some x ≡ Some y → x ≡ y
-same_value x y e = same_some x y e
-
 pub comes : {X : Type 0} (m : finite.FinMap edge_cmp X) (key : EdgeKey) (to : X) (from : EdgeKey) (x : X) → finite.get (finite.insert m key to) from ≡ Some x → Comes m key to from x
 comes m key to from x there =
     let is = sym (finite.get-insert edges_total m key to from) ∙ there in
     elim (same_or_other from key) [
-      | same e b ↦ fresh e (same_value _ _ (sym (ap (λ c. cond c (Some to) (finite.get m from)) b) ∙ is))
+      | same e b ↦ fresh e (same_some _ _ (sym (ap (λ c. cond c (Some to) (finite.get m from)) b) ∙ is))
       | other e b ↦ known e (sym (ap (λ c. cond c (Some to) (finite.get m from)) b) ∙ is)
     ]
 

@@ -1,8 +1,9 @@
--- Elements of lists by place, by number, after a write and after a push.
-use Rattle.std.proofs.Common.{◌≡◌, ◌≢◌, ℕ, zero, suc, ◌+◌, ◌-◌, ◌<◌, ◌≤◌, List, [], ◌∷◌, ◌++◌, length, Option, Some, None, refl, ap, sym, ◌∙◌, arith, add-one}
+-- Elements of lists by place and by number, after a write and after a push; rows of nodes of which one is filled.
+use Rattle.std.proofs.Common.{◌≡◌, ◌≢◌, ℕ, zero, suc, ◌+◌, ◌-◌, ◌<◌, ◌≤◌, ◌==◌, true, false, eqb-true, List, [], ◌∷◌, ◌++◌, length, Option, Some, None, refl, ap, sym, ◌∙◌, arith, add-one}
 use Rattle.std.specs.Prelude.{slice_get, slice_set}
-use Rattle.std.specs.Option.{option_map, unwrap_or}
-use Rattle.node_graph.specs.Tree.{row_of}
+use Rattle.std.specs.Option.{option_map, option_map_or, unwrap_or}
+use Rattle.std.proofs.lemmas.Bool.Decides.{nat_tests}
+use Rattle.node_graph.specs.Tree.{NodeRow, filled, row_of}
 
 pub slice_get-set_same : {X : Type 0} (xs : List X) (i : ℕ) (v : X) → i < length xs → slice_get (slice_set xs i v) i ≡ Some v
 slice_get-set_same [] i v within = absurd (omega arith)
@@ -81,3 +82,19 @@ pub length-set_row : {X : Type 0} (xs : List X) (i : ℕ) (v : X) → length (sl
 length-set_row [] i v = refl
 length-set_row (x ∷ xs) zero v = refl
 length-set_row (x ∷ xs) (suc i) v = ap suc (length-set_row xs i v)
+
+-- a number is the one that changed, or another
+pub data Cases (n number : ℕ) : Type 0 where
+  same : n ≡ number → n == number ≡ true → Cases n number
+  other : n ≢ number → n == number ≡ false → Cases n number
+
+pub cases : (n number : ℕ) → Cases n number
+cases n number =
+    elim (n == number) as (λ b. n == number ≡ b → Cases n number) [
+      | true ↦ λ e. same (eqb-true n number e) e
+      | false ↦ λ e. other (grind (arith, nat_tests)) e
+    ] refl
+
+-- rows of which one has other bytes
+pub filled_rows : (rows : List NodeRow) (number : ℕ) (row : NodeRow) (bytes : List ℕ) → row_of rows number ≡ Some row → filled rows number bytes ≡ slice_set rows (number - 1) (record { kind = row.kind; bytes = bytes })
+filled_rows rows number row bytes there = ap (λ o. option_map_or (λ (r : NodeRow). slice_set rows (number - 1) (record { kind = r.kind; bytes = bytes })) o rows) there

@@ -14,8 +14,8 @@ use Rattle.node_graph.specs.Cell.{Cell}
 use Rattle.node_graph.specs.Graph.{Seat, Kept, seat_of, Names}
 use Rattle.node_graph.specs.Ends.{Ends}
 use Rattle.node_graph.specs.Rows.{seat_from, seat_entry, seat_map, kept_of}
-use Rattle.node_graph.proofs.RowLists.{same_some}
-use Rattle.node_graph.proofs.States.{Replaces, cases, same, other}
+use Rattle.node_graph.proofs.RowLists.{same_some, cases, same, other}
+use Rattle.node_graph.proofs.States.{Replaces}
 
 pub equal : (o : Ordering) → is_eq o ≡ true → o ≡ Equal
 equal Less h = absurd (cc)

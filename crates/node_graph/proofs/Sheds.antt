@@ -10,8 +10,7 @@ use Rattle.node_graph.specs.Tree.{Tree, Edges, is_linked, link_count}
 use Rattle.node_graph.specs.Graph.{Seat, Kept, seat_of, Names, kind_at, holds_at, is_kept, StandsFor, SameHolds, KeepsNames}
 use Rattle.node_graph.specs.Ends.{Ends, edges_of}
 use Rattle.node_graph.specs.Rows.{kept_of, AreAlmost, Forgets, keeps, drops}
-use Rattle.node_graph.proofs.RowLists.{same_some}
-use Rattle.node_graph.proofs.States.{cases, same, other}
+use Rattle.node_graph.proofs.RowLists.{same_some, cases, same, other}
 use Rattle.node_graph.proofs.Linked.{linked_counted}
 use Rattle.node_graph.proofs.Seats.{AreApart, seat_came, seat_found}
 use Rattle.node_graph.proofs.Steps.{Unneeded, unneeded}

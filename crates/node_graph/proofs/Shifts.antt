@@ -18,8 +18,8 @@ use Rattle.node_graph.specs.Refusals.{has_names, is_directory, is_same_name, lie
 use Rattle.node_graph.specs.Graph.{Kept, Names, kind_at, holds_at, is_kept, StandsFor}
 use Rattle.node_graph.specs.Ends.{Ends, end_of, edges_of}
 use Rattle.node_graph.specs.Rows.{seat_from, kept_of, is_needed, is_reached, Sits, AreRows, Forgets, keeps, drops, LosesName}
-use Rattle.node_graph.proofs.RowLists.{same_some, mapped}
-use Rattle.node_graph.proofs.States.{Replaces, same, other, named_still, same_holds, leads_stay}
+use Rattle.node_graph.proofs.RowLists.{same_some, mapped, same, other}
+use Rattle.node_graph.proofs.States.{Replaces, named_still, same_holds, leads_stay}
 use Rattle.node_graph.proofs.Ordered.{edges_total, same_edges, same_or_other, same, other, comes, fresh, known, stays, get-put_here, get-put_other, get-cut_here, get-cut_other}
 use Rattle.node_graph.proofs.Linked.{get-edges_of, edges_of-insert, edges_of-remove, link_count-put, link_count-cut, linked_counted, count_some, one_if}
 use Rattle.node_graph.proofs.Seats.{changed, kept, at_new, apart_still, replaced}

@@ -16,10 +16,10 @@ use Rattle.node_graph.specs.declared.nodes.NodeKind.TheVariants.{Directory, File
 use Rattle.node_graph.specs.declared.faults.GraphFault.TheVariants as fault
 use Rattle.node_graph.specs.Tree.{NodeRow, Tree, Edges, EdgeKey, EdgeTo, edge_cmp, row_of, kind_of, is_linked, is_removed, Below, child, deeper, make, new_row, fill, filled, after, bare_tree, IsSound}
 use Rattle.node_graph.specs.Graph.{create_refusal, resize_refusal, write_refusal, write_change, resized, overwritten}
-use Rattle.node_graph.proofs.RowLists.{mapped, same_some, row_within, row_of-push_same, row_of-push_other, row_of-set_same, row_of-set_other}
+use Rattle.node_graph.proofs.RowLists.{mapped, same_some, row_within, row_of-push_same, row_of-push_other, row_of-set_same, row_of-set_other, filled_rows}
 use Rattle.node_graph.proofs.Ordered.{edges_total, exact_edges, standing, earlier, alike, later}
 use Rattle.node_graph.proofs.Loops.{no_loop_put}
-use Rattle.node_graph.proofs.States.{unrefused, refusal_of, filled_rows}
+use Rattle.node_graph.proofs.States.{unrefused, refusal_of}
 
 -- an edge after one was put in is that one or an old one
 data Comes (edges : Edges) (key : EdgeKey) (to : EdgeTo) (from : EdgeKey) (x : EdgeTo) : Type 0 where

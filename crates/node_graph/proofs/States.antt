@@ -1,5 +1,5 @@
 -- What two kinds of step do to what a graph keeps: one seat is another, or one seat is new.
-use Rattle.std.proofs.Common.{◌≡◌, ◌≢◌, ℕ, ◌+◌, ◌-◌, ◌<◌, List, [], ◌∷◌, ◌++◌, length, Option, Some, None, refl, ap, sym, ◌∙◌, subst, arith, Bool, true, false, eqb-true, length-append, nat_le}
+use Rattle.std.proofs.Common.{◌≡◌, ◌≢◌, ℕ, ◌+◌, ◌-◌, ◌<◌, List, [], ◌∷◌, ◌++◌, length, Option, Some, None, refl, ap, sym, ◌∙◌, subst, arith, Bool, true, false, length-append, nat_le}
 use Rattle.std.specs.FinMap as finite
 use Rattle.fidl_names.specs.First.{cause_if, first_of}
 use Rattle.fidl_names.specs.declared.limits.TheConstants as limit
@@ -7,12 +7,12 @@ use Rattle.node_graph.specs.declared.faults.GraphFault.{GraphFault}
 use Rattle.node_graph.specs.declared.faults.GraphFault.TheVariants as fault
 use Rattle.node_graph.specs.declared.nodes.NodeKind.{NodeKind}
 use Rattle.node_graph.specs.declared.nodes.NodeRef.{NodeRef}
-use Rattle.std.specs.Prelude.{is_some, slice_set, ◌==◌}
+use Rattle.std.specs.Prelude.{is_some}
 use Rattle.std.specs.Option.{option_map, option_map_or}
 use Rattle.std.proofs.lemmas.Bool.Decides.{nat_tests}
 use Rattle.node_graph.specs.Tree.{NodeRow, Tree, Edges, EdgeKey, EdgeTo, row_of, make, new_row, fill, stay, filled, is_removed}
 use Rattle.node_graph.specs.Graph.{Seat, Kept, seat_of, Names, kind_at, bytes_at, StandsFor, Leads, SameHolds, HoldsNow, KeepsNames, create_refusal}
-use Rattle.node_graph.proofs.RowLists.{same_some, row_within, row_of-set_same, row_of-set_other, length-set_row, row_of-push_same, row_of-push_other}
+use Rattle.node_graph.proofs.RowLists.{same_some, row_within, row_of-set_same, row_of-set_other, length-set_row, row_of-push_same, row_of-push_other, cases, same, other, filled_rows}
 
 -- the seat of one number, which was there, is another for the same node
 pub record Replaces (old new : Kept) (number : ℕ) (was is : Seat) : Type 0 where
@@ -23,21 +23,6 @@ pub record Replaces (old new : Kept) (number : ℕ) (was is : Seat) : Type 0 whe
   pub others : (n : ℕ) → n ≢ number → seat_of new n ≡ seat_of old n
   pub node : is.node ≡ was.node
   pub kind : is.kind ≡ was.kind
-
--- a number is the one that changed, or another
-pub data Cases (n number : ℕ) : Type 0 where
-  same : n ≡ number → n == number ≡ true → Cases n number
-  other : n ≢ number → n == number ≡ false → Cases n number
-
-pub cases : (n number : ℕ) → Cases n number
-cases n number =
-    elim (n == number) as (λ b. n == number ≡ b → Cases n number) [
-      | true ↦ λ e. same (eqb-true n number e) e
-      | false ↦ λ e. other (grind (arith, nat_tests)) e
-    ] refl
-
-pub filled_rows : (rows : List NodeRow) (number : ℕ) (row : NodeRow) (bytes : List ℕ) → row_of rows number ≡ Some row → filled rows number bytes ≡ slice_set rows (number - 1) (record { kind = row.kind; bytes = bytes })
-filled_rows rows number row bytes there = ap (λ o. option_map_or (λ (r : NodeRow). slice_set rows (number - 1) (record { kind = r.kind; bytes = bytes })) o rows) there
 
 module _ {old new : Kept} {number : ℕ} {was is : Seat} where
   -- each reference that named a node names it still

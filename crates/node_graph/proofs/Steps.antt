@@ -13,8 +13,7 @@ use Rattle.node_graph.specs.Cell.{Cell}
 use Rattle.node_graph.specs.Tree.{EdgeKey, EdgeTo, Edges, link_count, has_one_name}
 use Rattle.node_graph.specs.Ends.{Ends, end_of, edges_of}
 use Rattle.node_graph.specs.Rows.{is_needed, is_reached, Sits, AreAlmost, AreRows, Forgets, keeps, drops}
-use Rattle.node_graph.proofs.RowLists.{same_some, mapped}
-use Rattle.node_graph.proofs.States.{cases, same, other}
+use Rattle.node_graph.proofs.RowLists.{same_some, mapped, cases, same, other}
 use Rattle.node_graph.proofs.Ordered.{edges_total, comes, fresh, known}
 use Rattle.node_graph.proofs.Linked.{get-edges_of, edges_of-insert, link_count-put, one_if, count_some, linked_by, linked_counted}
 use Rattle.node_graph.proofs.Seats.{changed, kept, at_new, apart_still}

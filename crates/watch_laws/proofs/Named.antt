@@ -13,6 +13,7 @@ use Rattle.std.proofs.lemmas.List.Elements.{filter-append}
 use Rattle.std.proofs.lemmas.Slice.Eq.{bytes_eq-Decides}
 use Rattle.node_graph.specs.Refusals.{is_same_name}
 use Rattle.node_graph.specs.Tree.{EdgeKey, EdgeTo, Edges, edge_cmp, names_in}
+use Rattle.node_graph.proofs.Ordered.{Same, same, other, same_or_other}
 use Rattle.path_walk.specs.Names.{dot}
 use Rattle.path_walk.proofs.PathLemmas.{same_bytes}
 use Rattle.conn_rules.specs.Answers.{Happening}
@@ -24,7 +25,6 @@ use Rattle.watch_events.specs.NamesNow.{puts_in, tells_of}
 use Rattle.vfs_journal.specs.History.{is_watcher, watches_node}
 use Rattle.vfs_journal.specs.Starts.{Bound}
 use Rattle.journal_laws.proofs.Among.{one_passes, passes_any}
-use Rattle.journal_laws.proofs.Edges.{Same, alike_key, other_key, same_or_other}
 use Rattle.journal_laws.proofs.Lists.{eqb_sym}
 use Rattle.watch_laws.specs.Laws.{AsksForNames}
 use Rattle.watch_laws.specs.Sight.{is_told, told_as}
@@ -39,18 +39,18 @@ bytes_same a b = (bytes_eq-Decides a b).1
 pub same_name : (directory : ℕ) (name : List ℕ) (key : EdgeKey) → is_same_name (name_in directory name) key ≡ ((directory == key.directory) && bytes_eq key.name name)
 same_name directory name key = by_key (same_or_other (name_in directory name) key) where
   by_key : Same (name_in directory name) key → is_same_name (name_in directory name) key ≡ ((directory == key.directory) && bytes_eq key.name name)
-  by_key (alike_key e b) =
+  by_key (same e b) =
       b
       ∙ sym
       (ap (λ (x : Bool). x && bytes_eq key.name name) (eq-eqb directory key.directory (ap (λ (k : EdgeKey). k.directory) e))
       ∙ bytes_same key.name name (sym (ap (λ (k : EdgeKey). k.name) e)))
-  by_key (other_key other b) =
+  by_key (other apart b) =
       b
       ∙ sym
       (false_from_ne_true ((directory == key.directory) && bytes_eq key.name name)
       (λ both.
       let parts = and_parts (directory == key.directory) (bytes_eq key.name name) both in
-      other (ap (λ (d : ℕ). name_in d name) (eqb-true directory key.directory parts.0) ∙ ap (λ (n : List ℕ). name_in key.directory n) (sym (same_bytes key.name name parts.1)))))
+      apart (ap (λ (d : ℕ). name_in d name) (eqb-true directory key.directory parts.0) ∙ ap (λ (n : List ℕ). name_in key.directory n) (sym (same_bytes key.name name parts.1)))))
 
 -- ---- one more event
 
@@ -148,10 +148,10 @@ said_puts events name false = ap (λ es. last_puts es name) (append-nil events)
 -- `.` and these names, and that these are all where it is said
 pub snapshot_puts : (names : List (List ℕ)) (name : List ℕ) (said : Bool) → bytes_eq dot name ≡ false →
     last_puts ((is_existing dot ∷ map is_existing names) ++ cond said (all_said ∷ []) []) name ≡ list_any (λ (n : List ℕ). bytes_eq n name) names
-snapshot_puts names name said other =
+snapshot_puts names name said no_dot =
     said_puts (is_existing dot ∷ map is_existing names) name said
     ∙ existing_puts names (is_existing dot ∷ []) name
-    ∙ ap (λ (b : Bool). option_map_or puts_in (cond (b && true) (Some (is_existing dot)) None) false || list_any (λ (n : List ℕ). bytes_eq n name) names) other
+    ∙ ap (λ (b : Bool). option_map_or puts_in (cond (b && true) (Some (is_existing dot)) None) false || list_any (λ (n : List ℕ). bytes_eq n name) names) no_dot
 
 -- ---- the names of a directory
 

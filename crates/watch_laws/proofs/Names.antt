@@ -6,10 +6,10 @@ use Rattle.std.specs.FinMap as finite
 use Rattle.node_graph.specs.Keys.{edges_total}
 use Rattle.node_graph.specs.Refusals.{is_same_name}
 use Rattle.node_graph.specs.Tree.{Change, EdgeKey, EdgeTo, Edges, Tree, after}
+use Rattle.node_graph.proofs.Ordered.{Same, same, other, same_or_other}
 use Rattle.path_walk.specs.Names.{IsName}
 use Rattle.conn_rules.specs.Answers.{Happening, gone}
 use Rattle.conn_rules.specs.Answers as news
-use Rattle.journal_laws.proofs.Edges.{Same, alike_key, other_key, same_or_other}
 use Rattle.watch_laws.specs.Laws.{HasNames}
 
 -- ---- what is told
@@ -66,8 +66,8 @@ left_is_name key was (news.removed name) is e = by_test (is_same_name key name) 
   by_test false h = inl h
 left_is_name key was (news.added name) is e = by_key (same_or_other key name) where
   by_key : Same key name → (was ≡ true) ⊎ IsName key.name
-  by_key (alike_key same b) = inr (subst (λ (k : EdgeKey). IsName k.name) (sym same) is)
-  by_key (other_key other b) = inl (sym (ap (λ (c : Bool). cond c true was) b) ∙ e)
+  by_key (same e b) = inr (subst (λ (k : EdgeKey). IsName k.name) (sym e) is)
+  by_key (other apart b) = inl (sym (ap (λ (c : Bool). cond c true was) b) ∙ e)
 left_is_name key was (news.deleted directory) is e = inl e
 
 pub told_is_name : (key : EdgeKey) (was : Bool) (told : List Happening) → All IsOfName told → left_behind key was told ≡ true → (was ≡ true) ⊎ IsName key.name

@@ -6,6 +6,7 @@ use Rattle.std.specs.FinMap.Entries as entry
 use Rattle.std.proofs.lemmas.List.Elements.{All-append, All-cons, All-filter, All-head, All-map, All-nil, All-tail, All-weaker}
 use Rattle.node_graph.specs.Keys.{edges_total}
 use Rattle.node_graph.specs.Tree.{EdgeKey, EdgeTo, edge_cmp}
+use Rattle.node_graph.proofs.Ordered.{Same, same, other, same_or_other}
 use Rattle.path_walk.specs.Names.{IsName}
 use Rattle.path_walk.specs.Parts.{is_dot}
 use Rattle.path_walk.specs.Paths.{names_of}
@@ -14,7 +15,6 @@ use Rattle.path_walk.proofs.PathLemmas.{path_sound}
 use Rattle.tree_file.specs.Accepted.{AreAccepted, IsAt, IsMount, IsNode}
 use Rattle.tree_file.specs.Items.{Lists, MountItem, NodeItem}
 use Rattle.tree_file.specs.Numbering.{Named, edge_of, mount_named, named_of, node_named, tree_of}
-use Rattle.journal_laws.proofs.Edges.{Same, alike_key, other_key, same_or_other}
 use Rattle.watch_laws.specs.Laws.{HasNames, StartsHaveNames}
 
 -- ---- paths
@@ -55,10 +55,10 @@ found_name : (whole : List Named) (named : List Named) (from : EdgeKey) (to : Ed
 found_name whole [] from to h e = absurd (cc)
 found_name whole (one ∷ named) from to h e = by_key (found_name whole named from to (All-tail EndsInName one named h)) (same_or_other from (edge_of whole one).0) where
   by_key : (entry.find edge_cmp from (map (edge_of whole) named) ≡ Some to → IsName from.name) → Same from (edge_of whole one).0 → IsName from.name
-  by_key later (alike_key same b) =
+  by_key later (same is b) =
       let ends = All-head EndsInName one named h in
-      subst (λ (key : EdgeKey). IsName key.name) (sym same) (last_valid one.path ends.0 ends.1)
-  by_key later (other_key other b) =
+      subst (λ (key : EdgeKey). IsName key.name) (sym is) (last_valid one.path ends.0 ends.1)
+  by_key later (other apart b) =
       later (sym (ap (λ (c : Bool). cond c (Some (edge_of whole one).1) (entry.find edge_cmp from (map (edge_of whole) named))) b) ∙ e)
 
 tree_names : (lists : Lists) (server : ℕ) → AreAccepted lists → HasNames (tree_of lists server)
