@@ -12,12 +12,13 @@ use Rattle.io_messages.specs.declared.protocols.Protocol.{Protocol}
 use Rattle.io_messages.specs.declared.protocols.Protocol.TheVariants as protocol
 use Rattle.io_messages.specs.declared.requests.RequestFault.{RequestFault}
 use Rattle.io_messages.specs.declared.requests.RequestFault.TheVariants.{Malformed, UnknownStrict, UnknownOneWay, UnknownTwoWay}
+use Rattle.io_messages.proofs.RequestLaws.{what_is_read}
 use Rattle.conn_rules.specs.Answers.{Act, Answer, binds, closes, ends, forwards, hangs_up, only, refuses, replies, silent, watches}
 use Rattle.vfs_journal.specs.Entries.{Sending, hang_up, message}
 use Rattle.vfs_journal.specs.Outcomes.{Asker, Outcome, close_frame, frames_of, outcome_with, reply_frame}
 use Rattle.vfs_journal.specs.Serving.{Moment, Read, asker_of, context_at, fault_answer, fault_txid, object_of, outcome_of_message, outcome_of_read, outcome_of_sending, read_by, request_act}
 use Rattle.journal_laws.proofs.Below.{Below}
-use Rattle.journal_laws.proofs.Requests.{Carries, carries, what_is_read}
+use Rattle.journal_laws.proofs.Requests.{Carries, carries}
 use Rattle.frame_laws.proofs.Acts.{CanEcho, HasReplyFrame, IsReady, IsWritable, act_writable, answered_only}
 use Rattle.frame_laws.proofs.Fields.{echoes, read_in_bytes}
 use Rattle.frame_laws.proofs.Replies as frame

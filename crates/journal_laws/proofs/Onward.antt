@@ -13,6 +13,7 @@ use Rattle.fidl_names.specs.declared.methods.Method.{Method}
 use Rattle.fidl_names.specs.declared.methods.Method.TheVariants as method
 use Rattle.fidl_wire.specs.Grammar.{IsNumber, IsSpelled, Lays, Part, Spells}
 use Rattle.fidl_wire.specs.Layout.{Cell, Item, struct, fields, held, num, blank, seq, members, number}
+use Rattle.fidl_wire.proofs.Rows.{method_ordinal-injective}
 use Rattle.fidl_names.specs.Numbers.{number_at}
 use Rattle.io_flags.specs.Grants.{going_on, onward}
 use Rattle.io_flags.specs.Words.{flags_of}
@@ -22,6 +23,7 @@ use Rattle.io_messages.specs.declared.protocols.Protocol.TheVariants as protocol
 use Rattle.io_messages.specs.Asked as asks
 use Rattle.io_messages.specs.Requests.{asked_from, request_cells, item, num_in, num_of, request_of}
 use Rattle.io_messages.specs.Writing.{IsRequest}
+use Rattle.io_messages.proofs.RequestLaws.{what_is_read, what_is_spelled}
 use Rattle.io_rights.specs.Operations.{OperationSet}
 use Rattle.path_walk.specs.Names.{slash, dot, IsName}
 use Rattle.path_walk.specs.Paths.{IsPath, text_of}
@@ -29,7 +31,7 @@ use Rattle.fidl_names.specs.HandleNumber.{handle_with}
 use Rattle.remote_forward.specs.Onward.{onward_bytes}
 use Rattle.vfs_journal.specs.Serving.{read_by}
 use Rattle.journal_laws.proofs.Below.{Below}
-use Rattle.journal_laws.proofs.Requests.{what_is_read, what_is_spelled, same_open}
+use Rattle.journal_laws.proofs.Requests.{same_open}
 
 -- ---- the flags are a number of eight bytes
 
@@ -161,5 +163,5 @@ onward_reads below flags rest object h small low =
     let handle_is : handle_with object ≡ Endpoint object = ap (λ (b : Bool). cond b (Token object) (Endpoint object)) (lt-leb 0x80000000 object low) in
     let request = asks.open_path (text_of rest) flags None object in
     ap (λ hs. request_of protocol.Directory (onward_bytes flags rest object) hs) (ap (λ (x : Handle). x ∷ []) handle_is)
-    ∙ what_is_spelled below.reads below.apart protocol.Directory (onward_bytes flags rest object) (Endpoint object ∷ []) 0 request
+    ∙ what_is_spelled below.reads (method_ordinal-injective below.apart) protocol.Directory (onward_bytes flags rest object) (Endpoint object ∷ []) 0 request
     (below.written protocol.Directory 0 request refl (lit< tt) refl (onward_request flags rest object h small))
