@@ -12,3 +12,4 @@ pub mod WritingLaws
 pub mod WrittenReplies
 pub mod Payloads
 pub mod Carrying
+pub mod PutAtOnce
