@@ -2,8 +2,9 @@
 # below the crate `top` is proved by tools/prove.sh, once those that it stands on are.
 #
 # The whole takes no less than its longest chain, measured in lines: the longer the chain of crates above a
-# library, the sooner it gets a processor, and those of a longest chain get all `jobs`. Any other gets one,
-# since several jobs at one library are a third more work in sum.
+# library, the sooner it gets a processor, and those of a longest chain get all `jobs`. Those of a chain that is
+# nearly as long get half of them, since it holds up the whole once the longest goes on faster. Any other gets one:
+# several jobs at one library are a third more work in sum.
 
 FNR == 1 { files++ }
 
@@ -42,7 +43,8 @@ END {
         name = order[i]
         print name ":" below[name]
         wait = int(19 * (1 - (above[name] + lines[name]) / longest))
-        work = chain[name] + above[name] == longest ? jobs : 1
+        whole = chain[name] + above[name]
+        work = whole == longest ? jobs : whole > 0.75 * longest && jobs > 1 ? int(jobs / 2) : 1
         print "\t@nice -n " wait " tools/prove.sh " name " " work below[name]
     }
 }
