@@ -81,6 +81,7 @@ fn message_refusal<L: LookUp>(
 }
 
 /// The refusal of a message behind that for how its endpoint stands.
+#[inline(always)]
 fn live_message_refusal<L: LookUp>(
     look_ups: &L,
     endpoint: u32,

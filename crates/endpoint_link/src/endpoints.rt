@@ -94,6 +94,7 @@ impl LookUp for Endpoints {
 /// What an admitted frame changes.
 impl Endpoints {
     /// Changes what a frame changes that nothing refuses.
+    #[inline(always)]
     fn take(&mut self, frame: FrameView<'_>) -> Result<(), AdmitFault>
         requires way { IsTrue (goes_to side.ToServers frame.kind) }
         requires none { admission (look_ups self.old) (frame_of frame) ≡ None }

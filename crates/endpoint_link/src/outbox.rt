@@ -259,6 +259,7 @@ pub fn write_frame(
 }
 
 /// Appends the whole frame of a message with these handles, or for want of memory nothing.
+#[inline(always)]
 pub fn write_message(
     to: &mut Outbox,
     endpoint: u32,

@@ -1,5 +1,5 @@
 -- Texts, the names between their slashes, and the first fault.
-use Rattle.std.proofs.Common.{◌≡◌, ℕ, ◌+◌, ◌<◌, ◌≤◌, ◌==◌, Bool, true, false, not, List, [], ◌∷◌, ◌++◌, length, get_or, take, drop, Option, Some, None, refl, sym, ap, ◌∙◌, subst, rules, nat_lt, arith, inl, inr, length-append}
+use Rattle.std.proofs.Common.{◌≡◌, ◌≢◌, ℕ, ◌+◌, ◌<◌, ◌≤◌, ◌==◌, Bool, true, false, not, List, [], ◌∷◌, ◌++◌, length, get_or, take, drop, Option, Some, None, refl, sym, ap, ◌∙◌, subst, rules, nat_lt, arith, inl, inr, length-append}
 use Rattle.std.specs.Prelude.{All, IsUtf8, Result, Ok, Err, MatchResult, is_err, unwrap_or}
 use Rattle.std.specs.Option.{option_or}
 use Rattle.std.specs.List.{slice_split, join_with_byte, position_or_len, slice_get}
@@ -13,15 +13,16 @@ use Rattle.std.proofs.lemmas.List.Sums.{fails_before_first, passes_at_first, pos
 use Rattle.std.proofs.lemmas.List.{take-append-drop, length-drop, length-take, get_or-take}
 use Rattle.std.proofs.Math.Seq.{take-length}
 use Rattle.std.proofs.lemmas.Str.{IsUtf8-from_is_utf8, is_utf8-from_IsUtf8, IsUtf8-drop, IsCharBoundary-after_ascii, IsUtf8-from_ascii}
+use Rattle.std.proofs.lemmas.Str.Ascii.{IsAscii-from_all}
 use Rattle.memchr.specs.Find.{IsFirstByte, is_byte}
 use Rattle.fidl_names.specs.First.{cause_if, first_of}
 use Rattle.fidl_names.specs.declared.limits.TheConstants as limit
 use Rattle.fidl_names.proofs.FirstLaws.{first_of-append, first_of-head, first_of-none, cause_if-none}
 use Rattle.path_walk.specs.declared.faults.PathFault.{PathFault}
 use Rattle.path_walk.specs.declared.faults.PathFault.TheVariants as fault
-use Rattle.path_walk.specs.Names.{slash, dot, holds, name_fault, IsName}
+use Rattle.path_walk.specs.Names.{slash, dot, dots, holds, name_fault, IsName}
 use Rattle.path_walk.specs.Paths.{text_of, IsPath, names_of, text_faults, name_faults, path_fault}
-use Rattle.path_walk.proofs.NameLemmas.{or_at_some, or_at_none, or_none_left, or_none_right, name-some, name-no_zero, name-no_slash, empty_is_no_name, dot_is_no_name}
+use Rattle.path_walk.proofs.NameLemmas.{or_at_some, or_at_none, or_none_left, or_none_right, name-some, name-no_zero, name-no_slash, name_fault-later, later-dot, empty_is_no_name, dot_is_no_name}
 
 abbrev pub is_slash : ℕ → Bool
 is_slash byte = byte == slash
@@ -389,6 +390,51 @@ rest_at_end text e =
       | inl same ↦ ap (drop 1) (names_of-at_dot text same)
       | inr other ↦ ap (drop 1) (names_of-other text other ∙ no_slash_after text e)
     ]
+
+-- ---- a plain name
+
+-- a byte of ASCII that is neither zero nor a slash
+abbrev pub IsPlain : ℕ → Type 0
+IsPlain byte = (byte ≢ 0) × (byte ≢ slash) × (byte < 128)
+
+-- no byte of a text is this one
+no_byte : (text : List ℕ) (byte : ℕ) → ((k : ℕ) → k < length text → get_or text k 0 ≢ byte) → holds byte text ≡ false
+no_byte text byte h =
+    list_any_none (λ x. x == byte) text (All-from_get_or (λ x. (x == byte) ≡ false) text 0 (λ k within. ne_eqb (get_or text k 0) byte (h k within)))
+
+no_dot_at_head : (text other : List ℕ) → get_or text 0 0 ≢ 46 → get_or other 0 0 ≡ 46 → bytes_eq text other ≡ false
+no_dot_at_head text other head there =
+    elim (cases_Bool (bytes_eq text other)) [
+      | inl same ↦ absurd (head (ap (λ t. get_or t 0 0) (same_bytes text other same) ∙ there))
+      | inr differs ↦ differs
+    ]
+
+plain_is_name : (text : List ℕ) → (length text == 0) ≡ false → length text ≤ limit.MAX_NAME → get_or text 0 0 ≢ 46 → holds 0 text ≡ false → holds slash text ≡ false → IsName text
+plain_is_name text some few head no_zero no_slash =
+    let short : nat_lt limit.MAX_NAME (length text) ≡ false = le-ltb limit.MAX_NAME (length text) few in
+    let not_dot : bytes_eq text dot ≡ false = no_dot_at_head text dot head refl in
+    let not_dots : bytes_eq text dots ≡ false = no_dot_at_head text dots head refl in
+    name_fault-later text (rw (some, short) refl) ∙ later-dot text no_zero no_slash ∙ rw (not_dot, not_dots) refl
+
+-- no byte of it is a slash
+pub plain_one : (text : List ℕ) → ((k : ℕ) → k < length text → IsPlain (get_or text k 0)) → position_or_len is_slash text ≡ length text
+plain_one text plain =
+    position_or_len_is is_slash text (length text) 0 (omega arith) (λ k within. ne_eqb (get_or text k 0) slash (plain k within).1) (λ within. absurd (omega arith))
+
+-- it is a path
+pub plain_path : (text : List ℕ) → (length text == 0) ≡ false → length text ≤ limit.MAX_NAME → get_or text 0 0 ≢ 46 → ((k : ℕ) → k < length text → IsPlain (get_or text k 0)) → path_fault text ≡ None
+plain_path text some few head plain =
+    let no_zero = no_byte text 0 (λ k within. (plain k within).0) in
+    let no_slash = no_byte text slash (λ k within. (plain k within).1) in
+    let alone : names_of text ≡ text ∷ [] = names_of-other text (no_dot_at_head text dot head refl) ∙ no_slash_after text (plain_one text plain) in
+    from_parts text
+    (record {
+      some = some;
+      short = le-ltb limit.MAX_PATH (length text) (omega (arith, few));
+      utf8 = is_utf8-from_IsUtf8 text (IsUtf8-from_ascii text (IsAscii-from_all text (All-from_get_or (λ byte. byte < 128) text 0 (λ k within. (plain k within).2))));
+      no_zero = no_zero;
+      names = subst (All IsName) (sym alone) (All-cons IsName text [] (plain_is_name text some few head no_zero no_slash) (All-nil IsName));
+    })
 
 -- ---- piece by piece
 

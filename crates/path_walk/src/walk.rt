@@ -1,4 +1,4 @@
-ghost use Rattle.std.specs.Prelude.{◌≡◌, ℕ, ◌==◌, ◌+◌, ◌<◌, ◌≤◌, List, false, All, IfOk, IfSome, IsOkAnd, length, drop, slice_get, None};
+ghost use Rattle.std.specs.Prelude.{◌≡◌, ℕ, ◌==◌, ◌+◌, ◌<◌, ◌≤◌, List, true, false, All, IfOk, IfSome, IsOkAnd, length, drop, slice_get, None};
 ghost use Rattle.std.specs.List.{slice_split, position_or_len};
 ghost use Rattle.std.specs.Option.{option_copied};
 ghost use Rattle.std.specs.Result.{result_err};
@@ -9,7 +9,7 @@ ghost use Rattle.path_walk.specs.Paths.{text_of, IsPath, names_of, text_faults, 
 
 use crate::faults::PathFault;
 use crate::names::check_piece;
-use fidl_names::MAX_PATH;
+use fidl_names::{MAX_NAME, MAX_PATH};
 use memchr::memchr;
 use std::marker::Model;
 
@@ -43,6 +43,9 @@ impl<'a> Path<'a> {
         ensures each_path { (names : List (List ℕ)) → IsPath text.now names → IsOkAnd result (λ path. path ≡ names) }
         ensures fault { result_err result ≡ path_fault text.now }
     {
+        if is_plain(text) {
+            return Ok(Path::of_one(text));
+        }
         check_whole(text)?;
         Ok(Path::of_checked(text))
     }
@@ -54,6 +57,18 @@ impl<'a> Path<'a> {
     {
         let end = until_slash(text);
         Path { text, end }
+    }
+
+    // The same of one without a slash.
+    fn of_one(text: &'a [u8]) -> Path<'a>
+        requires path { path_fault text.now ≡ None }
+        requires one { position_or_len (λ byte. byte == slash) text.now ≡ length text.now }
+        ensures { result ≡ names_of text.now }
+    {
+        Path {
+            text,
+            end: text.len(),
+        }
     }
 
     /// The text, of 1 to 4,095 bytes of UTF-8.
@@ -80,10 +95,27 @@ impl<'a> Path<'a> {
         ensures { result ≡ drop 1 self.now }
     {
         if self.end == self.text.len() {
-            return Path::of_checked(b".");
+            return Path::of_one(b".");
         }
         Path::of_checked(behind(self.text, self.end))
     }
+}
+
+// Whether a text is one name of ASCII bytes, with no dot at its head. Most paths are, and are told in one pass.
+fn is_plain(text: &[u8]) -> bool
+    ensures path { result ≡ true → path_fault text.now ≡ None }
+    ensures one { result ≡ true → position_or_len (λ byte. byte == slash) text.now ≡ length text.now }
+{
+    if text.is_empty() || text.len() > MAX_NAME || text[0] == b'.' {
+        return false;
+    }
+    for i in 0..text.len() {
+        let byte = text[i];
+        if byte == 0 || byte == b'/' || byte >= 0x80 {
+            return false;
+        }
+    }
+    true
 }
 
 fn check_whole(text: &[u8]) -> Result<(), PathFault>

@@ -19,3 +19,9 @@ returns-clause-path c = subst (IsPath c.args.text.now) (sym c.of_checked.ensures
 
 pub returns-clause-each_path : goal.returns-clause-each_path
 returns-clause-each_path c = λ names p. c.of_checked.ensures ∙ (path_complete c.args.text.now names p).1
+
+pub returns-then-is_plain-clause-path : goal.returns-then-is_plain-clause-path
+returns-then-is_plain-clause-path c = subst (IsPath c.args.text.now) (sym c.of_one.ensures) (path_sound c.args.text.now (c.is_plain.ensures.path c.if-is_plain.true))
+
+pub returns-then-is_plain-clause-each_path : goal.returns-then-is_plain-clause-each_path
+returns-then-is_plain-clause-each_path c = λ names p. c.of_one.ensures ∙ (path_complete c.args.text.now names p).1

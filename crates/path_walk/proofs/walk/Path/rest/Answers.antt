@@ -5,12 +5,12 @@ use Rattle.path_walk.specs.Paths.{path_fault, names_of}
 use Rattle.path_walk.proofs.PathLemmas.{path_fault-dot, rest_at_end, after_slash, names_of-dot, is_slash}
 use Rattle.path_walk.proofs.walk.Path.rest.Goals as goal
 
-pub of_checked-requires : goal.of_checked-requires
-of_checked-requires c = path_fault-dot
+pub of_one-requires-clause-path : goal.of_one-requires-clause-path
+of_one-requires-clause-path c = path_fault-dot
 
 pub returns-then-self : goal.returns-then-self
 returns-then-self c =
-    c.of_checked.ensures ∙ names_of-dot
+    c.of_one.ensures ∙ names_of-dot
     ∙ sym
     (ap (drop 1) (sym c.self.view_is)
     ∙ rest_at_end c.self.inside.text.now (sym c.self.invariant.1.0 ∙ c.if-self.true))
@@ -26,15 +26,15 @@ tail text after end sound e within same =
 pub behind-requires : goal.behind-requires
 behind-requires c = below_end c.self.inside.end _ c.self.invariant.1.1 c.if-self.false
 
-pub of_checked-requires-2 : goal.of_checked-requires-2
-of_checked-requires-2 c =
+pub of_checked-requires : goal.of_checked-requires
+of_checked-requires c =
     (tail c.self.inside.text.now c.behind.result.now c.self.inside.end c.self.invariant.0 c.self.invariant.1.0
     (below_end c.self.inside.end _ c.self.invariant.1.1 c.if-self.false)
     c.behind.ensures).0
 
 pub returns : goal.returns
 returns c =
-    c.of_checked-2.ensures
+    c.of_checked.ensures
     ∙ (tail c.self.inside.text.now c.behind.result.now c.self.inside.end c.self.invariant.0 c.self.invariant.1.0
     (below_end c.self.inside.end _ c.self.invariant.1.1 c.if-self.false)
     c.behind.ensures).1
