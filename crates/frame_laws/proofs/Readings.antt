@@ -7,7 +7,7 @@ use Rattle.endpoint_link.specs.declared.kinds.Side.TheVariants.{Any}
 use Rattle.endpoint_link.proofs.Runs.{spellings-append}
 use Rattle.endpoint_link.proofs.Streams.{frames_stay, not_both, one_list}
 use Rattle.vfs_journal.specs.Entries.{Journal}
-use Rattle.vfs_journal.specs.Output.{frames_of_event}
+use Rattle.vfs_journal.specs.Output.{frames_behind, frames_of_event}
 use Rattle.vfs_journal.specs.Past.{event_of, history_of}
 use Rattle.vfs_journal.specs.Session.{ended, session}
 use Rattle.vfs_journal.specs.Starts.{Start, start_of}
@@ -16,11 +16,11 @@ use Rattle.journal_laws.specs.Soundness.{IsStart, OtherEndpoint}
 use Rattle.journal_laws.proofs.Below.{Below}
 use Rattle.journal_laws.proofs.Draining.{sessions_are_lawful}
 use Rattle.journal_laws.proofs.Lists.{pairs-head, pairs-tail}
-use Rattle.journal_laws.proofs.Starting.{starts_are_sound}
+use Rattle.journal_laws.proofs.Starting.{accepted_starts_are_starts}
 use Rattle.frame_laws.proofs.Fields.{All-left, All-right}
 use Rattle.frame_laws.proofs.Output.{frames_written}
 use Rattle.frame_laws.proofs.Begun.{starts_have_bytes}
-use Rattle.frame_laws.specs.Laws.{IsReadAs, OutputIsReadBack, PartsAreReadBack, SessionsAreReadBack, frames_behind}
+use Rattle.frame_laws.specs.Laws.{IsReadAs, OutputIsReadBack, PartsAreReadBack, SessionsAreReadBack}
 
 -- ---- frames one after another
 
@@ -81,7 +81,7 @@ parts_are_read_back below start earlier later part s bytes h g e =
 pub sessions_are_read_back : Below → SessionsAreReadBack
 sessions_are_read_back below lists by frames accepted files each =
     let start = start_of lists in
-    let sound = starts_are_sound lists accepted in
+    let sound = accepted_starts_are_starts lists accepted in
     let bytes = starts_have_bytes lists accepted files in
     let lawful' = sessions_are_lawful start by frames each in (
       output_is_read_back below start [] (session start by frames) sound bytes lawful'.0,

@@ -8,8 +8,7 @@ use Rattle.tree_file.specs.Accepted.{AreAccepted, HasFilesOfBytes}
 use Rattle.tree_file.specs.Items.{Lists}
 use Rattle.vfs_journal.specs.Entries.{Journal}
 use Rattle.vfs_journal.specs.Lawful.{Lawful}
-use Rattle.vfs_journal.specs.Output.{frames_of, output_of}
-use Rattle.vfs_journal.specs.Past.{history_of}
+use Rattle.vfs_journal.specs.Output.{frames_behind, output_of}
 use Rattle.vfs_journal.specs.Session.{ended, session}
 use Rattle.vfs_journal.specs.Starts.{Start, start_of}
 use Rattle.journal_laws.specs.Soundness.{IsStart}
@@ -21,10 +20,6 @@ pub record IsReadAs (bytes : List ℕ) (frames : List Frame) : Type 0 where
   pub reads : Frames Any bytes frames []
   pub once : (others : List Frame) (rest : List ℕ) → Frames Any bytes others rest → (others ≡ frames) × (rest ≡ [])
   pub sound : (at : ℕ) (why : FrameReason) → Bad Any bytes at why → ⊥
-
--- the frames of a journal
-abbrev pub frames_behind : Start → Journal → List Frame
-frames_behind start journal = frames_of start (history_of start journal)
 
 -- the output is read as the frames that the journal stands for
 abbrev pub IsReadBack : Start → Journal → Type 0

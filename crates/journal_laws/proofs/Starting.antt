@@ -302,5 +302,5 @@ start_apart lists apart sound = record {
   mounted = All-map (AreMounted (start_of lists)) (tree_of lists) (range_with_len 0 (length lists.servers)) (always (λ server. AreMounted (start_of lists) (tree_of lists server)) (λ server. tree_rows lists server apart) (range_with_len 0 (length lists.servers)));
 }
 
-pub starts_are_sound : (lists : Lists) → AreAccepted lists → IsStart (start_of lists)
-starts_are_sound lists accepted = start_apart lists (lists_apart lists accepted) (start_sound lists accepted)
+pub accepted_starts_are_starts : (lists : Lists) → AreAccepted lists → IsStart (start_of lists)
+accepted_starts_are_starts lists accepted = start_apart lists (lists_apart lists accepted) (start_sound lists accepted)

@@ -152,8 +152,8 @@ SessionsServeAll =
     (start : Start) (by : Mode) (frames : List Frame) → IsStart start → All (IsFrame ToServers) frames → IsDrained (history_of start (ended start by frames))
 
 -- the start of each accepted tree
-abbrev pub StartsAreSound : Type 0
-StartsAreSound = (lists : Lists) → AreAccepted lists → IsStart (start_of lists)
+abbrev pub AcceptedStartsAreStarts : Type 0
+AcceptedStartsAreStarts = (lists : Lists) → AreAccepted lists → IsStart (start_of lists)
 
 -- what goes on behind a mount waits behind all others
 abbrev pub WhatGoesOnWaits : Type 0

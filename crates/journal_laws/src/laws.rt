@@ -3,7 +3,7 @@
 ghost use Rattle.fidl_wire.specs.Names.{AreDistinct};
 ghost use Rattle.journal_laws.specs.Carrying.{ServingsBindWhatTheyCarry};
 ghost use Rattle.journal_laws.specs.Laws.{HangUpsWait, PlacesRise, RefusalsChangeNothing, SendingsWaitLast, ServedOnce, ServingsTakeEffect, WhatIsSentWaits};
-ghost use Rattle.journal_laws.specs.Soundness.{DeathsReachAll, DrainsServeAll, EndpointsAreInTransit, EndpointsAreKnown, ServingsLowerTheWeight, SessionsAreLawful, SessionsServeAll, StartsAreSound, WhatGoesOnWaits};
+ghost use Rattle.journal_laws.specs.Soundness.{AcceptedStartsAreStarts, DeathsReachAll, DrainsServeAll, EndpointsAreInTransit, EndpointsAreKnown, ServingsLowerTheWeight, SessionsAreLawful, SessionsServeAll, WhatGoesOnWaits};
 
 use fidl_wire::body_is_read_where_spelled;
 use io_messages::written_request_is_read;
@@ -111,9 +111,9 @@ pub fn sessions_serve_all()
     path_laws();
 }
 
-/// The start of each tree file that is read has its endpoints apart.
-pub fn starts_are_sound()
-    ensures { StartsAreSound }
+/// The start of each tree file that is read is a start as the laws of journals want it.
+pub fn accepted_starts_are_starts()
+    ensures { AcceptedStartsAreStarts }
 {}
 
 /// In a lawful journal what is sent next waits behind all others, where its endpoint isn't dead.

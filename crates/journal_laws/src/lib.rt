@@ -16,11 +16,10 @@ pub use knowing::{
     spent_tokens_are_out, starts_are_known, starts_of_files_are_numbered,
 };
 pub use laws::{
-    deaths_reach_all, drains_serve_all, endpoints_are_in_transit, endpoints_are_known,
-    hang_ups_wait, places_rise, refusals_change_nothing, sendings_wait_last, served_once,
-    servings_bind_what_they_carry, servings_lower_the_weight, servings_take_effect,
-    sessions_are_lawful, sessions_serve_all, starts_are_sound, what_goes_on_waits,
-    what_is_sent_waits,
+    accepted_starts_are_starts, deaths_reach_all, drains_serve_all, endpoints_are_in_transit,
+    endpoints_are_known, hang_ups_wait, places_rise, refusals_change_nothing, sendings_wait_last,
+    served_once, servings_bind_what_they_carry, servings_lower_the_weight, servings_take_effect,
+    sessions_are_lawful, sessions_serve_all, what_goes_on_waits, what_is_sent_waits,
 };
 pub use viewing::{
     connections_are_few, reached_views_go_on, reached_views_hear, refusals_are_viewed,

@@ -6,7 +6,7 @@ use Rattle.std.proofs.lemmas.Bool.Decides.{nat_tests}
 use Rattle.vfs_journal.specs.Entries.{Sent}
 use Rattle.message_queues.specs.Queues.{Queues, head_of, queue_of, server_of}
 use Rattle.message_queues.specs.Oldest.{IsBound, IsBoundAt, IsOldest, NothingWaits}
-use Rattle.message_queues.specs.Steps.{Heads, IsKept, IsLeast, IsLeastBelow, head_at, heads_of, older, turn_by, turn_of}
+use Rattle.message_queues.specs.Steps.{Heads, IsKept, IsLeast, head_at, heads_of, older, turn_by, turn_of}
 use Rattle.message_queues.proofs.Turns.{turn_parts}
 
 some_is : {A : Type 0} (o : Option A) (x : A) → o ≡ Some x → IsSome o
@@ -50,6 +50,13 @@ oldest_at q heads counted server (Some head) kept least =
     }
 
 -- ---- over all servers
+
+-- the least place among the heads of the first so many servers, or that nothing stands there
+abbrev pub IsLeastBelow : List Heads → ℕ → Option (ℕ × ℕ) → Type 0
+IsLeastBelow heads servers None = (server place : ℕ) → server < servers → head_at heads (server, place) ≡ None
+IsLeastBelow heads servers (Some head) =
+    ((server : ℕ) × (server < servers) × (head_at heads (server, head.0) ≡ Some head.1))
+    × ((server place : ℕ) → server < servers → IsSome (head_at heads (server, place)) → head.0 ≤ place)
 
 pub least_none : (heads : List Heads) → IsLeastBelow heads 0 None
 least_none heads = λ server place low. absurd (omega arith)

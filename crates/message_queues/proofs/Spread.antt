@@ -12,7 +12,7 @@ use Rattle.vfs_journal.specs.Entries.{Sent, endpoints_in}
 use Rattle.vfs_journal.specs.Handles.{numbers_of}
 use Rattle.message_queues.specs.Queues.{Queues, queue_of}
 use Rattle.message_queues.specs.Dying.{AreDeaths, HasAll, IsClosed}
-use Rattle.message_queues.specs.Steps.{Adds, IsSpread}
+use Rattle.message_queues.specs.Steps.{Adds}
 use Rattle.message_queues.proofs.Numbers.{among-append, among-one, either, itself, same_number}
 
 -- ---- additions
@@ -176,6 +176,14 @@ lower : (i n : ℕ) → i < n + 1 → (i == n) ≡ false → i < n
 lower i n low apart = grind (arith, nat_tests)
 
 -- ---- the work list
+
+-- so far who dies was found: what waits on the first so many of them carries no other endpoint
+pub record IsSpread (queues : Queues) (firsts found : List ℕ) (done : ℕ) : Type 0 where
+  pub first : HasAll (λ endpoint. among endpoint found) firsts
+  pub closed : (index endpoint : ℕ) → index < done → slice_get found index ≡ Some endpoint →
+      HasAll (λ other. among other found) (flat_map endpoints_in (queue_of queues endpoint))
+  pub least : (set : ℕ → Bool) → HasAll set firsts → IsClosed queues set → HasAll set found
+  pub within : done ≤ length found
 
 pub spread_first : (q : Queues) (firsts found : List ℕ) → Adds firsts [] found → IsSpread q firsts found 0
 spread_first q firsts found adds = record {

@@ -1,5 +1,5 @@
 -- Words of the steps: which first entries are kept in order, and what every value keeps. No public clause cites them.
-use Rattle.std.specs.Prelude.{◌≡◌, ◌↔◌, ◌≤◌, ◌<◌, ◌^◌, ◌++◌, ◌||◌, ◌==◌, ℕ, Bool, true, false, List, [], ◌∷◌, IsSome, drop, filter, flat_map, get_or, is_none, length, map, nat_eq, nat_lt, not, set, slice_get, Option, Some, None, if◌then◌else◌}
+use Rattle.std.specs.Prelude.{◌≡◌, ◌↔◌, ◌≤◌, ◌<◌, ◌^◌, ◌++◌, ◌||◌, ◌==◌, ℕ, true, false, List, [], ◌∷◌, IsSome, drop, filter, get_or, is_none, length, map, nat_eq, nat_lt, not, set, slice_get, Option, Some, None, if◌then◌else◌}
 use Rattle.std.specs.FinMap as finite
 use Rattle.std.specs.List.{IsDistinct, list_any}
 use Rattle.std.specs.Map.{keys_of}
@@ -8,8 +8,7 @@ use Rattle.std.specs.Prelude.{eqb}
 use Rattle.std.specs.BTreeMap.{is_at}
 use Rattle.fidl_names.specs.declared.limits.TheConstants as limit
 use Rattle.endpoint_link.specs.Numbering.{among}
-use Rattle.vfs_journal.specs.Entries.{Sent, endpoints_in}
-use Rattle.message_queues.specs.Dying.{HasAll, IsClosed}
+use Rattle.vfs_journal.specs.Entries.{Sent}
 use Rattle.message_queues.specs.Queues.{Mailbox, Queues, count, head_of, queue_of, server_of}
 
 -- of one server, for a place the endpoint whose first entry stands there
@@ -134,18 +133,3 @@ without_place place line = filter (λ head. not (head.0 == place)) line
 abbrev pub IsLeast : Heads → Option (ℕ × ℕ) → Type 0
 IsLeast heads None = (place : ℕ) → finite.get heads place ≡ None
 IsLeast heads (Some head) = (finite.get heads head.0 ≡ Some head.1) × ((place : ℕ) → IsSome (finite.get heads place) → head.0 ≤ place)
-
--- the same over the first so many servers
-abbrev pub IsLeastBelow : List Heads → ℕ → Option (ℕ × ℕ) → Type 0
-IsLeastBelow heads servers None = (server place : ℕ) → server < servers → head_at heads (server, place) ≡ None
-IsLeastBelow heads servers (Some head) =
-    ((server : ℕ) × (server < servers) × (head_at heads (server, head.0) ≡ Some head.1))
-    × ((server place : ℕ) → server < servers → IsSome (head_at heads (server, place)) → head.0 ≤ place)
-
--- so far who dies was found: what waits on the first so many of them carries no other endpoint
-pub record IsSpread (queues : Queues) (firsts found : List ℕ) (done : ℕ) : Type 0 where
-  pub first : HasAll (λ endpoint. among endpoint found) firsts
-  pub closed : (index endpoint : ℕ) → index < done → slice_get found index ≡ Some endpoint →
-      HasAll (λ other. among other found) (flat_map endpoints_in (queue_of queues endpoint))
-  pub least : (set : ℕ → Bool) → HasAll set firsts → IsClosed queues set → HasAll set found
-  pub within : done ≤ length found

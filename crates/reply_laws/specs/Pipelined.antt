@@ -1,16 +1,14 @@
 -- What was sent on an endpoint and which replies were written on it, looking back.
-use Rattle.std.specs.Prelude.{◌≡◌, ℕ, ◌==◌, ◌&&◌, Bool, true, false, not, List, [], ◌∷◌, filter, filter_map, find, reverse, Option}
+use Rattle.std.specs.Prelude.{◌≡◌, ℕ, ◌==◌, ◌&&◌, Bool, not, List, [], ◌∷◌, filter, filter_map, find, reverse, Option}
 use Rattle.std.specs.List.{list_any}
 use Rattle.std.specs.Option.{option_map_or}
-use Rattle.endpoint_link.specs.declared.kinds.FrameKind.{FrameKind}
-use Rattle.endpoint_link.specs.declared.kinds.FrameKind.TheVariants as kind
 use Rattle.endpoint_link.specs.Frames.{Frame}
-use Rattle.fidl_names.specs.Numbers.{number_at}
+use Rattle.endpoint_link.specs.Numbers.{word_in}
 use Rattle.fidl_names.specs.declared.statuses.Status.{Status}
 use Rattle.vfs_journal.specs.Entries.{Sent, Sending, message, hang_up}
 use Rattle.vfs_journal.specs.History.{Event, History, all_sent, births, is_watcher, served_by, serves_place, was_served}
 use Rattle.vfs_journal.specs.Outcomes.{ending}
-use Rattle.vfs_journal.specs.Output.{frames_of}
+use Rattle.vfs_journal.specs.Output.{frames_of, is_message}
 use Rattle.vfs_journal.specs.Starts.{Start}
 
 -- ---- what was sent on an endpoint
@@ -38,7 +36,7 @@ was_watcher start history endpoint = list_any (λ bound. (bound.endpoint == endp
 
 -- the transaction id of a message: the number in its first four bytes
 abbrev pub txid_in : List ℕ → ℕ
-txid_in bytes = number_at 4 0 bytes
+txid_in bytes = word_in bytes
 
 abbrev pub txid_of : Sending → ℕ
 txid_of (message bytes handles) = txid_in bytes
@@ -47,10 +45,6 @@ txid_of hang_up = 0
 -- a message with a transaction id other than 0 asks for a reply
 abbrev pub is_two_way : Sending → Bool
 is_two_way sending = not (txid_of sending == 0)
-
-abbrev pub is_message : FrameKind → Bool
-is_message kind.Message = true
-is_message _ = false
 
 -- a reply is a Message with a transaction id other than 0. An epitaph has none, nor has the announcement of what an endpoint was bound to,
 -- and Close and Refused frames are no messages. What a watcher is told has no header at all, so that this tells replies only on endpoints

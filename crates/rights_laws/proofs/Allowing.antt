@@ -29,12 +29,15 @@ pub has_right : (b : Bool) → not b ≡ false → b ≡ true
 has_right true e = refl
 has_right false e = absurd (cc)
 
--- a method that isn't refused has the right that it needs
-pub right_there : (context : Context) (request : Asked) (operation : Operation) → needed_by (method_of request) ≡ Some (single operation) → first_of (method_refusals context.birth (method_of request)) ≡ None → is_within (single operation) context.birth.rights ≡ true
-right_there context request operation needs e =
-    let lacks' : lacks_right context.birth (method_of request) ≡ not (is_within (single operation) context.birth.rights) = ap (λ (o : Option OperationSet). option_map_or (lacks context.birth.rights) o false) needs in
+-- a method that isn't refused has the rights that it needs
+pub rights_there : (context : Context) (request : Asked) (needed : OperationSet) → needed_by (method_of request) ≡ Some needed → first_of (method_refusals context.birth (method_of request)) ≡ None → is_within needed context.birth.rights ≡ true
+rights_there context request needed needs e =
+    let lacks' : lacks_right context.birth (method_of request) ≡ not (is_within needed context.birth.rights) = ap (λ (o : Option OperationSet). option_map_or (lacks context.birth.rights) o false) needs in
     let passes = second_passes (cause_if (is_beyond context.birth.protocol (method_of request)) status.BadHandle) (lacks_right context.birth (method_of request)) status.BadHandle e in
-    has_right (is_within (single operation) context.birth.rights) (sym lacks' ∙ passes)
+    has_right (is_within needed context.birth.rights) (sym lacks' ∙ passes)
+
+pub right_there : (context : Context) (request : Asked) (operation : Operation) → needed_by (method_of request) ≡ Some (single operation) → first_of (method_refusals context.birth (method_of request)) ≡ None → is_within (single operation) context.birth.rights ≡ true
+right_there context request operation = rights_there context request (single operation)
 
 -- what changes a tree, or has this
 abbrev StaysOr : Type 0 → Act → Type 0

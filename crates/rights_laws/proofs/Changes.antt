@@ -78,7 +78,7 @@ stepped_tail start entry rest (refusing earlier endpoint why h) = h
 stepped_tail start entry rest (sending earlier one h at) = h
 stepped_tail start entry rest (serving earlier one h first) = h
 
-stepped_before : (start : Start) (later past : Journal) → Stepped start (later ++ past) → Stepped start past
+pub stepped_before : (start : Start) (later past : Journal) → Stepped start (later ++ past) → Stepped start past
 stepped_before start [] past h = h
 stepped_before start (entry ∷ later) past h = stepped_before start later past (stepped_tail start entry (later ++ past) h)
 

@@ -13,4 +13,6 @@ mod Allowing
 mod Opening
 mod TokensGiven
 pub mod Changes
+pub mod Tokens
+pub mod Answering
 pub mod Narrow

@@ -29,7 +29,7 @@ use Rattle.journal_laws.proofs.Members.{contains_none, found, kept_of}
 use Rattle.journal_laws.proofs.Places.{head_is}
 use Rattle.journal_laws.proofs.Stepping.{Stepped, none, refusing, sending, serving}
 use Rattle.journal_laws.proofs.Steps.{refusals_change_nothing, sendings_wait_last, servings_take_effect}
-use Rattle.rights_laws.specs.Authority.{EachHas, IsGivenWith}
+use Rattle.rights_laws.specs.Authority.{EachHas, IsGivenWith, IsGivenWithAuthority}
 use Rattle.rights_laws.specs.Lineage.{lineage_of}
 use Rattle.rights_laws.proofs.Allowing.{right_there}
 use Rattle.rights_laws.proofs.Heard.{Heard, heard, unheard, sending_heard}
@@ -38,16 +38,20 @@ use Rattle.rights_laws.proofs.Served.{the_one}
 
 -- ---- what gives a token
 
+-- the token with this number, of the asker's directory
+abbrev token_with : ℕ → Asker → Given
+token_with number asker = record { token = number; endpoint = asker.endpoint; server = asker.server; node = asker.node }
+
 record GivesToken (asker : Asker) (answer : Answer) (given : Given) : Type 0 where
   number : ℕ
   is : answer ≡ replies (answered.token number)
-  on : given.endpoint ≡ asker.endpoint
+  whole : token_with number asker ≡ given
 
-same_given : (x y : Given) → Some x ≡ Some y → y.endpoint ≡ x.endpoint
-same_given x y e = let same : y ≡ x = cc in ap (λ (g : Given). g.endpoint) same
+same_given : {x y : Given} → Some x ≡ Some y → x ≡ y
+same_given e = cc
 
 reply_gives : (asker : Asker) (a : Answered) (given : Given) → token_in asker a ≡ Some given → GivesToken asker (replies a) given
-reply_gives asker (answered.token number) given e = record { number = number; is = refl; on = same_given _ given e }
+reply_gives asker (answered.token number) given e = record { number = number; is = refl; whole = same_given e }
 reply_gives asker (answered.done m) given e = absurd (cc)
 reply_gives asker (answered.fails m s) given e = absurd (cc)
 reply_gives asker (answered.counted m x) given e = absurd (cc)
@@ -78,23 +82,30 @@ token_needs : (moment : Moment) (request : Asked) (number : ℕ) → (request_ac
 token_needs moment asks.get_token number e = row_needs (context_at moment) number e
 token_needs moment request number e = absurd (subst (IsAnswer moment.room moment.tree request) e (act_answers (context_at moment) request).0)
 
-record IsAllowedToken (bound : Bound) (given : Given) : Type 0 where
-  on : given.endpoint ≡ bound.endpoint
-  has : is_within (single op.ModifyDirectory) bound.birth.rights ≡ true
+-- it is of the endpoint and the directory of a connection that has MODIFY_DIRECTORY
+pub record IsGivenBy (bound : Bound) (given : Given) : Type 0 where
+  pub endpoint : bound.endpoint ≡ given.endpoint
+  pub server : bound.server ≡ given.server
+  pub node : bound.birth.node ≡ given.node
+  pub has : is_within (single op.ModifyDirectory) bound.birth.rights ≡ true
 
-given_by : (moment : Moment) (sending' : Sending) (outcome : Outcome) (given : Given) → Heard moment sending' outcome → outcome.token ≡ Some given → IsAllowedToken moment.bound given
+given_by : (moment : Moment) (sending' : Sending) (outcome : Outcome) (given : Given) → Heard moment sending' outcome → outcome.token ≡ Some given → IsGivenBy moment.bound given
 given_by moment sending' outcome given (unheard binds' onward nothing change) e = absurd (let wrong : None ≡ Some given = sym nothing ∙ e in cc)
 given_by moment sending' outcome given (heard bytes handles txid request is read whole) e =
     let token = gives_token (asker_of moment.bound txid (object_of request)) (request_act moment request).answer given (sym (ap (λ (o : Outcome). o.token) whole) ∙ e) in
-    record { on = token.on; has = token_needs moment request token.number token.is }
+    record {
+      endpoint = ap (λ (g : Given). g.endpoint) token.whole;
+      server = ap (λ (g : Given). g.server) token.whole;
+      node = ap (λ (g : Given). g.node) token.whole;
+      has = token_needs moment request token.number token.is;
+    }
 
 -- ---- what was given
 
 pub record IsGivenOn (start : Start) (history : History) (given : Given) : Type 0 where
   pub bound : Bound
   pub born : Contains (births start history) bound
-  pub on : given.endpoint ≡ bound.endpoint
-  pub has : is_within (single op.ModifyDirectory) bound.birth.rights ≡ true
+  pub by : IsGivenBy bound given
 
 abbrev pub AreGiven : Start → History → Type 0
 AreGiven start history = (given : Given) → Contains (all_given history) given → IsGivenOn start history given
@@ -102,7 +113,7 @@ AreGiven start history = (given : Given) → Contains (all_given history) given 
 same_given_on : (start : Start) (now past : History) → HasSameEndpoints start now past → AreGiven start past → AreGiven start now
 same_given_on start now past same h given there =
     let one = h given (subst (λ (tokens : List Given). Contains tokens given) same.tokens there) in
-    record { bound = one.bound; born = subst (λ (bounds : List Bound). Contains bounds one.bound) (sym same.born) one.born; on = one.on; has = one.has }
+    record { bound = one.bound; born = subst (λ (bounds : List Bound). Contains bounds one.bound) (sym same.born) one.born; by = one.by }
 
 served_given : (start : Start) (past : History) (k : Sent) → head start past k.endpoint ≡ Some k → AreGiven start past → AreGiven start (behind start (serves k) past)
 unfolding event_of
@@ -119,11 +130,13 @@ served_given start past k first h given there =
           Contains (all_given past) given ⊎ Contains (option_to_list (outcome_of start past k).token) given → IsGivenOn start (behind start (serves k) past) given
       by_side b born whole more (inl old) =
           let one = h given old in
-          record { bound = one.bound; born = still_born one.bound one.born more; on = one.on; has = one.has }
-      by_side b born whole more (inr new) =
-          let token = given_by (moment_of start past b) k.sending (outcome_of_sending (moment_of start past b) k.sending) given (sending_heard (moment_of start past b) k.sending)
-          (sym (ap (λ (o : Outcome). o.token) whole) ∙ the_one (outcome_of start past k).token given new) in
-          record { bound = b; born = still_born b born more; on = token.on; has = token.has }
+          record { bound = one.bound; born = still_born one.bound one.born more; by = one.by }
+      by_side b born whole more (inr new) = record {
+        bound = b;
+        born = still_born b born more;
+        by = given_by (moment_of start past b) k.sending (outcome_of_sending (moment_of start past b) k.sending) given (sending_heard (moment_of start past b) k.sending)
+            (sym (ap (λ (o : Outcome). o.token) whole) ∙ the_one (outcome_of start past k).token given new);
+      }
 
 pub are_given : (start : Start) (journal : Journal) → Stepped start journal → AreGiven start (history_of start journal)
 unfolding history_of
@@ -134,20 +147,28 @@ are_given start journal (sending earlier one h at) =
     same_given_on start _ (history_of start earlier) (sendings_wait_last start (history_of start earlier) one).same (are_given start earlier h)
 are_given start journal (serving earlier one h first) = served_given start (history_of start earlier) one first (are_given start earlier h)
 
+pub given_with_authority : (start : Start) (history : History) (given : Given) → Holds start history → IsGivenOn start history given → IsGivenWithAuthority start history given
+given_with_authority start history given holds one = record {
+  bound = one.bound;
+  born = one.born;
+  endpoint = one.by.endpoint;
+  server = one.by.server;
+  node = one.by.node;
+  allowed = subst (λ (n : ℕ). EachHas op.ModifyDirectory (lineage_of start history n)) one.by.endpoint
+      (All-weaker (λ member. IsTrue (is_within one.bound.birth.rights member)) (λ member. IsTrue (is_within (single op.ModifyDirectory) member))
+      (λ member own. within_trans (single op.ModifyDirectory) one.bound.birth.rights member one.by.has own) (lineage_of start history one.bound.endpoint) (holds.rights one.bound one.born));
+}
+
 -- ---- the directory of a token
 
 target_by : (start : Start) (past : History) (server token target : ℕ) → Holds start past → AreGiven start past → (o : Option Given) → find (λ given. given.token == token) (all_given past) ≡ o →
     option_map_or (λ given. if given.server == server then Some given.node else None) o None ≡ Some target → IsGivenWith start past token
 target_by start past server token target holds given None first e = absurd (cc)
-target_by start past server token target holds given (Some one) first e =
-    let on = given one (found (λ given. given.token == token) (all_given past) one first).0 in
-    record {
-      given = one;
-      first = first;
-      allowed = subst (λ (n : ℕ). EachHas op.ModifyDirectory (lineage_of start past n)) (sym on.on)
-          (All-weaker (λ member. IsTrue (is_within on.bound.birth.rights member)) (λ member. IsTrue (is_within (single op.ModifyDirectory) member))
-          (λ member own. within_trans (single op.ModifyDirectory) on.bound.birth.rights member on.has own) (lineage_of start past on.bound.endpoint) (holds.rights on.bound on.born));
-    }
+target_by start past server token target holds given (Some one) first e = record {
+  given = one;
+  first = first;
+  authority = given_with_authority start past one holds (given one (found (λ given. given.token == token) (all_given past) one first).0);
+}
 
 pub target_given : (start : Start) (past : History) (server token target : ℕ) → Holds start past → AreGiven start past → directory_of past server token ≡ Some target → IsGivenWith start past token
 target_given start past server token target holds given e =

@@ -8,7 +8,7 @@ use Rattle.io_rights.specs.Operations.{OperationSet, has, single}
 use Rattle.node_graph.specs.Tree.{Change, make, fill, stay}
 use Rattle.dir_conn.specs.Laws.{masks_of}
 use Rattle.vfs_journal.specs.Entries.{Journal, Sent, serves}
-use Rattle.vfs_journal.specs.History.{History, bound_at}
+use Rattle.vfs_journal.specs.History.{History, births, bound_at}
 use Rattle.vfs_journal.specs.Lawful.{Lawful}
 use Rattle.vfs_journal.specs.Outcomes.{Given}
 use Rattle.vfs_journal.specs.Past.{history_of}
@@ -23,11 +23,21 @@ use Rattle.rights_laws.specs.Rights.{AreWithinEach}
 abbrev pub EachHas : Operation → List OperationSet → Type 0
 EachHas operation members = AreWithinEach (single operation) members
 
--- a token was given, on an endpoint of whose lineage each member has MODIFY_DIRECTORY, its own rights among them
+-- a token was given on an endpoint that is or was bound to the directory that it names, and of whose lineage each member has
+-- MODIFY_DIRECTORY, its own rights among them
+pub record IsGivenWithAuthority (start : Start) (history : History) (given : Given) : Type 0 where
+  pub bound : Bound
+  pub born : Contains (births start history) bound
+  pub endpoint : bound.endpoint ≡ given.endpoint
+  pub server : bound.server ≡ given.server
+  pub node : bound.birth.node ≡ given.node
+  pub allowed : EachHas op.ModifyDirectory (lineage_of start history given.endpoint)
+
+-- a token with this number was given, with authority
 pub record IsGivenWith (start : Start) (history : History) (token : ℕ) : Type 0 where
   pub given : Given
   pub first : find (λ given. given.token == token) (all_given history) ≡ Some given
-  pub allowed : EachHas op.ModifyDirectory (lineage_of start history given.endpoint)
+  pub authority : IsGivenWithAuthority start history given
 
 -- a request that makes this change, and what authority each has: to write or resize, each member of the lineage, and so the connection itself
 -- and each on the way, has WRITE_BYTES; to take out, add or move a name MODIFY_DIRECTORY, and so for the token that names where to; to make a
@@ -70,7 +80,17 @@ abbrev pub NarrowChangesNothing : Start → History → Sent → Type 0
 NarrowChangesNothing start past sent =
     (first : Bound) → Contains start.firsts first → sent_from past sent ≡ first.endpoint → IsNarrow first → (outcome_of start past sent).change ≡ stay
 
--- ---- of each serving of a session, whatever came later
+-- ---- at one time
+
+-- each token that was given was given with authority
+abbrev pub TokensHaveAuthority : Start → History → Type 0
+TokensHaveAuthority start history = (given : Given) → Contains (all_given history) given → IsGivenWithAuthority start history given
+
+-- ---- at each time `past` of a session, and of each serving, whatever came later
+
+abbrev pub TokensAreGivenWithAuthority : Type 0
+TokensAreGivenWithAuthority =
+    (start : Start) (later past : Journal) → IsStart start → Lawful start (later ++ past) → TokensHaveAuthority start (history_of start past)
 
 abbrev pub ChangesAreAllowed : Type 0
 ChangesAreAllowed =

@@ -2,3 +2,4 @@
 pub mod Lineage
 pub mod Rights
 pub mod Authority
+pub mod Answering

@@ -12,6 +12,7 @@ use Rattle.frame_laws.proofs.Begun.{starts_have_bytes}
 use Rattle.tree_file.specs.Accepted.{AreAccepted, HasFilesOfBytes}
 use Rattle.tree_file.specs.Items.{Lists}
 use Rattle.vfs_journal.specs.Entries.{Journal}
+use Rattle.vfs_journal.specs.Output.{frames_behind}
 use Rattle.vfs_journal.specs.Past.{history_of}
 use Rattle.vfs_journal.specs.Session.{session, steps}
 use Rattle.vfs_journal.specs.Starts.{Start, start_of}
@@ -19,7 +20,7 @@ use Rattle.vfs_script.proofs.ScriptFacts.{script_frames}
 use Rattle.vfs_script.specs.Kept.{ScriptValue}
 use Rattle.vfs_script.specs.Scripts.{frame_of, frames_of, script_lines}
 use Rattle.vfs_session.specs.World.{LeadsTo, StandsFor, World}
-use Rattle.script_session.specs.Playing.{frames_by, frames_since}
+use Rattle.script_session.specs.Playing.{frames_since}
 use Rattle.script_session.specs.Steps.{IsScript}
 use Rattle.script_session.specs.Tallies.{Metered, Tallies}
 use Rattle.script_session.specs.declared.tally.Tally.{Tally}
@@ -37,7 +38,7 @@ pub spelled_both : (before more : List Frame) → spellings before ++ spellings 
 spelled_both before more = sym (flat_map-append spelling before more)
 
 -- nothing was heard yet
-none_by : (start : Start) → frames_by start [] ≡ []
+none_by : (start : Start) → frames_behind start [] ≡ []
 unfolding history_of
 none_by start = refl
 
@@ -65,7 +66,7 @@ metered_on start journal later old new tally tally' before after bytes none is m
       bytes = metered.bytes;
       stands = led.stands;
       tallies = subst (λ (frames : List Frame). Tallies frames tally') (sym back.grown)
-          (takes (frames_by start journal) since metered.tallies back.each (is ∙ back.written ∙ ap (λ l. l ++ spellings since) none));
+          (takes (frames_behind start journal) since metered.tallies back.each (is ∙ back.written ∙ ap (λ l. l ++ spellings since) none));
     }
 
 -- ---- frame by frame

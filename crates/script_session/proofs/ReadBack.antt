@@ -17,12 +17,13 @@ use Rattle.journal_laws.specs.Soundness.{IsStart}
 use Rattle.path_walk.proofs.PathLemmas.{path_complete, path_sound}
 use Rattle.vfs_journal.specs.Entries.{Journal}
 use Rattle.vfs_journal.specs.Lawful.{Lawful}
+use Rattle.vfs_journal.specs.Output.{frames_behind}
 use Rattle.vfs_journal.specs.Session.{steps}
 use Rattle.vfs_journal.specs.Starts.{Start}
 use Rattle.vfs_script.specs.Scripts.{Spoken, frame_of}
 use Rattle.vfs_session.specs.World.{LeadsTo, StandsFor, World}
 use Rattle.io_client.specs.Calls.{Calls}
-use Rattle.script_session.specs.Playing.{Played, frames_by, frames_since}
+use Rattle.script_session.specs.Playing.{Played, frames_since}
 use Rattle.script_session.specs.Steps.{Plays}
 
 -- all that a lawful journal writes are frames, those of its history one after the other
@@ -40,12 +41,12 @@ output_is_frames distinct =
 
 -- these frames come back, and the bytes of the output spell them
 pub record ComesBack (start : Start) (earlier later : Journal) (before after : List ℕ) : Type 0 where
-  pub grown : frames_by start later ≡ frames_by start earlier ++ frames_since start earlier later
+  pub grown : frames_behind start later ≡ frames_behind start earlier ++ frames_since start earlier later
   pub each : All (IsFrame side.Any) (frames_since start earlier later)
   pub written : after ≡ before ++ spellings (frames_since start earlier later)
 
-since_is : (start : Start) (earlier later : Journal) (more : List Frame) → frames_by start later ≡ frames_by start earlier ++ more → frames_since start earlier later ≡ more
-since_is start earlier later more grown = ap (drop (length (frames_by start earlier))) grown ∙ drop-append_seam (frames_by start earlier) more
+since_is : (start : Start) (earlier later : Journal) (more : List Frame) → frames_behind start later ≡ frames_behind start earlier ++ more → frames_since start earlier later ≡ more
+since_is start earlier later more grown = ap (drop (length (frames_behind start earlier))) grown ∙ drop-append_seam (frames_behind start earlier) more
 
 pub comes_back : (start : Start) (earlier later : Journal) (new : World) (before after : List ℕ) → AreDistinct → BeginsWithBytes start → IsStart start → Lawful start earlier →
     LeadsTo start later new earlier before after → ComesBack start earlier later before after
@@ -54,7 +55,7 @@ comes_back start earlier later new before after distinct bytes sound lawful led 
     let same = since_is start earlier later are.more are.grown in
     let spelled : led.part ≡ spellings are.more = are.read.reads.split ∙ append-nil (spellings are.more) in
     record {
-      grown = are.grown ∙ ap (λ l. frames_by start earlier ++ l) (sym same);
+      grown = are.grown ∙ ap (λ l. frames_behind start earlier ++ l) (sym same);
       each = subst (All (IsFrame side.Any)) (sym same) are.read.each;
       written = led.written ∙ ap (λ l. before ++ l) (spelled ∙ ap spellings (sym same));
     }

@@ -5,6 +5,7 @@ use Rattle.std.proofs.lemmas.List.Concat.{flat_map-append}
 use Rattle.std.specs.List.{flat_map}
 use Rattle.endpoint_link.specs.declared.kinds.Mode.{Mode}
 use Rattle.vfs_journal.specs.Entries.{Journal}
+use Rattle.vfs_journal.specs.Output.{frames_behind}
 use Rattle.vfs_journal.specs.Past.{history_of}
 use Rattle.vfs_journal.specs.Session.{drained, ended, steps}
 use Rattle.vfs_journal.specs.Starts.{Start}
@@ -12,18 +13,18 @@ use Rattle.vfs_script.specs.Scripts.{Spoken, call_in, calls_of, count_calls, fra
 use Rattle.vfs_script.specs.Transcripts.{counts_line, frame_line}
 use Rattle.transcripts.specs.Answering.{Past, sends, count_answers, count_calls as calls_made}
 use Rattle.transcripts.specs.Transcript.{lines_of, with_frames}
-use Rattle.script_session.specs.Playing.{Played, frames_by, frames_since, not_yet, play_all, play_line, play_lines, transcript}
+use Rattle.script_session.specs.Playing.{Played, frames_since, not_yet, play_all, play_line, play_lines, transcript}
 use Rattle.vfs_world.proofs.Growth.{Begins, begins_drained, begins_stepped}
 use Rattle.script_session.proofs.Played.{calls_are_made, frames_grow, frames_make_none, journal_is}
 
 -- all frames so far, as lines
 abbrev all_shown : Start → Journal → List ℕ
-all_shown start journal = flat_map frame_line (frames_by start journal)
+all_shown start journal = flat_map frame_line (frames_behind start journal)
 
-since_behind : (start : Start) (earlier later : Journal) → Begins start earlier later → frames_by start later ≡ frames_by start earlier ++ frames_since start earlier later
+since_behind : (start : Start) (earlier later : Journal) → Begins start earlier later → frames_behind start later ≡ frames_behind start earlier ++ frames_since start earlier later
 since_behind start earlier later begins =
     begins.1
-    ∙ ap (λ l. frames_by start earlier ++ l) (sym (ap (drop (length (frames_by start earlier))) begins.1 ∙ drop-append_seam (frames_by start earlier) begins.0))
+    ∙ ap (λ l. frames_behind start earlier ++ l) (sym (ap (drop (length (frames_behind start earlier))) begins.1 ∙ drop-append_seam (frames_behind start earlier) begins.0))
 
 -- what comes back behind an earlier journal is shown behind what was
 shown_more : (start : Start) (earlier later : Journal) (past : Past) → Begins start earlier later → lines_of past ≡ all_shown start earlier →
@@ -31,7 +32,7 @@ shown_more : (start : Start) (earlier later : Journal) (past : Past) → Begins 
 shown_more start earlier later past begins shown =
     frames_grow past (frames_since start earlier later)
     ∙ ap (λ l. l ++ flat_map frame_line (frames_since start earlier later)) shown
-    ∙ sym (flat_map-append frame_line (frames_by start earlier) (frames_since start earlier later))
+    ∙ sym (flat_map-append frame_line (frames_behind start earlier) (frames_since start earlier later))
     ∙ sym (ap (flat_map frame_line) (since_behind start earlier later begins))
 
 played_shown : (start : Start) (by : Mode) (played : Played) (lines : List Spoken) → lines_of played.past ≡ all_shown start played.journal →
@@ -58,10 +59,10 @@ calls_made_in start by lines =
 
 -- a transcript is the lines of all frames of the ended session, and then the counts
 pub transcript_is : (start : Start) (by : Mode) (text : List ℕ) →
-    transcript start by text ≡ flat_map frame_line (frames_by start (ended start by (frames_of text)))
+    transcript start by text ≡ flat_map frame_line (frames_behind start (ended start by (frames_of text)))
     ++ counts_line (count_calls (calls_of text)) (count_answers (play_all start by (script_lines text)))
 unfolding transcript
 transcript_is start by text =
     let lines = script_lines text in
     ap (λ l. l ++ counts_line (calls_made (play_all start by lines)) (count_answers (play_all start by lines))) (all_played start by lines)
-    ∙ ap (λ n. flat_map frame_line (frames_by start (ended start by (frames_of text))) ++ counts_line n (count_answers (play_all start by lines))) (calls_made_in start by lines)
+    ∙ ap (λ n. flat_map frame_line (frames_behind start (ended start by (frames_of text))) ++ counts_line n (count_answers (play_all start by lines))) (calls_made_in start by lines)

@@ -3,21 +3,16 @@ use Rattle.std.specs.Prelude.{ℕ, List, [], ◌∷◌, length, drop, fold}
 use Rattle.endpoint_link.specs.declared.kinds.Mode.{Mode}
 use Rattle.endpoint_link.specs.Frames.{Frame}
 use Rattle.vfs_journal.specs.Entries.{Journal}
-use Rattle.vfs_journal.specs.Output.{frames_of}
-use Rattle.vfs_journal.specs.Past.{history_of}
+use Rattle.vfs_journal.specs.Output.{frames_behind}
 use Rattle.vfs_journal.specs.Session.{drained, steps}
 use Rattle.vfs_journal.specs.Starts.{Start}
 use Rattle.vfs_script.specs.Scripts.{Spoken, call_in, frame_of, script_lines}
 use Rattle.transcripts.specs.Answering.{Past, sends}
 use Rattle.transcripts.specs.Transcript.{text_of, with_frames}
 
--- the frames that a journal stands for
-abbrev pub frames_by : Start → Journal → List Frame
-frames_by start journal = frames_of start (history_of start journal)
-
 -- those that a later journal has more
 abbrev pub frames_since : Start → Journal → Journal → List Frame
-frames_since start earlier later = drop (length (frames_by start earlier)) (frames_by start later)
+frames_since start earlier later = drop (length (frames_behind start earlier)) (frames_behind start later)
 
 -- how far a script is played: the session's journal, and what happened by then
 pub record Played : Type 0 where

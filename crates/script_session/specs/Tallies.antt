@@ -5,10 +5,10 @@ use Rattle.fidl_wire.specs.Names.{AreDistinct}
 use Rattle.frame_laws.specs.Bytes.{BeginsWithBytes}
 use Rattle.sha2.specs.Hashers.{Holds256}
 use Rattle.vfs_journal.specs.Entries.{Journal}
+use Rattle.vfs_journal.specs.Output.{frames_behind}
 use Rattle.vfs_journal.specs.Starts.{Start}
 use Rattle.vfs_session.specs.World.{StandsFor, World}
 use Rattle.script_session.specs.declared.tally.Tally.{Tally}
-use Rattle.script_session.specs.Playing.{frames_by}
 
 -- these frames were counted, and their bytes hashed
 pub record Tallies (all : List Frame) (tally : Tally) : Type 0 where
@@ -21,4 +21,4 @@ pub record Metered (start : Start) (journal : Journal) (world : World) (tally : 
   pub distinct : AreDistinct
   pub bytes : BeginsWithBytes start
   pub stands : StandsFor start world journal
-  pub tallies : Tallies (frames_by start journal) tally
+  pub tallies : Tallies (frames_behind start journal) tally

@@ -6,12 +6,12 @@ ghost use Rattle.endpoint_link.specs.Views.{frame_of};
 ghost use Rattle.endpoint_link.specs.declared.kinds.Side.TheVariants as side;
 ghost use Rattle.tree_file.specs.Accepted.{AreAccepted, HasFilesOfBytes};
 ghost use Rattle.vfs_journal.specs.Entries.{Journal};
+ghost use Rattle.vfs_journal.specs.Output.{frames_behind};
 ghost use Rattle.vfs_journal.specs.Session.{drained, session, steps};
 ghost use Rattle.vfs_journal.specs.Starts.{Start as TheStart, start_of};
 ghost use Rattle.vfs_script.specs.Scripts.{frames_of};
 ghost use Rattle.vfs_session.specs.World.{StandsFor};
 ghost use Rattle.script_session.specs.Measured.{Measures};
-ghost use Rattle.script_session.specs.Playing.{frames_by};
 ghost use Rattle.script_session.specs.Steps.{IsScript};
 ghost use Rattle.script_session.specs.Tallies.{Metered, Tallies};
 
@@ -107,7 +107,7 @@ impl Meter {
         requires few { self.tally.frames < 2 ^ 126 }
         requires small { self.tally.bytes < 2 ^ 126 }
         ensures { (start : TheStart) (journal : Journal) → Metered start journal self.world self.tally →
-            IfOk result (Measures (frames_by start (drained start journal))) }
+            IfOk result (Measures (frames_behind start (drained start journal))) }
     {
         self.outbox.clear();
         self.world.drain(&mut self.outbox)?;

@@ -28,13 +28,11 @@ pub fn run_script<F: Files, K: Sink>(
     files: &mut F,
     sink: &mut K,
 ) -> Status
-    ensures answers { AfterNames (sink.new ≡ sink.old)
-        (AfterTree tree.now (files_told F.told F.faults F.overlong files.old) (files_told F.told F.faults F.overlong files.new)
-        (sink.new ≡ sink.old)
-        (λ lists. AfterScript script.now (files_told F.told F.faults F.overlong files.old) (files_told F.told F.faults F.overlong files.new)
-        (sink.new ≡ sink.old)
-        (λ said. WritesPieces (transcript (start_of lists) said.by said.text)
-        (sink_told K.written K.flushed K.faults sink.old) (sink_told K.written K.flushed K.faults sink.new)))) result }
+    ensures answers { let told = files_told F.told F.faults F.overlong in
+        let wrote = sink_told K.written K.flushed K.faults in
+        AfterNames (sink.new ≡ sink.old) (AfterTree tree.now (told files.old) (told files.new) (sink.new ≡ sink.old)
+        (λ lists. AfterScript script.now (told files.old) (told files.new) (sink.new ≡ sink.old)
+        (λ said. WritesPieces (transcript (start_of lists) said.by said.text) (wrote sink.old) (wrote sink.new)))) result }
     ensures reads { ReadsOnly F.reads (tree.now ∷ script.now ∷ []) files.old files.new }
 {
     let ordinals = match Ordinals::new() {

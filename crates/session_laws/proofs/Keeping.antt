@@ -8,10 +8,12 @@ use Rattle.vfs_journal.specs.Entries.{Journal, serves}
 use Rattle.vfs_journal.specs.Lawful.{Lawful}
 use Rattle.vfs_journal.specs.Starts.{start_of}
 use Rattle.journal_laws.proofs.Places.{served_once}
-use Rattle.journal_laws.proofs.Starting.{starts_are_sound}
+use Rattle.journal_laws.proofs.Starting.{accepted_starts_are_starts}
+use Rattle.rights_laws.proofs.Answering.{answers_allowed}
 use Rattle.rights_laws.proofs.Changes.{changes_allowed}
 use Rattle.rights_laws.proofs.Narrow.{narrow_change_nothing}
 use Rattle.rights_laws.proofs.Times.{flags_stay, lineages_begin, rights_stay}
+use Rattle.rights_laws.proofs.Tokens.{tokens_given}
 use Rattle.reply_laws.proofs.Settled.{replies_are_in_order, rests_are_settled, served_is_answered}
 use Rattle.watch_laws.proofs.Knowing.{know_their_names}
 use Rattle.watch_laws.proofs.Seen.{die_of_no_change, told_their_sight}
@@ -31,6 +33,8 @@ lawful_keep apart start journal s h =
       flags = λ later past e. flags_stay under opens_narrow start later past s (lawful later past e);
       changes = λ later past sent e. changes_allowed under opens_narrow start later past sent s (lawful later (serves sent ∷ past) e);
       narrow = λ later past sent e. narrow_change_nothing under opens_narrow start later past sent s (lawful later (serves sent ∷ past) e);
+      answers = λ later past sent e. answers_allowed under opens_narrow start later past sent s (lawful later (serves sent ∷ past) e);
+      tokens = λ later past e. tokens_given under opens_narrow start later past s (lawful later past e);
       sight = λ later past e watcher there is. told_their_sight under start later past watcher s (lawful later past e) there is;
       deaths = λ later past sent e watcher there is dies. die_of_no_change under start later past sent watcher s (lawful later (serves sent ∷ past) e) there is dies;
       names = λ named later past e watcher there is asks. know_their_names under events_once start later past watcher s named (lawful later past e) there is asks;
@@ -51,5 +55,5 @@ lawful_over apart lists journal accepted h = record {
   accepted = accepted;
   named = starts_have_names lists accepted;
   lawful = h;
-  keeps = lawful_keep apart (start_of lists) journal (starts_are_sound lists accepted) h;
+  keeps = lawful_keep apart (start_of lists) journal (accepted_starts_are_starts lists accepted) h;
 }

@@ -9,7 +9,8 @@ use Rattle.vfs_journal.specs.Past.{history_of}
 use Rattle.vfs_journal.specs.Serving.{outcome_of}
 use Rattle.vfs_journal.specs.Starts.{Bound, Start}
 use Rattle.journal_laws.specs.Laws.{AreServedOnce}
-use Rattle.rights_laws.specs.Authority.{ChangeIsAllowed, NarrowChangesNothing}
+use Rattle.rights_laws.specs.Answering.{AnswerIsAllowed}
+use Rattle.rights_laws.specs.Authority.{ChangeIsAllowed, NarrowChangesNothing, TokensHaveAuthority}
 use Rattle.rights_laws.specs.Rights.{FlagsAreWithin, LineagesBegin, RightsAreWithin}
 use Rattle.reply_laws.specs.Laws.{ArePipelined, IsAnswered, IsSettled}
 use Rattle.reply_laws.specs.Pipelined.{served_on}
@@ -65,6 +66,10 @@ pub record KeepsLaws (start : Start) (journal : Journal) : Type 0 where
   -- each change of a tree was allowed all the way, and what comes from a narrow first connection changes nothing
   pub changes : AtEachServing journal (λ past sent. ChangeIsAllowed start (history_of start past) sent)
   pub narrow : AtEachServing journal (λ past sent. NarrowChangesNothing start (history_of start past) sent)
+  -- each request whose method needs a right is refused, or was allowed it all the way
+  pub answers : AtEachServing journal (λ past sent. AnswerIsAllowed start (history_of start past) sent)
+  -- each token was given where each member of the lineage may change the directory that it names
+  pub tokens : AtEachTime journal (λ past. TokensHaveAuthority start (history_of start past))
   -- watchers are told what happens in their directories, up to their deaths, and know the names there
   pub sight : AtEachTime journal (λ past. AreToldTheirSight start (history_of start past))
   pub deaths : AtEachServing journal (λ past sent. DieOfNoChange start (history_of start past) sent)

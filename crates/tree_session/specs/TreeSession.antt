@@ -2,23 +2,17 @@
 use Rattle.std.specs.Prelude.{List, true}
 use Rattle.endpoint_link.specs.Frames.{Frame, spellings}
 use Rattle.endpoint_link.specs.declared.kinds.Mode.{Mode}
-use Rattle.vfs_journal.specs.Entries.{Journal}
-use Rattle.vfs_journal.specs.Output.{frames_of}
-use Rattle.vfs_journal.specs.Past.{history_of}
+use Rattle.vfs_journal.specs.Output.{frames_behind}
 use Rattle.vfs_journal.specs.Session.{session, ended}
 use Rattle.vfs_journal.specs.Starts.{Start}
 use Rattle.vfs_session.specs.World.{World, StandsFor}
 use Rattle.link_session.specs.Session.{Course}
 
--- the frames that a journal stands for
-abbrev pub frames_by : Start → Journal → List Frame
-frames_by start journal = frames_of start (history_of start journal)
-
 -- what is written for the frames of a session so far, and with the last drain; memory may be wanting for it
 unfoldable pub tree_course : Start → Mode → Course
 tree_course start by = record {
-  so_far = λ frames. spellings (frames_by start (session start by frames));
-  by_end = λ frames. spellings (frames_by start (ended start by frames));
+  so_far = λ frames. spellings (frames_behind start (session start by frames));
+  by_end = λ frames. spellings (frames_behind start (ended start by frames));
   starves = true;
 }
 

@@ -32,13 +32,12 @@ pub fn serve_tree<F: Files, S: Source, K: Sink>(
     source: &mut S,
     sink: &mut K,
 ) -> Status
-    ensures answers { AfterNames ((source.new ≡ source.old) × (sink.new ≡ sink.old))
-        (AfterTree tree.now (files_told F.told F.faults F.overlong files.old) (files_told F.told F.faults F.overlong files.new)
-        ((source.new ≡ source.old) × (sink.new ≡ sink.old))
+    ensures answers { let told = files_told F.told F.faults F.overlong in
+        let streams = streams_told S.left S.last S.faults K.written K.flushed K.faults in
+        let untouched = (source.new ≡ source.old) × (sink.new ≡ sink.old) in
+        AfterNames untouched (AfterTree tree.now (told files.old) (told files.new) untouched
         (λ lists. SessionAnswers side.ToServers (tree_course (start_of lists) mode)
-        (streams_told S.left S.last S.faults K.written K.flushed K.faults source.old sink.old)
-        (streams_told S.left S.last S.faults K.written K.flushed K.faults source.new sink.new)
-        (sink.new ≡ sink.old))) result }
+        (streams source.old sink.old) (streams source.new sink.new) (sink.new ≡ sink.old))) result }
     ensures reads { ReadsOnly F.reads (tree.now ∷ []) files.old files.new }
 {
     let ordinals = match Ordinals::new() {

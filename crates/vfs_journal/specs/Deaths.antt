@@ -16,7 +16,8 @@ is_settled outcome endpoint =
 abbrev pub first_deaths : Sent → Outcome → List ℕ
 first_deaths sent outcome = outcome.ends ++ filter (λ endpoint. not (is_settled outcome endpoint)) (endpoints_in sent)
 
--- what was sent on an endpoint that dies is dropped, and what it carries dies too
+-- what was sent on an endpoint that dies is dropped, and what it carries dies too: the least set that holds the first deaths and whatever waits
+-- on its members carries, which one pass in order of sending reaches (`deaths_reach_all` and `deaths_are_the_least` in journal_laws)
 abbrev pub spread : List ℕ → List Sent → List ℕ
 spread dying [] = dying
 spread dying (sent ∷ later) = spread (if among sent.endpoint dying then dying ++ endpoints_in sent else dying) later

@@ -1,5 +1,5 @@
 -- The frames that a journal stands for.
-use Rattle.std.specs.Prelude.{ℕ, true, not, List, [], ◌∷◌, ◌++◌, map, filter}
+use Rattle.std.specs.Prelude.{◌≡◌, ℕ, Bool, true, false, not, List, [], ◌∷◌, ◌++◌, map, filter}
 use Rattle.std.specs.FinMap as finite
 use Rattle.std.specs.Int.{w32, cast_unsigned}
 use Rattle.std.specs.Option.{option_map_or}
@@ -7,6 +7,7 @@ use Rattle.std.specs.Ordering.{nat_cmp}
 use Rattle.fidl_names.specs.StatusNumber.{number_of}
 use Rattle.fidl_names.specs.Numbers.{number_bytes}
 use Rattle.endpoint_link.specs.Frames.{Frame, frame_with, spellings}
+use Rattle.endpoint_link.specs.declared.kinds.FrameKind.{FrameKind}
 use Rattle.endpoint_link.specs.declared.kinds.FrameKind.TheVariants as kind
 use Rattle.endpoint_link.specs.declared.kinds.Refusal.{Refusal}
 use Rattle.endpoint_link.specs.Refusals.{status_of}
@@ -18,6 +19,10 @@ use Rattle.vfs_journal.specs.Outcomes.{close_frame}
 use Rattle.vfs_journal.specs.Past.{history_of}
 use Rattle.vfs_journal.specs.Starts.{Bound, Start}
 use Rattle.vfs_journal.specs.Watching.{first_frames, told_frames}
+
+abbrev pub is_message : FrameKind → Bool
+is_message kind.Message = true
+is_message _ = false
 
 -- a Refused frame, on the number that the refused frame had
 abbrev pub refused_frame : ℕ → Refusal → Frame
@@ -40,19 +45,27 @@ frames_of_serving trees living event =
     ++ told_frames living event.outcome.server event.outcome.told
     ++ close_frames event
 
-abbrev pub frames_by : Start → History → Event → Entry → List Frame
-frames_by start past event (sends sent) = []
-frames_by start past event (serves sent) = frames_of_serving (trees_of start past) (living start past) event
-frames_by start past event (refuses endpoint why) = refused_frame endpoint why ∷ []
+abbrev pub frames_for : Start → History → Event → Entry → List Frame
+frames_for start past event (sends sent) = []
+frames_for start past event (serves sent) = frames_of_serving (trees_of start past) (living start past) event
+frames_for start past event (refuses endpoint why) = refused_frame endpoint why ∷ []
 
 -- what is written for an event behind its past, and for a whole history, in order
 abbrev pub frames_of_event : Start → History → Event → List Frame
-frames_of_event start past event = frames_by start past event event.entry
+frames_of_event start past event = frames_for start past event event.entry
 
 abbrev pub frames_of : Start → History → List Frame
 frames_of start [] = []
 frames_of start (event ∷ past) = frames_of start past ++ frames_of_event start past event
 
+-- the frames that a journal stands for
+abbrev pub frames_behind : Start → Journal → List Frame
+frames_behind start journal = frames_of start (history_of start journal)
+
 -- the bytes of a journal's output
 abbrev pub output_of : Start → Journal → List ℕ
-output_of start journal = spellings (frames_of start (history_of start journal))
+output_of start journal = spellings (frames_behind start journal)
+
+-- more bytes stand behind those that stood there before
+abbrev pub Begins : List ℕ → List ℕ → Type 0
+Begins before after = (more : List ℕ) × (after ≡ before ++ more)

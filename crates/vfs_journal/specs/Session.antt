@@ -86,7 +86,8 @@ weight_of hang_up = 1
 abbrev pub weight : History → ℕ
 weight history = sum_by (λ sent. weight_of sent.sending) (waiting history)
 
--- everything that can be served. Each serving lowers the weight, so that there are no more servings than that
+-- everything that can be served. Each serving lowers the weight (`servings_lower_the_weight` in journal_laws), so that there are no more servings
+-- than that, and nothing waits behind them (`drains_serve_all`)
 abbrev pub drained : Start → Journal → Journal
 drained start journal = serving (weight (history_of start journal)) start (next start) journal
 

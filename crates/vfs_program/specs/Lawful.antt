@@ -9,6 +9,7 @@ use Rattle.endpoint_link.specs.declared.kinds.Side.TheVariants.{ToServers}
 use Rattle.tree_file.specs.Generated.{generated_lists}
 use Rattle.tree_file.specs.Items.{Lists}
 use Rattle.vfs_journal.specs.Entries.{Journal}
+use Rattle.vfs_journal.specs.Output.{frames_behind}
 use Rattle.vfs_journal.specs.Session.{ended, session}
 use Rattle.vfs_journal.specs.Starts.{Start, start_of}
 use Rattle.vfs_script.specs.Scripts.{calls_of, count_calls, frames_of, script_lines}
@@ -21,7 +22,6 @@ use Rattle.workload.specs.Workload.{workload}
 use Rattle.run_status.specs.Outside.{Outside, Streams}
 use Rattle.link_session.specs.Session.{EndsBehind, IsFront, Took, Wrote}
 use Rattle.named_files.specs.Trees.{Stands}
-use Rattle.tree_session.specs.TreeSession.{frames_by}
 use Rattle.frame_printer.specs.Shown.{lines_of}
 use Rattle.script_session.specs.Scripts.{Said, Says}
 use Rattle.script_session.specs.Workloads.{report_for}
@@ -75,7 +75,7 @@ pub record IsLawfulPlaying (tree script : Told) (before after : Streams) : Type 
   pub over : IsLawfulOver lists journal
   pub bytes : List ℕ
   pub wrote : Wrote before after bytes
-  pub front : IsFront bytes (lines_of (frames_by (start_of lists) journal) ++ counts_of (start_of lists) said)
+  pub front : IsFront bytes (lines_of (frames_behind (start_of lists) journal) ++ counts_of (start_of lists) said)
 
 -- and where a workload was played: a front of the report of what went in, and of all frames that such a journal over the generated start
 -- stands for; and that journal is that of the session which the workload's frames end, in mode auto
@@ -86,7 +86,7 @@ pub record IsLawfulMaking (rounds : ℕ) (before after : Streams) : Type 0 where
   pub over : IsLawfulOver generated_lists journal
   pub bytes : List ℕ
   pub wrote : Wrote before after bytes
-  pub front : IsFront bytes (report_for (frames_of (workload rounds)) (frames_by (start_of generated_lists) journal))
+  pub front : IsFront bytes (report_for (frames_of (workload rounds)) (frames_behind (start_of generated_lists) journal))
 
 -- a session over a tree wrote nothing, or what is lawful over that tree; the other commands have no such session
 abbrev pub IsLawfulRun : Asks → Outside → Outside → Type 0

@@ -11,7 +11,8 @@ use Rattle.fidl_names.specs.declared.methods.Method.TheVariants as method
 use Rattle.fidl_wire.specs.Names.{event_ordinal, method_ordinal, row_of}
 use Rattle.fidl_wire.specs.Epitaphs.{epitaph_ordinal}
 use Rattle.io_messages.specs.Protocols.{all_methods}
-use Rattle.vfs_script.specs.Transcripts.{bytes_text, handles_text, label_or_raw, label_with, method_with}
+use Rattle.io_messages.specs.Replies.{method_with}
+use Rattle.vfs_script.specs.Transcripts.{bytes_text, handles_text, label_or_raw, label_with}
 use Rattle.vfs_script.specs.Words.{comma, none_word}
 
 -- ---- texts that grow

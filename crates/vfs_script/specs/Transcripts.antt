@@ -2,17 +2,18 @@
 use Rattle.std.specs.Prelude.{ℕ, ◌==◌, ◌||◌, nat_lt, not, if◌then◌else◌, List, [], ◌∷◌, ◌++◌, length, map, slice_index, codes, decimal, Option, Some, None}
 use Rattle.std.specs.Fmt.{signed_decimal}
 use Rattle.std.specs.Int.{w32, cast_signed}
-use Rattle.std.specs.List.{find, join_with_byte}
+use Rattle.std.specs.List.{join_with_byte}
 use Rattle.hex.specs.Hex.{encode_lower}
 use Rattle.fidl_names.specs.Numbers.{number_at}
 use Rattle.fidl_names.specs.declared.methods.Method.{Method}
 use Rattle.fidl_names.specs.declared.methods.Method.TheVariants as method
-use Rattle.fidl_wire.specs.Names.{method_ordinal, event_ordinal}
+use Rattle.fidl_wire.specs.Names.{event_ordinal}
 use Rattle.fidl_wire.specs.Epitaphs.{epitaph_ordinal}
 use Rattle.endpoint_link.specs.declared.kinds.FrameKind.{FrameKind}
 use Rattle.endpoint_link.specs.declared.kinds.FrameKind.TheVariants as kind
 use Rattle.endpoint_link.specs.Frames.{Frame}
-use Rattle.io_messages.specs.Protocols.{all_methods}
+use Rattle.endpoint_link.specs.Numbers.{word_in}
+use Rattle.io_messages.specs.Replies.{method_with}
 use Rattle.vfs_script.specs.Words.{none_word, comma}
 
 -- the name of a method
@@ -37,10 +38,6 @@ name_of method.WriteAt = codes "WriteAt"
 name_of method.Seek = codes "Seek"
 name_of method.Resize = codes "Resize"
 name_of method.EchoString = codes "EchoString"
-
--- the method with this ordinal
-unfoldable pub method_with : ℕ → Option Method
-method_with ordinal = find (λ m. method_ordinal m == ordinal) all_methods
 
 abbrev pub raw_label : List ℕ
 raw_label = codes "raw"
@@ -72,18 +69,14 @@ unfoldable pub bytes_text : List ℕ → List ℕ
 bytes_text [] = none_word
 bytes_text (first ∷ others) = encode_lower (first ∷ others)
 
--- the number of 32 bits in front
-abbrev pub front_word : List ℕ → ℕ
-front_word bytes = number_at 4 0 bytes
-
 -- what stands behind the endpoint's number
 abbrev pub told_of : FrameKind → List ℕ → List ℕ → List ℕ
 told_of kind.Message handles bytes =
     codes " message " ++ label_of bytes ++ codes " " ++ handles_text handles ++ codes " " ++ bytes_text bytes
 told_of kind.Close handles bytes = codes " close"
-told_of kind.Turn handles bytes = codes " turn " ++ decimal (front_word bytes)
+told_of kind.Turn handles bytes = codes " turn " ++ decimal (word_in bytes)
 told_of kind.Pick handles bytes = codes " pick"
-told_of kind.Refused handles bytes = codes " refused " ++ signed_decimal (cast_signed w32 (front_word bytes))
+told_of kind.Refused handles bytes = codes " refused " ++ signed_decimal (cast_signed w32 (word_in bytes))
 
 -- the line of a frame, with its end
 unfoldable pub frame_line : Frame → List ℕ

@@ -5,8 +5,9 @@ ghost use Rattle.std.specs.Fmt.{signed_decimal};
 ghost use Rattle.std.specs.Int.{w32, cast_signed};
 ghost use Rattle.endpoint_link.specs.declared.kinds.Side.TheVariants as side;
 ghost use Rattle.endpoint_link.specs.Frames.{HasShape, IsFrame};
+ghost use Rattle.endpoint_link.specs.Numbers.{word_in};
 ghost use Rattle.endpoint_link.specs.Views.{frame_of, handle_numbers};
-ghost use Rattle.vfs_script.specs.Transcripts.{bytes_text, counts_line, front_word, frame_line, handles_text, label_of, label_with, name_of, told_of};
+ghost use Rattle.vfs_script.specs.Transcripts.{bytes_text, counts_line, frame_line, handles_text, label_of, label_with, name_of, told_of};
 
 use crate::outtext::Outtext;
 use byteorder::{ByteOrder, LittleEndian};
@@ -128,14 +129,14 @@ fn put_message(
 #[tactic(auto, unfolding(fidl_names::specs::Numbers::number_at))]
 fn front_word(bytes: &[u8]) -> u32
     requires { 4 ≤ length bytes.now }
-    ensures { result ≡ front_word bytes.now }
+    ensures { result ≡ word_in bytes.now }
 {
     LittleEndian::read_u32(bytes)
 }
 
 fn put_turn(bytes: &[u8], to: &mut Outtext) -> Result<(), NoMemory>
     requires { 4 ≤ length bytes.now }
-    ensures put { OnOk result (to.new ≡ to.old ++ codes " turn " ++ decimal (front_word bytes.now)) }
+    ensures put { OnOk result (to.new ≡ to.old ++ codes " turn " ++ decimal (word_in bytes.now)) }
     ensures grows { take (length to.old) to.new ≡ to.old }
 {
     to.put(b" turn ")?;
@@ -144,7 +145,7 @@ fn put_turn(bytes: &[u8], to: &mut Outtext) -> Result<(), NoMemory>
 
 fn put_refused(bytes: &[u8], to: &mut Outtext) -> Result<(), NoMemory>
     requires { 4 ≤ length bytes.now }
-    ensures put { OnOk result (to.new ≡ to.old ++ codes " refused " ++ signed_decimal (cast_signed w32 (front_word bytes.now))) }
+    ensures put { OnOk result (to.new ≡ to.old ++ codes " refused " ++ signed_decimal (cast_signed w32 (word_in bytes.now))) }
     ensures grows { take (length to.old) to.new ≡ to.old }
 {
     to.put(b" refused ")?;

@@ -6,7 +6,7 @@ ghost use Rattle.endpoint_link.specs.Frames.{spellings};
 ghost use Rattle.io_messages.specs.Shapes.{is_one_way};
 ghost use Rattle.vfs_script.specs.Kept.{kept_with};
 ghost use Rattle.vfs_script.specs.Noting.{IsFree, with_noted};
-ghost use Rattle.vfs_script.specs.Scripts.{AreApart, IsFirstBad, bad_heads, bad_in, bad_line, bad_lines, behind_mode, calls_of, count_calls, frames_of, heads, is_skipped, lines_of, mode_in, mode_of, script_mode, spoken_in};
+ghost use Rattle.vfs_script.specs.Scripts.{IsFirstBad, bad_heads, bad_in, bad_line, bad_lines, behind_mode, calls_of, count_calls, frames_of, heads, is_skipped, lines_of, mode_in, mode_of, script_mode, spoken_in};
 
 use crate::calls::Call;
 use crate::faults::ScriptFault;
@@ -76,13 +76,6 @@ impl Script {
         ensures { result ≡ count_calls self.now.calls }
     {
         self.count
-    }
-
-    /// No two calls have one transaction id. The call tells it to a proof, and does nothing.
-    pub fn tells_calls_apart(&self)
-        ensures { AreApart self.now.calls }
-    {
-        let _ = &self.calls;
     }
 
     /// Lets a client wait for the call that frame `i` makes, counted from 0, if it makes one. For want of

@@ -26,6 +26,7 @@ use Rattle.conn_rules.specs.Shared.{CanBeBound, is_spoken_at}
 use Rattle.vfs_journal.specs.Entries.{message}
 use Rattle.vfs_journal.specs.Handles.{AreByNumber, numbers_of}
 use Rattle.vfs_journal.specs.Outcomes.{Outcome, outcome_with}
+use Rattle.vfs_journal.specs.Output.{Begins}
 use Rattle.vfs_journal.specs.Serving.{Moment, asker_of, outcome_of_message, outcome_of_read, outcome_of_sending, read_by}
 use Rattle.vfs_journal.specs.Starts.{Bound}
 use Rattle.vfs_journal.specs.View.{moved}
@@ -40,7 +41,7 @@ use Rattle.vfs_server.specs.Kept.{Connections, HasTree, IsSound, Tokens}
 use Rattle.vfs_server.specs.Servers.{bound_with, connected, in_use, seen_as}
 use Rattle.vfs_server.specs.Serving.{IsMomentOf, Serves, frames_here, room_at}
 use Rattle.vfs_server.specs.Steps.{Answers, AreNamed, CanBeTold, CanTell, Done, IsAskedAt, IsPassedOver, room_for}
-use Rattle.vfs_server.specs.Watched.{Extends, IsShort, Seats, bound_at, bounds_at, first_of, is_at, seat_at, told_of}
+use Rattle.vfs_server.specs.Watched.{IsShort, Seats, bound_at, bounds_at, first_of, is_at, seat_at, told_of}
 use Rattle.vfs_server.proofs.Answering.{no_watcher, ok_map}
 use Rattle.vfs_server.proofs.Binding.{in_use_is, seen_watching, server_of}
 use Rattle.vfs_server.proofs.Maps.{standing, same, other, get_put, get_put_other, as_long}
@@ -323,7 +324,7 @@ nothing_told_of graph done passed = record {
 }
 
 -- what was written stands in front, or nothing was written
-pub front_of : {E : Type 0} (result : Result Done E) (new : Connection) (before after : List ℕ) → IfOk result (λ done. CanTell done new before after) → OnErr result (after ≡ before) → Extends before after
+pub front_of : {E : Type 0} (result : Result Done E) (new : Connection) (before after : List ℕ) → IfOk result (λ done. CanTell done new before after) → OnErr result (after ≡ before) → Begins before after
 front_of (Ok done) new before after tells none = tells.front
 front_of (Err e) new before after tells none = ([], none ∙ sym (append-nil before))
 

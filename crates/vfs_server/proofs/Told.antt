@@ -21,13 +21,14 @@ use Rattle.conn_rules.specs.Served.{key_at, told_by}
 use Rattle.watch_events.specs.Messages.{Watcher, added, deleted, removed, told}
 use Rattle.watch_events.specs.Messages as messages
 use Rattle.vfs_journal.specs.History.{watches_node}
+use Rattle.vfs_journal.specs.Output.{Begins}
 use Rattle.vfs_journal.specs.Starts.{Bound}
 use Rattle.vfs_journal.specs.Watching.{first_frames, told_frames}
 use Rattle.vfs_journal.specs.Watching as journal
 use Rattle.vfs_server.specs.declared.fate.Fate.{Fate}
 use Rattle.vfs_server.specs.declared.fate.Fate.TheVariants as fates
 use Rattle.vfs_server.specs.Effects.{effects_told}
-use Rattle.vfs_server.specs.Watched.{Extends, Seats, bound_at, bounds_at, first_of, gone_told, is_at, name_told, told_of, told_to, watcher_of, watchers_at}
+use Rattle.vfs_server.specs.Watched.{Seats, bound_at, bounds_at, first_of, gone_told, is_at, name_told, told_of, told_to, watcher_of, watchers_at}
 
 -- ---- changes
 
@@ -124,9 +125,9 @@ pub one_behind : (before between behind : List ℕ) (one other : List Frame) →
 one_behind before between behind one other first second =
     second ∙ ap (λ (bs : List ℕ). bs ++ spellings other) first ∙ append_assoc before (spellings one) (spellings other) ∙ ap (λ (bs : List ℕ). before ++ bs) (sym (spellings-append one other))
 
-pub extends_on : (before between behind : List ℕ) → Extends before between → Extends between behind → Extends before behind
+pub extends_on : (before between behind : List ℕ) → Begins before between → Begins between behind → Begins before behind
 extends_on before between behind one other =
     (one.0 ++ other.0, other.1 ∙ ap (λ (bs : List ℕ). bs ++ other.0) one.1 ∙ append_assoc before one.0 other.0)
 
-pub cut_back : (before behind : List ℕ) → Extends before behind → take (length before) behind ≡ before
+pub cut_back : (before behind : List ℕ) → Begins before behind → take (length before) behind ≡ before
 cut_back before behind more = ap (take (length before)) more.1 ∙ take-append_seam before more.0

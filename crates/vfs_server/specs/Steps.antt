@@ -40,6 +40,7 @@ use Rattle.node_conn.specs.Texts.{text_of}
 use Rattle.vfs_journal.specs.Handles.{numbers_of}
 use Rattle.vfs_journal.specs.Outcomes as outcomes
 use Rattle.vfs_journal.specs.Outcomes.{Asker, Outcome, announcement, bound_of, close_frame, ending, ends_of, forward_of, frames_of, token_of}
+use Rattle.vfs_journal.specs.Output.{Begins}
 use Rattle.remote_forward.specs.Onward.{onward_bytes}
 use Rattle.vfs_journal.specs.Serving.{Moment, fault_answer, fault_txid}
 use Rattle.vfs_server.specs.declared.asking.Asking.{Asking}
@@ -54,20 +55,20 @@ use Rattle.vfs_server.specs.Effects.{Effects, effects_of, effects_told, no_effec
 use Rattle.vfs_server.specs.Kept.{Tokens}
 use Rattle.vfs_server.specs.Servers.{bound_with, watcher_with}
 use Rattle.vfs_server.specs.Serving.{HasMount}
-use Rattle.vfs_server.specs.Watched.{Extends, IsShort, Seats, first_of, is_at, told_of}
+use Rattle.vfs_server.specs.Watched.{IsShort, Seats, first_of, is_at, told_of}
 
 -- ---- connections
 
 -- a connection, whatever it is to
 abbrev pub connection_of : Conn → Connection
-connection_of (conn.Directory c) = c
+connection_of (conn.Directory c) = c.value
 connection_of (conn.File c) = c
 connection_of (conn.Node c) = c
 connection_of (conn.Echo birth) = connection_with birth fresh
 
 -- each kind of connection has its protocol
 abbrev pub IsOfItsKind : Conn → Type 0
-IsOfItsKind (conn.Directory c) = c.birth.protocol ≡ protocol.Directory
+IsOfItsKind (conn.Directory c) = c.value.birth.protocol ≡ protocol.Directory
 IsOfItsKind (conn.File c) = c.birth.protocol ≡ protocol.File
 IsOfItsKind (conn.Node c) = c.birth.protocol ≡ protocol.Node
 IsOfItsKind (conn.Echo birth) = birth.protocol ≡ protocol.Echo
@@ -289,7 +290,7 @@ pub record Answers (moment : Moment) (outcome : Outcome) (done : Done) (out : Wr
 
 -- watchers can be told of what was done on a connection, behind what was written of it
 pub record CanTell (done : Done) (connection : Connection) (before after : List ℕ) : Type 0 where
-  pub front : Extends before after
+  pub front : Begins before after
   pub directory : (object mask : ℕ) (directory : NodeRef) → done.fate ≡ fates.Watches object directory mask → IsOnDirectory directory connection
   pub short : All IsShort done.told
 

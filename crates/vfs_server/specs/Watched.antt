@@ -1,5 +1,5 @@
 -- Who watches, as a server keeps it, and what they are told. No public clause needs these.
-use Rattle.std.specs.Prelude.{◌≡◌, ℕ, ◌≤◌, ◌==◌, Bool, List, [], ◌++◌, length, map, filter, Option, Some, None}
+use Rattle.std.specs.Prelude.{◌≡◌, ℕ, ◌≤◌, ◌==◌, Bool, List, [], length, map, filter, Option, Some, None}
 use Rattle.std.specs.List.{flat_map}
 use Rattle.std.specs.Map.{lookup, remove_entry}
 use Rattle.fidl_names.specs.declared.limits.TheConstants as limit
@@ -86,9 +86,3 @@ gone_told seats (Some directory) = told (watchers_at directory seats) deleted do
 abbrev pub first_of : Edges → Fate → List Frame
 first_of edges (fates.Watches object directory mask) = first_frames object mask (names_in edges (number_of directory))
 first_of edges _ = []
-
--- ---- want of memory
-
--- what stood there stands in front
-abbrev pub Extends : List ℕ → List ℕ → Type 0
-Extends before after = (more : List ℕ) × (after ≡ before ++ more)

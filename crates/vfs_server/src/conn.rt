@@ -1,6 +1,6 @@
 //! The connections to all kinds of node, as one.
 
-ghost use Rattle.std.specs.Prelude.{◌≡◌, ◌≢◌, ◌<◌, ◌^◌, ℕ, true, Option};
+ghost use Rattle.std.specs.Prelude.{◌≡◌, ◌≢◌, ◌<◌, ◌^◌, ℕ, true, IfOk, Option};
 ghost use Rattle.io_messages.specs.Asked.{asked, method_of};
 ghost use Rattle.io_messages.specs.Protocols.{has_method};
 ghost use Rattle.io_messages.specs.Requests.{has_txid};
@@ -20,16 +20,19 @@ use crate::given::Given;
 use crate::tokens::Tokens;
 use conn_rules::{Birth, Changes, Room};
 use dir_conn::DirConn;
+use fidl_names::NoMemory;
 use fidl_wire::{Ordinals, Out};
 use file_conn::FileConn;
 use io_messages::{Protocol, Request};
 use node_conn::{NodeConn, echo};
 use node_graph::{Graph, NodeRef};
+use std::alloc::Global;
 
-/// A connection, by what it is to. To the service that echoes it has a birth alone.
+/// A connection, by what it is to. To the service that echoes it has a birth alone. One to a directory is
+/// large, for the name at which its listing goes on, and lies apart, so that the others lie close together.
 #[derive(Drop)]
 pub(crate) enum Conn {
-    Directory(DirConn),
+    Directory(Box<DirConn>),
     File(FileConn),
     Node(NodeConn),
     Echo(Birth),
@@ -37,17 +40,20 @@ pub(crate) enum Conn {
 
 impl Conn {
     /// A connection that was just bound.
-    pub fn new(birth: Birth) -> Conn
+    pub fn new(alloc: Global, birth: Birth) -> Result<Conn, NoMemory>
         requires watcher { birth.protocol ≢ Protocol.Watcher }
-        ensures birth { (connection_of result).birth ≡ birth }
-        ensures position { (connection_of result).position ≡ fresh }
-        ensures kind { IsOfItsKind result }
+        ensures birth { IfOk result (λ conn. (connection_of conn).birth ≡ birth) }
+        ensures position { IfOk result (λ conn. (connection_of conn).position ≡ fresh) }
+        ensures kind { IfOk result IsOfItsKind }
     {
         match birth.protocol {
-            Protocol::Directory => Conn::Directory(DirConn::new(birth)),
-            Protocol::File => Conn::File(FileConn::new(birth)),
-            Protocol::Node => Conn::Node(NodeConn::new(birth)),
-            Protocol::Echo => Conn::Echo(birth),
+            Protocol::Directory => {
+                let conn = Box::new(alloc, DirConn::new(birth))?;
+                Ok(Conn::Directory(conn))
+            }
+            Protocol::File => Ok(Conn::File(FileConn::new(birth))),
+            Protocol::Node => Ok(Conn::Node(NodeConn::new(birth))),
+            Protocol::Echo => Ok(Conn::Echo(birth)),
             Protocol::Watcher => unreachable!(),
         }
     }

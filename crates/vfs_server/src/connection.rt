@@ -26,6 +26,7 @@ use fidl_names::{Handle, NoMemory};
 use fidl_wire::Out;
 use io_messages::{Protocol, Request, read_request};
 use node_graph::{Graph, NodeRef};
+use std::alloc::Global;
 use std::marker::Model;
 
 /// A connection to a node, whatever that is.
@@ -50,18 +51,17 @@ impl Model for Connection {
 
 impl Connection {
     /// A connection that was just bound.
-    pub fn new(birth: Birth) -> Connection
+    pub fn new(alloc: Global, birth: Birth) -> Result<Connection, NoMemory>
         requires watcher { birth.protocol ≢ Protocol.Watcher }
-        ensures { result ≡ record { birth = birth; position = fresh } }
+        ensures { IfOk result (λ connection. connection ≡ record { birth = birth; position = fresh }) }
     {
-        Connection {
-            conn: Conn::new(birth),
-        }
+        let conn = Conn::new(alloc, birth)?;
+        Ok(Connection { conn })
     }
 
-    /// The node that it is bound to.
-    pub fn node(&self) -> NodeRef
-        ensures { result ≡ self.now.birth.node }
+    /// Lets go of it, and tells the node that it was bound to.
+    pub fn into_node(self) -> NodeRef
+        ensures { result ≡ self.birth.node }
     {
         self.conn.node()
     }

@@ -35,6 +35,7 @@ use tree_file::Start;
 /// Each connection holds its node, and each watcher and each token its directory.
 #[derive(Drop)]
 pub struct Server {
+    alloc: Global,
     index: u32,
     graph: Graph,
     connections: Connections,
@@ -75,6 +76,7 @@ impl Server {
         ensures { result ≡ record { index = index; graph = graph; connections = finite.empty; watchers = []; tokens = finite.empty } }
     {
         Server {
+            alloc,
             index,
             graph,
             connections: Connections::new(alloc),
@@ -158,7 +160,7 @@ impl Server {
         ensures unchanged { OnErr result (self.new ≡ self.old) }
     {
         let node = birth.node;
-        let connection = Connection::new(birth);
+        let connection = Connection::new(self.alloc, birth)?;
         self.connections.insert(endpoint, connection)?;
         self.graph.hold(node);
         Ok(())
@@ -208,7 +210,7 @@ impl Server {
         ensures { Unbinds self.old endpoint self.new }
     {
         if let Some(connection) = self.connections.remove(endpoint) {
-            self.graph.release(connection.node());
+            self.graph.release(connection.into_node());
         } else if let Some(directory) = self.watching.remove(endpoint, &self.graph) {
             self.graph.release(directory);
         }

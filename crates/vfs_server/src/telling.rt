@@ -5,7 +5,8 @@ ghost use Rattle.endpoint_link.specs.Frames.{spellings};
 ghost use Rattle.node_graph.specs.declared.nodes.NodeRef.{NodeRef};
 ghost use Rattle.vfs_server.specs.Binding.{IsDirectory};
 ghost use Rattle.vfs_server.specs.Steps.{CanBeTold, IsTold, done_with};
-ghost use Rattle.vfs_server.specs.Watched.{Extends, first_of};
+ghost use Rattle.vfs_server.specs.Watched.{first_of};
+ghost use Rattle.vfs_journal.specs.Output.{Begins};
 
 use crate::fate::Fate;
 use crate::watching::Watching;
@@ -54,7 +55,7 @@ fn put_told(
     requires can { IfOk fate.now (λ fate. CanBeTold graph.now (done_with fate changes.now)) }
     ensures same { IfOk result (λ told. fate.now ≡ Ok told) }
     ensures told { IfOk result (λ fate. IsTold watching.now graph.now (done_with fate changes.now) outbox.old outbox.new) }
-    ensures front { OnErr result (Extends outbox.old outbox.new) }
+    ensures front { OnErr result (Begins outbox.old outbox.new) }
 {
     match fate {
         Ok(fate) => {
@@ -71,7 +72,7 @@ fn put_told(
 fn put_first(graph: &Graph, fate: Fate, outbox: &mut Outbox) -> Result<(), NoMemory>
     requires directory { (object mask : ℕ) (directory : NodeRef) → fate ≡ Fate.Watches object directory mask → IsDirectory graph.now directory }
     ensures told { OnOk result (outbox.new ≡ outbox.old ++ spellings (first_of graph.now.edges fate)) }
-    ensures front { OnErr result (Extends outbox.old outbox.new) }
+    ensures front { OnErr result (Begins outbox.old outbox.new) }
 {
     match fate {
         Fate::Watches {
@@ -94,7 +95,7 @@ fn put_names(
 ) -> Result<(), NoMemory>
     requires directory { IsDirectory graph.now directory }
     ensures told { OnOk result (outbox.new ≡ outbox.old ++ spellings (first_of graph.now.edges (Fate.Watches object directory mask))) }
-    ensures front { OnErr result (Extends outbox.old outbox.new) }
+    ensures front { OnErr result (Begins outbox.old outbox.new) }
 {
     snapshot(object, mask, graph.names_after(directory, None), outbox)
 }

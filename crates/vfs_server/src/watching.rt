@@ -8,7 +8,8 @@ ghost use Rattle.node_graph.specs.Graph.{Names, number_of};
 ghost use Rattle.conn_rules.specs.Served.{told_by};
 ghost use Rattle.watch_events.specs.Messages as messages;
 ghost use Rattle.vfs_server.specs.declared.watching.Seat.{Seat};
-ghost use Rattle.vfs_server.specs.Watched.{Extends, HasLength, IsShort, gone_told, is_at, name_told, seat_at, told_of, without};
+ghost use Rattle.vfs_server.specs.Watched.{HasLength, IsShort, gone_told, is_at, name_told, seat_at, told_of, without};
+ghost use Rattle.vfs_journal.specs.Output.{Begins};
 
 use conn_rules::{At, Changes};
 use endpoint_link::Outbox;
@@ -116,7 +117,7 @@ impl Watching {
     pub fn tell(&self, changes: &Changes<'_>, outbox: &mut Outbox) -> Result<(), NoMemory>
         requires short { All IsShort (told_by changes.now) }
         ensures told { OnOk result (outbox.new ≡ outbox.old ++ spellings (told_of self.now (told_by changes.now))) }
-        ensures front { OnErr result (Extends outbox.old outbox.new) }
+        ensures front { OnErr result (Begins outbox.old outbox.new) }
     {
         self.tell_name(WatchEvent::Removed, &changes.removed, outbox)?;
         self.tell_name(WatchEvent::Added, &changes.added, outbox)?;
@@ -132,7 +133,7 @@ impl Watching {
     ) -> Result<(), NoMemory>
         requires short { (one : At) → at.now ≡ Some one → HasLength one.name.now }
         ensures told { OnOk result (outbox.new ≡ outbox.old ++ spellings (name_told self.now (messages.number_of event) at.now)) }
-        ensures front { OnErr result (Extends outbox.old outbox.new) }
+        ensures front { OnErr result (Begins outbox.old outbox.new) }
     {
         match at {
             Some(at) => self.watchers.changed(at.dir, event, at.name, outbox),
@@ -143,7 +144,7 @@ impl Watching {
     /// Tells that a directory is gone, if one is.
     fn tell_gone(&self, directory: Option<u64>, outbox: &mut Outbox) -> Result<(), NoMemory>
         ensures told { OnOk result (outbox.new ≡ outbox.old ++ spellings (gone_told self.now directory)) }
-        ensures front { OnErr result (Extends outbox.old outbox.new) }
+        ensures front { OnErr result (Begins outbox.old outbox.new) }
     {
         match directory {
             Some(directory) => self

@@ -11,6 +11,7 @@ use Rattle.fidl_wire.specs.Written.{Written}
 use Rattle.conn_rules.specs.Births.{Connection, Position, fresh}
 use Rattle.vfs_journal.specs.Entries.{Sending, Sent, handles_of, hang_up}
 use Rattle.vfs_journal.specs.Outcomes.{Outcome}
+use Rattle.vfs_journal.specs.Output.{Begins}
 use Rattle.vfs_journal.specs.Serving.{Moment, outcome_of_sending}
 use Rattle.vfs_journal.specs.Starts.{Bound}
 use Rattle.vfs_journal.specs.View.{moved}
@@ -18,7 +19,7 @@ use Rattle.vfs_server.specs.declared.fate.Fate.{Fate}
 use Rattle.vfs_server.specs.declared.fate.Fate.TheVariants as fates
 use Rattle.vfs_server.specs.Servers.{Server, connected, seen, seen_as}
 use Rattle.vfs_server.specs.Serving.{IsMomentOf, Serves}
-use Rattle.vfs_session.specs.Steps.{Answers, Begins}
+use Rattle.vfs_session.specs.Steps.{Answers}
 
 pub set_same : {X : Type 0} (xs : List X) (i : ℕ) (x : X) → slice_get xs i ≡ Some x → xs ≡ set xs i x
 set_same [] i x e = absurd (cc)

@@ -21,7 +21,8 @@ use Rattle.vfs_server.specs.declared.fate.Fate.{Fate}
 use Rattle.vfs_server.specs.Servers.{Server}
 use Rattle.vfs_server.specs.Serving.{Serves}
 use Rattle.vfs_session.specs.Holding.{HoldsEach}
-use Rattle.vfs_session.specs.Steps.{ForgetsAll, ForgetsEach, answered_in, bound_in, given_in}
+use Rattle.vfs_session.specs.Steps.{ForgetsAll, ForgetsEach}
+use Rattle.vfs_session.proofs.Between.{answered_in, bound_in, given_in}
 use Rattle.vfs_session.proofs.Outs.{HoldsOut, Rising, but, named_here, named_there, out_first, out_forgets, out_last}
 use Rattle.vfs_session.proofs.ServerSteps.{HoldsNumber, answered_here, answered_there, bound_here, bound_none, bound_there, by_index, by_number}
 

@@ -6,14 +6,16 @@ use Rattle.endpoint_link.specs.Frames.{spellings}
 use Rattle.endpoint_link.specs.Numbering.{among}
 use Rattle.endpoint_link.specs.Standings.{Known, ended, gone}
 use Rattle.vfs_journal.specs.Entries.{Sent}
+use Rattle.vfs_journal.specs.Output.{Begins}
 use Rattle.journal_laws.specs.Viewing.{view_behind}
 use Rattle.message_queues.specs.Dying.{Buries}
 use Rattle.message_queues.specs.Queues.{IsAbove, Queues, count, queue_of}
 use Rattle.vfs_server.specs.declared.fate.Fate.{Fate}
 use Rattle.vfs_server.specs.declared.fate.Fate.TheVariants as fates
 use Rattle.vfs_session.specs.Heads.{SettlesHead, TakesHead}
+use Rattle.vfs_session.specs.Running.{IsRunning}
 use Rattle.vfs_session.specs.Servings.{ServesHead, ServesOne}
-use Rattle.vfs_session.specs.Steps.{Begins, IsRunning, SendsOn, closed_for, end_told, is_sent_on, known_told, spent_told}
+use Rattle.vfs_session.specs.Steps.{SendsOn, closed_for, end_told, is_sent_on, known_told, spent_told}
 use Rattle.vfs_session.specs.World.{World}
 use Rattle.vfs_session.proofs.Ending.{ended_with, with_waiting}
 use Rattle.vfs_session.proofs.HeadServed.{head_served}

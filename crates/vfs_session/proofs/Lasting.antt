@@ -13,7 +13,7 @@ use Rattle.journal_laws.proofs.ViewLaws.{hang_up_viewed, message_viewed, served_
 use Rattle.journal_laws.proofs.ViewParts.{head_is_in}
 use Rattle.journal_laws.proofs.ViewSteps.{refused_viewed}
 use Rattle.vfs_session.specs.Places.{names_left, places_left}
-use Rattle.vfs_session.specs.Steps.{IsRunning}
+use Rattle.vfs_session.specs.Running.{IsRunning}
 use Rattle.vfs_session.specs.World.{StandsFor, World}
 use Rattle.vfs_session.proofs.Grounds.{below}
 use Rattle.vfs_session.proofs.PlacesLeft.{few_left, sending_takes, serving_takes}

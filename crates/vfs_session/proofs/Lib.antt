@@ -1,4 +1,5 @@
 pub mod Grounds
+pub mod Between
 pub mod PlacesLeft
 pub mod ServerSteps
 pub mod Outs

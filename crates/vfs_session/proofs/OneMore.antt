@@ -4,10 +4,11 @@ use Rattle.std.specs.Prelude.{slice_get}
 use Rattle.std.proofs.lemmas.Option.{none-some}
 use Rattle.std.proofs.Math.Numerals.{add-one}
 use Rattle.vfs_journal.specs.Entries.{Sent}
+use Rattle.vfs_journal.specs.Output.{Begins}
 use Rattle.message_queues.specs.Oldest.{IsOldest, NothingWaits}
 use Rattle.message_queues.specs.Queues.{Queues, IsReady, server_of}
+use Rattle.vfs_session.specs.Running.{IsRunning}
 use Rattle.vfs_session.specs.Servings.{ServesOne, ServesTimes}
-use Rattle.vfs_session.specs.Steps.{Begins, IsRunning}
 use Rattle.vfs_session.specs.World.{World}
 
 -- ---- one serving

@@ -21,7 +21,7 @@ use Rattle.journal_laws.proofs.Members.{contains_here, contains_later, found}
 use Rattle.vfs_server.specs.Binding.{Forgets, NamesBy}
 use Rattle.vfs_server.specs.Holding.{bound_to, if_at, living_at}
 use Rattle.vfs_server.specs.Servers.{Server, in_use, named, seen}
-use Rattle.vfs_session.specs.Steps.{given_in}
+use Rattle.vfs_session.proofs.Between.{given_in}
 use Rattle.vfs_session.proofs.ServerSteps.{HoldsNumber, Living, bounds, one_if}
 
 -- ---- by a test of what is out

@@ -43,8 +43,10 @@ use Rattle.vfs_server.specs.declared.fate.Fate.TheVariants as fates
 use Rattle.vfs_server.specs.Servers.{Server, bound_with, seen, watcher_with}
 use Rattle.vfs_server.specs.Serving.{IsMomentOf}
 use Rattle.vfs_session.specs.Heads.{TakesHead}
-use Rattle.vfs_session.specs.Steps.{Answers, CanGo, CanName, IsRunning, answered_in, first_told, given_told, spent_told}
+use Rattle.vfs_session.specs.Running.{IsRunning}
+use Rattle.vfs_session.specs.Steps.{Answers, CanGo, CanName, first_told, spent_told}
 use Rattle.vfs_session.specs.World.{World}
+use Rattle.vfs_session.proofs.Between.{answered_in, given_told}
 use Rattle.vfs_session.proofs.EachServer.{by_length, numbered}
 use Rattle.vfs_session.proofs.Grounds.{below}
 use Rattle.vfs_session.proofs.HeadServed.{server_low}

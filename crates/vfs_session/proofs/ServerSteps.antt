@@ -26,7 +26,7 @@ use Rattle.vfs_server.specs.declared.fate.Fate.{Fate}
 use Rattle.vfs_server.specs.Holding.{HoldsAt, bound_to, if_at, living_at, named_by, named_in}
 use Rattle.vfs_server.specs.Servers.{Server, in_use, named, seen}
 use Rattle.vfs_server.specs.Serving.{Serves}
-use Rattle.vfs_session.specs.Steps.{answered_in, bound_in}
+use Rattle.vfs_session.proofs.Between.{answered_in, bound_in}
 
 abbrev pub Living : Type 0
 Living = List (Bound × Position)

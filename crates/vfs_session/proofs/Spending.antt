@@ -30,7 +30,8 @@ use Rattle.journal_laws.proofs.Spreading.{among_back, among_front, among_sides}
 use Rattle.message_queues.specs.Queues.{Queues, queue_of}
 use Rattle.vfs_server.specs.declared.fate.Fate.{Fate}
 use Rattle.vfs_server.specs.declared.fate.Fate.TheVariants as fates
-use Rattle.vfs_session.specs.Steps.{CanGo, given_told, known_told, spent_told}
+use Rattle.vfs_session.specs.Steps.{CanGo, known_told, spent_told}
+use Rattle.vfs_session.proofs.Between.{given_told}
 
 -- ---- lists of lists
 

@@ -10,7 +10,8 @@ use Rattle.vfs_server.specs.declared.fate.Fate.{Fate}
 use Rattle.vfs_server.specs.Servers.{Server}
 use Rattle.vfs_server.specs.Serving.{IsMomentOf}
 use Rattle.vfs_session.specs.Heads.{Takes, TakesHead}
-use Rattle.vfs_session.specs.Steps.{Answers, BindsTold, IsRunning}
+use Rattle.vfs_session.specs.Running.{IsRunning}
+use Rattle.vfs_session.specs.Steps.{Answers, BindsTold}
 use Rattle.vfs_session.specs.World.{World}
 use Rattle.vfs_session.proofs.Ready.{CanBind, can_bind, can_take}
 

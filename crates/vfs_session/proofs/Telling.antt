@@ -14,7 +14,8 @@ use Rattle.vfs_server.specs.Effects.{Effects, effects_of, effects_told}
 use Rattle.vfs_server.specs.declared.fate.Fate.{Fate}
 use Rattle.vfs_server.specs.declared.fate.Fate.TheVariants as fates
 use Rattle.vfs_server.specs.Servers.{bound_with, watcher_with}
-use Rattle.vfs_session.specs.Steps.{end_told, first_told, given_told, is_it, settled_told}
+use Rattle.vfs_session.specs.Steps.{end_told, first_told, is_it, settled_told}
+use Rattle.vfs_session.proofs.Between.{given_told}
 
 -- what is bound at a server, and what goes on
 abbrev pub bound_told : ℕ → Fate → Option Bound

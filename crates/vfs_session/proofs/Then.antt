@@ -33,7 +33,8 @@ use Rattle.vfs_server.specs.Servers.{Server, bound_with, watcher_with}
 use Rattle.vfs_server.specs.Binding.{Binds}
 use Rattle.vfs_server.specs.Serving.{Serves, frames_here}
 use Rattle.vfs_session.specs.Holding.{HoldsEach}
-use Rattle.vfs_session.specs.Steps.{Answers, BindsTold, ForgetsAll, SendsOn, answered_in, bound_in, closed_for, end_told, given_in, given_told, onward_told, without_in}
+use Rattle.vfs_session.specs.Steps.{Answers, BindsTold, ForgetsAll, SendsOn, closed_for, end_told, onward_told, without_in}
+use Rattle.vfs_session.proofs.Between.{answered_in, bound_in, given_in, given_told}
 use Rattle.vfs_session.proofs.EachServer.{AreNumbered, each_answered, each_bound, each_forgotten, each_given, each_unbound, each_ungiven, indexed, numbered}
 use Rattle.vfs_session.proofs.Leaving.{new_token, out_then, tokens_rise}
 use Rattle.vfs_session.proofs.Moments.{IsOn, frames_same, is_moment, sending_on}

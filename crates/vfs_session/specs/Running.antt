@@ -1,8 +1,12 @@
--- What a session keeps, as a world that isn't spent.
-use Rattle.std.specs.Prelude.{◌≡◌, ◌≤◌, ◌*◌, ◌^◌, ℕ, Bool, false}
+-- What a session keeps, as a world that isn't spent; and that it runs.
+use Rattle.std.specs.Prelude.{◌≡◌, ◌≤◌, ◌+◌, ◌*◌, ◌^◌, ℕ, Bool, false}
+use Rattle.fidl_wire.specs.Names.{AreDistinct}
+use Rattle.vfs_journal.specs.Entries.{Journal}
+use Rattle.vfs_journal.specs.Starts.{Start}
+use Rattle.journal_laws.specs.Viewing.{view_behind}
 use Rattle.vfs_session.specs.declared.session.Session.{Session}
-use Rattle.vfs_session.specs.Steps.{IsRunning}
-use Rattle.vfs_session.specs.World.{World}
+use Rattle.vfs_session.specs.Places.{places_left}
+use Rattle.vfs_session.specs.World.{StandsFor, World}
 
 abbrev pub whole : Session → World
 whole session = record {
@@ -13,6 +17,14 @@ whole session = record {
   spent = false;
   frames = 0;
 }
+
+-- names are told apart, and it stands for a journal whose places, with those that what waits can still take, are no more than so many
+pub record IsRunning (most : ℕ) (world : World) : Type 0 where
+  pub apart : AreDistinct
+  pub start : Start
+  pub journal : Journal
+  pub stands : StandsFor start world journal
+  pub few : (view_behind start journal).places + places_left (view_behind start journal) ≤ most
 
 -- each accepted frame takes 4,098 places at most, its own and those of its servings, so that places don't run out
 abbrev pub IsWithin : World → Bool → ℕ → Type 0

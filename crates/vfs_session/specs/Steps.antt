@@ -1,25 +1,23 @@
--- Words of the steps of a world. No public clause needs these.
-use Rattle.std.specs.Prelude.{◌≡◌, ◌≢◌, AllPairs, ℕ, ◌+◌, ◌<◌, ◌≤◌, ◌==◌, Bool, false, not, List, [], ◌∷◌, ◌++◌, length, map, filter, option_to_list, Option, Some, None, slice_get, slice_set}
+-- Words of the steps of a world, which its private functions are told by. Public clauses that tell a serving by its steps (Servings) need them;
+-- none that tells it by a journal does.
+use Rattle.std.specs.Prelude.{◌≡◌, ◌≢◌, AllPairs, ℕ, ◌+◌, ◌<◌, ◌==◌, Bool, false, not, List, [], ◌∷◌, ◌++◌, length, map, filter, option_to_list, Option, Some, None, slice_get, slice_set}
 use Rattle.std.specs.FinMap as finite
 use Rattle.std.specs.Option.{option_map_or}
 use Rattle.fidl_names.specs.declared.limits.TheConstants as limit
-use Rattle.fidl_wire.specs.Names.{AreDistinct}
 use Rattle.fidl_wire.specs.Written.{Written}
 use Rattle.endpoint_link.specs.Frames.{Frame}
 use Rattle.endpoint_link.specs.Numbering.{among}
 use Rattle.endpoint_link.specs.Standings.{Known, given, gone}
 use Rattle.tree_file.specs.Numbering.{end_of_mount}
-use Rattle.conn_rules.specs.Births.{Position, fresh}
+use Rattle.conn_rules.specs.Births.{Position}
 use Rattle.node_graph.specs.declared.nodes.NodeRef.{NodeRef}
 use Rattle.node_graph.specs.Graph.{number_of}
-use Rattle.vfs_journal.specs.Entries.{Journal, Sent, endpoints_in, handles_of, message, tokens_in}
-use Rattle.vfs_journal.specs.History.{changed}
-use Rattle.vfs_journal.specs.Outcomes.{Given, Outcome, close_frame}
+use Rattle.vfs_journal.specs.Entries.{Sent, endpoints_in, handles_of, message, tokens_in}
+use Rattle.vfs_journal.specs.Outcomes.{close_frame}
 use Rattle.vfs_journal.specs.Output.{rising}
 use Rattle.vfs_journal.specs.Serving.{Moment, outcome_of_sending}
-use Rattle.vfs_journal.specs.Starts.{Bound, Start}
-use Rattle.vfs_journal.specs.View.{View, moved}
-use Rattle.journal_laws.specs.Viewing.{view_behind}
+use Rattle.vfs_journal.specs.Starts.{Bound}
+use Rattle.vfs_journal.specs.View.{View}
 use Rattle.message_queues.specs.Dying.{tokens_on}
 use Rattle.message_queues.specs.Queues.{Queues, Requeues, queue_of}
 use Rattle.message_queues.specs.Queues.{Binds as QueuesBind}
@@ -28,23 +26,6 @@ use Rattle.vfs_server.specs.declared.fate.Fate.{Fate}
 use Rattle.vfs_server.specs.declared.fate.Fate.TheVariants as fates
 use Rattle.vfs_server.specs.Servers.{Server, bound_with, named, watcher_with}
 use Rattle.vfs_server.specs.Serving.{IsMomentOf, Serves}
-use Rattle.vfs_session.specs.Places.{places_left}
-use Rattle.vfs_session.specs.World.{StandsFor, World}
-
--- ---- the view behind each step of a serving
-
--- the endpoint that was served has its new position, and the tree its change
-abbrev pub answered_in : View → ℕ → Outcome → View
-answered_in view endpoint outcome =
-    record view { living = map (moved endpoint outcome.position) view.living; trees = changed view.trees outcome.server outcome.change }
-
--- what is bound is the newest
-abbrev pub bound_in : View → Option Bound → View
-bound_in view bound = record view { living = view.living ++ map (λ one. (one, fresh)) (option_to_list bound) }
-
--- the clients hold the token that is given
-abbrev pub given_in : View → Option Given → View
-given_in view token = record view { given = view.given ++ option_to_list token; held = view.held ++ option_to_list token }
 
 -- these live no more
 abbrev pub without_in : View → List ℕ → View
@@ -55,18 +36,6 @@ without_in view dead = record view { living = filter (λ pair. not (among pair.0
 -- no endpoint is bound twice
 abbrev pub AreApart : List (Bound × Position) → Type 0
 AreApart living = AllPairs (λ one other. one.0.endpoint ≢ other.0.endpoint) living
-
--- more is written behind what was
-abbrev pub Begins : List ℕ → List ℕ → Type 0
-Begins before after = (more : List ℕ) × (after ≡ before ++ more)
-
--- names are told apart, and it stands for a journal whose places, with those that what waits can still take, are no more than so many
-pub record IsRunning (most : ℕ) (world : World) : Type 0 where
-  pub apart : AreDistinct
-  pub start : Start
-  pub journal : Journal
-  pub stands : StandsFor start world journal
-  pub few : (view_behind start journal).places + places_left (view_behind start journal) ≤ most
 
 -- a token that names nothing at a server can name a directory there
 pub record CanName (server : Server) (token : ℕ) (node : NodeRef) : Type 0 where
@@ -148,12 +117,6 @@ abbrev pub closed_for : Option ℕ → List ℕ → List Frame
 closed_for one deaths = map close_frame (rising (filter (λ number. not (is_it one number)) deaths))
 
 -- ---- tokens
-
--- the token that a fate gives, on the endpoint that was served at this server
-abbrev pub given_told : ℕ → ℕ → Fate → Option Given
-given_told endpoint server (fates.Gives token directory) =
-    Some (record { token = token; endpoint = endpoint; server = server; node = number_of directory })
-given_told endpoint server _ = None
 
 -- the tokens that are spent: those that the served entry carried, and those of what waited on whoever died
 abbrev pub spent_told : Sent → Queues → List ℕ → List ℕ

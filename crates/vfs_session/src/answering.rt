@@ -2,10 +2,11 @@
 
 ghost use Rattle.std.specs.Prelude.{◌≡◌, ◌<◌, ◌^◌, IfOk, Some, length, slice_get};
 ghost use Rattle.vfs_journal.specs.Entries.{handles_of};
+ghost use Rattle.vfs_journal.specs.Output.{Begins};
 ghost use Rattle.vfs_journal.specs.Serving.{Moment};
 ghost use Rattle.vfs_server.specs.Servers.{Server};
 ghost use Rattle.vfs_server.specs.Serving.{IsMomentOf};
-ghost use Rattle.vfs_session.specs.Steps.{Answers, Begins};
+ghost use Rattle.vfs_session.specs.Steps.{Answers};
 
 use endpoint_link::Outbox;
 use fidl_names::NoMemory;

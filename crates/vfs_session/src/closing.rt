@@ -3,8 +3,8 @@
 ghost use Rattle.std.specs.Prelude.{◌≡◌, ◌++◌, not, filter, map, IfOk, OnOk};
 ghost use Rattle.endpoint_link.specs.Frames.{spellings};
 ghost use Rattle.vfs_journal.specs.Outcomes.{close_frame};
-ghost use Rattle.vfs_journal.specs.Output.{rising};
-ghost use Rattle.vfs_session.specs.Steps.{Begins, closed_for, is_it};
+ghost use Rattle.vfs_journal.specs.Output.{Begins, rising};
+ghost use Rattle.vfs_session.specs.Steps.{closed_for, is_it};
 
 use crate::deaths::is_it;
 use endpoint_link::{FrameKind, Outbox, write_frame};

@@ -5,10 +5,11 @@ ghost use Rattle.fidl_names.specs.declared.limits.TheConstants as limit;
 ghost use Rattle.endpoint_link.specs.Standings.{is_live, standing_of};
 ghost use Rattle.message_queues.specs.Dying.{AreDeaths};
 ghost use Rattle.message_queues.specs.Queues.{IsAbove, IsReady, count};
+ghost use Rattle.vfs_journal.specs.Output.{Begins};
 ghost use Rattle.vfs_session.specs.Heads.{LetsDie, SettlesHead, Takes, TakesHead};
-ghost use Rattle.vfs_session.specs.Running.{whole};
+ghost use Rattle.vfs_session.specs.Running.{IsRunning, whole};
 ghost use Rattle.vfs_session.specs.Servings.{ServesOne};
-ghost use Rattle.vfs_session.specs.Steps.{Begins, CanGo, IsRunning, first_told, spent_told};
+ghost use Rattle.vfs_session.specs.Steps.{CanGo, first_told, spent_told};
 ghost use Rattle.vfs_session.specs.World.{World};
 
 use crate::answering::answer;

@@ -3,9 +3,9 @@
 ghost use Rattle.std.specs.Prelude.{◌≡◌, ◌^◌, ℕ, false, IfOk, OnOk, Ok};
 ghost use Rattle.message_queues.specs.Oldest.{IsBound, IsBoundAt, NothingWaits};
 ghost use Rattle.message_queues.specs.Queues.{IsReady};
-ghost use Rattle.vfs_session.specs.Running.{whole};
+ghost use Rattle.vfs_journal.specs.Output.{Begins};
+ghost use Rattle.vfs_session.specs.Running.{IsRunning, whole};
 ghost use Rattle.vfs_session.specs.Servings.{IsDrain, IsPick, IsTurn};
-ghost use Rattle.vfs_session.specs.Steps.{Begins, IsRunning};
 
 use crate::session::Session;
 use endpoint_link::Outbox;

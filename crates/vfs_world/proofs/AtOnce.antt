@@ -34,8 +34,8 @@ use Rattle.message_queues.specs.Queues.{Mailbox, Queues, Requeues, count, head_o
 use Rattle.message_queues.specs.Parcels.{sent_by}
 use Rattle.message_queues.proofs.Counting.{counts_its_list}
 use Rattle.vfs_session.specs.Heads.{Takes}
+use Rattle.vfs_session.specs.Running.{IsRunning}
 use Rattle.vfs_session.specs.Servings.{IsDrain, IsOldestOfAll, ServesOne, ServesTimes}
-use Rattle.vfs_session.specs.Steps.{IsRunning}
 use Rattle.vfs_session.specs.World.{LeadsTo, StandsFor, World}
 use Rattle.vfs_session.proofs.OneMore.{one_of_these}
 use Rattle.vfs_session.proofs.Serves.{drain_leads}

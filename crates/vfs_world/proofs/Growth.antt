@@ -12,26 +12,23 @@ use Rattle.endpoint_link.specs.declared.kinds.Refusal.{Refusal}
 use Rattle.vfs_journal.specs.Entries.{Entry, Journal, Sent, serves}
 use Rattle.vfs_journal.specs.History.{History}
 use Rattle.vfs_journal.specs.Outcomes.{Forwarded}
-use Rattle.vfs_journal.specs.Output.{frames_of, frames_of_event}
+use Rattle.vfs_journal.specs.Output.{frames_behind, frames_of_event}
 use Rattle.vfs_journal.specs.Past.{history_of, event_of}
 use Rattle.vfs_journal.specs.Serving.{outcome_of}
 use Rattle.vfs_journal.specs.Session.{head, oldest, next, with_forward, after_serving, serving, serving_one, weight, drained, look_ups, admitted, by_refusal, arrives, steps, session}
 use Rattle.vfs_journal.specs.Starts.{Start}
 
-abbrev frames_by : Start → Journal → List Frame
-frames_by start journal = frames_of start (history_of start journal)
-
 -- the frames of the first journal stand in front of those of the second
 abbrev pub Begins : Start → Journal → Journal → Type 0
-Begins start journal later = (more : List Frame) × (frames_by start later ≡ frames_by start journal ++ more)
+Begins start journal later = (more : List Frame) × (frames_behind start later ≡ frames_behind start journal ++ more)
 
 begins_same : (start : Start) (journal : Journal) → Begins start journal journal
-begins_same start journal = ([], sym (append-nil (frames_by start journal)))
+begins_same start journal = ([], sym (append-nil (frames_behind start journal)))
 
 begins_far : (start : Start) (first second third : Journal) → Begins start first second → Begins start second third
     → Begins start first third
 begins_far start first second third p q =
-    (p.0 ++ q.0, q.1 ∙ ap (λ l. l ++ q.0) p.1 ∙ append_assoc (frames_by start first) p.0 q.0)
+    (p.0 ++ q.0, q.1 ∙ ap (λ l. l ++ q.0) p.1 ∙ append_assoc (frames_behind start first) p.0 q.0)
 
 begins_entry : (start : Start) (journal : Journal) (entry : Entry) → Begins start journal (entry ∷ journal)
 unfolding history_of
@@ -93,7 +90,7 @@ begins_all start by journal (frame ∷ frames) =
     (begins_all start by (steps start by journal frame) frames)
 
 -- nothing is written for no frames
-pub nothing : (start : Start) → frames_by start [] ≡ []
+pub nothing : (start : Start) → frames_behind start [] ≡ []
 unfolding history_of
 nothing start = refl
 

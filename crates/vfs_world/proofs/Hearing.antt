@@ -25,8 +25,8 @@ use Rattle.journal_laws.specs.Viewing.{view_behind}
 use Rattle.journal_laws.proofs.Fits.{views_fit}
 use Rattle.message_queues.specs.Queues.{Requeues, queue_of}
 use Rattle.message_queues.proofs.Counting.{counts_its_list}
+use Rattle.vfs_session.specs.Running.{IsRunning}
 use Rattle.vfs_session.specs.Servings.{IsPick, IsTurn}
-use Rattle.vfs_session.specs.Steps.{IsRunning}
 use Rattle.vfs_session.specs.World.{LeadsTo, StandsFor, World}
 use Rattle.vfs_session.proofs.Grounds.{below}
 use Rattle.vfs_session.proofs.Heard.{SendsIt, admits_same, hang_up_on, message_on, refused_on}

@@ -16,8 +16,7 @@ use Rattle.journal_laws.proofs.SoundTrees.{trees_sound}
 use Rattle.vfs_server.specs.KeptNodes.{kept_in}
 use Rattle.vfs_server.specs.Holding.{HoldsAt}
 use Rattle.vfs_server.specs.Servers.{Server}
-use Rattle.vfs_session.specs.Running.{IsWithin, whole}
-use Rattle.vfs_session.specs.Steps.{IsRunning}
+use Rattle.vfs_session.specs.Running.{IsRunning, IsWithin, whole}
 use Rattle.vfs_session.specs.World.{StandsFor, World}
 use Rattle.vfs_session.proofs.Grounds.{below}
 use Rattle.vfs_world.specs.declared.world.World.TheInside.{Inside}

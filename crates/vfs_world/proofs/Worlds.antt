@@ -4,14 +4,14 @@ use Rattle.std.proofs.Math.Seq.{take-append_seam}
 use Rattle.fidl_wire.specs.Names.{AreDistinct}
 use Rattle.vfs_journal.specs.Entries.{Journal, Sent}
 use Rattle.vfs_journal.specs.History.{waiting}
+use Rattle.vfs_journal.specs.Output.{Begins}
 use Rattle.vfs_journal.specs.Past.{history_of}
 use Rattle.vfs_journal.specs.Starts.{Start}
 use Rattle.journal_laws.specs.Viewing.{view_behind}
 use Rattle.message_queues.specs.Oldest.{IsBound, NothingWaits}
 use Rattle.message_queues.specs.Queues.{count}
 use Rattle.message_queues.proofs.Counting.{counts_its_list}
-use Rattle.vfs_session.specs.Running.{IsWithin, whole}
-use Rattle.vfs_session.specs.Steps.{Begins, IsRunning}
+use Rattle.vfs_session.specs.Running.{IsRunning, IsWithin, whole}
 use Rattle.vfs_session.specs.World.{LeadsTo, StandsFor, World}
 use Rattle.vfs_session.proofs.Lasting.{lasts_more}
 use Rattle.vfs_world.specs.declared.world.World.TheInside.{Inside}

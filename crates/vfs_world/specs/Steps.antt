@@ -9,8 +9,8 @@ use Rattle.endpoint_link.specs.declared.kinds.FrameKind.TheVariants as kind
 use Rattle.vfs_journal.specs.Entries.{Journal, Sending}
 use Rattle.vfs_journal.specs.Starts.{Start}
 use Rattle.message_queues.specs.Queues.{IsAbove, Requeues, count, queue_of, server_of}
+use Rattle.vfs_session.specs.Running.{IsRunning}
 use Rattle.vfs_session.specs.Servings.{IsOldestOfAll, ServesTimes}
-use Rattle.vfs_session.specs.Steps.{IsRunning}
 use Rattle.vfs_session.specs.World.{LeadsTo, World}
 
 -- a frame is admitted: what is known is as its admission leaves it, and all else is as it was

@@ -9,12 +9,11 @@ ghost use Rattle.endpoint_link.specs.declared.kinds.Side.TheVariants as side;
 ghost use Rattle.vfs_journal.specs.Entries.{Journal, message};
 ghost use Rattle.vfs_journal.specs.Handles.{AreByNumber, numbers_of};
 ghost use Rattle.vfs_journal.specs.History.{waiting};
-ghost use Rattle.vfs_journal.specs.Output.{refused_frame};
+ghost use Rattle.vfs_journal.specs.Output.{Begins, refused_frame};
 ghost use Rattle.vfs_journal.specs.Past.{history_of};
 ghost use Rattle.vfs_journal.specs.Session.{arrives, drained, steps};
 ghost use Rattle.vfs_journal.specs.Starts.{Start};
-ghost use Rattle.vfs_session.specs.Running.{whole};
-ghost use Rattle.vfs_session.specs.Steps.{Begins, IsRunning};
+ghost use Rattle.vfs_session.specs.Running.{IsRunning, whole};
 ghost use Rattle.vfs_session.specs.World.{LeadsTo, StandsFor, World};
 ghost use Rattle.vfs_world.specs.Steps.{CanWait, Hears, IsAdmitted, IsFree, IsPlain, Reaches, WaitsLast};
 

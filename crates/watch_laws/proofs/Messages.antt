@@ -20,9 +20,10 @@ use Rattle.conn_rules.specs.Answers.{Act, Answer, binds, closes, ends, forwards,
 use Rattle.vfs_journal.specs.Entries.{Sending, message, hang_up}
 use Rattle.vfs_journal.specs.History.{is_watcher}
 use Rattle.vfs_journal.specs.Outcomes.{Asker, Outcome, announcement, bound_of, ends_of, frames_of, outcome_with, reply_frame}
+use Rattle.vfs_journal.specs.Output.{is_message}
 use Rattle.vfs_journal.specs.Serving.{Moment, Read, asker_of, fault_answer, fault_txid, object_of, outcome_of_message, outcome_of_read, outcome_of_sending, read_by, request_act}
 use Rattle.vfs_journal.specs.Starts.{Bound}
-use Rattle.watch_laws.specs.Sight.{is_message, is_message_on}
+use Rattle.watch_laws.specs.Sight.{is_message_on}
 use Rattle.watch_laws.proofs.Acts.{IsPlain}
 
 -- ---- frames on other endpoints

@@ -1,7 +1,5 @@
 -- What a watcher is told, looking back; and what was written on an endpoint.
-use Rattle.std.specs.Prelude.{◌≡◌, ℕ, ◌==◌, ◌&&◌, Bool, true, false, if◌then◌else◌, List, [], ◌∷◌, ◌++◌, filter, map}
-use Rattle.endpoint_link.specs.declared.kinds.FrameKind.{FrameKind}
-use Rattle.endpoint_link.specs.declared.kinds.FrameKind.TheVariants as kind
+use Rattle.std.specs.Prelude.{◌≡◌, ℕ, ◌==◌, ◌&&◌, Bool, if◌then◌else◌, List, [], ◌∷◌, ◌++◌, filter, map}
 use Rattle.endpoint_link.specs.Frames.{Frame}
 use Rattle.path_walk.specs.Names.{dot}
 use Rattle.conn_rules.specs.Answers.{Happening}
@@ -10,7 +8,7 @@ use Rattle.watch_events.specs.Events.{AreEvents, Event, bytes_of}
 use Rattle.watch_events.specs.Messages.{added, asks_for, deleted, removed}
 use Rattle.vfs_journal.specs.History.{History, binds_endpoint, is_dead, tree_at, trees_of, watches_node}
 use Rattle.vfs_journal.specs.Outcomes.{Outcome}
-use Rattle.vfs_journal.specs.Output.{frames_of}
+use Rattle.vfs_journal.specs.Output.{frames_of, is_message}
 use Rattle.vfs_journal.specs.Starts.{Bound, Start}
 use Rattle.vfs_journal.specs.Watching.{first_messages}
 
@@ -48,10 +46,6 @@ sight start watcher (event ∷ past) =
     else sight start watcher past ++ map bytes_of (events_for watcher event.outcome)
 
 -- ---- what was written
-
-abbrev pub is_message : FrameKind → Bool
-is_message kind.Message = true
-is_message _ = false
 
 abbrev pub is_message_on : ℕ → Frame → Bool
 is_message_on endpoint frame = is_message frame.kind && (frame.endpoint == endpoint)

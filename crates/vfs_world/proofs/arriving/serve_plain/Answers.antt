@@ -8,8 +8,7 @@ use Rattle.endpoint_link.specs.declared.kinds.Refusal.{Refusal}
 use Rattle.endpoint_link.specs.declared.kinds.Standing.TheVariants as standing
 use Rattle.endpoint_link.specs.Views.{frame_of}
 use Rattle.vfs_journal.specs.Session.{arrives}
-use Rattle.vfs_session.specs.Running.{whole}
-use Rattle.vfs_session.specs.Steps.{IsRunning}
+use Rattle.vfs_session.specs.Running.{IsRunning, whole}
 use Rattle.vfs_session.specs.World.{World}
 use Rattle.vfs_world.specs.Steps.{IsAdmitted, IsFree, IsPlain}
 use Rattle.vfs_world.proofs.Answered.{let_in, on_both, on_ok, plain_passed, plain_refused, refused_for}

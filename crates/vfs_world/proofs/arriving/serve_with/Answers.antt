@@ -4,8 +4,7 @@ use Rattle.endpoint_link.specs.declared.kinds.Side.TheVariants.{ToServers}
 use Rattle.endpoint_link.specs.Views.{frame_of}
 use Rattle.vfs_journal.specs.Entries.{Sent}
 use Rattle.vfs_session.specs.Heads.{Takes}
-use Rattle.vfs_session.specs.Running.{whole}
-use Rattle.vfs_session.specs.Steps.{IsRunning}
+use Rattle.vfs_session.specs.Running.{IsRunning, whole}
 use Rattle.vfs_session.specs.World.{World}
 use Rattle.vfs_world.specs.Steps.{Hears, IsFree}
 use Rattle.vfs_world.proofs.Answered.{on_ok}

@@ -1,5 +1,5 @@
 use Rattle.std.proofs.Common.{◌-◌, ◌^◌}
-use Rattle.message_queues.specs.Steps.{IsSpread}
+use Rattle.message_queues.proofs.Spread.{IsSpread}
 use Rattle.message_queues.proofs.queues.Queues.deaths.Given as goal
 
 abbrev pub invariant-loop-endpoint : goal.invariant-loop-endpoint

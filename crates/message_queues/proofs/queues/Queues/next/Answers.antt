@@ -2,9 +2,9 @@ use Rattle.std.proofs.Common.{◌+◌, ◌∙◌, ℕ, ap, subst, sym}
 use Rattle.std.specs.Prelude.{None, Option, Some}
 use Rattle.message_queues.specs.Oldest.{IsBound, IsOldest, NothingWaits}
 use Rattle.message_queues.specs.Queues.{Queues, queue_of}
-use Rattle.message_queues.specs.Steps.{Heads, IsLeast, IsLeastBelow, queues_with}
+use Rattle.message_queues.specs.Steps.{Heads, IsLeast, queues_with}
 use Rattle.message_queues.proofs.Placed.{heads_there}
-use Rattle.message_queues.proofs.Served.{least_more, least_none, oldest_behind}
+use Rattle.message_queues.proofs.Served.{IsLeastBelow, least_more, least_none, oldest_behind}
 use Rattle.message_queues.proofs.Sound.{nothing_counted}
 use Rattle.message_queues.proofs.queues.Queues.next.Goals as goal
 

@@ -1,4 +1,4 @@
-use Rattle.message_queues.specs.Steps.{IsLeastBelow}
+use Rattle.message_queues.proofs.Served.{IsLeastBelow}
 use Rattle.message_queues.proofs.queues.Queues.next.Given as goal
 
 abbrev pub invariant-loop-heads : goal.invariant-loop-heads

@@ -19,14 +19,14 @@ use Rattle.vfs_server.proofs.server.Server.unbind.Goals as goal
 
 pub release-requires-clause-held : goal.release-requires-clause-held
 release-requires-clause-held c =
-    subst (λ node. 0 < holds_at c.self.inside.graph (number_of node)) (sym c.node.ensures)
+    subst (λ node. 0 < holds_at c.self.inside.graph (number_of node)) (sym c.into_node.ensures)
     (held_there c.self.inside.graph c.self.inside.connections c.self.inside.watching c.self.inside.tokens c.self.invariant c.args.endpoint c.in-Some.connection (sym c.remove.ensures.given ∙ c.in-Some.is))
 
 connected : (c : goal.After-release) → finite.get c.self.inside.connections c.args.endpoint ≡ Some c.in-Some.connection
 connected c = sym c.remove.ensures.given ∙ c.in-Some.is
 
 released : (c : goal.After-release) → HoldsNow c.self.inside.graph c.release.new.self (number_of c.in-Some.connection.birth.node) (holds_at c.self.inside.graph (number_of c.in-Some.connection.birth.node) - 1)
-released c = subst (λ node. HoldsNow c.self.inside.graph c.release.new.self (number_of node) (holds_at c.self.inside.graph (number_of node) - 1)) c.node.ensures c.release.ensures.released
+released c = subst (λ node. HoldsNow c.self.inside.graph c.release.new.self (number_of node) (holds_at c.self.inside.graph (number_of node) - 1)) c.into_node.ensures c.release.ensures.released
 
 pub invariant_of-self : goal.invariant_of-self
 invariant_of-self c =

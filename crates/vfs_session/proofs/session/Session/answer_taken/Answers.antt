@@ -5,8 +5,8 @@ use Rattle.vfs_journal.specs.Entries.{Sent, handles_of}
 use Rattle.vfs_server.specs.Servers.{Server}
 use Rattle.vfs_server.specs.Serving.{IsMomentOf}
 use Rattle.vfs_session.specs.Heads.{Takes}
-use Rattle.vfs_session.specs.Running.{whole}
-use Rattle.vfs_session.specs.Steps.{Answers, IsRunning}
+use Rattle.vfs_session.specs.Running.{IsRunning, whole}
+use Rattle.vfs_session.specs.Steps.{Answers}
 use Rattle.vfs_session.specs.World.{World}
 use Rattle.vfs_session.proofs.Taken.{CanAnswer, can_answer, takes_head}
 use Rattle.vfs_session.proofs.session.Session.answer_taken.Goals as goal

@@ -1,7 +1,6 @@
 use Rattle.std.proofs.Common.{◌≡◌, ◌∙◌, Some, ap, refl, subst, sym}
-use Rattle.vfs_session.specs.Running.{whole}
+use Rattle.vfs_session.specs.Running.{IsRunning, whole}
 use Rattle.vfs_session.specs.Servings.{ServesOne}
-use Rattle.vfs_session.specs.Steps.{IsRunning}
 use Rattle.vfs_session.specs.World.{World}
 use Rattle.vfs_session.proofs.session.Session.serve_head.Goals as goal
 
