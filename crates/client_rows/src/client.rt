@@ -14,6 +14,7 @@ use fidl_wire::Ordinals;
 use io_client::{Client, ClientFault, Taken};
 use io_messages::{Reply, Request, is_one_way};
 use std::alloc::Global;
+use std::process::Abort;
 use std::test::Fail;
 use test_rows::{BadCell, Row, Table, all_hold, rows};
 
@@ -147,6 +148,25 @@ fn open(path: &[u8], flags: u64) -> Request<'_> {
 /// A file, to read, and to tell what it is.
 const TOLD_FILE: u64 = 0x1_0000_0000_0012;
 
+/// An endpoint, the txid and the request that is sent on it, and what sending answers.
+type Sent<'a> = (u32, u32, Request<'a>, Result<(), ClientFault>);
+
+/// The txid of the first request that is answered otherwise.
+fn first_other(caller: &mut Caller, requests: &[Sent<'_>]) -> Option<u32> {
+    for (endpoint, txid, request, answer) in requests {
+        if caller.send(*endpoint, *txid, *request) != Some(*answer) {
+            return Some(*txid);
+        }
+    }
+    None
+}
+
+/// Whether the client sent the frames of a text's rows, and nothing else.
+fn has_sent(alloc: Global, caller: &Caller, text: &str) -> Result<bool, Fail> {
+    let wanted = frames(alloc, text)?;
+    Ok(caller.outbox.as_bytes() == wanted.as_slice())
+}
+
 #[test]
 fn requests_are_written_once_and_within_their_limit(rt: HostRuntime) -> Result<(), Fail> {
     let mut caller = Caller::new(rt.alloc())?;
@@ -166,15 +186,9 @@ fn requests_are_written_once_and_within_their_limit(rt: HostRuntime) -> Result<(
         ),
         (1, 0, open(b"d", 0x1c0), Ok(())),
     ];
-    for (endpoint, txid, request, answer) in requests {
-        assert!(rt;
-            caller.send(endpoint, txid, request) == Some(answer),
-            "{txid} on {endpoint}"
-        );
-    }
-    assert_eq!(rt; caller.client.waiting(), 4);
-    let want = frames(rt.alloc(), FILE_SENT)?;
-    assert_eq!(rt; caller.outbox.as_bytes(), want.as_slice());
+    assert_eq!(rt; first_other(&mut caller, &requests), None);
+    assert!(rt; caller.client.waiting() == 4);
+    assert!(rt; has_sent(rt.alloc(), &caller, FILE_SENT)?);
     Ok(())
 }
 
@@ -183,8 +197,8 @@ fn the_longest_write_fills_a_message(rt: HostRuntime) -> Result<(), Fail> {
     let mut caller = Caller::new(rt.alloc())?;
     let bytes = [0x61; 65_504];
     let longest = Request::Write { bytes: &bytes };
-    assert_eq!(rt; caller.send(2, 7, longest), Some(Ok(())));
-    assert_eq!(rt; caller.outbox.len(), 12 + 65_536);
+    assert!(rt; caller.send(2, 7, longest) == Some(Ok(())));
+    assert!(rt; caller.outbox.len() == 12 + 65_536);
     Ok(())
 }
 
@@ -204,90 +218,107 @@ fn is_synced(taken: Option<Taken<'_>>, txid: u32) -> bool {
     }
 }
 
-#[test]
-fn many_calls_are_answered_the_other_way_round(rt: HostRuntime) -> Result<(), Fail> {
-    let mut caller = Caller::new(rt.alloc())?;
-    for txid in 1..10_001 {
-        assert!(rt;
-            caller.note(1, txid, Method::Sync, None) == Some(Ok(())),
-            "{txid}"
-        );
+/// How many calls are made at a time.
+const MANY: u32 = 10_000;
+
+fn note_many(rt: &impl Abort, caller: &mut Caller) {
+    for txid in 1..MANY + 1 {
+        let noted = caller.note(1, txid, Method::Sync, None);
+        assert!(rt; noted == Some(Ok(())), "{txid}");
     }
-    assert_eq!(rt; caller.client.waiting(), 10_000);
-    for place in 0..10_000 {
-        let txid = 10_000 - place;
+}
+
+fn take_many(rt: &impl Abort, caller: &mut Caller) {
+    for place in 0..MANY {
+        let txid = MANY - place;
         assert!(rt; is_synced(caller.take(&synced(txid)), txid), "{txid}");
     }
-    assert_eq!(rt; caller.client.waiting(), 0);
-    Ok(())
 }
 
 #[test]
-fn the_exchange_of_the_document_goes_byte_by_byte(rt: HostRuntime) -> Result<(), Fail> {
+fn many_calls_are_answered_the_other_way_round(rt: HostRuntime) -> Result<(), Fail> {
     let mut caller = Caller::new(rt.alloc())?;
+    note_many(&rt, &mut caller);
+    assert!(rt; caller.client.waiting() == MANY as usize);
+    take_many(&rt, &mut caller);
+    assert!(rt; caller.client.waiting() == 0);
+    Ok(())
+}
+
+/// Three requests, with two replies to come.
+fn ask_three(rt: &impl Abort, caller: &mut Caller) {
     let watch = Request::Watch {
         mask: 31,
         options: 0,
         watcher: 3,
     };
     let requests = [
-        (1, 0, open(b"d/f", TOLD_FILE)),
-        (2, 4, Request::Read { count: 100 }),
-        (1, 3, watch),
+        (1, 0, open(b"d/f", TOLD_FILE), Ok(())),
+        (2, 4, Request::Read { count: 100 }, Ok(())),
+        (1, 3, watch, Ok(())),
     ];
-    for (endpoint, txid, request) in requests {
-        assert!(rt;
-            caller.send(endpoint, txid, request) == Some(Ok(())),
-            "{txid} on {endpoint}"
-        );
-    }
-    assert_eq!(rt; caller.client.waiting(), 2);
+    assert_eq!(rt; first_other(caller, &requests), None);
+    assert!(rt; caller.client.waiting() == 2);
+}
+
+#[test]
+fn the_exchange_of_the_document_goes_byte_by_byte(rt: HostRuntime) -> Result<(), Fail> {
+    let mut caller = Caller::new(rt.alloc())?;
+    ask_three(&rt, &mut caller);
     all_hold(rt.alloc(), EXCHANGE_TAKEN, &mut caller)?;
-    assert_eq!(rt; caller.client.waiting(), 0);
+    assert!(rt; caller.client.waiting() == 0);
     caller.client.hang_up(2, &mut caller.outbox)?;
-    let want = frames(rt.alloc(), EXCHANGE_SENT)?;
-    assert_eq!(rt; caller.outbox.as_bytes(), want.as_slice());
+    assert!(rt; has_sent(rt.alloc(), &caller, EXCHANGE_SENT)?);
     Ok(())
+}
+
+/// Whether a frame is to the client a message to a watcher, of this one event.
+fn is_event(caller: &mut Caller, frame: &[u8], event: u8, name: &[u8]) -> bool {
+    let Some(Taken::Watch(mut events)) = caller.take(frame) else {
+        return false;
+    };
+    match events.next() {
+        Some(seen) => seen.event == event && seen.name == name && events.whole(),
+        None => false,
+    }
 }
 
 /// What a watcher is told is read from the frame.
 #[test]
 fn events_are_lent(rt: HostRuntime) -> Result<(), Fail> {
     let mut caller = Caller::new(rt.alloc())?;
-    assert_eq!(rt; caller.note(2, 3, Method::Watch, Some(3)), Some(Ok(())));
+    assert!(rt; caller.note(2, 3, Method::Watch, Some(3)) == Some(Ok(())));
     let message = b"\x03\x00\x00\x00\x01\x00\x00\x00\x03\x00\x00\x00\x01\x01b";
-    let Some(Taken::Watch(mut events)) = caller.take(message) else {
-        return Err(Fail::from("no message to a watcher"));
-    };
-    let seen = events.next().ok_or("no event")?;
-    assert_eq!(rt; seen.event, 1);
-    assert_eq!(rt; seen.name, b"b".as_slice());
-    assert!(rt; events.whole());
+    assert!(rt; is_event(&mut caller, message, 1, b"b"));
     Ok(())
+}
+
+/// Calls, with the watcher that they bring, and what noting them answers.
+const CALLS: &[(u32, u32, Method, Option<u32>, Result<(), ClientFault>)] = &[
+    (2, 3, Method::GetAttributes, None, Ok(())),
+    (2, 4, Method::Read, None, Ok(())),
+    (2, 5, Method::Query, None, Ok(())),
+    (2, 6, Method::Close, None, Ok(())),
+    (2, 7, Method::Sync, None, Ok(())),
+    (2, 8, Method::Sync, None, Ok(())),
+    (2, 9, Method::Sync, None, Ok(())),
+    (2, 10, Method::Sync, None, Ok(())),
+    (3, 3, Method::Watch, Some(9), Ok(())),
+    (3, 3, Method::Sync, None, Err(ClientFault::Busy)),
+];
+
+fn note_calls(rt: &impl Abort, caller: &mut Caller) {
+    for (endpoint, txid, method, watcher, answer) in CALLS {
+        let noted = caller.note(*endpoint, *txid, *method, *watcher);
+        assert!(rt; noted == Some(*answer), "{txid} on {endpoint}");
+    }
 }
 
 #[test]
 fn frames_are_what_their_rows_say(rt: HostRuntime) -> Result<(), Fail> {
     let mut caller = Caller::new(rt.alloc())?;
-    let calls = [
-        (2, 3, Method::GetAttributes, None, Ok(())),
-        (2, 4, Method::Read, None, Ok(())),
-        (2, 5, Method::Query, None, Ok(())),
-        (2, 6, Method::Close, None, Ok(())),
-        (2, 7, Method::Sync, None, Ok(())),
-        (2, 8, Method::Sync, None, Ok(())),
-        (2, 9, Method::Sync, None, Ok(())),
-        (2, 10, Method::Sync, None, Ok(())),
-        (3, 3, Method::Watch, Some(9), Ok(())),
-        (3, 3, Method::Sync, None, Err(ClientFault::Busy)),
-    ];
-    for (endpoint, txid, method, watcher, answer) in calls {
-        assert!(rt;
-            caller.note(endpoint, txid, method, watcher) == Some(answer),
-            "{txid} on {endpoint}"
-        );
-    }
+    note_calls(&rt, &mut caller);
     all_hold(rt.alloc(), TAKEN, &mut caller)?;
-    assert_eq!(rt; caller.client.waiting(), 0);
+    assert!(rt; caller.client.waiting() == 0);
     Ok(())
 }

@@ -5,12 +5,12 @@ ghost use Rattle.std.specs.Prelude.{◌≡◌, Some, IfSome};
 ghost use Rattle.node_graph.specs.Graph.{Names, kind_at, number_of};
 ghost use Rattle.io_messages.specs.declared.protocols.Protocol.TheVariants as protocol;
 
+use crate::requests::{Writer, request_of};
 use conn_rules::{Birth, Room, Served};
 use file_conn::FileConn;
 use io_messages::{Protocol, Request, has_method, is_one_way};
 use io_rights::{Operation, Rights};
 use node_graph::{Graph, GraphFault, NodeKind, NodeRef};
-use request_rows::{Writer, request_of};
 use std::alloc::Global;
 use std::process::Abort;
 use std::test::Fail;

@@ -4,12 +4,12 @@
 ghost use Rattle.std.specs.Prelude.{◌≡◌};
 ghost use Rattle.conn_rules.specs.Shared.{CanBeBound};
 
+use crate::requests::{Writer, request_of};
 use conn_rules::{Birth, Room, Served};
 use io_messages::{Protocol, Request, has_method, is_one_way};
 use io_rights::{Operation, Rights};
 use node_conn::{NodeConn, echo};
 use node_graph::{Graph, GraphFault, NodeKind};
-use request_rows::{Writer, request_of};
 use std::alloc::Global;
 use std::process::Abort;
 use std::test::Fail;

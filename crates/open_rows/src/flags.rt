@@ -4,6 +4,7 @@ use fidl_names::Status;
 use io_flags::{
     Flag, FlagFault, OpenFlags, asked, explicit, forwarded, grant, laws_of_flags, words_are_sets,
 };
+use io_rights::Rights;
 use std::process::Abort;
 use std::test::Fail;
 
@@ -162,63 +163,57 @@ const NOT_GRANTED: &[(u64, u16, u16, u64)] = &[
 ];
 
 fn flags_of(word: u64) -> Result<OpenFlags, Fail> {
-    Ok(OpenFlags::check(word).ok().ok_or("a word without a fault")?)
+    match OpenFlags::check(word) {
+        Ok(flags) => Ok(flags),
+        Err(_) => Err(Fail::new("a word without a fault")),
+    }
 }
 
 fn accepts(rt: &impl Abort, table: &[(u64, u16, u16)]) -> Result<(), Fail> {
     for (word, wanted_explicit, wanted_asked) in table {
         let flags = flags_of(*word)?;
-        assert_eq!(rt; flags.word(), *word);
-        assert_eq!(rt;
-            explicit(flags).bits(),
-            *wanted_explicit,
+        assert!(rt; flags.word() == *word, "{word}");
+        assert!(rt;
+            explicit(flags).bits() == *wanted_explicit,
             "explicit in {word}"
         );
-        assert_eq!(rt; asked(flags).bits(), *wanted_asked, "asked in {word}");
+        assert!(rt; asked(flags).bits() == *wanted_asked, "asked in {word}");
     }
     Ok(())
 }
 
 fn refuses(rt: &impl Abort, words: &[u64], fault: FlagFault) {
     for word in words {
-        assert_eq!(rt;
-            OpenFlags::check(*word).err(),
-            Some(fault),
-            "the fault of {word}"
-        );
+        let told = OpenFlags::check(*word).err();
+        assert!(rt; told == Some(fault), "the fault of {word}");
     }
 }
 
+// What a connection with these rights grants to a word under these masks, and the word that goes on.
+fn granted(word: u64, have: u16, masks: u16) -> Result<(Option<Rights>, u64), Fail> {
+    let flags = flags_of(word)?;
+    let have = rights_of(have)?;
+    let masks = rights_of(masks)?;
+    Ok((
+        grant(flags, have, masks),
+        forwarded(flags, have, masks).word(),
+    ))
+}
+
 fn grants(rt: &impl Abort, table: &[(u64, u16, u16, u16, u64)]) -> Result<(), Fail> {
-    for (word, have, masks, wanted, onward) in table {
-        let flags = flags_of(*word)?;
-        let have = rights_of(*have)?;
-        let masks = rights_of(*masks)?;
-        assert_eq!(rt;
-            grant(flags, have, masks),
-            Some(rights_of(*wanted)?),
-            "granted to {word}"
-        );
-        assert_eq!(rt;
-            forwarded(flags, have, masks).word(),
-            *onward,
-            "onward from {word}"
-        );
+    for (word, have, masks, wanted, wanted_onward) in table {
+        let (rights, onward) = granted(*word, *have, *masks)?;
+        assert!(rt; rights == Some(rights_of(*wanted)?), "granted to {word}");
+        assert!(rt; onward == *wanted_onward, "onward from {word}");
     }
     Ok(())
 }
 
 fn grants_nothing(rt: &impl Abort, table: &[(u64, u16, u16, u64)]) -> Result<(), Fail> {
-    for (word, have, masks, onward) in table {
-        let flags = flags_of(*word)?;
-        let have = rights_of(*have)?;
-        let masks = rights_of(*masks)?;
-        assert_eq!(rt; grant(flags, have, masks), None, "granted to {word}");
-        assert_eq!(rt;
-            forwarded(flags, have, masks).word(),
-            *onward,
-            "onward from {word}"
-        );
+    for (word, have, masks, wanted_onward) in table {
+        let (rights, onward) = granted(*word, *have, *masks)?;
+        assert!(rt; rights.is_none(), "granted to {word}");
+        assert!(rt; onward == *wanted_onward, "onward from {word}");
     }
     Ok(())
 }
@@ -250,9 +245,9 @@ fn words_get_their_rights(rt: HostRuntime) -> Result<(), Fail> {
 
 #[test]
 fn faults_have_their_status(rt: HostRuntime) {
-    assert_eq!(rt; FlagFault::Unsupported.status(), Status::NotSupported);
-    assert_eq!(rt; FlagFault::UnknownBit.status(), Status::InvalidArgs);
-    assert_eq!(rt; FlagFault::NodeAlone.status(), Status::InvalidArgs);
+    assert!(rt; FlagFault::Unsupported.status() == Status::NotSupported);
+    assert!(rt; FlagFault::UnknownBit.status() == Status::InvalidArgs);
+    assert!(rt; FlagFault::NodeAlone.status() == Status::InvalidArgs);
 }
 
 #[test]

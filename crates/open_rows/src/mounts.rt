@@ -5,6 +5,7 @@ use fidl_wire::{Ordinals, Out};
 use io_flags::OpenFlags;
 use path_walk::Path;
 use remote_forward::{MountTarget, Mounts, forward};
+use std::alloc::{AllocError, Global};
 use std::test::Fail;
 
 // A path, flags and an object, with the message, written down field by field: the header, the path's
@@ -45,6 +46,19 @@ const ROWS: [(&str, u64, u32, &[u8]); 3] = [
     ),
 ];
 
+// Whether what goes on of an Open is these bytes and its object.
+fn is_spelled(
+    ordinals: &Ordinals,
+    out: &mut Out,
+    path: &str,
+    flags: u64,
+    object: u32,
+    bytes: &[u8],
+) -> bool {
+    let written = write(ordinals, path.as_bytes(), flags, object, out);
+    written && out.as_bytes() == bytes && out.handles() == [Handle::Endpoint(object)].as_slice()
+}
+
 // Writes the Open of a path with these flags that goes on; whether path and flags are right.
 fn write(ordinals: &Ordinals, path: &[u8], flags: u64, object: u32, out: &mut Out) -> bool {
     let (Ok(path), Ok(flags)) = (Path::check(path), OpenFlags::check(flags)) else {
@@ -60,14 +74,8 @@ fn what_goes_on_is_spelled(rt: HostRuntime) -> Result<(), Fail> {
     let ordinals = Ordinals::new()?;
     let mut out = Out::new(rt.alloc())?;
     for (path, flags, object, bytes) in ROWS {
-        let written = write(&ordinals, path.as_bytes(), flags, object, &mut out);
-        assert!(rt; written, "{path}");
-        assert_eq!(rt; out.as_bytes(), bytes, "{path}");
-        assert_eq!(rt;
-            out.handles(),
-            [Handle::Endpoint(object)].as_slice(),
-            "{path}"
-        );
+        let spelled = is_spelled(&ordinals, &mut out, path, flags, object, bytes);
+        assert!(rt; spelled, "{path}");
     }
     Ok(())
 }
@@ -90,23 +98,23 @@ fn the_longest_path_fits(rt: HostRuntime) -> Result<(), Fail> {
     Ok(())
 }
 
-#[test]
-fn as_many_mounts_as_endpoints(rt: HostRuntime) -> Result<(), Fail> {
-    let alloc = rt.alloc();
+// As many targets as there may be mounts, each one node further.
+fn targets(alloc: Global) -> Result<Vec<MountTarget>, AllocError> {
     let mut targets = Vec::new(alloc);
     for node in 1..65537 {
         targets.push(MountTarget { server: 1, node })?;
     }
+    Ok(targets)
+}
+
+#[test]
+fn as_many_mounts_as_endpoints(rt: HostRuntime) -> Result<(), Fail> {
+    let targets = targets(rt.alloc())?;
     assert!(rt; targets.len() == 65536);
-    let mounts = Mounts::new(alloc, &targets)?;
-    assert_eq!(rt; mounts.end_of(0), 0x4000_0000);
-    assert_eq!(rt; mounts.end_of(65535), 0x4000_ffff);
-    assert_eq!(rt;
-        mounts.target_of(65535),
-        MountTarget {
-            server: 1,
-            node: 65536
-        }
-    );
+    let mounts = Mounts::new(rt.alloc(), &targets)?;
+    assert!(rt; mounts.end_of(0) == 0x4000_0000);
+    assert!(rt; mounts.end_of(65535) == 0x4000_ffff);
+    let last = mounts.target_of(65535);
+    assert!(rt; last.server == 1 && last.node == 65536);
     Ok(())
 }

@@ -5,12 +5,13 @@ use std::alloc::{AllocError, Global};
 use std::test::Fail;
 
 pub(crate) fn rights_of(bits: u16) -> Result<Rights, Fail> {
-    Ok(Rights::from_bits(bits).ok_or("these are bits of rights")?)
+    match Rights::from_bits(bits) {
+        Some(rights) => Ok(rights),
+        None => Err(Fail::new("these are no bits of rights")),
+    }
 }
 
-// The text of the rights with these bits, from the order of the letters alone.
-fn text_of(alloc: Global, bits: u16) -> Result<Vec<u8>, AllocError> {
-    let mut text = Vec::new(alloc);
+fn put_letters(text: &mut Vec<u8>, bits: u16) -> Result<(), AllocError> {
     let mut left = bits;
     for letter in b"crwxguetm" {
         if left % 2 == 1 {
@@ -18,25 +19,33 @@ fn text_of(alloc: Global, bits: u16) -> Result<Vec<u8>, AllocError> {
         }
         left /= 2;
     }
+    Ok(())
+}
+
+// The text of the rights with these bits, from the order of the letters alone.
+fn text_of(alloc: Global, bits: u16) -> Result<Vec<u8>, AllocError> {
+    let mut text = Vec::new(alloc);
+    put_letters(&mut text, bits)?;
     if text.is_empty() {
         text.push(b'-')?;
     }
     Ok(text)
 }
 
+// Whether the rights with these bits are written as their text, and read from it.
+fn has_text(alloc: Global, bits: u16) -> Result<bool, Fail> {
+    let text = text_of(alloc, bits)?;
+    let rights = rights_of(bits)?;
+    let written = rights.letters().as_bytes() == text.as_slice();
+    Ok(rights.bits() == bits && written && read_rights(&text) == Some(rights))
+}
+
 #[test]
 fn each_set_has_its_text(rt: HostRuntime) -> Result<(), Fail> {
     for bits in 0..512u16 {
-        let text = text_of(rt.alloc(), bits)?;
-        let rights = rights_of(bits)?;
-        assert_eq!(rt; rights.bits(), bits);
-        assert!(rt;
-            rights.letters().as_bytes() == text.as_slice(),
-            "letters of {bits}"
-        );
-        assert_eq!(rt; read_rights(&text), Some(rights));
+        assert!(rt; has_text(rt.alloc(), bits)?, "the set {bits}");
     }
-    assert_eq!(rt; Rights::from_bits(512), None);
+    assert!(rt; Rights::from_bits(512).is_none());
     Ok(())
 }
 
@@ -64,7 +73,7 @@ fn other_texts_are_refused(rt: HostRuntime) {
         b"cm\n",
     ];
     for text in texts {
-        assert_eq!(rt; read_rights(text), None);
+        assert!(rt; read_rights(text).is_none());
     }
 }
 
@@ -93,22 +102,27 @@ fn each_method_has_its_right(rt: HostRuntime) {
         (Method::EchoString, b"c"),
     ];
     for (method, text) in table {
-        assert_eq!(rt; needed(method), read_rights(text), "{method:?}");
+        assert!(rt; needed(method) == read_rights(text), "{method:?}");
     }
 }
 
 #[test]
-fn sets_meet_and_join(rt: HostRuntime) -> Result<(), Fail> {
+fn sets_meet_and_join(rt: HostRuntime) {
     let read = Rights::of(Operation::ReadBytes);
     let write = Rights::of(Operation::WriteBytes);
     let both = read.join(write);
-    assert_eq!(rt; both.bits(), 6);
-    assert_eq!(rt; both.meet(write), write);
+    assert!(rt; both.bits() == 6);
+    assert!(rt; both.meet(write) == write);
     assert!(rt; read.within(both) && !both.within(read));
     assert!(rt; both.allows(Operation::WriteBytes) && !read.allows(Operation::WriteBytes));
     assert!(rt; Rights::none().within(read) && read.within(Rights::all()));
-    let text = format!(in rt.alloc(); "{} {}", both.letters(), Rights::none().letters())?;
-    assert_eq!(rt; text.as_str(), "rw -");
     laws_of_rights();
+}
+
+#[test]
+fn letters_are_written(rt: HostRuntime) -> Result<(), Fail> {
+    let both = Rights::of(Operation::ReadBytes).join(Rights::of(Operation::WriteBytes));
+    let text = format!(in rt.alloc(); "{} {}", both.letters(), Rights::none().letters())?;
+    assert!(rt; text.as_str() == "rw -");
     Ok(())
 }

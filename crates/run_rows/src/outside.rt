@@ -1,8 +1,8 @@
+use crate::trees::WHOLE_TREE;
 use host_io::{MemFiles, MemSink, MemSource};
 use std::alloc::Global;
 use std::test::Fail;
 use test_rows::{Row, number};
-use worked_trees::WHOLE_TREE;
 
 /// The outside of a run in memory: its files, where its input comes from, and where its output and its note go.
 #[derive(Drop)]

@@ -6,6 +6,7 @@ use crate::rows::{ANSWERS, LONG, LONGEST_PATH, OVER_EITHER, OVER_LONE, OVER_MOUN
 use fidl_names::MAX_TEXT;
 use fidl_wire::Ordinals;
 use host_io::MemSink;
+use run_rows::{LONE_TREE, WHOLE_TREE};
 use script_session::play;
 use std::alloc::{AllocError, Global};
 use std::process::Abort;
@@ -14,7 +15,6 @@ use test_rows::{Row, rows};
 use transcripts::TranscriptFault;
 use tree_file::{Start, start_of};
 use vfs_script::{Script, script_of};
-use worked_trees::{LONE_TREE, WHOLE_TREE};
 
 /// A script, and the transcript of its session.
 #[derive(Clone, Copy)]

@@ -8,6 +8,3 @@ mod words;
 pub use cells::{BadCell, Row, rows};
 pub use tables::{Table, all_hold, first_wrong};
 pub use words::{bytes, handles, named, number, numbers, with_lists};
-
-#[cfg(test)]
-mod tests;

@@ -7,6 +7,7 @@ use test_rows::named;
 enum Field {
     Nothing,
     U32,
+    I32,
     U64,
     I64,
     Padding,
@@ -19,9 +20,10 @@ enum Field {
     Attributes,
 }
 
-const FIELDS: [(&str, Field); 12] = [
+const FIELDS: [(&str, Field); 13] = [
     ("-", Field::Nothing),
     ("u32", Field::U32),
+    ("i32", Field::I32),
     ("u64", Field::U64),
     ("i64", Field::I64),
     ("pad", Field::Padding),
@@ -39,6 +41,9 @@ fn read_field(body: &mut Body, field: Field) -> Result<(), WireFault> {
         Field::Nothing => {}
         Field::U32 => {
             let _ = body.get_u32()?;
+        }
+        Field::I32 => {
+            let _ = body.get_i32()?;
         }
         Field::U64 => {
             let _ = body.get_u64()?;

@@ -1,8 +1,0 @@
-//! Outside values of connections to directories, and the tests that read them. They stand in a crate of
-//! their own, since a crate with tests is proved a second time with them.
-#![tactic(auto)]
-
-#[cfg(test)]
-mod directories;
-#[cfg(test)]
-mod watching;

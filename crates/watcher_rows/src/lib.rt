@@ -1,6 +1,0 @@
-//! Outside values of messages to watchers and of who gets them, and the tests that read them. They stand
-//! in a crate of their own, since a crate with tests is proved a second time with them.
-#![tactic(auto)]
-
-#[cfg(test)]
-mod watchers;
