@@ -2,11 +2,13 @@
 
 PROGRAM := build/vfs
 BENCH := build/bench
+TREE := examples/trees/small.toml
+SCRIPT := examples/scripts/reading.script
 
 .PHONY: help try build run test check bench clean
 
 help:
-	@echo "make try    play a script over a small tree before anything is proved, in some minutes"
+	@echo "make try    play a script over a small tree before anything is proved, in some minutes (SCRIPT=FILE TREE=FILE: another)"
 	@echo "make build  prove the program and build it, as $(PROGRAM)"
 	@echo "make run    build it, serve example trees and a file (frames with what comes back), play a script, and check example trees"
 	@echo "make test   all proofs, the edits that must be refused, the tests and the programs, the examples and the documents"
@@ -14,16 +16,15 @@ help:
 	@echo "make bench  processor time, frames a second and memory"
 	@echo "make clean  remove what was built and what checks kept"
 	@echo
-	@echo "A first build proves all crates below the program, those that don't stand on each other side by side."
+	@echo "A build proves all crates below the program, those that don't stand on each other side by side."
 
 # Nothing is proved here: an index out of bounds, a sum that doesn't fit or a case that can't be stops the program.
 try:
-	@cd crates/vfs && rt try --data small.toml=../../examples/trees/small.toml \
-		--data reading.script=../../examples/scripts/reading.script -- run small.toml reading.script
+	@echo "compiling without proofs, some minutes; the last two lines are the toolchain's"
+	@cd crates/vfs && rt try --data tree=../../$(TREE) --data script=../../$(SCRIPT) -- run tree script
 
 build:
-	@mkdir -p build
-	@tools/build.sh vfs $(PROGRAM) file data/hello
+	@tools/build.sh vfs
 
 # Sessions over a tree: one that reads, one that changes it, one over its names, and one that watches them; one over two
 # servers in mode given; one over a file; a script with its transcript; and the check of trees.
@@ -54,8 +55,8 @@ test:
 check: build
 	@examples/check.sh $(PROGRAM)
 
-bench: build
-	@tools/build.sh bench $(BENCH) all 1
+bench:
+	@tools/build.sh vfs bench
 	@tools/bench.sh $(PROGRAM) $(BENCH)
 
 clean:

@@ -1,27 +1,42 @@
 #!/usr/bin/env bash
-# build.sh CRATE TO WORD..: proves and builds the program of a crate, and copies it. It is run once on
-# these words and an empty input.
+# build.sh PROGRAM..: proves and builds these programs, as build/PROGRAM.
 #
-# The crates below it are proved first, those that don't stand on each other side by side. Where what
-# an earlier run left is newer than all that it is made from, nothing is done.
+# It runs the merge gate (`rt ci`) in a copy of the repository that has just these programs and the crates below them, and no edits
+# that must be refused. So each crate is proved once, crates that don't stand on each other side by side, and what stands above a
+# crate loads what that states and not how it is proved. Where a program is newer than all that it is made from, it stays.
 set -eu
-crate=$1 to=$2
-shift 2
-made=crates/$crate/out/$crate
-log=build/$crate.log
 
-is_new() {
-    [ -e "$made" ] && [ -z "$(find crates.txt crates/*/src crates/*/specs crates/*/proofs -newer "$made" -print -quit)" ]
+is_new() { # PROGRAM
+    [ -e "build/$1" ] && [ -z "$(find crates.txt crates/*/src crates/*/specs crates/*/proofs -newer "build/$1" -print -quit)" ]
 }
 
-if ! is_new; then
-    echo "proving and building $crate; what rt says of a crate is in build/CRATE.log"
-    wc -l crates/*/src/*.rt | awk -v top="$crate" -v jobs="$(nproc)" -f tools/below.awk - crates.txt > build/below.mk
-    MAKEFLAGS='' make --no-print-directory -j "$(nproc)" -f build/below.mk
-    if ! (cd "crates/$crate" && rt run -- "$@") < /dev/null > "$log" 2>&1; then
-        tail -n 40 "$log"
-        exit 1
-    fi
-    grep '^logic=' "$log" | cut -d ' ' -f 1-2 || true
+wanted=()
+for program in "$@"; do
+    is_new "$program" || wanted+=("$program")
+done
+[ "${#wanted[@]}" -gt 0 ] || exit 0
+
+copy=$(mktemp -d)
+trap 'rm -rf "$copy"' EXIT
+cp HANDLES "$copy"
+awk -v programs="${wanted[*]}" -f tools/below.awk crates.txt > "$copy/crates.txt"
+while IFS=: read -r name _; do
+    mkdir -p "$copy/crates/$name"
+    for part in src specs proofs args stdin stdout data; do
+        [ ! -e "crates/$name/$part" ] || cp -r "crates/$name/$part" "$copy/crates/$name"
+    done
+done < "$copy/crates.txt"
+
+mkdir -p build
+echo "proving $(wc -l < "$copy/crates.txt") crates, and building ${wanted[*]}; what the prover says is in build/proof.log"
+SECONDS=0
+(cd "$copy" && rt ci) 2>&1 < /dev/null | tee build/proof.log |
+    { grep --line-buffered -Eo '^rt: [a-z_]+ (proved|NOT PROVED)' || true; } |
+    while read -r _ name said; do echo "  $name $said, $SECONDS s"; done
+if ! tail -n 1 build/proof.log | grep -q ' 0 failed$'; then
+    tail -n 40 build/proof.log
+    exit 1
 fi
-cp "$made" "$to"
+for program in "${wanted[@]}"; do
+    cp "$copy/crates/$program/out/$program" "build/$program"
+done
