@@ -5,6 +5,7 @@ mod Climbs
 mod Creates
 mod Gains
 mod Heads
+mod Indexed
 mod Linked
 mod Listed
 mod Loops

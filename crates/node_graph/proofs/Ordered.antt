@@ -1,5 +1,5 @@
 -- How keys of edges stand to each other, and maps by them.
-use Rattle.std.proofs.Common.{◌≡◌, ℕ, List, [], ◌∷◌, Some, None, refl, ap, sym, ◌∙◌, subst, cond, Bool, true, false, T}
+use Rattle.std.proofs.Common.{◌≡◌, ℕ, List, [], ◌∷◌, Option, Some, None, refl, ap, sym, ◌∙◌, subst, cond, Bool, true, false, T}
 use Rattle.std.specs.Prelude.{◌&&◌, length, ◌≤◌}
 use Rattle.std.specs.BTreeMap.{BTreeMap, is_at, UpdatesBy}
 use Rattle.std.specs.Map.{lookup, keys_of}
@@ -81,21 +81,20 @@ module _ {X : Type 0} where
   pub same_edges : (m n : finite.FinMap edge_cmp X) → ((q : EdgeKey) → finite.get m q ≡ finite.get n q) → m ≡ n
   same_edges m n is = finite.same_map edges_total exact_edges m n is
 
-  pub map_put : (old new : BTreeMap EdgeKey X) (key : EdgeKey) (x : X) → UpdatesBy edge_cmp (edge_cmp key) old new (Some x) → map_of new.entries ≡ finite.insert (map_of old.entries) key x
-  map_put old new key x u = same_edges _ _ (λ q.
+  -- what is found under each key after one of them changed
+  pub get-changed : (old new : BTreeMap EdgeKey X) (key : EdgeKey) (found : Option X) → UpdatesBy edge_cmp (edge_cmp key) old new found
+      → (q : EdgeKey) → finite.get (map_of new.entries) q ≡ cond (eq_by_cmp edge_cmp q key) found (finite.get (map_of old.entries) q)
+  get-changed old new key found u q =
       get-map_of new.entries q
       ∙ u.0 q
-      ∙ ap (λ b. cond b (Some x) (lookup (is_at (edge_cmp q)) old.entries)) ((eq_by_cmp_equiv edges_total).symm key q)
-      ∙ ap (cond (eq_by_cmp edge_cmp q key) (Some x)) (sym (get-map_of old.entries q))
-      ∙ sym (finite.get-insert edges_total (map_of old.entries) key x q))
+      ∙ ap (λ b. cond b found (lookup (is_at (edge_cmp q)) old.entries)) ((eq_by_cmp_equiv edges_total).symm key q)
+      ∙ ap (cond (eq_by_cmp edge_cmp q key) found) (sym (get-map_of old.entries q))
+
+  pub map_put : (old new : BTreeMap EdgeKey X) (key : EdgeKey) (x : X) → UpdatesBy edge_cmp (edge_cmp key) old new (Some x) → map_of new.entries ≡ finite.insert (map_of old.entries) key x
+  map_put old new key x u = same_edges _ _ (λ q. get-changed old new key (Some x) u q ∙ sym (finite.get-insert edges_total (map_of old.entries) key x q))
 
   pub map_cut : (old new : BTreeMap EdgeKey X) (key : EdgeKey) → UpdatesBy edge_cmp (edge_cmp key) old new None → map_of new.entries ≡ finite.remove (map_of old.entries) key
-  map_cut old new key u = same_edges _ _ (λ q.
-      get-map_of new.entries q
-      ∙ u.0 q
-      ∙ ap (λ b. cond b None (lookup (is_at (edge_cmp q)) old.entries)) ((eq_by_cmp_equiv edges_total).symm key q)
-      ∙ ap (cond (eq_by_cmp edge_cmp q key) None) (sym (get-map_of old.entries q))
-      ∙ sym (finite.get-remove edges_total (map_of old.entries) key q))
+  map_cut old new key u = same_edges _ _ (λ q. get-changed old new key None u q ∙ sym (finite.get-remove edges_total (map_of old.entries) key q))
 
   below : (e : EdgeKey) (es : List (EdgeKey × X)) → AllByRecursion (λ y. edge_cmp e y ≡ Less) (keys_of es) → entry.below_all edge_cmp e es ≡ true
   below e [] all = refl

@@ -7,4 +7,5 @@ pub mod Listing
 pub mod Rows
 pub mod Keys
 pub mod Ends
+pub mod Short
 pub use Rattle.io_rights.specs.Operations

@@ -3,14 +3,16 @@ ghost use Rattle.std.specs.Option.{option_map};
 ghost use Rattle.std.specs.FinMap as finite;
 ghost use Rattle.node_graph.specs.Ends.{edges_of, ends_after, name_in, start_of};
 ghost use Rattle.node_graph.specs.Refusals.{has_names};
+ghost use Rattle.node_graph.specs.Short.{IsKeyOf};
 
 use crate::keys::EdgeName;
 use crate::nodes::{NodeKind, NodeRef};
+use crate::short::ShortName;
 use fidl_names::{MAX_NAME, NoMemory};
 use io_rights::Rights;
 use std::alloc::Global;
-use std::collections::BTreeMap;
 use std::collections::btree_map::Range;
+use std::collections::{BTreeMap, HashMap};
 use std::marker::Model;
 use std::ops::Bound;
 
@@ -26,12 +28,15 @@ pub struct Target {
 #[derive(Drop)]
 pub struct Edges {
     names: BTreeMap<EdgeName, Target>,
+    // The short ones among them a second time, which are found by hash.
+    short: HashMap<ShortName, Target>,
 }
 
 impl Model for Edges {
     ghost use Rattle.std.specs.FinMap as finite;
     ghost use Rattle.node_graph.specs.Tree.{edge_cmp};
     ghost use Rattle.node_graph.specs.Ends.{Ends, ends_code, IsNamed};
+    ghost use Rattle.node_graph.specs.Short.{IsIndex};
 
     ghost Value = { Ends };
 
@@ -39,7 +44,7 @@ impl Model for Edges {
 
     ghost view = { λ edges. finite.from_entries edges.names.entries };
 
-    ghost invariant = { λ edges. IsNamed edges.names.entries };
+    ghost invariant = { λ edges. IsNamed edges.names.entries × IsIndex edges.short.entries (finite.from_entries edges.names.entries) };
 }
 
 impl Edges {
@@ -48,6 +53,7 @@ impl Edges {
     {
         Edges {
             names: BTreeMap::new(alloc),
+            short: HashMap::new(alloc),
         }
     }
 
@@ -57,8 +63,18 @@ impl Edges {
         self.names.len()
     }
 
-    // No name is longer than a name may be.
     pub fn find(&self, directory: u64, name: &[u8]) -> Option<Target>
+        ensures found { result ≡ finite.get self.now (name_in directory name.now) }
+        ensures few { OnSome result (length name.now ≤ MAX_NAME) }
+    {
+        match ShortName::of(directory, name) {
+            Some(short) => self.short.get(&short).copied(),
+            None => self.find_in_order(directory, name),
+        }
+    }
+
+    // No name is longer than a name may be.
+    fn find_in_order(&self, directory: u64, name: &[u8]) -> Option<Target>
         ensures found { result ≡ finite.get self.now (name_in directory name.now) }
         ensures few { OnSome result (length name.now ≤ MAX_NAME) }
     {
@@ -78,7 +94,32 @@ impl Edges {
         ensures put { OnOk result (self.new ≡ finite.insert self.old (name_in directory name.now) to) }
         ensures unchanged { OnErr result (self.new ≡ self.old) }
     {
-        self.names.insert(EdgeName::new(directory, name), to)?;
+        match ShortName::of(directory, name) {
+            Some(short) => self.put_short(short, directory, name, &to),
+            None => {
+                self.names.insert(EdgeName::new(directory, name), to)?;
+                Ok(())
+            }
+        }
+    }
+
+    // The same of a short name, with its key.
+    fn put_short(
+        &mut self,
+        short: ShortName,
+        directory: u64,
+        name: &[u8],
+        to: &Target,
+    ) -> Result<(), NoMemory>
+        requires some { 1 ≤ length name.now }
+        requires few { length name.now ≤ MAX_NAME }
+        requires key { IsKeyOf short directory name.now }
+        ensures put { OnOk result (self.new ≡ finite.insert self.old (name_in directory name.now) to.now) }
+        ensures unchanged { OnErr result (self.new ≡ self.old) }
+    {
+        self.short.reserve(1)?;
+        self.names.insert(EdgeName::new(directory, name), *to)?;
+        self.short.insert(short, *to)?;
         Ok(())
     }
 
@@ -88,6 +129,10 @@ impl Edges {
     {
         let key = EdgeName::new(directory, name);
         self.names.remove(&key);
+        let Some(short) = ShortName::of(directory, name) else {
+            return;
+        };
+        self.short.remove(&short);
     }
 
     // A name leads where another one led, which is taken out. Room is made before anything changes.

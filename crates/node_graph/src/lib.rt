@@ -15,6 +15,7 @@ mod moves;
 mod names;
 mod nodes;
 mod rows;
+mod short;
 
 pub use faults::GraphFault;
 pub use graph::Graph;

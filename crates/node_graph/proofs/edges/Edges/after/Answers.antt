@@ -15,7 +15,7 @@ returns-clause-names c =
     c.range.ensures.between tt
     ∙ ap (λ (start : Bound EdgeKey). entries_between edge_cmp start (Excluded c.new-end.result) c.self.inside.names.entries) c.start_of.ensures
     ∙ ap (λ (end : EdgeKey). entries_between edge_cmp (start_of c.args.directory place) (Excluded end) c.self.inside.names.entries) c.new-end.ensures
-    ∙ listed_between c.self.inside.names.entries c.args.directory place c.self.invariant
+    ∙ listed_between c.self.inside.names.entries c.args.directory place c.self.invariant.0
     ∙ ap (λ (ends : Ends). ends_after ends c.args.directory place) c.self.view_is
 
 pub returns-clause-named : goal.returns-clause-named
@@ -25,5 +25,5 @@ returns-clause-named c =
     c.range.ensures.between tt
     ∙ ap (λ (start : Bound EdgeKey). entries_between edge_cmp start (Excluded c.new-end.result) c.self.inside.names.entries) c.start_of.ensures
     ∙ ap (λ (end : EdgeKey). entries_between edge_cmp (start_of c.args.directory place) (Excluded end) c.self.inside.names.entries) c.new-end.ensures
-    ∙ listed_between c.self.inside.names.entries c.args.directory place c.self.invariant))
-    (listed_named c.self.inside.names.entries c.args.directory place c.self.invariant)
+    ∙ listed_between c.self.inside.names.entries c.args.directory place c.self.invariant.0))
+    (listed_named c.self.inside.names.entries c.args.directory place c.self.invariant.0)
