@@ -1,34 +1,76 @@
--- How many endpoints are live in a table, as its entries change.
-use Rattle.std.proofs.Common.{◌≡◌, ◌+◌, ℕ, List, [], ◌∷◌, eqb, refl, sym, ap, ◌∙◌}
-use Rattle.std.specs.Prelude.{Option, Some, None, unwrap_or}
-use Rattle.std.specs.Cmp.{nat_eq_equiv}
-use Rattle.std.specs.HashMap.{HashMap, IsUnique}
-use Rattle.std.specs.List.{sum_by}
-use Rattle.std.specs.List.Sorted.{IsPermutation}
-use Rattle.std.specs.Option.{option_map}
-use Rattle.std.specs.Map.{values_of, lookup, remove_entry}
-use Rattle.std.proofs.lemmas.Map.Entries.{sum_by-remove_entry, sum_by_values_permutation}
-use Rattle.std.proofs.lemmas.Map.Lookups.{map_keys, hash_map_IsPermutation_from_get}
-use Rattle.std.proofs.lemmas.Bool.{eqb-true}
+-- How many endpoints are live, as one number stands otherwise.
+use Rattle.std.proofs.Common.{◌≡◌, ◌<◌, ◌+◌, ◌^◌, ℕ, zero, suc, cond, eqb, ltb, refl, sym, ap, ◌∙◌, ⊎_elim, arith, zero-le, unwrap_or}
+use Rattle.std.specs.Prelude.{Option}
+use Rattle.std.proofs.lemmas.Bool.{cases_order, cond-true, cond-false, lt-ltb, le-ltb, eq-eqb, ne_eqb}
 use Rattle.endpoint_link.specs.declared.kinds.Standing.{Standing}
 use Rattle.endpoint_link.specs.declared.kinds.Standing.TheVariants as standing
-use Rattle.endpoint_link.specs.Tables.{weight, live_in}
+use Rattle.endpoint_link.specs.Tables.{Table, value_at, ChangesAt, weight}
+use Rattle.endpoint_link.specs.Pages.{noted, live_below, live_in}
+use Rattle.endpoint_link.proofs.Paged.{said_if}
 
--- the count after a number was taken out
-pub taken_count : (old new : List (ℕ × Standing)) (n : ℕ) → IsPermutation (remove_entry (eqb n) old) new → live_in new + weight (unwrap_or (lookup (eqb n) old) standing.Unused) ≡ live_in old
-taken_count old new n moves =
-    ap (λ (k : ℕ). k + weight (unwrap_or (lookup (eqb n) old) standing.Unused)) (sum_by_values_permutation weight (remove_entry (eqb n) old) new moves)
-    ∙ (ap (λ (k : ℕ). live_in (remove_entry (eqb n) old) + k) (sym (counts_by (lookup (eqb n) old))) ∙ sum_by-remove_entry weight (eqb n) old) where
-      counts_by : (o : Option Standing) → unwrap_or (option_map weight o) 0 ≡ weight (unwrap_or o standing.Unused)
-      counts_by None = refl
-      counts_by (Some s) = refl
+-- where nothing was used nothing is live
+pub none_live : (f : ℕ → Standing) (n : ℕ) → ((q : ℕ) → f q ≡ standing.Unused) → live_below f n ≡ 0
+unfolding live_below
+none_live f zero unused = refl
+none_live f (suc n) unused = omega (arith, none_live f n unused, ap weight (unused n))
 
-same_entries : (es : List (ℕ × Standing)) → values_of (map_keys (λ (k : ℕ). k) es) ≡ values_of es
-same_entries [] = refl
-same_entries (e ∷ es) = ap (λ (vs : List Standing). e.1 ∷ vs) (same_entries es)
+-- the count where one number stands otherwise
+counted : (f g : ℕ → Standing) (k : ℕ) (w : Standing) → ((q : ℕ) → g q ≡ cond (eqb q k) w (f q)) → (n : ℕ) → live_below g n + cond (ltb k n) (weight (f k)) 0 ≡ live_below f n + cond (ltb k n) (weight w) 0
+unfolding live_below
+counted f g k w is zero =
+    let none = le-ltb k 0 zero-le in
+    omega (arith, cond-false (ltb k 0) (weight (f k)) 0 none, cond-false (ltb k 0) (weight w) 0 none)
+counted f g k w is (suc n) =
+    ⊎_elim
+    (λ (same : k ≡ n).
+    let more = lt-ltb k (suc n) (omega (arith, same)) in
+    let less = le-ltb k n (omega (arith, same)) in
+    omega (
+      arith,
+      counted f g k w is n,
+      ap weight (is n ∙ cond-true (eqb n k) w (f n) (eq-eqb n k (sym same))),
+      ap (λ (m : ℕ). weight (f m)) same,
+      cond-true (ltb k (suc n)) (weight (f k)) 0 more,
+      cond-true (ltb k (suc n)) (weight w) 0 more,
+      cond-false (ltb k n) (weight (f k)) 0 less,
+      cond-false (ltb k n) (weight w) 0 less,
+    ))
+    (⊎_elim
+    (λ (below : k < n).
+    let more = lt-ltb k (suc n) (omega (arith, below)) in
+    let less = lt-ltb k n below in
+    omega (
+      arith,
+      counted f g k w is n,
+      ap weight (is n ∙ cond-false (eqb n k) w (f n) (ne_eqb n k (λ e. omega (arith, e, below)))),
+      cond-true (ltb k (suc n)) (weight (f k)) 0 more,
+      cond-true (ltb k (suc n)) (weight w) 0 more,
+      cond-true (ltb k n) (weight (f k)) 0 less,
+      cond-true (ltb k n) (weight w) 0 less,
+    ))
+    (λ (above : n < k).
+    let more = le-ltb k (suc n) (omega (arith, above)) in
+    let less = le-ltb k n (omega (arith, above)) in
+    omega (
+      arith,
+      counted f g k w is n,
+      ap weight (is n ∙ cond-false (eqb n k) w (f n) (ne_eqb n k (λ e. omega (arith, e, above)))),
+      cond-false (ltb k (suc n)) (weight (f k)) 0 more,
+      cond-false (ltb k (suc n)) (weight w) 0 more,
+      cond-false (ltb k n) (weight (f k)) 0 less,
+      cond-false (ltb k n) (weight w) 0 less,
+    )))
+    (cases_order k n)
 
--- two maps with the same at each number count the same
-pub same_count : {S T : Type 0} (m : HashMap ℕ Standing S) (n : HashMap ℕ Standing T) → IsUnique eqb m → IsUnique eqb n → ((q : ℕ) → lookup (eqb q) m.entries ≡ lookup (eqb q) n.entries) → live_in n.entries ≡ live_in m.entries
-same_count m n one other same =
-    let moves = hash_map_IsPermutation_from_get nat_eq_equiv m n one other same (λ (k : ℕ). k) (λ x y. eqb-true x y) in
-    ap (sum_by weight) (sym (same_entries n.entries)) ∙ (sum_by_values_permutation weight (map_keys (λ (k : ℕ). k) m.entries) (map_keys (λ (k : ℕ). k) n.entries) moves ∙ ap (sum_by weight) (same_entries m.entries))
+-- the count of a table in which one number changed
+pub live_changes : (old new : Table Standing) (n : ℕ) (s : Standing) → n < 2 ^ 32 → ChangesAt n (noted s) old new → live_in new + weight (unwrap_or (value_at old n) standing.Unused) ≡ live_in old + weight s
+live_changes old new n s small changes =
+    let stands : Table Standing → ℕ → Standing = λ t q. unwrap_or (value_at t q) standing.Unused in
+    let each = λ (q : ℕ). ap (λ (o : Option Standing). unwrap_or o standing.Unused) (changes q) ∙ said_if (eqb q n) s (value_at old q) in
+    let below = lt-ltb n (2 ^ 32) small in
+    omega (
+      arith,
+      counted (stands old) (stands new) n s each (2 ^ 32),
+      cond-true (ltb n (2 ^ 32)) (weight (stands old n)) 0 below,
+      cond-true (ltb n (2 ^ 32)) (weight s) 0 below,
+    )

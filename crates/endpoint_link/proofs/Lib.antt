@@ -3,7 +3,8 @@ pub mod Spelled
 pub mod Streams
 pub mod Feeding
 pub mod Runs
-pub mod Counting
 pub mod Made
 pub mod Tabled
+pub mod Paged
+pub mod Counting
 pub mod Travelling

@@ -13,7 +13,7 @@ use Rattle.endpoint_link.specs.Standings.{Known, is_live}
 use Rattle.endpoint_link.specs.Tables.{Table, value_at, ChangesAt}
 
 -- two numbers compare equal exactly where they are equal
-same_number : (a b : ℕ) → eq_by_cmp nat_cmp a b ≡ eqb a b
+pub same_number : (a b : ℕ) → eq_by_cmp nat_cmp a b ≡ eqb a b
 same_number a b = grind (arith, nat_tests)
 
 find-lookup : {X : Type 0} (es : List (ℕ × X)) (q : ℕ) → find nat_cmp q es ≡ lookup (eqb q) es

@@ -6,6 +6,7 @@ pub mod Deframing
 pub mod Gathering
 pub mod Numbering
 pub mod Tables
+pub mod Pages
 pub mod Standings
 pub mod Admission
 pub mod Refusals

@@ -2,8 +2,8 @@
 use Rattle.std.specs.Prelude.{◌≡◌, ◌≤◌, ◌<◌, ◌^◌, ◌==◌, ◌&&◌, ℕ, Bool, true, false, not, List, if◌then◌else◌, Option, Some, None, length, take, slice_index, nat_eq, refl}
 use Rattle.std.specs.Coded.{Coded, code_by, coded×, coded_ℕ, coded_bool}
 use Rattle.std.specs.FinMap as map
-use Rattle.std.specs.List.{sum_by, IsDistinct}
-use Rattle.std.specs.Map.{keys_of, values_of, lookup}
+use Rattle.std.specs.List.{IsDistinct}
+use Rattle.std.specs.Map.{keys_of, lookup}
 use Rattle.std.specs.Ordering.{nat_cmp}
 use Rattle.fidl_names.specs.declared.limits.TheConstants as limit
 use Rattle.fidl_names.specs.HandleNumber.{is_client}
@@ -52,10 +52,6 @@ Travels ns old new = (q : ℕ) → value_at new q ≡ (if not (is_client q) && a
 -- one for a live endpoint
 abbrev pub weight : Standing → ℕ
 weight s = if is_live s then 1 else 0
-
--- how many endpoints are live
-abbrev pub live_in : List (ℕ × Standing) → ℕ
-live_in es = sum_by weight (values_of es)
 
 -- a table of standings with the number of live endpoints
 pub record Counted : Type 0 where

@@ -9,6 +9,7 @@ mod frame;
 mod kinds;
 mod laws;
 mod outbox;
+mod pages;
 mod reading;
 mod standings;
 mod tokens;

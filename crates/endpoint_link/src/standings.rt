@@ -2,37 +2,37 @@
 
 ghost use Rattle.std.specs.Prelude.{◌≡◌, ◌≤◌, ◌<◌, ◌+◌, ◌==◌, ◌&&◌, if◌then◌else◌, ℕ, true, [], ◌∷◌, Some, None, IsSome, IsOk, OnOk, OnErr, unwrap_or, take, length, count_by};
 ghost use Rattle.endpoint_link.specs.Tables.{value_at, ChangesAt, weight};
+ghost use Rattle.endpoint_link.specs.Pages.{noted};
 ghost use Rattle.fidl_names.specs.HandleNumber.{is_client, is_mount_end};
 ghost use Rattle.endpoint_link.specs.Numbering.{among};
 
 use crate::frame::HandleBytes;
 use crate::kinds::Standing;
+use crate::pages::Pages;
 use fidl_names::{FIRST_MOUNT_END, MAX_LIVE, NoMemory, is_client};
 use std::alloc::Global;
-use std::collections::HashMap;
 use std::marker::Model;
-use std::mem;
 
-/// A table of standings, with the number of live endpoints.
+/// The standings of all numbers, with the number of live endpoints.
 #[derive(Drop)]
 pub(crate) struct Standings {
-    table: HashMap<u32, Standing>,
+    pages: Pages,
     live: usize,
 }
 
 impl Model for Standings {
     ghost use Rattle.std.specs.Prelude.{◌≡◌, ◌≤◌};
-    ghost use Rattle.std.specs.FinMap as map;
     ghost use Rattle.fidl_names.specs.declared.limits.TheConstants as limit;
-    ghost use Rattle.endpoint_link.specs.Tables.{Counted, IsTable, counted_code, live_in};
+    ghost use Rattle.endpoint_link.specs.Tables.{Counted, counted_code};
+    ghost use Rattle.endpoint_link.specs.Pages.{live_in};
 
     ghost Value = { Counted };
 
     ghost coded = { counted_code };
 
-    ghost view = { λ s. record { entries = map.from_entries s.table.entries; live = s.live } };
+    ghost view = { λ s. record { entries = s.pages; live = s.live } };
 
-    ghost invariant = { λ s. IsTable s.table.entries × (s.live ≡ live_in s.table.entries) × (s.live ≤ limit.MAX_LIVE) };
+    ghost invariant = { λ s. (s.live ≡ live_in s.pages) × (s.live ≤ limit.MAX_LIVE) };
 }
 
 /// One for a live endpoint.
@@ -51,7 +51,7 @@ impl Standings {
         ensures live { result.live ≡ 0 }
     {
         Standings {
-            table: HashMap::new(alloc),
+            pages: Pages::new(alloc),
             live: 0,
         }
     }
@@ -60,7 +60,7 @@ impl Standings {
     pub(crate) fn at(&self, number: u32) -> Standing
         ensures { result ≡ unwrap_or (value_at self.now.entries number) Standing.Unused }
     {
-        self.table.get(&number).copied().unwrap_or(Standing::Unused)
+        self.pages.at(number)
     }
 
     /// How many endpoints are live.
@@ -79,7 +79,7 @@ impl Standings {
         ensures live { OnOk result (self.new.live ≡ self.old.live + 1) }
         ensures err { OnErr result (self.new ≡ self.old) }
     {
-        self.table.insert(number, Standing::Live)?;
+        self.pages.put(number, Standing::Live)?;
         self.live += 1;
         Ok(())
     }
@@ -88,21 +88,19 @@ impl Standings {
     pub(crate) fn change(&mut self, number: u32, standing: Standing)
         requires known { IsSome (value_at self.old.entries number) }
         requires no_more { weight standing ≤ weight (unwrap_or (value_at self.old.entries number) Standing.Unused) }
-        ensures changed { ChangesAt number (Some standing) self.old.entries self.new.entries }
+        ensures changed { ChangesAt number (noted standing) self.old.entries self.new.entries }
         ensures live { self.new.live + weight (unwrap_or (value_at self.old.entries number) Standing.Unused)
             ≡ self.old.live + weight standing }
     {
-        if let Some(kept) = self.table.get_mut(&number) {
-            let was = mem::replace(kept, standing);
-            self.live -= weight(was) - weight(standing);
-        }
+        let was = self.pages.replace(number, standing);
+        self.live -= weight(was) - weight(standing);
     }
 
     /// Forgets a number.
     fn take_back(&mut self, number: u32)
         ensures { ChangesAt number None self.old.entries self.new.entries }
     {
-        let was = self.table.remove(&number).unwrap_or(Standing::Unused);
+        let was = self.pages.replace(number, Standing::Unused);
         self.live -= weight(was);
     }
 
@@ -142,11 +140,11 @@ impl Standings {
         ensures err { OnErr result (self.new ≡ self.old) }
         ensures some { handle_numbers handles.entry ≡ [] → IsOk result }
     {
-        let _ = &self.table;
+        let _ = &self.pages;
         for i in 0..handles.len() {
             if let Err(fault) = self.make_client(handles.at(i)) {
                 self.take_back_all(handles, i);
-                let _ = &self.table;
+                let _ = &self.pages;
                 return Err(fault);
             }
         }

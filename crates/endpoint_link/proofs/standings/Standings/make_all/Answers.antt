@@ -1,12 +1,10 @@
 use Rattle.std.proofs.Common.{◌≡◌, ℕ, [], ◌∷◌, length, take, sym, ap, ◌∙◌, subst, arith}
 use Rattle.std.specs.Prelude.{count_by}
-use Rattle.std.specs.FinMap as map
-use Rattle.std.specs.Ordering.{nat_cmp}
 use Rattle.endpoint_link.specs.Views.{handle_numbers}
 use Rattle.fidl_names.specs.HandleNumber.{is_client}
 use Rattle.endpoint_link.specs.Tables.{Counted, AreNew, Makes, TakesBack}
-use Rattle.endpoint_link.proofs.Counting.{same_count}
-use Rattle.endpoint_link.proofs.Tabled.{get-table, same_table}
+use Rattle.endpoint_link.specs.Pages.{live_in}
+use Rattle.endpoint_link.proofs.Tabled.{same_table}
 use Rattle.endpoint_link.proofs.Made.{count_by-one, undone}
 use Rattle.endpoint_link.proofs.standings.Standings.make_all.Goals as goal
 
@@ -23,18 +21,16 @@ returns-in-Err c =
     let i = c.loop-i.i in
     let before = c.self.inside in
     let after = c.self-in-Err.inside in
-    let was = map.from_entries {R = nat_cmp} before.table.entries in
-    let is = map.from_entries {R = nat_cmp} after.table.entries in
+    let was = before.pages in
+    let is = after.pages in
     let fresh : AreNew was hs = subst (λ (v : Counted). AreNew v.entries hs) (sym c.self.view_is) c.requires.new in
     let made : Makes (take i hs) was c.make_client.new.self.entries =
     subst (λ (v : Counted). Makes (take i hs) v.entries c.make_client.new.self.entries) (sym c.self.view_is)
     (subst (λ (v : Counted). Makes (take i hs) c.args.self.now.entries v.entries) (sym c.in-Err.ensures.err) c.loop-i.invariant.made) in
     let back : TakesBack (take i hs) c.make_client.new.self.entries is =
     subst (λ (v : Counted). TakesBack (take i hs) c.make_client.new.self.entries v.entries) (sym c.self-in-Err.view_is) c.take_back_all.ensures in
-    let same = undone i hs was c.make_client.new.self.entries is fresh made back in
-    let entries = same_table is was same in
-    let count = same_count before.table after.table c.self.invariant.0 c.self-in-Err.invariant.0 (λ q. sym (get-table before.table.entries q) ∙ (sym (same q) ∙ get-table after.table.entries q)) in
-    let live = c.self-in-Err.invariant.1 ∙ (count ∙ sym c.self.invariant.1) in
+    let entries = same_table is was (undone i hs was c.make_client.new.self.entries is fresh made back) in
+    let live = c.self-in-Err.invariant.0 ∙ (ap live_in entries ∙ sym c.self.invariant.0) in
     let both : ◌≡◌ {A = Counted} (record { entries = is; live = after.live }) (record { entries = was; live = before.live }) = cc in
     record {
       made = tt;

@@ -1,9 +1,12 @@
-use Rattle.std.proofs.Common.{ℕ, List, eqb, ap, ◌∙◌}
-use Rattle.std.specs.Map.{lookup}
+use Rattle.std.proofs.Common.{◌^◌, ℕ, sym, ap, arith}
+use Rattle.std.specs.Prelude.{Option, unwrap_or}
 use Rattle.endpoint_link.specs.declared.kinds.Standing.{Standing}
-use Rattle.endpoint_link.proofs.Tabled.{get-table}
+use Rattle.endpoint_link.specs.declared.kinds.Standing.TheVariants as standing
+use Rattle.endpoint_link.specs.Tables.{value_at}
+use Rattle.endpoint_link.proofs.Counting.{none_live}
 use Rattle.endpoint_link.proofs.standings.Standings.new.Goals as goal
 
-pub returns-clause-unused : goal.returns-clause-unused
-returns-clause-unused c = λ q.
-    get-table c.new.result.entries q ∙ ap (λ (es : List (ℕ × Standing)). lookup (eqb q) es) c.new.ensures.empty
+pub invariant_of-result : goal.invariant_of-result
+invariant_of-result c =
+    let stands = λ (q : ℕ). unwrap_or (value_at c.new.result q) standing.Unused in
+    (sym (none_live stands (2 ^ 32) (λ q. ap (λ (o : Option Standing). unwrap_or o standing.Unused) (c.new.ensures q))), omega arith)
