@@ -147,7 +147,7 @@ impl Server {
             outbox,
             &mut changes,
         );
-        tell(&self.watching, &self.graph, &fate, &changes, len, outbox)
+        tell(&self.watching, &self.graph, fate, &changes, len, outbox)
     }
 
     /// Binds an endpoint that isn't bound here, and holds its node. Of want of memory the server is as

@@ -1,7 +1,9 @@
 //! What watchers are told of a serving, behind its answer.
 
-ghost use Rattle.std.specs.Prelude.{◌≡◌, ◌≤◌, ◌++◌, ℕ, IfOk, Ok, OnErr, OnOk, length, take};
+ghost use Rattle.std.specs.Prelude.{◌≡◌, ◌≤◌, ◌++◌, ℕ, true, IfOk, Ok, OnErr, OnOk, length, take};
 ghost use Rattle.endpoint_link.specs.Frames.{spellings};
+ghost use Rattle.conn_rules.specs.Answers.{nothing_told};
+ghost use Rattle.conn_rules.specs.Served.{told_by};
 ghost use Rattle.node_graph.specs.declared.nodes.NodeRef.{NodeRef};
 ghost use Rattle.vfs_server.specs.Binding.{IsDirectory};
 ghost use Rattle.vfs_server.specs.Steps.{CanBeTold, IsTold, done_with};
@@ -17,24 +19,59 @@ use node_graph::{Graph, NodeRef};
 use watch_events::snapshot;
 
 /// Tells watchers of what was done, and what becomes of endpoints. For want of memory, then or before, the
-/// outbox is cut back to a length.
+/// outbox is cut back to a length. Most requests tell nothing, and their fate need not lie in memory.
 #[inline(always)]
 pub(crate) fn tell(
     watching: &Watching,
     graph: &Graph,
-    fate: &Result<Fate, NoMemory>,
+    fate: Result<Fate, NoMemory>,
     changes: &Changes<'_>,
     len: usize,
     outbox: &mut Outbox,
 ) -> Result<Fate, NoMemory>
-    requires can { IfOk fate.now (λ fate. CanBeTold graph.now (done_with fate changes.now)) }
+    requires can { IfOk fate (λ fate. CanBeTold graph.now (done_with fate changes.now)) }
     requires within { len ≤ length outbox.old }
-    ensures same { IfOk result (λ told. fate.now ≡ Ok told) }
+    ensures same { IfOk result (λ told. fate ≡ Ok told) }
     ensures told { IfOk result (λ fate. IsTold watching.now graph.now (done_with fate changes.now) outbox.old outbox.new) }
     ensures no_memory { OnErr result (outbox.new ≡ take len outbox.old) }
 {
+    match fate {
+        Ok(Fate::Stays) if are_none(changes) => Ok(Fate::Stays),
+        Ok(Fate::Ends) if are_none(changes) => Ok(Fate::Ends),
+        Ok(fate) => tell_all(watching, graph, &fate, changes, len, outbox),
+        Err(_) => {
+            outbox.truncate(len);
+            Err(NoMemory)
+        }
+    }
+}
+
+/// Whether no name came or went, and no directory is gone.
+#[inline(always)]
+fn are_none(changes: &Changes<'_>) -> bool
+    ensures { result ≡ true → told_by changes.now ≡ nothing_told }
+{
+    changes.removed.is_none() && changes.added.is_none() && changes.deleted.is_none()
+}
+
+/// Tells watchers of what was done, and what becomes of endpoints. For want of memory the outbox is cut back to
+/// a length.
+fn tell_all(
+    watching: &Watching,
+    graph: &Graph,
+    fate: &Fate,
+    changes: &Changes<'_>,
+    len: usize,
+    outbox: &mut Outbox,
+) -> Result<Fate, NoMemory>
+    requires can { CanBeTold graph.now (done_with fate.now changes.now) }
+    requires within { len ≤ length outbox.old }
+    ensures same { IfOk result (λ told. told ≡ fate.now) }
+    ensures told { OnOk result (IsTold watching.now graph.now (done_with fate.now changes.now) outbox.old outbox.new) }
+    ensures no_memory { OnErr result (outbox.new ≡ take len outbox.old) }
+{
     match put_told(watching, graph, fate, changes, outbox) {
-        Ok(fate) => Ok(fate),
+        Ok(()) => Ok(*fate),
         Err(_) => {
             outbox.truncate(len);
             Err(NoMemory)
@@ -44,27 +81,19 @@ pub(crate) fn tell(
 
 /// Writes what watchers are told: a new one of the names that are there, and those of a directory of its
 /// changes. For want of memory a part of that is written.
-#[inline(always)]
 fn put_told(
     watching: &Watching,
     graph: &Graph,
-    fate: &Result<Fate, NoMemory>,
+    fate: &Fate,
     changes: &Changes<'_>,
     outbox: &mut Outbox,
-) -> Result<Fate, NoMemory>
-    requires can { IfOk fate.now (λ fate. CanBeTold graph.now (done_with fate changes.now)) }
-    ensures same { IfOk result (λ told. fate.now ≡ Ok told) }
-    ensures told { IfOk result (λ fate. IsTold watching.now graph.now (done_with fate changes.now) outbox.old outbox.new) }
+) -> Result<(), NoMemory>
+    requires can { CanBeTold graph.now (done_with fate.now changes.now) }
+    ensures told { OnOk result (IsTold watching.now graph.now (done_with fate.now changes.now) outbox.old outbox.new) }
     ensures front { OnErr result (Begins outbox.old outbox.new) }
 {
-    match fate {
-        Ok(fate) => {
-            put_first(graph, *fate, outbox)?;
-            watching.tell(changes, outbox)?;
-            Ok(*fate)
-        }
-        Err(_) => Err(NoMemory),
-    }
+    put_first(graph, *fate, outbox)?;
+    watching.tell(changes, outbox)
 }
 
 /// Writes what a new watcher is told of the names in its directory, if there is one.
