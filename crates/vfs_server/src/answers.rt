@@ -5,9 +5,10 @@ ghost use Rattle.endpoint_link.specs.Frames.{spellings};
 ghost use Rattle.io_messages.specs.Asked.{asked};
 ghost use Rattle.vfs_journal.specs.Outcomes.{announcement, ending};
 ghost use Rattle.vfs_journal.specs.Serving.{object_of};
-ghost use Rattle.vfs_server.specs.Steps.{BindsConnection, DoesFault, DoesGiven, HasTxid, fate_by};
+ghost use Rattle.vfs_server.specs.Steps.{BindsConnection, DoesFault, DoesGiven, HasTxid, connection_of, fate_by};
 
 use crate::asking::Asking;
+use crate::conn::Conn;
 use crate::fate::Fate;
 use crate::frames::{put_announcement, put_ending, put_last, put_message};
 use crate::given::Given;
@@ -16,7 +17,6 @@ use endpoint_link::Outbox;
 use fidl_names::{Handle, NoMemory, Status};
 use fidl_wire::{Ordinals, Out};
 use io_messages::{Protocol, Reply, Request, RequestFault, write_reply};
-use node_graph::NodeRef;
 use remote_forward::forward;
 
 /// The endpoint that a request carries, 0 for none.
@@ -31,24 +31,24 @@ fn object_of(request: &Request<'_>) -> u32
     }
 }
 
-/// Does what the connection that is asked, which is to `node`, gave to a request.
+/// Does what the connection that is asked gave to a request.
 pub(crate) fn answer(
     asking: &Asking<'_>,
-    node: NodeRef,
+    conn: &Conn,
     request: &Request<'_>,
     given: Given<'_>,
     out: &mut Out,
     outbox: &mut Outbox,
 ) -> Result<Fate, NoMemory>
     requires connection { BindsConnection given }
-    ensures does { IfOk result (λ fate. DoesGiven asking.now.endpoint (object_of (asked request.now)) node given.entry out.old fate out.new outbox.old outbox.new) }
+    ensures does { IfOk result (λ fate. DoesGiven asking.now.endpoint (object_of (asked request.now)) (connection_of conn.now).birth.node given.entry out.old fate out.new outbox.old outbox.new) }
     ensures no_memory { OnErr result (outbox.new ≡ outbox.old) }
 {
     let endpoint = asking.endpoint;
     match given {
         Given::Reply => {
             put_message(endpoint, out, outbox)?;
-            Ok(replied(node, out))
+            Ok(replied(conn, out))
         }
         Given::ReplyEnd => {
             put_last(endpoint, out, outbox)?;
@@ -59,7 +59,7 @@ pub(crate) fn answer(
             put_message(endpoint, out, outbox)?;
             Ok(Fate::Watches {
                 object: object_of(request),
-                directory: node,
+                directory: conn.node(),
                 mask,
             })
         }
@@ -79,14 +79,14 @@ pub(crate) fn answer(
     }
 }
 
-/// What becomes of the endpoint by the reply in an output: a token that it has names the node.
-fn replied(node: NodeRef, out: &Out) -> Fate
-    ensures { result ≡ fate_by node out.now.handles }
+/// What becomes of the endpoint by the reply in an output: a token that it has names the connection's node.
+fn replied(conn: &Conn, out: &Out) -> Fate
+    ensures { result ≡ fate_by (connection_of conn.now).birth.node out.now.handles }
 {
     match out.handles().first() {
         Some(Handle::Token(token)) => Fate::Gives {
             token: *token,
-            directory: node,
+            directory: conn.node(),
         },
         _ => Fate::Stays,
     }

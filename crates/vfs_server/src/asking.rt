@@ -1,11 +1,14 @@
 ghost use Rattle.std.specs.Prelude.{◌≡◌};
 ghost use Rattle.io_messages.specs.Asked.{asked};
-ghost use Rattle.vfs_server.specs.Steps.{looked_at, room_for};
+ghost use Rattle.node_graph.specs.Graph.{Names, number_of};
+ghost use Rattle.vfs_server.specs.Steps.{connection_of, looked_at, room_for};
 
+use crate::conn::Conn;
 use crate::watching::Watching;
 use conn_rules::Room;
 use fidl_wire::Ordinals;
 use io_messages::Request;
+use node_graph::Graph;
 
 /// What every step of a serving reads: the names' ordinals, the endpoint that is served, how many
 /// connections are in use, who watches, and the next token.
@@ -19,13 +22,14 @@ pub(crate) struct Asking<'a> {
 }
 
 impl Asking<'_> {
-    /// What is in use, as a request on a connection to the node with this number looks at it. Who watches
-    /// the node is counted for a Watch alone.
-    pub fn room(&self, node: u64, request: &Request<'_>) -> Room
-        ensures { result ≡ looked_at (asked request.now) (room_for self.now node) }
+    /// What is in use, as a request on a connection looks at it. Who watches its node is counted for a Watch
+    /// alone.
+    pub fn room(&self, conn: &Conn, graph: &Graph, request: &Request<'_>) -> Room
+        requires node { Names graph.now (connection_of conn.now).birth.node }
+        ensures { result ≡ looked_at (asked request.now) (room_for self.now (number_of (connection_of conn.now).birth.node)) }
     {
         let watchers = match request {
-            Request::Watch { .. } => self.watching.count(node),
+            Request::Watch { .. } => self.watching.count(graph.number(conn.node())),
             _ => 0,
         };
         Room {

@@ -135,7 +135,7 @@ impl Connection {
         ensures tree { HasTree graph.new }
         ensures no_memory { OnErr result (outbox.new ≡ outbox.old) }
     {
-        let room = asking.room(graph.number(self.conn.node()), request);
+        let room = asking.room(&self.conn, graph, request);
         let given = self.conn.serve(
             asking.ordinals,
             room,
@@ -146,6 +146,6 @@ impl Connection {
             out,
             changes,
         );
-        answer(asking, self.conn.node(), request, given, out, outbox)
+        answer(asking, &self.conn, request, given, out, outbox)
     }
 }

@@ -12,7 +12,7 @@ use Rattle.conn_rules.specs.Served.{told_by}
 use Rattle.conn_rules.specs.Shared.{CanBeBound}
 use Rattle.vfs_journal.specs.Serving.{object_of}
 use Rattle.vfs_server.specs.declared.fate.Fate.{Fate}
-use Rattle.vfs_server.specs.Steps.{Acts, DoesGiven, IsAskedAt, connection_of, done_with, looked_at, room_for}
+use Rattle.vfs_server.specs.Steps.{Acts, DoesGiven, IsAskedAt, connection_of, done_with, room_for}
 use Rattle.vfs_server.proofs.Answering.{binds_connection, can_tell, ok_map, request_answers}
 use Rattle.vfs_server.proofs.Looked.{act_alike}
 use Rattle.vfs_server.proofs.connection.Connection.serve_request.Goals as goal
@@ -29,25 +29,21 @@ answer-requires c = record {
       (connection_of c.serve-given.new.self) c.serve-given.new.graph c.serve-given.ensures.acts;
 }
 
--- what is in use, as the connection sees it
-room_is : (c : goal.After-answer) → c.room-room.result ≡ looked_at (asked c.args.request.now) (room_for c.args.asking.now (number_of (connection_of c.self.inside.conn).birth.node))
-room_is c = c.room-room.ensures ∙ ap (λ (n : ℕ). looked_at (asked c.args.request.now) (room_for c.args.asking.now n)) (c.number.ensures ∙ ap number_of c.node.ensures)
-
 -- what is done, over whatever tree and tokens, doesn't look at more
 act_is : (c : goal.After-answer) (tree : Tree) (directory : ℕ → Option ℕ) →
     act_of (context_of (connection_of c.self.inside.conn) c.room-room.result tree directory) (asked c.args.request.now)
     ≡ act_of (context_of (connection_of c.self.inside.conn) (room_for c.args.asking.now (number_of (connection_of c.self.inside.conn).birth.node)) tree directory) (asked c.args.request.now)
 act_is c tree directory =
-    ap (λ (room : Room). act_of (context_of (connection_of c.self.inside.conn) room tree directory) (asked c.args.request.now)) (room_is c)
+    ap (λ (room : Room). act_of (context_of (connection_of c.self.inside.conn) room tree directory) (asked c.args.request.now)) c.room-room.ensures
     ∙ act_alike (connection_of c.self.inside.conn) (room_for c.args.asking.now (number_of (connection_of c.self.inside.conn).birth.node)) tree directory (asked c.args.request.now)
 
 -- what was done, by the connection's node
 does : (c : goal.After-answer) (fate : Fate) →
-    DoesGiven c.args.asking.now.endpoint (object_of (asked c.args.request.now)) c.node-2.result c.serve-given.result c.serve-given.new.out fate c.answer.new.out c.args.outbox.now c.answer.new.outbox →
+    DoesGiven c.args.asking.now.endpoint (object_of (asked c.args.request.now)) (connection_of c.serve-given.new.self).birth.node c.serve-given.result c.serve-given.new.out fate c.answer.new.out c.args.outbox.now c.answer.new.outbox →
     DoesGiven c.args.asking.now.endpoint (object_of (asked c.args.request.now)) (connection_of c.self.inside.conn).birth.node c.serve-given.result c.serve-given.new.out fate c.answer.new.out c.args.outbox.now c.answer.new.outbox
 does c fate done =
     subst (λ node. DoesGiven c.args.asking.now.endpoint (object_of (asked c.args.request.now)) node c.serve-given.result c.serve-given.new.out fate c.answer.new.out c.args.outbox.now c.answer.new.outbox)
-    (c.node-2.ensures ∙ ap (λ birth. birth.node) c.serve-given.ensures.holds.birth) done
+    (ap (λ birth. birth.node) c.serve-given.ensures.holds.birth) done
 
 pub returns-clause-answers : goal.returns-clause-answers
 returns-clause-answers c server moment asks named =
