@@ -57,14 +57,14 @@ said_if true s o = said s
 said_if false s o = refl
 
 -- what is noted of a number is how it stands on its page
-at_number : (ps : List (ℕ × Page)) (k n : ℕ) (o : Option Page) → n < 2 ^ 32 → k ≡ n / 16 → o ≡ lookup (eqb k) ps → value_at (noted_below (in_pages ps) (2 ^ 32)) n ≡ noted (in_kept o n)
+at_number : (ps : List (ℕ × Page)) (k n : ℕ) (o : Option Page) → n < 2 ^ 32 → k ≡ n / 32 → o ≡ lookup (eqb k) ps → value_at (noted_below (in_pages ps) (2 ^ 32)) n ≡ noted (in_kept o n)
 at_number ps k n o small page is =
     get-noted_below (in_pages ps) (2 ^ 32) n
     ∙ (cond-true (ltb n (2 ^ 32)) (noted (in_pages ps n)) None (lt-ltb n (2 ^ 32) small)
     ∙ (ap (λ (k : ℕ). noted (in_kept (lookup (eqb k) ps) n)) (sym page) ∙ ap (λ (o : Option Page). noted (in_kept o n)) (sym is)))
 
 -- a number stands as on its page
-pub on_page : (ps : List (ℕ × Page)) (k n : ℕ) (o : Option Page) → n < 2 ^ 32 → k ≡ n / 16 → o ≡ lookup (eqb k) ps → unwrap_or (value_at (noted_below (in_pages ps) (2 ^ 32)) n) standing.Unused ≡ in_kept o n
+pub on_page : (ps : List (ℕ × Page)) (k n : ℕ) (o : Option Page) → n < 2 ^ 32 → k ≡ n / 32 → o ≡ lookup (eqb k) ps → unwrap_or (value_at (noted_below (in_pages ps) (2 ^ 32)) n) standing.Unused ≡ in_kept o n
 on_page ps k n o small page is =
     ap (λ (o : Option Standing). unwrap_or o standing.Unused) (at_number ps k n o small page is) ∙ said (in_kept o n)
 
@@ -80,36 +80,36 @@ numbers_change old new n s small each q =
     ∙ (noted_if (eqb q n) (ltb q (2 ^ 32)) s (in_pages old q) (λ e. lt-ltb q (2 ^ 32) (omega (arith, small, eqb-true q n e)))
     ∙ ap (cond (eqb q n) (noted s)) (sym (get-noted_below (in_pages old) (2 ^ 32) q))))
 
-page_changes : (old new : List (ℕ × Page)) (k n : ℕ) (s : Standing) (p : Page) → k ≡ n / 16 → ((r : ℕ) → lookup (eqb r) new ≡ cond (eqb k r) (Some p) (lookup (eqb r) old)) → ((q : ℕ) → in_page p q ≡ cond (eqb (q % 16) (n % 16)) s (in_kept (lookup (eqb k) old) q)) → (q : ℕ) → in_pages new q ≡ cond (eqb q n) s (in_pages old q)
+page_changes : (old new : List (ℕ × Page)) (k n : ℕ) (s : Standing) (p : Page) → k ≡ n / 32 → ((r : ℕ) → lookup (eqb r) new ≡ cond (eqb k r) (Some p) (lookup (eqb r) old)) → ((q : ℕ) → in_page p q ≡ cond (eqb (q % 32) (n % 32)) s (in_kept (lookup (eqb k) old) q)) → (q : ℕ) → in_pages new q ≡ cond (eqb q n) s (in_pages old q)
 page_changes old new k n s p page updates is q =
     ⊎_elim
-    (λ (here : k ≡ q / 16).
-    ap (λ (o : Option Page). in_kept o q) (updates (q / 16) ∙ cond-true (eqb k (q / 16)) (Some p) (lookup (eqb (q / 16)) old) (eq-eqb k (q / 16) here))
+    (λ (here : k ≡ q / 32).
+    ap (λ (o : Option Page). in_kept o q) (updates (q / 32) ∙ cond-true (eqb k (q / 32)) (Some p) (lookup (eqb (q / 32)) old) (eq-eqb k (q / 32) here))
     ∙ (is q
-    ∙ (ap (λ (r : ℕ). cond (eqb (q % 16) (n % 16)) s (in_kept (lookup (eqb r) old) q)) here
+    ∙ (ap (λ (r : ℕ). cond (eqb (q % 32) (n % 32)) s (in_kept (lookup (eqb r) old) q)) here
     ∙ ap (λ (b : Bool). cond b s (in_pages old q)) (same_place q n (sym page ∙ here)))))
-    (λ (there : k ≡ q / 16 → ⊥).
-    ap (λ (o : Option Page). in_kept o q) (updates (q / 16) ∙ cond-false (eqb k (q / 16)) (Some p) (lookup (eqb (q / 16)) old) (ne_eqb k (q / 16) there))
-    ∙ sym (cond-false (eqb q n) s (in_pages old q) (ne_eqb q n (λ e. there (page ∙ ap (λ (m : ℕ). m / 16) (sym e))))))
-    (cases_eq k (q / 16)) where
-      same_place : (q n : ℕ) → n / 16 ≡ q / 16 → eqb (q % 16) (n % 16) ≡ eqb q n
+    (λ (there : k ≡ q / 32 → ⊥).
+    ap (λ (o : Option Page). in_kept o q) (updates (q / 32) ∙ cond-false (eqb k (q / 32)) (Some p) (lookup (eqb (q / 32)) old) (ne_eqb k (q / 32) there))
+    ∙ sym (cond-false (eqb q n) s (in_pages old q) (ne_eqb q n (λ e. there (page ∙ ap (λ (m : ℕ). m / 32) (sym e))))))
+    (cases_eq k (q / 32)) where
+      same_place : (q n : ℕ) → n / 32 ≡ q / 32 → eqb (q % 32) (n % 32) ≡ eqb q n
       same_place q n here =
           ⊎_elim
-          (λ (same : q ≡ n). eq-eqb (q % 16) (n % 16) (ap (λ (m : ℕ). m % 16) same) ∙ sym (eq-eqb q n same))
+          (λ (same : q ≡ n). eq-eqb (q % 32) (n % 32) (ap (λ (m : ℕ). m % 32) same) ∙ sym (eq-eqb q n same))
           (λ (other : q ≡ n → ⊥).
-          ne_eqb (q % 16) (n % 16) (λ e. other (omega (arith, here, e, div-add-mod' q 16, div-add-mod' n 16)))
+          ne_eqb (q % 32) (n % 32) (λ e. other (omega (arith, here, e, div-add-mod' q 32, div-add-mod' n 32)))
           ∙ sym (ne_eqb q n other))
           (cases_eq q n)
 
 -- a page that is put where that of a number was, with another standing of this number alone, changes it alone
-pub put_page : (old new : List (ℕ × Page)) (k n : ℕ) (s : Standing) (o : Option Page) (p : Page) → n < 2 ^ 32 → k ≡ n / 16 → o ≡ lookup (eqb k) old → ((r : ℕ) → lookup (eqb r) new ≡ cond (eqb k r) (Some p) (lookup (eqb r) old)) → ((q : ℕ) → in_page p q ≡ cond (eqb (q % 16) (n % 16)) s (in_kept o q)) → ChangesAt n (noted s) (noted_below (in_pages old) (2 ^ 32)) (noted_below (in_pages new) (2 ^ 32))
+pub put_page : (old new : List (ℕ × Page)) (k n : ℕ) (s : Standing) (o : Option Page) (p : Page) → n < 2 ^ 32 → k ≡ n / 32 → o ≡ lookup (eqb k) old → ((r : ℕ) → lookup (eqb r) new ≡ cond (eqb k r) (Some p) (lookup (eqb r) old)) → ((q : ℕ) → in_page p q ≡ cond (eqb (q % 32) (n % 32)) s (in_kept o q)) → ChangesAt n (noted s) (noted_below (in_pages old) (2 ^ 32)) (noted_below (in_pages new) (2 ^ 32))
 put_page old new k n s o p small page was updates is =
     numbers_change old new n s small
     (page_changes old new k n s p page updates
-    (λ q. is q ∙ ap (λ (o : Option Page). cond (eqb (q % 16) (n % 16)) s (in_kept o q)) was))
+    (λ q. is q ∙ ap (λ (o : Option Page). cond (eqb (q % 32) (n % 32)) s (in_kept o q)) was))
 
 -- where its page is missing a number is known only to be forgotten
-pub forgotten : (ps : List (ℕ × Page)) (k n : ℕ) (s : Standing) → n < 2 ^ 32 → k ≡ n / 16 → None ≡ lookup (eqb k) ps → IsSome (value_at (noted_below (in_pages ps) (2 ^ 32)) n) ⊎ (s ≡ standing.Unused) → s ≡ standing.Unused
+pub forgotten : (ps : List (ℕ × Page)) (k n : ℕ) (s : Standing) → n < 2 ^ 32 → k ≡ n / 32 → None ≡ lookup (eqb k) ps → IsSome (value_at (noted_below (in_pages ps) (2 ^ 32)) n) ⊎ (s ≡ standing.Unused) → s ≡ standing.Unused
 forgotten ps k n s small page is known =
     ⊎_elim
     (λ (there : IsSome (value_at (noted_below (in_pages ps) (2 ^ 32)) n)). absurd (none (subst IsSome (at_number ps k n None small page is) there)))
@@ -119,7 +119,7 @@ forgotten ps k n s small page is known =
       none h = cc
 
 -- and to forget it changes nothing
-pub stays_forgotten : (ps : List (ℕ × Page)) (k n : ℕ) (s : Standing) → n < 2 ^ 32 → k ≡ n / 16 → None ≡ lookup (eqb k) ps → s ≡ standing.Unused → ChangesAt n (noted s) (noted_below (in_pages ps) (2 ^ 32)) (noted_below (in_pages ps) (2 ^ 32))
+pub stays_forgotten : (ps : List (ℕ × Page)) (k n : ℕ) (s : Standing) → n < 2 ^ 32 → k ≡ n / 32 → None ≡ lookup (eqb k) ps → s ≡ standing.Unused → ChangesAt n (noted s) (noted_below (in_pages ps) (2 ^ 32)) (noted_below (in_pages ps) (2 ^ 32))
 stays_forgotten ps k n s small page is unused =
     numbers_change ps ps n s small
     (λ q. ⊎_elim

@@ -1,15 +1,18 @@
 -- The standings of all numbers, kept by pages of numbers that follow one another.
-use Rattle.std.specs.Prelude.{◌+◌, ◌^◌, ◌/◌, ◌%◌, ℕ, zero, suc, List, Option, Some, None, nat_eq, slice_index_or, unwrap_or}
+use Rattle.std.specs.Prelude.{◌+◌, ◌^◌, ◌/◌, ◌%◌, ℕ, zero, suc, List, Option, Some, None, nat_eq, ◌==◌, unwrap_or}
 use Rattle.std.specs.FinMap as map
 use Rattle.std.specs.Map.{lookup}
+use Rattle.std.specs.Int.{bit_at}
+use Rattle.endpoint_link.specs.Standings.{standing_from}
 use Rattle.endpoint_link.specs.Tables.{Table, value_at, weight}
 use Rattle.endpoint_link.specs.declared.kinds.Standing.{Standing}
 use Rattle.endpoint_link.specs.declared.kinds.Standing.TheVariants as standing
 use Rattle.endpoint_link.specs.declared.pages.Page.{Page}
+use Rattle.endpoint_link.specs.declared.pages.TheConstants as size
 
 -- how a number of a page stands
 abbrev pub in_page : Page → ℕ → Standing
-in_page p n = slice_index_or p.standings (n % 16) standing.Unused
+in_page p n = standing_from (bit_at p.live (n % size.PAGE_LEN) == 1, bit_at p.closed (n % size.PAGE_LEN) == 1)
 
 -- and where that page may be missing
 abbrev pub in_kept : Option Page → ℕ → Standing
@@ -18,7 +21,7 @@ in_kept (Some p) n = in_page p n
 
 -- how a number stands in pages
 abbrev pub in_pages : List (ℕ × Page) → ℕ → Standing
-in_pages ps n = in_kept (lookup (nat_eq (n / 16)) ps) n
+in_pages ps n = in_kept (lookup (nat_eq (n / size.PAGE_LEN)) ps) n
 
 -- what is known of a number that stands so: nothing of one that was never used
 abbrev pub noted : Standing → Option Standing

@@ -21,17 +21,17 @@ pub record Known : Type 0 where
   pub waiting : ℕ
   pub servers : ℕ
 
--- a standing is stored as whether it was ever used, and is still, each in its way
-abbrev standing_bits : Standing → Bool × Bool
+-- a standing is kept as two bits: whether the endpoint is live, and whether it is closed, at its client's end or at both
+abbrev pub standing_bits : Standing → Bool × Bool
 standing_bits standing.Unused = (false, false)
-standing_bits standing.Live = (true, true)
-standing_bits standing.HungUp = (true, false)
+standing_bits standing.Live = (true, false)
+standing_bits standing.HungUp = (true, true)
 standing_bits standing.Dead = (false, true)
 
-abbrev standing_from : Bool × Bool → Standing
+abbrev pub standing_from : Bool × Bool → Standing
 standing_from (false, false) = standing.Unused
-standing_from (true, true) = standing.Live
-standing_from (true, false) = standing.HungUp
+standing_from (true, false) = standing.Live
+standing_from (true, true) = standing.HungUp
 standing_from (false, true) = standing.Dead
 
 pub standing_back : (s : Standing) → standing_from (standing_bits s) ≡ s

@@ -1,6 +1,8 @@
 // How all numbers of endpoints stand, kept by pages of numbers that follow one another.
 
-ghost use Rattle.std.specs.Prelude.{◌≡◌, ◌/◌, ◌%◌, ◌<◌, ◌==◌, ◌⊎◌, ℕ, None, IsSome, OnOk, OnErr, if◌then◌else◌, unwrap_or};
+ghost use Rattle.std.specs.Prelude.{◌≡◌, ◌/◌, ◌%◌, ◌<◌, ◌==◌, ◌≢◌, ◌⊎◌, ℕ, None, IsSome, OnOk, OnErr, if◌then◌else◌, unwrap_or};
+ghost use Rattle.std.specs.Int.{bit_at};
+ghost use Rattle.endpoint_link.specs.Standings.{standing_bits, standing_from};
 ghost use Rattle.endpoint_link.specs.Tables.{value_at, ChangesAt};
 ghost use Rattle.endpoint_link.specs.Pages.{in_page, noted};
 
@@ -9,29 +11,72 @@ use fidl_names::NoMemory;
 use std::alloc::Global;
 use std::collections::HashMap;
 use std::marker::Model;
-use std::mem;
 
 /// How many numbers a page has.
-const PAGE_LEN: usize = 16;
+const PAGE_LEN: u32 = 32;
 
-/// How the numbers of a page stand.
+/// How the numbers of a page stand, by two bits each: whether it is live, and whether it is closed.
 #[derive(Clone, Copy)]
 struct Page {
-    standings: [Standing; PAGE_LEN],
+    live: u32,
+    closed: u32,
 }
 
 /// Which page a number is on.
 fn page_of(number: u32) -> u32
-    ensures { result ≡ number / 16 }
+    ensures { result ≡ number / PAGE_LEN }
 {
-    number / PAGE_LEN as u32
+    number / PAGE_LEN
 }
 
 /// Its place there.
-fn place_of(number: u32) -> usize
-    ensures { result ≡ number % 16 }
+fn place_of(number: u32) -> u32
+    ensures { result ≡ number % PAGE_LEN }
 {
-    number as usize % PAGE_LEN
+    number % PAGE_LEN
+}
+
+/// Whether the bit of a place is set.
+fn is_set(bits: u32, place: u32) -> bool
+    requires { place < PAGE_LEN }
+    ensures { result ≡ (bit_at bits place == 1) }
+{
+    (bits >> place) & 1 == 1
+}
+
+/// These bits with another one at a place.
+fn with_bit(bits: u32, place: u32, bit: bool) -> u32
+    requires { place < PAGE_LEN }
+    ensures here { (bit_at result place == 1) ≡ bit }
+    ensures others { (i : ℕ) → i < PAGE_LEN → i ≢ place → bit_at result i ≡ bit_at bits i }
+{
+    if bit {
+        bits | (1 << place)
+    } else {
+        bits & !(1 << place)
+    }
+}
+
+/// Whether an endpoint that stands so is closed, at its client's end or at both.
+fn is_closed(standing: Standing) -> bool
+    ensures { result ≡ (standing_bits standing).1 }
+{
+    match standing {
+        Standing::Unused | Standing::Live => false,
+        Standing::HungUp | Standing::Dead => true,
+    }
+}
+
+/// The standing with these bits.
+fn standing_by(live: bool, closed: bool) -> Standing
+    ensures { result ≡ standing_from (live, closed) }
+{
+    match (live, closed) {
+        (false, false) => Standing::Unused,
+        (true, false) => Standing::Live,
+        (true, true) => Standing::HungUp,
+        (false, true) => Standing::Dead,
+    }
 }
 
 impl Page {
@@ -39,24 +84,27 @@ impl Page {
     fn new() -> Page
         ensures { (q : ℕ) → in_page result q ≡ Standing.Unused }
     {
-        Page {
-            standings: [Standing::Unused; PAGE_LEN],
-        }
+        Page { live: 0, closed: 0 }
     }
 
     /// How a number of this page stands.
     fn at(&self, number: u32) -> Standing
         ensures { result ≡ in_page self.now number }
     {
-        self.standings[place_of(number)]
+        let place = place_of(number);
+        standing_by(is_set(self.live, place), is_set(self.closed, place))
     }
 
     /// Gives a number of this page another standing, and gives back the one that it had.
     fn replace(&mut self, number: u32, standing: Standing) -> Standing
         ensures was { result ≡ in_page self.old number }
-        ensures is { (q : ℕ) → in_page self.new q ≡ (if q % 16 == number % 16 then standing else in_page self.old q) }
+        ensures is { (q : ℕ) → in_page self.new q ≡ (if q % PAGE_LEN == number % PAGE_LEN then standing else in_page self.old q) }
     {
-        mem::replace(&mut self.standings[place_of(number)], standing)
+        let was = self.at(number);
+        let place = place_of(number);
+        self.live = with_bit(self.live, place, standing.is_live());
+        self.closed = with_bit(self.closed, place, is_closed(standing));
+        was
     }
 }
 

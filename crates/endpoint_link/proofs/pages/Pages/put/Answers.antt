@@ -28,7 +28,7 @@ returns-clause-put c =
     let new = c.insert.new.self.entries in
     let k = c.page_of-key.result in
     let p = c.replace-2.new.self in
-    let is = λ (q : ℕ). c.replace-2.ensures.is q ∙ ap (cond (eqb (q % 16) (n % 16)) s) (c.new-page.ensures q) in
+    let is = λ (q : ℕ). c.replace-2.ensures.is q ∙ ap (cond (eqb (q % 32) (n % 32)) s) (c.new-page.ensures q) in
     let updates = subst (λ (ps : List (ℕ × Page)). (r : ℕ) → lookup (eqb r) new ≡ cond (eqb k r) (Some p) (lookup (eqb r) ps)) (same_entries _ _ c.get_mut.follows.holds-at-none) c.in_ok-insert.ensures.updates.0 in
     let changes = put_page old new k n s None p c.ranges.number.fits c.page_of-key.ensures c.in_default.ensures.value updates is in
     subst (λ (t : Table Standing). ChangesAt n (noted s) t (noted_below (in_pages new) (2 ^ 32))) c.self.view_is changes
