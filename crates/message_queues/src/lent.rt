@@ -84,6 +84,18 @@ impl<'a> Lent<'a> {
         }
     }
 
+    /// The same, lent once more.
+    pub fn lend(&self) -> Lent<'a>
+        ensures { result ≡ self.now }
+    {
+        Lent {
+            place: self.place,
+            endpoint: self.endpoint,
+            content: self.content,
+            origin: self.origin,
+        }
+    }
+
     /// The handles that it carries: none with a hang-up.
     pub fn handles(&self) -> &'a [Handle]
         ensures { numbers_of result.now ≡ handles_of self.now.sending }

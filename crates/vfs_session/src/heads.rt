@@ -94,8 +94,8 @@ impl Session {
         Ok(fate)
     }
 
-    /// Lets whoever dies of a serving die, forgets the tokens that are spent, gives the one that is given, and
-    /// sends on what goes on.
+    /// Settles a serving, of which most leave all others as they are. Copies are lent otherwise, so that the
+    /// entry and the fate of a quiet one need not lie in memory.
     #[inline(always)]
     fn settle_head(
         &mut self,
@@ -117,11 +117,33 @@ impl Session {
             self.places += 1;
             return Ok(());
         }
-        // A copy is lent, so that the fate of a quiet serving need not lie in memory.
+        let sent = sent.lend();
         let fate = *fate;
-        let dropped = self.let_die(sent, &fate, outbox)?;
+        self.settle_all(&sent, &fate, outbox)
+    }
+
+    /// Lets whoever dies of a serving die, forgets the tokens that are spent, gives the one that is given, and
+    /// sends on what goes on.
+    #[inline(never)]
+    fn settle_all(
+        &mut self,
+        sent: &Lent<'_>,
+        fate: &Fate,
+        outbox: &mut Outbox,
+    ) -> Result<(), NoMemory>
+        requires live { (dead : List ℕ) → AreDeaths self.old.queues (first_told sent.now fate.now) dead → All (λ endpoint. is_live (standing_of self.old.endpoints endpoint) ≡ true) dead }
+        requires out { (dead : List ℕ) → AreDeaths self.old.queues (first_told sent.now fate.now) dead → CanGo self.old.endpoints (spent_told sent.now self.old.queues dead) }
+        requires counted { count self.old.queues ≡ self.old.endpoints.waiting }
+        requires low { (mount object : ℕ) → fate.now ≡ Fate.Forwards mount object → mount < 2 ^ 30 }
+        requires newest { IsAbove self.old.queues self.old.places }
+        requires few { count self.old.queues < MAX_WAITING }
+        requires places { self.old.places < 2 ^ 62 }
+        ensures settled { OnOk result (SettlesHead (whole self.old) sent.now fate.now self.old.out (whole self.new) outbox.old outbox.new) }
+        ensures begins { Begins outbox.old outbox.new }
+    {
+        let dropped = self.let_die(sent, fate, outbox)?;
         spend(&mut self.servers, &mut self.endpoints, sent, &dropped);
-        give(&mut self.endpoints, &fate)?;
+        give(&mut self.endpoints, fate)?;
         let place = self.places + 1;
         let more = send_on(
             self.alloc,
@@ -130,7 +152,7 @@ impl Session {
             &self.out,
             place,
             sent.place,
-            &fate,
+            fate,
         )?;
         self.places = place + more;
         Ok(())

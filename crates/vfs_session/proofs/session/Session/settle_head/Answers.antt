@@ -1,67 +1,34 @@
-use Rattle.std.proofs.Common.{◌≡◌, ◌∙◌, ◌+◌, ◌++◌, ℕ, List, fold, sym, ap, subst, arith}
-use Rattle.fidl_wire.specs.Written.{Written}
-use Rattle.endpoint_link.specs.Standings.{Known, ended, gone}
-use Rattle.vfs_journal.specs.Entries.{Sent, tokens_in}
-use Rattle.message_queues.specs.Queues.{IsAbove, count}
+use Rattle.std.proofs.Common.{◌≡◌, ◌+◌, ℕ, List, OnOk, subst, sym, true}
+use Rattle.std.specs.Prelude.{All}
+use Rattle.endpoint_link.specs.Standings.{is_live, standing_of}
+use Rattle.vfs_journal.specs.Entries.{Sent}
+use Rattle.message_queues.specs.Dying.{AreDeaths}
 use Rattle.vfs_server.specs.declared.fate.Fate.{Fate}
 use Rattle.vfs_session.specs.Heads.{SettlesHead}
 use Rattle.vfs_session.specs.Running.{whole}
-use Rattle.vfs_session.specs.Steps.{CanGo, ForgetsAll, SendsOn, known_told, spent_told}
-use Rattle.vfs_session.proofs.Halves.{above_left, known_then, one_at_most, settled_known}
-use Rattle.vfs_session.proofs.Spending.{can_go_alike, ended_tokens}
+use Rattle.vfs_session.specs.Steps.{CanGo, first_told, spent_told}
 use Rattle.vfs_session.proofs.Quiet.{settles_quietly}
 use Rattle.vfs_session.proofs.session.Session.settle_head.Goals as goal
 
-pub spend-requires : goal.spend-requires
-spend-requires c =
-    let died = c.in_ok-dropped.ensures.dead in
-    record {
-      out =
-          subst (λ (tokens : List ℕ). CanGo c.let_die.new.self.endpoints (tokens_in c.args.sent.now ++ tokens)) (sym (c.deref.ensures.value ∙ died.tokens))
-          (can_go_alike (spent_told c.args.sent.now c.args.self.now.queues died.dead) c.args.self.now.endpoints c.let_die.new.self.endpoints
-          (sym (ap (λ (k : Known). k.tokens) died.known ∙ ended_tokens died.dead c.args.self.now.endpoints)) (c.requires.out died.dead died.died));
-    }
+pub settle_all-requires-clause-live : goal.settle_all-requires-clause-live
+settle_all-requires-clause-live c =
+    subst
+    (λ (sent : Sent). (dead : List ℕ) → AreDeaths c.args.self.now.queues (first_told sent c.args.fate.now) dead →
+    All (λ (endpoint : ℕ). is_live (standing_of c.args.self.now.endpoints endpoint) ≡ true) dead)
+    (sym c.lend-sent.ensures) c.requires.live
 
-pub send_on-requires-clause-newest : goal.send_on-requires-clause-newest
-send_on-requires-clause-newest c =
-    subst (λ (n : ℕ). IsAbove c.let_die.new.self.queues (n + 1)) (sym c.in_ok-dropped.ensures.dead.places)
-    (above_left c.args.self.now.queues c.let_die.new.self.queues c.in_ok-dropped.ensures.dead.dead c.args.self.now.places c.requires.newest c.in_ok-dropped.ensures.dead.buried)
-
-pub send_on-requires-clause-counted : goal.send_on-requires-clause-counted
-send_on-requires-clause-counted c =
-    let died = c.in_ok-dropped.ensures.dead in
-    sym (ap (λ (k : Known). k.waiting)
-    (settled_known c.args.self.now.endpoints c.let_die.new.self.endpoints c.spend.new.endpoints c.give.new.endpoints c.args.fate.now died.dead (tokens_in c.args.sent.now ++ c.deref.result.now) (spent_told c.args.sent.now c.args.self.now.queues died.dead)
-    (count c.let_die.new.self.queues) died.known (ap (λ (tokens : List ℕ). tokens_in c.args.sent.now ++ tokens) (c.deref.ensures.value ∙ died.tokens)) c.spend.ensures.known c.in_ok-give.ensures))
-
-pub overflow_add-self-2 : goal.overflow_add-self-2
-overflow_add-self-2 c = let few = c.requires.places in let p = c.in_ok-dropped.ensures.dead.places in let a = c.in_ok-more.ensures.count in let b = one_at_most c.args.fate.now in omega (arith, few, p, a, b)
+pub settle_all-requires-clause-out : goal.settle_all-requires-clause-out
+settle_all-requires-clause-out c =
+    subst
+    (λ (sent : Sent). (dead : List ℕ) → AreDeaths c.args.self.now.queues (first_told sent c.args.fate.now) dead →
+    CanGo c.args.self.now.endpoints (spent_told sent c.args.self.now.queues dead))
+    (sym c.lend-sent.ensures) c.requires.out
 
 pub returns-clause-settled : goal.returns-clause-settled
 returns-clause-settled c =
-    let died = c.in_ok-dropped.ensures.dead in
-    let spent : tokens_in c.args.sent.now ++ c.deref.result.now ≡ spent_told c.args.sent.now c.args.self.now.queues died.dead = ap (λ (tokens : List ℕ). tokens_in c.args.sent.now ++ tokens) (c.deref.ensures.value ∙ died.tokens) in
-    record {
-      dead = died.dead;
-      left = c.let_die.new.self.queues;
-      those = c.let_die.new.self.servers.items;
-      died = died.died;
-      buried = died.buried;
-      goes = died.goes;
-      forgets = subst (λ (tokens : List ℕ). ForgetsAll c.let_die.new.self.servers.items tokens c.spend.new.servers.items) spent c.spend.ensures.forgets;
-      closed = died.closed;
-      sends =
-          subst (λ (origin : ℕ). SendsOn (c.args.self.now.places + 1) origin c.args.fate.now c.args.self.now.out c.let_die.new.self.queues c.send_on.new.queues) (ap (λ (sent : Sent). sent.place) c.sent.view_is)
-          (subst (λ (n : ℕ). SendsOn (n + 1) c.sent.inside.place c.args.fate.now c.args.self.now.out c.let_die.new.self.queues c.send_on.new.queues) died.places
-          (subst (λ (out : Written). SendsOn (c.let_die.new.self.places + 1) c.sent.inside.place c.args.fate.now out c.let_die.new.self.queues c.send_on.new.queues) c.let_die.ensures.out c.in_ok-more.ensures.sent));
-      known =
-          known_then (known_told c.args.fate.now (fold gone (fold ended c.args.self.now.endpoints died.dead) (spent_told c.args.sent.now c.args.self.now.queues died.dead))) c.give.new.endpoints c.send_on.new.endpoints (count c.let_die.new.self.queues)
-          (count c.send_on.new.queues)
-          (settled_known c.args.self.now.endpoints c.let_die.new.self.endpoints c.spend.new.endpoints c.give.new.endpoints c.args.fate.now died.dead (tokens_in c.args.sent.now ++ c.deref.result.now)
-          (spent_told c.args.sent.now c.args.self.now.queues died.dead) (count c.let_die.new.self.queues) died.known spent c.spend.ensures.known c.in_ok-give.ensures)
-          c.in_ok-more.ensures.known;
-      places = let p = died.places in let a = c.in_ok-more.ensures.count in omega (arith, p, a);
-    }
+    subst
+    (λ (sent : Sent). OnOk c.settle_all.result (SettlesHead (whole c.args.self.now) sent c.args.fate.now c.args.self.now.out (whole c.settle_all.new.self) c.args.outbox.now c.settle_all.new.outbox))
+    c.lend-sent.ensures c.settle_all.ensures.settled
 
 pub returns-then-is_quiet-clause-settled : goal.returns-then-is_quiet-clause-settled
 returns-then-is_quiet-clause-settled c =
