@@ -1,42 +1,15 @@
--- Lines of another number of words, words that are read one by one, and verbs by the lengths of their words.
-use Rattle.std.proofs.Common.{◌≡◌, ℕ, ◌==◌, Bool, true, false, cond, inl, inr, List, [], ◌∷◌, ◌+◌, ◌<◌, ◌≤◌, ◌++◌, length, take, drop, get_or, Option, Some, None, ap, refl, sym, ◌∙◌, subst, arith}
+-- Words that are read one by one, words byte by byte, and verbs by the lengths of their words.
+use Rattle.std.proofs.Common.{◌≡◌, ℕ, ◌==◌, Bool, true, false, cond, inl, inr, List, [], ◌∷◌, ◌+◌, ◌<◌, ◌≤◌, ◌++◌, length, take, get_or, Option, Some, None, ap, refl, sym, ◌∙◌, arith}
 use Rattle.std.specs.Prelude.{◌≢◌, filter}
 use Rattle.std.specs.List.{find}
-use Rattle.std.specs.Str.{IsUtf8, bytes_eq}
-use Rattle.std.proofs.lemmas.Bool.{cases_Bool, eq-eqb, eqb-true, false_from_ne_true, ne_eqb}
+use Rattle.std.specs.Str.{bytes_eq}
+use Rattle.std.proofs.lemmas.Bool.{cases_Bool, eq-eqb, false_from_ne_true, ne_eqb}
 use Rattle.std.proofs.lemmas.List.{take_all, take_more}
 use Rattle.std.proofs.lemmas.Slice.Eq.{bytes_eq-Decides}
-use Rattle.io_messages.specs.Asked.{open_path}
-use Rattle.vfs_script.specs.Lines.{Line, request, one, two, three, four, open_form, all_verbs, verb_of, word_of_verb}
-use Rattle.vfs_script.specs.Parsed.{AreTexts, first_in, short_and_long, verb_among, verbs_with}
+use Rattle.vfs_script.specs.Lines.{one, two, all_verbs, verb_of, word_of_verb}
+use Rattle.vfs_script.specs.Parsed.{short_and_long, verb_among, verbs_with}
 use Rattle.vfs_script.specs.declared.verbs.Verb.{Verb}
 use Rattle.vfs_script.specs.Words.{◌>>=◌, number_in}
-
-pub one_other : {A : Type 0} (words : List (List ℕ)) (form : List ℕ → Option A) → length words ≢ 1 → one words form ≡ None
-one_other [] form h = refl
-one_other (a ∷ []) form h = absurd (h refl)
-one_other (a ∷ b ∷ words) form h = refl
-
-pub two_other : {A : Type 0} (words : List (List ℕ)) (form : List ℕ → List ℕ → Option A) → length words ≢ 2 → two words form ≡ None
-two_other [] form h = refl
-two_other (a ∷ []) form h = refl
-two_other (a ∷ b ∷ []) form h = absurd (h refl)
-two_other (a ∷ b ∷ c ∷ words) form h = refl
-
-pub three_other : {A : Type 0} (words : List (List ℕ)) (form : List ℕ → List ℕ → List ℕ → Option A) → length words ≢ 3 → three words form ≡ None
-three_other [] form h = refl
-three_other (a ∷ []) form h = refl
-three_other (a ∷ b ∷ []) form h = refl
-three_other (a ∷ b ∷ c ∷ []) form h = absurd (h refl)
-three_other (a ∷ b ∷ c ∷ d ∷ words) form h = refl
-
-pub four_other : {A : Type 0} (words : List (List ℕ)) (form : List ℕ → List ℕ → List ℕ → List ℕ → Option A) → length words ≢ 4 → four words form ≡ None
-four_other [] form h = refl
-four_other (a ∷ []) form h = refl
-four_other (a ∷ b ∷ []) form h = refl
-four_other (a ∷ b ∷ c ∷ []) form h = refl
-four_other (a ∷ b ∷ c ∷ d ∷ []) form h = absurd (h refl)
-four_other (a ∷ b ∷ c ∷ d ∷ e ∷ words) form h = refl
 
 -- ---- words that are read one by one
 
@@ -70,98 +43,6 @@ module _ {A : Type 0} (k : ℕ → ℕ → Option A) where
       same (a ∷ []) = refl
       same (a ∷ b ∷ []) = both (number_in 32 a) (number_in 64 b)
       same (a ∷ b ∷ c ∷ words) = refl
-
--- one number, by the first word and what stands behind it
-pub one_without : (words : List (List ℕ)) → first_in 32 words ≡ None → one words (number_in 32) ≡ None
-one_without [] h = refl
-one_without (a ∷ []) h = h
-one_without (a ∷ b ∷ words) h = refl
-
-pub one_with : (words : List (List ℕ)) (n : ℕ) → first_in 32 words ≡ Some n → (length (drop 1 words) == 0) ≡ true → one words (number_in 32) ≡ Some n
-one_with [] n h last = cc
-one_with (a ∷ []) n h last = h
-one_with (a ∷ b ∷ words) n h last = absurd (let none = eqb-true (length (b ∷ words)) 0 last in omega (arith, none))
-
-pub one_more : (words : List (List ℕ)) → (length (drop 1 words) == 0) ≡ false → one words (number_in 32) ≡ None
-one_more [] more = refl
-one_more (a ∷ []) more = cc
-one_more (a ∷ b ∷ words) more = refl
-
--- two numbers, by the first words and what stands behind them
-pub two_without : (words : List (List ℕ)) → first_in 32 words ≡ None → two words short_and_long ≡ None
-two_without [] h = refl
-two_without (a ∷ []) h = refl
-two_without (a ∷ b ∷ []) h = rw h refl
-two_without (a ∷ b ∷ c ∷ words) h = refl
-
-second_without : (first second : Option ℕ) → second ≡ None → pair first second ≡ None
-second_without None second h = refl
-second_without (Some x) second h = rw h refl
-
-pub two_half : (words : List (List ℕ)) → first_in 64 (drop 1 words) ≡ None → two words short_and_long ≡ None
-two_half [] h = refl
-two_half (a ∷ []) h = refl
-two_half (a ∷ b ∷ []) h = second_without (number_in 32 a) (number_in 64 b) h
-two_half (a ∷ b ∷ c ∷ words) h = refl
-
-pub two_with : (words : List (List ℕ)) (x y : ℕ) → first_in 32 words ≡ Some x → first_in 64 (drop 1 words) ≡ Some y → (length (drop 1 (drop 1 words)) == 0) ≡ true →
-    two words short_and_long ≡ Some (x, y)
-two_with [] x y h k last = cc
-two_with (a ∷ []) x y h k last = cc
-two_with (a ∷ b ∷ []) x y h k last = rw (h, k) refl
-two_with (a ∷ b ∷ c ∷ words) x y h k last = absurd (let none = eqb-true (length (c ∷ words)) 0 last in omega (arith, none))
-
-pub two_more : (words : List (List ℕ)) → (length (drop 1 (drop 1 words)) == 0) ≡ false → two words short_and_long ≡ None
-two_more [] more = refl
-two_more (a ∷ []) more = refl
-two_more (a ∷ b ∷ []) more = cc
-two_more (a ∷ b ∷ c ∷ words) more = refl
-
--- an Open
-abbrev opened : List ℕ → Option ℕ → Option ℕ → Option ℕ → Option Line
-opened path first second third = do
-  endpoint ← first
-  flags ← second
-  object ← third
-  Some (request endpoint (open_path path flags None object))
-
-third_missing : (path : List ℕ) (first second : Option ℕ) → opened path first second None ≡ None
-third_missing path None second = refl
-third_missing path (Some e) None = refl
-third_missing path (Some e) (Some f) = refl
-
-second_missing : (path : List ℕ) (first third : Option ℕ) → opened path first None third ≡ None
-second_missing path None third = refl
-second_missing path (Some e) third = refl
-
-open_words : (a path : List ℕ) (others : List (List ℕ)) → four (a ∷ path ∷ others) open_form ≡ opened path (number_in 32 a) (first_in 64 others) (one (drop 1 others) (number_in 32))
-open_words a path [] = sym (second_missing path (number_in 32 a) None)
-open_words a path (c ∷ []) = sym (third_missing path (number_in 32 a) (number_in 64 c))
-open_words a path (c ∷ d ∷ []) = refl
-open_words a path (c ∷ d ∷ e ∷ words) = sym (third_missing path (number_in 32 a) (number_in 64 c))
-
-pub open_is : (words others : List (List ℕ)) (path : List ℕ) → drop 1 words ≡ path ∷ others →
-    four words open_form ≡ opened path (first_in 32 words) (first_in 64 others) (one (drop 1 others) (number_in 32))
-open_is [] others path behind = cc
-open_is (a ∷ words) others path behind =
-    ap (λ (ws : List (List ℕ)). four (a ∷ ws) open_form) behind ∙ open_words a path others
-
-pub open_without : (words : List (List ℕ)) → first_in 32 words ≡ None → four words open_form ≡ None
-open_without [] h = refl
-open_without (a ∷ []) h = refl
-open_without (a ∷ b ∷ []) h = refl
-open_without (a ∷ b ∷ c ∷ []) h = refl
-open_without (a ∷ b ∷ c ∷ d ∷ []) h = rw h refl
-open_without (a ∷ b ∷ c ∷ d ∷ e ∷ words) h = refl
-
-pub open_alone : (words : List (List ℕ)) → drop 1 words ≡ [] → four words open_form ≡ None
-open_alone [] h = refl
-open_alone (a ∷ []) h = refl
-open_alone (a ∷ b ∷ words) h = cc
-
-pub path_is_text : (words others : List (List ℕ)) (path : List ℕ) → drop 1 words ≡ path ∷ others → AreTexts words → IsUtf8 path
-path_is_text [] others path behind are = cc
-path_is_text (a ∷ words) others path behind are = (subst AreTexts behind are.1).0
 
 -- ---- words byte by byte
 

@@ -1,5 +1,5 @@
 -- Words as numbers.
-use Rattle.std.proofs.Common.{◌≡◌, ℕ, zero, suc, ◌+◌, ◌-◌, ◌*◌, ◌<◌, ◌≤◌, ◌^◌, nat_lt, nat_le, Bool, true, false, ◌&&◌, List, [], ◌∷◌, ◌++◌, length, map, get_or, take, drop, ◌||◌, ◌==◌, slice_index, Option, Some, None, Result, Ok, Err, refl, sym, ap, ◌∙◌, subst, arith, inl, inr, append_assoc, append-nil}
+use Rattle.std.proofs.Common.{◌≡◌, ℕ, zero, suc, ◌+◌, ◌-◌, ◌*◌, ◌<◌, ◌≤◌, ◌^◌, nat_lt, nat_le, Bool, true, false, ◌&&◌, List, [], ◌∷◌, ◌++◌, length, map, get_or, take, drop, ◌||◌, ◌==◌, slice_index, Option, Some, None, Result, Ok, Err, refl, sym, ap, ◌∙◌, arith, inl, inr, append_assoc, append-nil}
 use Rattle.std.specs.Prelude.{IfSome, MatchResult, is_ok}
 use Rattle.memchr.specs.Find.{Nowhere, Passes, is_byte}
 use Rattle.std.specs.List.{list_all}
@@ -7,7 +7,7 @@ use Rattle.std.specs.Char.{digit_value}
 use Rattle.std.specs.Option.{option_map}
 use Rattle.std.specs.Result.{OkIff, result_ok}
 use Rattle.std.specs.Str.{IsUtf8, IsAscii, is_utf8}
-use Rattle.std.specs.Str.Parse.{AllDigits, IsNumeral, ParsesUnsigned, digits_value}
+use Rattle.std.specs.Str.Parse.{AllDigits, IsNumeral, digits_value}
 use Rattle.std.proofs.lemmas.Bool.{and_parts, cases_lt, eqb-true, false_from_ne_true, le-ltb, leb-true, lt-ltb, ne_eqb, or_cases}
 use Rattle.std.proofs.lemmas.Str.{IsUtf8-from_ascii, IsUtf8-from_is_utf8, is_utf8-from_IsUtf8}
 use Rattle.std.proofs.lemmas.List.Elements.{All-from_get_or}
@@ -16,16 +16,12 @@ use Rattle.std.proofs.Math.Nat.{pow-le-pow_right}
 use Rattle.std.proofs.lemmas.Int.Digits.{digits_value-lt, digits_value_more}
 use Rattle.std.proofs.lemmas.List.{length-take-le, take_all}
 use Rattle.std.proofs.lemmas.List.Folds.{list_all_more}
-use Rattle.std.proofs.lemmas.Str.Parse.{without_leading_plus_none}
 use Rattle.vfs_script.specs.Parsed.{first_in}
 use Rattle.vfs_script.specs.Words.{◌>>=◌, all_given, comma, given, has_prefix, is_decimal, is_decimal_digit, is_digit, is_hexadecimal, is_led, number_in, number_of, numbers_of, pieces}
 
 -- a digit is of ASCII and no sign
 digit_low : (radix c : ℕ) → radix ≤ 36 → digit_value c < radix → c < 123
 digit_low radix c high h = grind arith
-
-digit_no_plus : (radix : ℕ) → radix ≤ 36 → digit_value 43 < radix → ⊥
-digit_no_plus radix high h = omega arith
 
 digits_ascii : (radix : ℕ) (word : List ℕ) → radix ≤ 36 → AllDigits radix word → IsAscii word
 digits_ascii radix [] high h = IsAscii-nil
@@ -35,25 +31,6 @@ digits_ascii radix (c ∷ word) high h =
 
 pub numeral_utf8 : (radix : ℕ) (word : List ℕ) → radix ≤ 36 → IsNumeral radix word → IsUtf8 word
 numeral_utf8 radix word high h = IsUtf8-from_ascii word (digits_ascii radix word high h.1)
-
-no_plus : (radix : ℕ) (word : List ℕ) → radix ≤ 36 → IsNumeral radix word → get_or word 0 0 ≡ 43 → ⊥
-no_plus radix [] high h e = absurd (omega (arith, e))
-no_plus radix (c ∷ word) high h e = digit_no_plus radix high (subst (λ x. digit_value x < radix) e h.1.0)
-
--- what `from_str_radix` answers for a numeral
-parsed_value : {E : Type 0} (v : ℕ) (r : Result ℕ E) (P : Type 0) → P → OkIff r (P × (v < 2 ^ 64)) v → result_ok r ≡ given (nat_lt v (2 ^ 64)) v
-parsed_value v (Ok x) P p h = rw (lt-ltb v (2 ^ 64) h.0.1) (ap Some h.1)
-parsed_value v (Err e) P p h =
-    elim (cases_lt v (2 ^ 64)) [
-      | inl small ↦ absurd (h (p, small))
-      | inr large ↦ rw (le-ltb v (2 ^ 64) large) refl
-    ]
-
-pub numeral_parsed : {E : Type 0} (radix : ℕ) (word : List ℕ) (r : Result ℕ E) → radix ≤ 36 → IsNumeral radix word → ParsesUnsigned 64 radix word r →
-    result_ok r ≡ given (nat_lt (digits_value radix word) (2 ^ 64)) (digits_value radix word)
-numeral_parsed radix word r high h p =
-    let e = without_leading_plus_none word (no_plus radix word high h) in
-    parsed_value (digits_value radix word) r (IsNumeral radix word) h (rw e at p)
 
 -- the tests of digits
 decimal_value : (c : ℕ) → is_decimal_digit c ≡ true → digit_value c < 10

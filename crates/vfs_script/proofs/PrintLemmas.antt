@@ -1,5 +1,5 @@
 -- Bytes, handles and labels as text.
-use Rattle.std.proofs.Common.{◌≡◌, ℕ, zero, suc, ◌+◌, ◌<◌, ◌≤◌, ◌==◌, Bool, true, false, cond, List, [], ◌∷◌, ◌++◌, length, map, get_or, take, drop, Option, Some, None, refl, sym, ap, ◌∙◌, inl, inr, arith, append_assoc}
+use Rattle.std.proofs.Common.{◌≡◌, ℕ, zero, suc, ◌+◌, ◌<◌, ◌==◌, Bool, true, false, List, [], ◌∷◌, ◌++◌, length, map, get_or, take, drop, Option, Some, None, refl, sym, ap, ◌∙◌, inl, inr, arith, append_assoc}
 use Rattle.std.specs.Prelude.{decimal, slice_get}
 use Rattle.std.specs.List.{find, join_with_byte}
 use Rattle.std.proofs.lemmas.Bool.{cases_Bool, eq-eqb, eqb-true, ne_eqb}
@@ -24,10 +24,6 @@ grown (x ∷ a) [] c h k = cc
 grown (x ∷ a) (y ∷ b) [] h k = cc
 grown (x ∷ a) (y ∷ b) (z ∷ c) h k =
     ap (λ t. z ∷ t) (grown a b c (ap (drop 1) h) (ap (drop 1) k)) ∙ ap (λ first. first ∷ a) (ap (λ l. get_or l 0 0) k ∙ ap (λ l. get_or l 0 0) h)
-
-pub grown_by : (a part : List ℕ) → take (length a) (a ++ part) ≡ a
-grown_by [] part = refl
-grown_by (x ∷ a) part = ap (λ t. x ∷ t) (grown_by a part)
 
 -- ---- bytes
 
@@ -74,15 +70,6 @@ pub handles_step : (i : ℕ) (numbers : List ℕ) → 0 < i → i < length numbe
     handles_text (take (i + 1) numbers) ≡ handles_text (take i numbers) ++ comma ∷ decimal (get_or numbers i 0)
 handles_step i numbers some lt =
     ap handles_text (take_more numbers i 0 lt) ∙ handles_text-more (take i numbers) (get_or numbers i 0) (some_taken i numbers some lt)
-
-pub handles_first : (numbers : List ℕ) → 0 < length numbers → handles_text (take 1 numbers) ≡ decimal (get_or numbers 0 0)
-unfolding handles_text
-handles_first [] h = absurd (omega arith)
-handles_first (first ∷ numbers) h = refl
-
-pub handles_text-none : handles_text [] ≡ none_word
-unfolding handles_text
-handles_text-none = refl
 
 -- a comma and one handle more
 pub handles_grow : (a to put new : List ℕ) (i n : ℕ) (numbers : List ℕ) → to ≡ a ++ handles_text (take i numbers) → put ≡ to ++ comma ∷ [] → n ≡ get_or numbers i 0 → new ≡ put ++ decimal n →

@@ -1,6 +1,6 @@
 -- Lines taken one after another, and what holds of all calls.
-use Rattle.std.proofs.Common.{◌≡◌, ℕ, zero, suc, ◌+◌, ◌<◌, ◌≤◌, Bool, true, false, not, ◌||◌, ◌&&◌, List, [], ◌∷◌, ◌++◌, length, map, drop, Option, Some, None, refl, sym, ap, ◌∙◌, subst, arith, append_assoc, append-nil, cond}
-use Rattle.std.specs.Prelude.{is_none, is_some, filter, filter_map, slice_get, IfSome}
+use Rattle.std.proofs.Common.{◌≡◌, ℕ, zero, suc, ◌+◌, ◌<◌, ◌≤◌, Bool, true, false, not, List, [], ◌∷◌, ◌++◌, length, map, drop, Option, Some, None, refl, sym, ap, ◌∙◌, subst, arith, append_assoc, append-nil, cond}
+use Rattle.std.specs.Prelude.{filter, filter_map, slice_get, IfSome}
 use Rattle.std.specs.List.{cons_option}
 use Rattle.std.proofs.lemmas.Option.{same_Some}
 use Rattle.std.proofs.lemmas.List.{length-drop, length-map}
@@ -11,72 +11,12 @@ use Rattle.endpoint_link.specs.declared.kinds.Mode.{Mode}
 use Rattle.vfs_script.specs.declared.calls.Call.{Call}
 use Rattle.vfs_script.specs.Lines.{Line, request, raw, hang_up, turn, pick, line_of, fits_at, call_of}
 use Rattle.vfs_script.specs.Words.{given, newline, pieces}
-use Rattle.std.specs.Option.{option_or}
 use Rattle.endpoint_link.specs.Frames.{spelling, spellings}
-use Rattle.fidl_names.specs.First.{cause_if, first_of}
-use Rattle.fidl_names.proofs.FirstLaws.{first_of-head}
+use Rattle.fidl_names.specs.First.{first_of}
 use Rattle.vfs_script.specs.Kept.{Kept, kept_and, kept_with}
-use Rattle.vfs_script.specs.Scripts.{AreApart, AreCalls, bad_line, calls_of, frames_of, lines_of, script_lines, script_mode, Numbered, Spoken, said_at, bad_heads, bad_in, bad_lines, behind_mode, call_in, frame_of, from_mode, heads, is_bad, is_bad_text, is_skipped, mode_in, mode_of, numbered_from, spoken, spoken_in}
-
--- ---- lines behind the mode line
-
-one_cause : (bad : Bool) (number : ℕ) (others : List (Option ℕ)) → first_of (cause_if bad number ∷ others) ≡ option_or (first_of (cause_if bad number ∷ [])) (first_of others)
-one_cause true number others = refl
-one_cause false number others = refl
-
-pub bad_lines-cons : (line : Numbered) (lines : List Numbered) → bad_lines (line ∷ lines) ≡ option_or (bad_lines (line ∷ [])) (bad_lines lines)
-bad_lines-cons line lines = one_cause (is_bad line) line.number (map (λ l. cause_if (is_bad l) l.number) lines)
-
--- where the first line isn't bad, the others decide; where it is, it does
-pub bad_lines-good : (line : Numbered) (lines : List Numbered) → bad_lines (line ∷ []) ≡ None → bad_lines (line ∷ lines) ≡ bad_lines lines
-bad_lines-good line lines h = bad_lines-cons line lines ∙ ap (λ first. option_or first (bad_lines lines)) h
-
-pub bad_lines-bad : (line : Numbered) (lines : List Numbered) (number : ℕ) → bad_lines (line ∷ []) ≡ Some number → bad_lines (line ∷ lines) ≡ Some number
-bad_lines-bad line lines number h = bad_lines-cons line lines ∙ ap (λ first. option_or first (bad_lines lines)) h
-
--- a line by itself
-pub bad_line_is : (line : Numbered) → is_bad line ≡ true → bad_lines (line ∷ []) ≡ Some line.number
-bad_line_is line h = rw h refl
-
-pub good_line_is : (line : Numbered) → is_bad line ≡ false → bad_lines (line ∷ []) ≡ None
-good_line_is line h = rw h refl
-
-pub not_text_is_bad : (line : Numbered) → is_bad_text line ≡ true → is_bad line ≡ true
-not_text_is_bad line h = rw h refl
-
-pub skipped_is_good : (line : Numbered) → is_bad_text line ≡ false → is_skipped line.bytes ≡ true → is_bad line ≡ false
-skipped_is_good line t h = rw (t, h) refl
-
-pub spoken_is_good : (line : Numbered) (said : Spoken) → is_bad_text line ≡ false → is_skipped line.bytes ≡ false → spoken line ≡ Some said → is_bad line ≡ false
-spoken_is_good line said t h e = rw (t, h, e) refl
-
-by_text : (bad other : Bool) → other ≡ true → bad || other ≡ true
-by_text true other h = refl
-by_text false other h = h
-
-pub formless_is_bad : (line : Numbered) → is_skipped line.bytes ≡ false → spoken line ≡ None → is_bad line ≡ true
-formless_is_bad line h e = by_text (is_bad_text line) _ (rw (h, e) refl)
+use Rattle.vfs_script.specs.Scripts.{AreApart, AreCalls, bad_line, calls_of, frames_of, lines_of, script_lines, script_mode, Numbered, Spoken, said_at, bad_heads, bad_in, bad_lines, behind_mode, call_in, frame_of, from_mode, heads, is_skipped, mode_in, numbered_from, spoken, spoken_in}
 
 -- ---- what lines say
-
-with_first : (said : Option Spoken) (others : List Spoken) → cons_option said others ≡ cons_option said [] ++ others
-with_first None others = refl
-with_first (Some said) others = refl
-
-one_more : (skipped : Bool) (line : Numbered) (lines : List Numbered) →
-    filter_map spoken (cond (not skipped) (line ∷ lines) lines) ≡ filter_map spoken (cond (not skipped) (line ∷ []) []) ++ filter_map spoken lines
-one_more true line lines = refl
-one_more false line lines = with_first (spoken line) (filter_map spoken lines)
-
-pub spoken_in-cons : (line : Numbered) (lines : List Numbered) → spoken_in (line ∷ lines) ≡ spoken_in (line ∷ []) ++ spoken_in lines
-spoken_in-cons line lines = one_more (is_skipped line.bytes) line (filter (λ l. not (is_skipped l.bytes)) lines)
-
--- a line by itself
-pub spoken_in-skipped : (line : Numbered) → is_skipped line.bytes ≡ true → spoken_in (line ∷ []) ≡ []
-spoken_in-skipped line h = rw h refl
-
-pub spoken_in-said : (line : Numbered) (said : Spoken) → is_skipped line.bytes ≡ false → spoken line ≡ Some said → spoken_in (line ∷ []) ≡ said ∷ []
-spoken_in-said line said h e = rw (h, e) refl
 
 -- what a line that isn't skipped says has its number
 given_some : {A : Type 0} (test : Bool) (value : A) (found : A) → given test value ≡ Some found → value ≡ found
@@ -90,13 +30,6 @@ said_number number (Some form) said e = sym (ap (λ (s : Spoken). s.number) (giv
 pub spoken-number : (line : Numbered) (said : Spoken) → spoken line ≡ Some said → said.number ≡ line.number
 unfolding spoken
 spoken-number line said e = said_number line.number (line_of line.bytes) said e
-
-pub kept_with-append : (kept : Kept) (a b : List Spoken) → kept_with kept (a ++ b) ≡ kept_with (kept_with kept a) b
-kept_with-append kept [] b = refl
-kept_with-append kept (said ∷ a) b = kept_with-append (kept_and kept (frame_of said) (call_in said)) a b
-
-pub kept_with-cons : (kept : Kept) (line : Numbered) (lines : List Numbered) → kept_with kept (spoken_in (line ∷ lines)) ≡ kept_with (kept_with kept (spoken_in (line ∷ []))) (spoken_in lines)
-kept_with-cons kept line lines = ap (kept_with kept) (spoken_in-cons line lines) ∙ kept_with-append kept (spoken_in (line ∷ [])) (spoken_in lines)
 
 -- all frames, and all calls
 pub kept_bytes : (kept : Kept) (said : List Spoken) → (kept_with kept said).bytes ≡ kept.bytes ++ spellings (map frame_of said)
@@ -167,49 +100,6 @@ behind_calls number (bytes ∷ texts) = behind_first number bytes texts (is_skip
 pub length-numbered : (number : ℕ) (texts : List (List ℕ)) → length (numbered_from number texts) ≡ length texts
 length-numbered number [] = refl
 length-numbered number (bytes ∷ texts) = ap suc (length-numbered (number + 1) texts)
-
--- a skipped line in front
-pub from_mode-skipped : (line : Numbered) (lines : List Numbered) → is_skipped line.bytes ≡ true → from_mode (line ∷ lines) ≡ from_mode lines
-from_mode-skipped line lines h = rw h refl
-
-or_first : (bad : Option ℕ) (test : Bool) (number : ℕ) (others : List (Option ℕ)) →
-    option_or bad (first_of (cause_if test number ∷ others)) ≡ option_or (option_or bad (first_of (cause_if test number ∷ []))) (first_of others)
-or_first None true number others = refl
-or_first None false number others = refl
-or_first (Some bad) test number others = refl
-
-pub heads-skipped : (bad : Option ℕ) (line : Numbered) (lines : List Numbered) → is_skipped line.bytes ≡ true →
-    option_or bad (bad_heads (heads (line ∷ lines))) ≡ option_or (option_or bad (bad_heads (line ∷ []))) (bad_heads (heads lines))
-heads-skipped bad line lines h =
-    rw h (or_first bad (is_bad_text line) line.number (map (λ l. cause_if (is_bad_text l) l.number) (heads lines)))
-
--- the mode line in front
-pub from_mode-said : (line : Numbered) (lines : List Numbered) → is_skipped line.bytes ≡ false → from_mode (line ∷ lines) ≡ line ∷ lines
-from_mode-said line lines h = rw h refl
-
-or_none : (bad : Option ℕ) → option_or bad None ≡ bad
-or_none None = refl
-or_none (Some bad) = refl
-
-pub heads-said : (bad : Option ℕ) (line : Numbered) (lines : List Numbered) → is_skipped line.bytes ≡ false → option_or bad (bad_heads (heads (line ∷ lines))) ≡ bad
-heads-said bad line lines h = rw h (or_none bad)
-
-pub mode_in-said : (lines : List Numbered) (line : Numbered) (others : List Numbered) → from_mode lines ≡ line ∷ others → mode_in lines ≡ mode_of line.bytes
-mode_in-said lines line others e = rw e refl
-
-pub mode_in-none : (lines : List Numbered) → from_mode lines ≡ [] → mode_in lines ≡ None
-mode_in-none lines e = rw e refl
-
-front : (a b c : Option ℕ) (number : ℕ) → first_of (a ∷ b ∷ []) ≡ Some number → first_of (a ∷ b ∷ c ∷ []) ≡ Some number
-front None None c number e = cc
-front None (Some b) c number e = e
-front (Some a) b c number e = e
-
--- the first bad line, where no mode is said or a line in front of the mode line is bad
-pub bad_in-front : (lines : List Numbered) (mode : Option Mode) (bad : Option ℕ) (number : ℕ) → mode_in lines ≡ mode → bad_heads (heads lines) ≡ bad →
-    first_of (cause_if (is_none mode) 0 ∷ bad ∷ []) ≡ Some number → bad_in lines ≡ Some number
-bad_in-front lines mode bad number m b e =
-    front (cause_if (is_none (mode_in lines)) 0) (bad_heads (heads lines)) (bad_lines (behind_mode lines)) number (rw (m, b) e)
 
 last_one : (a : Option ℕ) → first_of (a ∷ []) ≡ a
 last_one None = refl

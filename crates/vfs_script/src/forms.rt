@@ -15,7 +15,7 @@ use crate::verbs::{Verb, verb_of};
 use io_messages::Request;
 
 /// A line whose numbers were read, but neither its bytes nor its handles.
-#[derive(Clone, Copy, Debug)]
+#[derive(Clone, Copy)]
 pub(crate) enum Parsed<'a> {
     Request {
         endpoint: u32,

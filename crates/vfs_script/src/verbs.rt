@@ -4,7 +4,7 @@ ghost use Rattle.vfs_script.specs.Lines.{verb_of};
 ghost use Rattle.vfs_script.specs.Parsed.{verb_among, verbs_with};
 
 /// What the first word of a line says.
-#[derive(Clone, Copy, Debug, PartialEq, Eq)]
+#[derive(Clone, Copy)]
 pub(crate) enum Verb {
     Open,
     Clone,
