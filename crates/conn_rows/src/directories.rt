@@ -8,6 +8,7 @@ ghost use Rattle.conn_rules.specs.Shared.{CanBeBound};
 use crate::requests::{Writer, request_of, word};
 use conn_rules::{Birth, Changes, Room};
 use dir_conn::{DirConn, DirServed};
+use fidl_names::NoMemory;
 use io_messages::{Protocol, Request, has_method, is_one_way};
 use io_rights::Rights;
 use node_graph::{Graph, GraphFault, NodeKind, NodeRef};
@@ -82,17 +83,18 @@ fn plant(rt: &impl Abort, graph: &mut Graph) -> Result<(), GraphFault> {
 }
 
 // A connection to the root, with these rights.
-pub(crate) fn root_with(graph: &Graph, rights: Rights) -> DirConn
-    ensures can { CanBeBound graph.now result.birth }
-    ensures protocol { result.birth.protocol ≡ Protocol.Directory }
+pub(crate) fn root_with(alloc: Global, graph: &Graph, rights: Rights) -> Result<DirConn, NoMemory>
+    ensures can { IfOk result (λ conn. CanBeBound graph.now conn.birth) }
+    ensures protocol { IfOk result (λ conn. conn.birth.protocol ≡ Protocol.Directory) }
 {
-    DirConn::new(Birth {
+    let birth = Birth {
         node: graph.root(),
         rights,
         protocol: Protocol::Directory,
         append: false,
         announce: false,
-    })
+    };
+    DirConn::new(alloc, birth)
 }
 
 // What the root answers to a request.
@@ -107,7 +109,10 @@ fn ask<'a>(
     assert!(rt; has_method(Protocol::Directory, method));
     assert!(rt; graph.made() < 1 << 63);
     let txid = if is_one_way(method) { 0 } else { 2 };
-    let mut conn = root_with(graph, Rights::all());
+    let mut conn = root_with(writer.alloc, graph, Rights::all()).expect(
+        rt,
+        "memory for a connection",
+    );
     writer.out.clear();
     conn.serve(
         &writer.ordinals,

@@ -8,7 +8,7 @@ ghost use Rattle.conn_rules.specs.Shared.{CanBeBound};
 use crate::requests::{Writer, word};
 use conn_rules::{At, Birth, Changes, Room};
 use dir_conn::{DirConn, DirServed};
-use fidl_names::MAX_NAME;
+use fidl_names::{MAX_NAME, NoMemory};
 use io_messages::{Protocol, Request, read_reply};
 use io_rights::Rights;
 use node_graph::{Graph, GraphFault, NodeKind, NodeRef};
@@ -117,19 +117,20 @@ const ROOM: Room = Room {
 };
 
 // A connection to a directory, with all rights.
-fn conn_to(graph: &Graph, node: NodeRef) -> DirConn
+fn conn_to(alloc: Global, graph: &Graph, node: NodeRef) -> Result<DirConn, NoMemory>
     requires named { Names graph.now node }
     requires directory { kind_at graph.now (number_of node) ≡ Some Directory }
-    ensures can { CanBeBound graph.now result.birth }
-    ensures protocol { result.birth.protocol ≡ Protocol.Directory }
+    ensures can { IfOk result (λ conn. CanBeBound graph.now conn.birth) }
+    ensures protocol { IfOk result (λ conn. conn.birth.protocol ≡ Protocol.Directory) }
 {
-    DirConn::new(Birth {
+    let birth = Birth {
         node,
         rights: Rights::all(),
         protocol: Protocol::Directory,
         append: false,
         announce: false,
-    })
+    };
+    DirConn::new(alloc, birth)
 }
 
 // What the root tells of a request, whose reply then stands in the output.
@@ -151,7 +152,7 @@ fn ask<'a>(
         )
     );
     let root = graph.root();
-    let mut conn = conn_to(graph, root);
+    let mut conn = conn_to(writer.alloc, graph, root).expect(rt, "memory for a connection");
     writer.out.clear();
     match conn.serve(
         &writer.ordinals,
@@ -398,7 +399,7 @@ fn get_token(
     requires directory { kind_at graph.old (number_of node) ≡ Some Directory }
 {
     assert!(rt; graph.made() < 1 << 63);
-    let mut conn = conn_to(graph, node);
+    let mut conn = conn_to(writer.alloc, graph, node).expect(rt, "memory for a connection");
     let room = Room { token, ..ROOM };
     writer.out.clear();
     let served = conn.serve(

@@ -105,6 +105,7 @@ fn step<'a>(row: &Row<'a>) -> Result<i64, BadCell<'a>> {
 /// Where replies are written, and the ordinals that they have.
 #[derive(Drop)]
 pub struct Writer {
+    pub alloc: Global,
     pub ordinals: Ordinals,
     pub out: Out,
 }
@@ -114,6 +115,10 @@ impl Writer {
     pub fn new(alloc: Global) -> Result<Writer, Fail> {
         let ordinals = Ordinals::new()?;
         let out = Out::new(alloc)?;
-        Ok(Writer { ordinals, out })
+        Ok(Writer {
+            alloc,
+            ordinals,
+            out,
+        })
     }
 }

@@ -80,7 +80,9 @@ impl Table for Watched {
             connections: word(row, 5)?,
             token: None,
         };
-        let mut conn = root_with(&self.graph, rights(row)?);
+        let Ok(mut conn) = root_with(alloc, &self.graph, rights(row)?) else {
+            return Ok(false);
+        };
         let wanted = row.bytes(alloc, 7)?;
         let answer = row.cell(6)?;
         if self.graph.made() >= 1 << 63 {

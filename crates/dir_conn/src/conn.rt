@@ -1,4 +1,4 @@
-ghost use Rattle.std.specs.Prelude.{◌≡◌, ◌≢◌, ◌<◌, ◌^◌, ℕ, true, Option, Some};
+ghost use Rattle.std.specs.Prelude.{◌≡◌, ◌≢◌, ◌<◌, ◌^◌, ℕ, true, IfOk, Option, Some};
 ghost use Rattle.std.specs.Option.{option_map};
 ghost use Rattle.io_messages.specs.Asked.{asked, method_of};
 ghost use Rattle.io_messages.specs.Protocols.{has_method};
@@ -25,16 +25,19 @@ use crate::unlink::unlink;
 use crate::watch::watch;
 use conn_rules::{Birth, Room, fail, method_refusal, serve_node};
 use dirents::Place;
+use fidl_names::NoMemory;
 use fidl_wire::{Ordinals, Out};
 use io_messages::{Protocol, Request};
 use node_graph::{Graph, NodeRef};
+use std::alloc::Global;
 use std::marker::Model;
 
-/// A connection to a directory. Contracts see its birth and its position.
+/// A connection to a directory. Contracts see its birth and its position. Where its listing goes on is large, for
+/// the name, and lies apart, so that connections lie close together in a table.
 #[derive(Drop)]
 pub struct DirConn {
     birth: Birth,
-    place: Place,
+    place: Box<Place>,
 }
 
 impl Model for DirConn {
@@ -46,19 +49,17 @@ impl Model for DirConn {
 
     ghost coded = { connection_code };
 
-    ghost view = { λ conn. record { birth = conn.birth; position = standing_at conn.place } };
+    ghost view = { λ conn. record { birth = conn.birth; position = standing_at conn.place.value } };
 }
 
 impl DirConn {
     /// A connection that was just bound.
-    pub fn new(birth: Birth) -> DirConn
-        ensures birth { result.birth ≡ birth }
-        ensures position { result.position ≡ fresh }
+    pub fn new(alloc: Global, birth: Birth) -> Result<DirConn, NoMemory>
+        ensures birth { IfOk result (λ conn. conn.birth ≡ birth) }
+        ensures position { IfOk result (λ conn. conn.position ≡ fresh) }
     {
-        DirConn {
-            birth,
-            place: Place::Start,
-        }
+        let place = Box::new(alloc, Place::Start)?;
+        Ok(DirConn { birth, place })
     }
 
     /// The directory that it is to.

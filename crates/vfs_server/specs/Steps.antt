@@ -61,14 +61,14 @@ use Rattle.vfs_server.specs.Watched.{IsShort, Seats, first_of, is_at, told_of}
 
 -- a connection, whatever it is to
 abbrev pub connection_of : Conn → Connection
-connection_of (conn.Directory c) = c.value
+connection_of (conn.Directory c) = c
 connection_of (conn.File c) = c
 connection_of (conn.Node c) = c
 connection_of (conn.Echo birth) = connection_with birth fresh
 
 -- each kind of connection has its protocol
 abbrev pub IsOfItsKind : Conn → Type 0
-IsOfItsKind (conn.Directory c) = c.value.birth.protocol ≡ protocol.Directory
+IsOfItsKind (conn.Directory c) = c.birth.protocol ≡ protocol.Directory
 IsOfItsKind (conn.File c) = c.birth.protocol ≡ protocol.File
 IsOfItsKind (conn.Node c) = c.birth.protocol ≡ protocol.Node
 IsOfItsKind (conn.Echo birth) = birth.protocol ≡ protocol.Echo

@@ -28,11 +28,10 @@ use node_conn::{NodeConn, echo};
 use node_graph::{Graph, NodeRef};
 use std::alloc::Global;
 
-/// A connection, by what it is to. To the service that echoes it has a birth alone. One to a directory is
-/// large, for the name at which its listing goes on, and lies apart, so that the others lie close together.
+/// A connection, by what it is to. To the service that echoes it has a birth alone.
 #[derive(Drop)]
 pub(crate) enum Conn {
-    Directory(Box<DirConn>),
+    Directory(DirConn),
     File(FileConn),
     Node(NodeConn),
     Echo(Birth),
@@ -47,10 +46,7 @@ impl Conn {
         ensures kind { IfOk result IsOfItsKind }
     {
         match birth.protocol {
-            Protocol::Directory => {
-                let conn = Box::new(alloc, DirConn::new(birth))?;
-                Ok(Conn::Directory(conn))
-            }
+            Protocol::Directory => Ok(Conn::Directory(DirConn::new(alloc, birth)?)),
             Protocol::File => Ok(Conn::File(FileConn::new(birth))),
             Protocol::Node => Ok(Conn::Node(NodeConn::new(birth))),
             Protocol::Echo => Ok(Conn::Echo(birth)),

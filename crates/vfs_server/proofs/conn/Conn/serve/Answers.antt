@@ -20,10 +20,10 @@ serve-served-requires-clause-target c node is =
 pub returns-in-Directory-clause-acts : goal.returns-in-Directory-clause-acts
 returns-in-Directory-clause-acts c tree directory stands named some =
     subst (λ connection. Acts (act_of (context_of connection c.args.room tree directory) (asked c.args.request.now)) c.args.txid c.of_directory.result (told_by c.of_directory.new.changes) c.serve-served.new.out c.serve-served.new.self c.args.graph.now c.serve-served.new.graph)
-    (c.deref_mut.ensures.value ∙ sym (ap connection_of c.in-Directory.is))
-    (subst (λ one. Acts (act_of (context_of c.deref_mut.result.now c.args.room tree directory) (asked c.args.request.now)) c.args.txid one (told_by c.of_directory.new.changes) c.serve-served.new.out c.serve-served.new.self c.args.graph.now c.serve-served.new.graph)
+    (sym (ap connection_of c.in-Directory.is))
+    (subst (λ one. Acts (act_of (context_of c.in-Directory.conn c.args.room tree directory) (asked c.args.request.now)) c.args.txid one (told_by c.of_directory.new.changes) c.serve-served.new.out c.serve-served.new.self c.args.graph.now c.serve-served.new.graph)
     (sym c.of_directory.ensures.given)
-    (subst (λ told. Acts (act_of (context_of c.deref_mut.result.now c.args.room tree directory) (asked c.args.request.now)) c.args.txid (of_directory c.serve-served.result) told c.serve-served.new.out c.serve-served.new.self c.args.graph.now c.serve-served.new.graph)
+    (subst (λ told. Acts (act_of (context_of c.in-Directory.conn c.args.room tree directory) (asked c.args.request.now)) c.args.txid (of_directory c.serve-served.result) told c.serve-served.new.out c.serve-served.new.self c.args.graph.now c.serve-served.new.graph)
     (sym c.of_directory.ensures.told)
     (acts_of_directory _ c.args.txid c.serve-served.result c.serve-served.new.out c.serve-served.new.self c.args.graph.now c.serve-served.new.graph
     (c.serve-served.ensures.serves tree directory stands (named ∙ ap (option_map number_of) (sym c.target-target.ensures)) (λ e. some (c.of_directory.ensures.given ∙ ap of_directory e))))))
