@@ -21,7 +21,8 @@ help:
 # Nothing is proved here: an index out of bounds, a sum that doesn't fit or a case that can't be stops the program.
 try:
 	@echo "compiling without proofs, some minutes; the last two lines are the toolchain's"
-	@cd crates/vfs && rt try --data tree=../../$(TREE) --data script=../../$(SCRIPT) -- run tree script
+	@tree=$$(realpath "$(TREE)") && script=$$(realpath "$(SCRIPT)") && cd crates/vfs && \
+	    rt try --data "tree=$$tree" --data "script=$$script" -- run tree script
 
 build:
 	@tools/build.sh vfs
