@@ -1,7 +1,9 @@
 #!/usr/bin/env bash
 # bench.sh VFS BENCH: processor time (user and system) and peak memory, measured from outside.
 set -eu
-vfs=$1 bench=$2
+export LC_ALL=C
+vfs=$(realpath "$1") bench=$(realpath "$2")
+cd "$(dirname "$0")/.."
 frames=1000000
 work=$(mktemp -d)
 trap 'rm -rf "$work"' EXIT
@@ -141,14 +143,14 @@ writing='
 # For each number an Open of a name of at most eight bytes on endpoint 1, with that number as the new
 # endpoint; with `close` as the last word a Close frame on it behind each.
 opens() { # NAME FIRST LAST [close]
-    LC_ALL=C awk -v name="$1" -v first="$2" -v last="$3" -v closes="${4-}" "$writing"'
+    awk -v name="$1" -v first="$2" -v last="$3" -v closes="${4-}" "$writing"'
         BEGIN { for (n = first; n <= last; n++) { open_path(1, n, name, 2); if (closes != "") hang_up(n) } }'
 }
 
 # 64 watchers of names that come and go, for each of so many directories; the connection that they came on
 # hangs up.
 watches() { # DIRECTORIES
-    LC_ALL=C awk -v directories="$1" "$writing"'
+    awk -v directories="$1" "$writing"'
         BEGIN {
             for (d = 0; d < directories; d++) {
                 n = 100 + 65 * d
@@ -161,7 +163,7 @@ watches() { # DIRECTORIES
 
 # So many Renames in the root, of `a` to `b` and back, each behind a token for it.
 renames() { # TIMES
-    LC_ALL=C awk -v times="$1" "$writing"'
+    awk -v times="$1" "$writing"'
         BEGIN { for (i = 0; i < times; i++) rename(1, i % 2 ? "b" : "a", 2147483648 + i, i % 2 ? "a" : "b") }'
 }
 
@@ -195,8 +197,8 @@ serving() { # NAME FRAMES FILE [MODE]: the time of one of so many frames
 
 echo "vfs serve over a directory of 4,001 names"
 tree > "$work/tree"
-: > "$work/none"
-serving "no frame: the tree is read (goal: 5.5 ms)" 1 "$work/none"
+{ time "$vfs" serve "$work/tree" auto < /dev/null > "$work/out"; } 2> "$work/spent"
+awk '{ printf "  no frame: the tree is read (goal: 5.5 ms) %7.1f ms\n", ($1 + $2) * 1e3 }' "$work/spent"
 { time "$vfs" check "$work/tree" > "$work/checked"; } 2> "$work/spent"
 awk '{ printf "  check of that tree (goal: 5.5 ms) %15.1f ms\n", ($1 + $2) * 1e3 }' "$work/spent"
 { opens large 2 2; reads 02000000 "$work/reads"; cat "$work/reads"; } > "$work/frames"
@@ -209,10 +211,10 @@ listings 500 "$work/frames"
 serving "Listings of all names, eight and a Rewind" 4500 "$work/frames"
 {
     opens large 2 4001
-    LC_ALL=C awk "$writing"'BEGIN { for (k = 1; k <= 200000; k++) read(2 + 7919 * k % 4000, 5) }'
+    awk "$writing"'BEGIN { for (k = 1; k <= 200000; k++) read(2 + 7919 * k % 4000, 5) }'
 } > "$work/frames"
 serving "Reads on 4,000 connections (goal: 120 ns)" 204000 "$work/frames"
-LC_ALL=C awk "$writing"'BEGIN {
+awk "$writing"'BEGIN {
     for (k = 1; k <= 200000; k++) { open_path(1, k + 1, sprintf("n%04d", 7919 * k % 4000), 2); hang_up(k + 1) }
 }' > "$work/frames"
 serving "Opens of 4,000 names (goal: 320 ns)" 400000 "$work/frames"
@@ -220,7 +222,7 @@ serving "Opens of 4,000 names (goal: 320 ns)" 400000 "$work/frames"
 # Each round of these works on a new connection to another name: what a file is asked for, a Clone, a listing
 # behind it, and every eighth round the name is taken out.
 mixed() { # ROUNDS
-    LC_ALL=C awk -v rounds="$1" "$writing"'
+    awk -v rounds="$1" "$writing"'
         BEGIN {
             for (k = 1; k <= rounds; k++) {
                 n = 2 * k
@@ -241,7 +243,7 @@ serving "calls of most methods (goal: 330 ns)" 300015 "$work/frames"
 {
     opens large 2 65
     echo "00000000 03 00 0000 04000000 40000000" | tools/to-bytes.sh
-    LC_ALL=C awk "$writing"'BEGIN {
+    awk "$writing"'BEGIN {
         for (frame = 0; frame < 500000; frame += 8192) {
             for (k = 0; k < 4096; k++) read(2 + k % 64, 5)
             for (k = 0; k < 4096; k++) pick(2 + k % 64)
@@ -268,7 +270,7 @@ awk -v lines="$lines" -v bytes="$(wc -c < "$work/transcript")" '{
 # 200 megabytes of output frames: replies of 8,192 bytes each.
 {
     opens large 2 2
-    LC_ALL=C awk "$writing"'BEGIN { for (k = 0; k < 24400; k++) { read(2, 8192); if (k % 8 == 7) seek(2, 0) } }'
+    awk "$writing"'BEGIN { for (k = 0; k < 24400; k++) { read(2, 8192); if (k % 8 == 7) seek(2, 0) } }'
 } > "$work/frames"
 "$vfs" serve "$work/tree" auto < "$work/frames" > "$work/out"
 { time "$vfs" show < "$work/out" > "$work/shown"; } 2> "$work/spent"
@@ -296,7 +298,7 @@ serving "beside no watchers" $((2 * renamed)) "$work/renames"
 { watches 63; cat "$work/renames"; } > "$work/frames"
 serving "beside 4,032 watchers of the others" $((2 * renamed + 66 * 63)) "$work/frames"
 {
-    LC_ALL=C awk "$writing"'BEGIN { for (n = 2; n < 66; n++) watch(1, n, 6) }'
+    awk "$writing"'BEGIN { for (n = 2; n < 66; n++) watch(1, n, 6) }'
     cat "$work/renames"
 } > "$work/frames"
 serving "beside 64 watchers of the root" $((2 * renamed + 64)) "$work/frames"

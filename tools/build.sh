@@ -5,9 +5,17 @@
 # that must be refused. So each crate is proved once, crates that don't stand on each other side by side, and what stands above a
 # crate loads what that states and not how it is proved. Where a program is newer than all that it is made from, it stays.
 set -eu
+cd "$(dirname "$0")/.."
 
 is_new() { # PROGRAM
-    [ -e "build/$1" ] && [ -z "$(find crates.txt crates/*/src crates/*/specs crates/*/proofs -newer "build/$1" -print -quit)" ]
+    local name part parts=(crates.txt)
+    [ -e "build/$1" ] || return 1
+    while IFS=: read -r name _; do
+        for part in src specs proofs; do
+            [ ! -e "crates/$name/$part" ] || parts+=("crates/$name/$part")
+        done
+    done < <(awk -v programs="$1" -f tools/below.awk crates.txt)
+    [ -z "$(find "${parts[@]}" -newer "build/$1" -print -quit)" ]
 }
 
 wanted=()
