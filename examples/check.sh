@@ -184,10 +184,12 @@ same_text() { # WHAT FILE COMMAND..
 while IFS='|' read -r what words input output status note; do
     [ -n "$what" ] || continue
     read -r what <<< "$what"
-    read -r output <<< "${output//@/$work/}"
+    read -r output <<< "$output"
+    output=${output//@/"$work/"}
     read -r status <<< "$status"
     read -r note <<< "$note"
-    read -ra words <<< "${words//@/$work/}"
+    read -ra words <<< "$words"
+    words=("${words[@]//@/"$work/"}")
     spell "$input" > "$work/in"
     run "${words[@]}" < "$work/in" > "$work/out" 2> "$work/note"
     judge "$what" $? "$status" "$note" "$output"

@@ -33,7 +33,7 @@ for ((i = 1; ; i++)); do
     frame="$work/frame.$i"
     [ -e "$frame" ] || break
     echo
-    grep '^#' "$frame"
+    grep '^#' "$frame" || true
     tools/to-bytes.sh "$frame" >> "$work/in"
     explain "$work/in" "$sent" request "$i"
     sent=$(wc -c < "$work/in")
