@@ -6,7 +6,7 @@ use fidl_names::MAX_NAME;
 use node_graph::NameBuf;
 use std::alloc::AllocError;
 
-/// Where the listing of a directory goes on. A place takes no memory.
+/// Where the listing of a directory goes on. Making or copying a place takes no memory.
 #[derive(Drop)]
 pub enum Place {
     /// At its start, which is the directory itself under the name `.`.
