@@ -61,7 +61,7 @@ other_kind_status word =
 abbrev pub marks_file : ℕ → Bool
 marks_file word = has word flag.FileAppend || has word flag.FileTruncate
 
--- a service is opened to connect to it, or as a node reference
+-- a service is to be connected to, and CONNECT isn't asked for
 abbrev pub connects_without_right : ℕ → NodeKind → Bool
 connects_without_right word kind =
     is_service kind && (not (has word flag.ProtocolNode) && lacks (explicit_rights word) (single op.Connect))
