@@ -15,8 +15,9 @@ use Rattle.endpoint_link.proofs.Streams.{not_both}
 use Rattle.run_status.specs.declared.statuses.Status.{Status}
 use Rattle.run_status.specs.declared.statuses.Status.TheVariants as status
 use Rattle.run_status.specs.Outside.{Streams}
+use Rattle.run_status.specs.Texts.{PassedOn}
 use Rattle.link_session.specs.Pieces.{TakesPiece}
-use Rattle.link_session.specs.Serving.{IsGrowing, Heard, HeardPart, PassedOn, Finishes, end_of}
+use Rattle.link_session.specs.Serving.{IsGrowing, Heard, HeardPart, Finishes, end_of}
 use Rattle.link_session.specs.Session.{Course, SessionAnswers, MetNoFault, WroteAll, IsCutOff, EndsBehind}
 use Rattle.link_session.proofs.Progress.{Progress, Progress-heard, Grown, IsPassedOn, empty, cut_off, cut_behind, part_so_far, heard_part, keeps_up}
 

@@ -2,11 +2,12 @@
 use Rattle.std.specs.Prelude.{◌≡◌, ℕ, ◌+◌, ◌≤◌, ◌-◌, ◌⊎◌, IsTrue, List, [], ◌∷◌, ◌++◌, length, drop, All, Option}
 use Rattle.std.specs.Io.KnownBytes.{Appends}
 use Rattle.host_io.specs.Causes.{Rose}
-use Rattle.host_io.specs.Streams.{AppendsPart, IsFlushed}
+use Rattle.host_io.specs.Streams.{AppendsPart}
 use Rattle.endpoint_link.specs.Frames.{Frame, IsFrame, spellings, IsPartial, IsBadFront}
 use Rattle.endpoint_link.specs.declared.kinds.Side.{Side}
 use Rattle.run_status.specs.declared.statuses.Status.{Status}
 use Rattle.run_status.specs.declared.statuses.Status.TheVariants as status
+use Rattle.run_status.specs.Texts.{PassedOn}
 use Rattle.link_session.specs.declared.sessions.Served.{Served}
 use Rattle.link_session.specs.declared.sessions.Served.TheVariants as served
 use Rattle.link_session.specs.Session.{IsFront, Course}
@@ -72,10 +73,6 @@ Leaves side bytes count count' served.Failed = Unit {0}
 abbrev pub HasWriteCause : ℕ → ℕ → Served → Type 0
 HasWriteCause before now served.Failed = Rose before now
 HasWriteCause before now _ = now ≡ before
-
--- what was held back is written, and all is flushed
-abbrev pub PassedOn : Option (List ℕ) → Option (List ℕ) → List ℕ → ℕ → Type 0
-PassedOn written written' held flushed = Appends written written' held × IsFlushed written' flushed
 
 -- the input ended: between frames, or inside the one that begins there
 abbrev pub end_of : List ℕ → ℕ → Status

@@ -10,7 +10,8 @@ use Rattle.endpoint_link.specs.declared.kinds.FrameReason.{FrameReason}
 use Rattle.endpoint_link.specs.declared.kinds.Side.{Side}
 use Rattle.run_status.specs.declared.statuses.Status.{Status}
 use Rattle.run_status.specs.declared.statuses.Status.TheVariants as status
-use Rattle.run_status.specs.Outside.{Streams}
+use Rattle.run_status.specs.Outside.{Streams, sink_of}
+use Rattle.run_status.specs.Texts.{GotAll}
 
 -- what a session does with frames: the bytes that are written for its frames so far, those that are written by its end, which begin with
 -- them, and whether memory may be wanting on the way
@@ -29,7 +30,7 @@ Wrote before after bytes = Appends before.written after.written bytes
 
 -- and all that it got is flushed
 abbrev pub WroteAll : Streams → Streams → List ℕ → Type 0
-WroteAll before after bytes = Wrote before after bytes × IsFlushed after.written after.flushed
+WroteAll before after bytes = GotAll (sink_of before) (sink_of after) bytes
 
 -- no call of the source or the sink failed
 pub record MetNoFault (before after : Streams) : Type 0 where

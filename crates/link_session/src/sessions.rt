@@ -6,7 +6,8 @@ ghost use Rattle.endpoint_link.specs.Frames.{Frame, IsFrame};
 ghost use Rattle.endpoint_link.specs.Views.{frame_of};
 ghost use Rattle.endpoint_link.specs.declared.kinds.Side.{Side};
 ghost use Rattle.run_status.specs.Outside.{streams_told};
-ghost use Rattle.link_session.specs.Serving.{IsGrowing, PassedOn, Passes, HeardOne, HeardEnd, HeardPart, IsServing, HasWriteCause, Leaves, Finishes, end_of};
+ghost use Rattle.run_status.specs.Texts.{PassedOn};
+ghost use Rattle.link_session.specs.Serving.{IsGrowing, Passes, HeardOne, HeardEnd, HeardPart, IsServing, HasWriteCause, Leaves, Finishes, end_of};
 ghost use Rattle.link_session.specs.Session.{Course, SessionAnswers};
 
 use crate::input::Input;

@@ -1,5 +1,5 @@
 -- How a command ends that writes one text, and how the note is told.
-use Rattle.std.specs.Prelude.{◌≡◌, List, ℕ}
+use Rattle.std.specs.Prelude.{◌≡◌, List, ℕ, Option}
 use Rattle.std.specs.Io.KnownBytes.{Appends}
 use Rattle.host_io.specs.Causes.{Rose}
 use Rattle.host_io.specs.Streams.{AppendsPart, IsFlushed}
@@ -7,9 +7,13 @@ use Rattle.run_status.specs.declared.statuses.Status.{Status}
 use Rattle.run_status.specs.declared.statuses.Status.TheVariants as status
 use Rattle.run_status.specs.Outside.{SinkTold}
 
+-- these bytes stand behind what was written, and all is flushed
+abbrev pub PassedOn : Option (List ℕ) → Option (List ℕ) → List ℕ → ℕ → Type 0
+PassedOn written written' bytes flushed = Appends written written' bytes × IsFlushed written' flushed
+
 -- the sink got this text, and all that it got is flushed
 abbrev pub GotAll : SinkTold → SinkTold → List ℕ → Type 0
-GotAll before after text = Appends before.written after.written text × IsFlushed after.written after.flushed
+GotAll before after text = PassedOn before.written after.written text after.flushed
 
 -- the text is written and flushed, and no call of the sink failed; or a front of it is written, and one failed. What stands after want of
 -- memory is a parameter

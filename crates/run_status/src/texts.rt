@@ -1,9 +1,10 @@
 // Texts that a command writes as one.
 
-ghost use Rattle.std.specs.Io.KnownBytes.{Appends};
 ghost use Rattle.std.specs.Prelude.{◌≡◌, ◌++◌, OnOk, OnErr, decimal};
 ghost use Rattle.host_io.specs.Causes.{HasCause};
-ghost use Rattle.host_io.specs.Streams.{AppendsPart, IsFlushed};
+ghost use Rattle.host_io.specs.Streams.{AppendsPart};
+ghost use Rattle.run_status.specs.Outside.{sink_told};
+ghost use Rattle.run_status.specs.Texts.{GotAll};
 
 use host_io::{Failed, Sink, write_whole};
 use itoa::Buffer;
@@ -20,7 +21,8 @@ pub fn put_number(line: &mut Vec<u8>, text: &str, number: u128) -> Result<(), Al
 
 /// Writes the bytes and passes them on.
 pub fn pass_on<K: Sink>(sink: &mut K, bytes: &[u8]) -> Result<(), Failed>
-    ensures whole { OnOk result (Appends (K.written sink.old) (K.written sink.new) bytes.now × IsFlushed (K.written sink.new) (K.flushed sink.new)) }
+    ensures whole { OnOk result (GotAll (sink_told K.written K.flushed K.faults sink.old) (sink_told K.written K.flushed K.faults sink.new)
+        bytes.now) }
     ensures part { OnErr result (AppendsPart (K.written sink.old) (K.written sink.new) bytes.now) }
     ensures cause { HasCause (K.faults sink.old) (K.faults sink.new) result }
 {
