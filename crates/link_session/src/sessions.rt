@@ -147,7 +147,7 @@ fn serve<H: Session, K: Sink>(
     ensures stays { OnErr result (K.faults sink.new ≡ K.faults sink.old) }
 {
     let mut at = 0;
-    'frames: loop {
+    loop {
         match frame_at(session.side(), &bytes[at..]) {
             Reading::Whole { frame, size } => {
                 if let Err(NoMemory) = session.hear(frame) {

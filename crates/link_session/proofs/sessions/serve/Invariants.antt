@@ -5,8 +5,8 @@ use Rattle.link_session.specs.Serving.{Heard}
 use Rattle.link_session.specs.Session.{Course}
 use Rattle.link_session.proofs.sessions.serve.Given as goal
 
-abbrev pub invariant-frames : goal.invariant-frames
-invariant-frames g l = record {
+abbrev pub invariant-loop-frame : goal.invariant-loop-frame
+invariant-loop-frame g l = record {
   heard : (course : Course) (before : List Frame) → g.H.Session.stands l.initial.session course before
       → Heard g.H.Session.side course (g.H.Session.stands l.session course) before l.bytes
       (g.K.Sink.written l.initial.sink) (g.K.Sink.written l.sink) (g.H.Session.holds l.session) l.at;
@@ -18,5 +18,5 @@ invariant-frames g l = record {
   stays : g.K.Sink.faults l.sink ≡ g.K.Sink.faults l.initial.sink;
 }
 
-abbrev pub decreases-frames : goal.decreases-frames
-decreases-frames g l = length l.bytes - l.at
+abbrev pub decreases-loop-frame : goal.decreases-loop-frame
+decreases-loop-frame g l = length l.bytes - l.at
