@@ -1,5 +1,5 @@
 -- The report of a workload, from what is counted.
-use Rattle.std.proofs.Common.{◌≡◌, ◌≤◌, ℕ, List, Option, length, sym, ap, ◌∙◌, subst}
+use Rattle.std.proofs.Common.{◌≡◌, ℕ, List, Option, length, sym, ap, ◌∙◌, subst}
 use Rattle.std.proofs.lemmas.List.{length-map}
 use Rattle.endpoint_link.specs.declared.kinds.Mode.{Mode}
 use Rattle.endpoint_link.specs.declared.kinds.Mode.TheVariants.{Auto}
@@ -13,12 +13,12 @@ use Rattle.tree_file.specs.Generated.{generated_lists}
 use Rattle.tree_file.specs.Items.{Lists}
 use Rattle.vfs_journal.specs.Starts.{start_of}
 use Rattle.workload.specs.Laws.{IsGoodScript}
-use Rattle.workload.specs.Workload.{workload}
+use Rattle.workload.specs.Workload.{IsRounds, workload}
 use Rattle.workload.proofs.Whole.{workloads}
 use Rattle.script_session.specs.Workloads.{report_of, report_with}
 
 -- so many rounds are a script
-pub is_good : (rounds : ℕ) → 1 ≤ rounds → rounds ≤ 10000 → IsGoodScript rounds
+pub is_good : (rounds : ℕ) → IsRounds rounds → IsGoodScript rounds
 is_good = workloads
 
 -- a script has as many frames as places for calls

@@ -1,7 +1,7 @@
-ghost use Rattle.std.specs.Prelude.{◌≡◌, ◌≤◌, IfOk};
+ghost use Rattle.std.specs.Prelude.{◌≡◌, IfOk};
 ghost use Rattle.endpoint_link.specs.declared.kinds.Mode.TheVariants as mode;
 ghost use Rattle.script_session.specs.Steps.{IsScript};
-ghost use Rattle.workload.specs.Workload.{workload};
+ghost use Rattle.workload.specs.Workload.{IsRounds, workload};
 ghost use Rattle.run_status.specs.Causes.{AfterNames};
 ghost use Rattle.run_status.specs.Outside.{sink_told};
 ghost use Rattle.run_status.specs.Texts.{WritesText};
@@ -16,12 +16,11 @@ use run_status::{Status, pass_on, put_number};
 use std::alloc::{AllocError, Global};
 use tree_file::generated_start;
 use vfs_script::{Script, ScriptFault, script_of};
-use workload::{MAX_ROUNDS, generated};
+use workload::generated;
 
 /// Plays the generated script of so many rounds over the generated tree, and tells how much goes in and comes out.
 pub fn make<K: Sink>(alloc: Global, rounds: u32, sink: &mut K) -> Status
-    requires some { 1 ≤ rounds }
-    requires few { rounds ≤ MAX_ROUNDS }
+    requires { IsRounds rounds }
     ensures { AfterNames (sink.new ≡ sink.old) (AfterReport rounds (sink.new ≡ sink.old) (λ report. WritesText report ⊥
         (sink_told K.written K.flushed K.faults sink.old) (sink_told K.written K.flushed K.faults sink.new))) result }
 {
@@ -40,8 +39,7 @@ pub fn make<K: Sink>(alloc: Global, rounds: u32, sink: &mut K) -> Status
 
 /// The report of the workload of so many rounds.
 fn report_of(alloc: Global, ordinals: Ordinals, rounds: u32) -> Result<Vec<u8>, NoMemory>
-    requires some { 1 ≤ rounds }
-    requires few { rounds ≤ MAX_ROUNDS }
+    requires { IsRounds rounds }
     ensures { IfOk result (λ report. IsReport rounds report.items) }
 {
     let start = generated_start(alloc)?;
@@ -53,8 +51,7 @@ fn report_of(alloc: Global, ordinals: Ordinals, rounds: u32) -> Result<Vec<u8>, 
 /// The generated script of so many rounds.
 #[tactic(auto, using(crate::proofs::WorkloadLemmas::is_good))]
 fn generated_script(alloc: Global, ordinals: &Ordinals, rounds: u32) -> Result<Script, NoMemory>
-    requires some { 1 ≤ rounds }
-    requires few { rounds ≤ MAX_ROUNDS }
+    requires { IsRounds rounds }
     ensures script { IfOk result (λ script. IsScript (workload rounds) script) }
     ensures mode { IfOk result (λ script. script.mode ≡ mode.Auto) }
 {

@@ -4,7 +4,8 @@ use Rattle.std.proofs.lemmas.Fmt.{decimal_injective}
 use Rattle.endpoint_link.specs.declared.kinds.Mode.{Mode}
 use Rattle.endpoint_link.specs.declared.kinds.Mode.TheVariants as mode
 use Rattle.run_status.specs.Reads.{ReadsOnly}
-use Rattle.vfs_program.specs.Words.{Asks, FileOf, ServeOf, RunOf, CheckOf, ShowAll, MakeOf, IsRounds, Means, files_of, mode_word}
+use Rattle.workload.specs.Workload.{IsRounds}
+use Rattle.vfs_program.specs.Words.{Asks, FileOf, ServeOf, RunOf, CheckOf, ShowAll, MakeOf, Means, files_of, mode_word}
 
 same_mode : (a b : Mode) → mode_word a ≡ mode_word b → a ≡ b
 same_mode mode.Auto mode.Auto e = refl

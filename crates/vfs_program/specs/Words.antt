@@ -1,8 +1,8 @@
 -- The words that the program is called with.
-use Rattle.std.specs.Prelude.{◌≡◌, ◌≤◌, ℕ, List, [], ◌∷◌, codes, decimal}
+use Rattle.std.specs.Prelude.{◌≡◌, ℕ, List, [], ◌∷◌, codes, decimal}
 use Rattle.endpoint_link.specs.declared.kinds.Mode.{Mode}
 use Rattle.endpoint_link.specs.declared.kinds.Mode.TheVariants as mode
-use Rattle.workload.specs.declared.generating.TheConstants as workload
+use Rattle.workload.specs.Workload.{IsRounds}
 use Rattle.vfs_program.specs.declared.words.Command.{Command}
 use Rattle.vfs_program.specs.declared.words.Command.TheVariants.{File, Serve, Run, Check, Show, Make}
 
@@ -20,10 +20,6 @@ pub data Asks : Type 0 where
   ShowAll : Asks
   -- play a generated script of so many rounds, and tell how much comes back
   MakeOf : (rounds : ℕ) → Asks
-
--- so many rounds can be made
-abbrev pub IsRounds : ℕ → Type 0
-IsRounds rounds = (1 ≤ rounds) × (rounds ≤ workload.MAX_ROUNDS)
 
 -- the word of a mode
 abbrev pub mode_word : Mode → List ℕ

@@ -1,5 +1,6 @@
 ghost use Rattle.std.specs.Prelude.{◌≡◌, ◌∷◌, [], ℕ, codes, decimal, map, string_bytes, IfSome, IsNone, IsTrue, ◌↔◌};
-ghost use Rattle.vfs_program.specs.Words.{IsRounds, Means, MeanNothing, command_seen};
+ghost use Rattle.workload.specs.Workload.{IsRounds};
+ghost use Rattle.vfs_program.specs.Words.{Means, MeanNothing, command_seen};
 
 use endpoint_link::Mode;
 use itoa::Buffer;

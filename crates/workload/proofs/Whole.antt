@@ -167,5 +167,6 @@ whole_many rounds few =
     length-map (script_lines (workload rounds)) frame_of ∙ many ∙ omega (arith, each)
 
 pub workloads : WorkloadsAreScripts
-workloads rounds some few =
+workloads rounds can =
+    let few = can.1 in
     record { short = whole_short rounds few; good = whole_good rounds few; mode = whole_auto rounds few; frames = whole_many rounds few }

@@ -3,7 +3,7 @@ use Rattle.std.specs.Prelude.{◌≡◌, ◌≤◌, ◌+◌, ◌*◌, ℕ, lengt
 use Rattle.endpoint_link.specs.declared.kinds.Mode.TheVariants.{Auto}
 use Rattle.fidl_names.specs.declared.limits.TheConstants as limit
 use Rattle.vfs_script.specs.Scripts.{bad_line, frames_of, script_mode}
-use Rattle.workload.specs.Workload.{workload}
+use Rattle.workload.specs.Workload.{IsRounds, workload}
 
 -- it is a script in mode auto: it isn't too long, none of its lines is bad, and each round has three frames
 pub record IsGoodScript (rounds : ℕ) : Type 0 where
@@ -12,6 +12,6 @@ pub record IsGoodScript (rounds : ℕ) : Type 0 where
   pub mode : script_mode (workload rounds) ≡ Some Auto
   pub frames : length (frames_of (workload rounds)) ≡ 3 * rounds + 2
 
--- so it is for 1 to 10,000 rounds
+-- so it is for each number of rounds that can be made
 abbrev pub WorkloadsAreScripts : Type 0
-WorkloadsAreScripts = (rounds : ℕ) → 1 ≤ rounds → rounds ≤ 10000 → IsGoodScript rounds
+WorkloadsAreScripts = (rounds : ℕ) → IsRounds rounds → IsGoodScript rounds

@@ -1,8 +1,13 @@
 -- The text of the generated workload, by how many rounds it has.
-use Rattle.std.specs.Prelude.{ℕ, zero, suc, ◌+◌, ◌*◌, ◌/◌, ◌%◌, ◌^◌, ◌==◌, if◌then◌else◌, List, [], ◌∷◌, ◌++◌, codes, decimal}
+use Rattle.std.specs.Prelude.{ℕ, zero, suc, ◌≤◌, ◌+◌, ◌*◌, ◌/◌, ◌%◌, ◌^◌, ◌==◌, if◌then◌else◌, List, [], ◌∷◌, ◌++◌, codes, decimal}
 use Rattle.std.specs.List.{flat_map, join_with_byte}
 use Rattle.hex.specs.Hex.{encode_lower}
 use Rattle.vfs_script.specs.Words.{newline, space}
+use Rattle.workload.specs.declared.generating.TheConstants as size
+
+-- so many rounds can be made
+abbrev pub IsRounds : ℕ → Type 0
+IsRounds rounds = (1 ≤ rounds) × (rounds ≤ size.MAX_ROUNDS)
 
 -- a line by its words
 abbrev pub Words : Type 0

@@ -1,5 +1,5 @@
-ghost use Rattle.std.specs.Prelude.{◌≡◌, ◌≤◌, IfOk};
-ghost use Rattle.workload.specs.Workload.{workload};
+ghost use Rattle.std.specs.Prelude.{◌≡◌, IfOk};
+ghost use Rattle.workload.specs.Workload.{IsRounds, workload};
 
 use crate::draws::Draws;
 use crate::rounds::put_round;
@@ -17,8 +17,7 @@ const FIRST_LINES: &[u8] = b"auto\nopen 1 m/d 0x40 1000000\nwatch 1000000 31 100
 ///
 /// The caller sees to it that `rounds` is 1 to `MAX_ROUNDS`.
 pub fn generated(alloc: Global, rounds: u32) -> Result<Outtext, NoMemory>
-    requires some { 1 ≤ rounds }
-    requires few { rounds ≤ MAX_ROUNDS }
+    requires { IsRounds rounds }
     ensures { IfOk result (λ text. text ≡ workload rounds) }
 {
     let mut text = Outtext::new(alloc);
