@@ -1,5 +1,5 @@
 -- The lines of what happened, and what of them is written.
-use Rattle.std.proofs.Common.{◌≡◌, ℕ, ◌+◌, ◌-◌, List, [], ◌∷◌, ◌++◌, Option, Result, Ok, Err, OnErr, refl, sym, ap, ◌∙◌, subst, append_assoc, append-nil, arith}
+use Rattle.std.proofs.Common.{◌≡◌, ℕ, ◌+◌, ◌-◌, List, [], ◌∷◌, ◌++◌, Option, refl, sym, ap, ◌∙◌, subst, append_assoc, append-nil, arith}
 use Rattle.std.specs.Io.KnownBytes.{Appends}
 use Rattle.std.proofs.KnownBytes.{Appends-trans}
 use Rattle.host_io.specs.Streams.{AppendsPart}
@@ -59,8 +59,7 @@ pub same_counts : (calls waits answers made : ℕ) → waits + answers ≡ made 
 same_counts calls waits answers made counted same = omega (arith, counted, same)
 
 -- all that was gathered and one line more couldn't be written whole
-pub finished_part : {X E : Type 0} (r : Result X E) (first now now' : Option (List ℕ)) (gathered lines line : List ℕ) →
-    OnErr r (AppendsPart now now' (gathered ++ line)) → IsTold first now gathered lines → OnErr r (AppendsPart first now' (lines ++ line))
-finished_part (Ok x) first now now' gathered lines line part told = tt
-finished_part (Err e) first now now' gathered lines line part told =
+pub finished_part : (first now now' : Option (List ℕ)) (gathered lines line : List ℕ) →
+    AppendsPart now now' (gathered ++ line) → IsTold first now gathered lines → AppendsPart first now' (lines ++ line)
+finished_part first now now' gathered lines line part told =
     part_written first now now' (gathered ++ line) (lines ++ line) part (told_more first now gathered (gathered ++ line) lines line refl told)

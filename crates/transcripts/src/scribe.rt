@@ -22,6 +22,7 @@ use fidl_names::{MAX_PIECE, NoMemory};
 use fidl_wire::Ordinals;
 use host_io::{Failed, Sink, write_whole};
 use io_client::Client;
+use run_status::pass_on;
 use std::alloc::Global;
 use std::marker::Model;
 use vfs_script::{Outtext, Script, print_counts, print_frame};
@@ -148,17 +149,7 @@ impl Scribe {
     {
         let answered = calls - self.client.waiting() as u32;
         print_counts(calls, answered, &mut self.text)?;
-        pass_on(sink, self.text.as_bytes())
+        pass_on(sink, self.text.as_bytes())?;
+        Ok(())
     }
-}
-
-/// Writes the bytes and passes them on.
-fn pass_on<K: Sink>(sink: &mut K, bytes: &[u8]) -> Result<(), TranscriptFault>
-    ensures whole { OnOk result (Appends (K.written sink.old) (K.written sink.new) bytes.now × IsFlushed (K.written sink.new) (K.flushed sink.new)) }
-    ensures part { OnErr result (AppendsPart (K.written sink.old) (K.written sink.new) bytes.now) }
-    ensures cause { HasSinkCause (K.faults sink.old) (K.faults sink.new) result }
-{
-    write_whole(sink, bytes)?;
-    sink.flush()?;
-    Ok(())
 }

@@ -1,4 +1,4 @@
-use Rattle.std.proofs.Common.{List, ℕ, ◌≡◌, ◌+◌, ◌-◌, ◌++◌, OnErr, sym, ap, ◌∙◌, subst}
+use Rattle.std.proofs.Common.{List, ℕ, ◌≡◌, ◌+◌, ◌-◌, ◌++◌, sym, ap, ◌∙◌, subst}
 use Rattle.std.specs.FinMap as finite
 use Rattle.host_io.specs.Streams.{AppendsPart}
 use Rattle.io_client.specs.Calls.{Calls}
@@ -16,8 +16,8 @@ returns-in_err-print_counts-clause-part g c = λ past first knows same told.
     (part_longer first (g.K.Sink.written c.args.sink.now) (lines_of past) (counts_line (count_calls past) (count_answers past))
     (front_told first (g.K.Sink.written c.args.sink.now) c.args.self.now.gathered (lines_of past) told))
 
-pub returns-clause-part : goal.returns-clause-part
-returns-clause-part g c = λ past first knows same told.
+pub returns-in_err-pass_on-clause-part : goal.returns-in_err-pass_on-clause-part
+returns-in_err-pass_on-clause-part g c = λ past first knows same told.
     let gathered = c.args.self.now.gathered in
     let line = counts_line (count_calls past) (count_answers past) in
     let text : c.self.inside.text ≡ gathered = ap (λ (s : Scribe). s.gathered) c.self.view_is in
@@ -32,5 +32,5 @@ returns-clause-part g c = λ past first knows same told.
     ∙ ap (λ n. gathered ++ counts_line n (count_answers past)) (sym same) in
     let written = g.K.Sink.written c.args.sink.now in
     let now = g.K.Sink.written c.pass_on.new.sink in
-    finished_part c.pass_on.result first written now gathered (lines_of past) line
-    (subst (λ l. OnErr c.pass_on.result (AppendsPart written now l)) bytes c.pass_on.ensures.part) told
+    any_err c.from_residual-in_err-pass_on.result (AppendsPart first now (text_of past))
+    (finished_part first written now gathered (lines_of past) line (subst (AppendsPart written now) bytes c.in_err-pass_on.ensures.part) told)
