@@ -5,7 +5,6 @@ use Rattle.std.specs.Option.{option_map}
 use Rattle.std.proofs.lemmas.Bool.{true≢false}
 use Rattle.std.proofs.lemmas.List.Elements.{All-contains_itself, All-filter, All-tail, All-weaker}
 use Rattle.std.proofs.lemmas.Option.{same_Some, slice_get_within}
-use Rattle.fidl_names.specs.declared.limits.TheConstants as limit
 use Rattle.fidl_wire.specs.Written.{Written}
 use Rattle.endpoint_link.specs.Numbering.{among}
 use Rattle.endpoint_link.specs.Standings.{Known, is_live, next_token_of, standing_of}
@@ -34,7 +33,7 @@ use Rattle.journal_laws.proofs.ViewLaws.{same_length}
 use Rattle.journal_laws.proofs.ViewParts.{deaths_are, head_is_in, token_is}
 use Rattle.journal_laws.proofs.Waits.{lawful_wait}
 use Rattle.message_queues.specs.Dying.{AreDeaths}
-use Rattle.message_queues.specs.Queues.{IsAbove, Queues, Requeues, count, head_of, queue_of, server_of}
+use Rattle.message_queues.specs.Queues.{Queues, Requeues, count, head_of, queue_of, server_of}
 use Rattle.message_queues.proofs.Counting.{counts_its_list}
 use Rattle.vfs_server.specs.Binding.{CanWatch, HasPlace}
 use Rattle.vfs_server.specs.Holding.{if_at}
@@ -42,7 +41,7 @@ use Rattle.vfs_server.specs.declared.fate.Fate.{Fate}
 use Rattle.vfs_server.specs.declared.fate.Fate.TheVariants as fates
 use Rattle.vfs_server.specs.Servers.{Server, bound_with, seen, watcher_with}
 use Rattle.vfs_server.specs.Serving.{IsMomentOf}
-use Rattle.vfs_session.specs.Heads.{TakesHead}
+use Rattle.vfs_session.specs.Heads.{CanSettle, TakesHead}
 use Rattle.vfs_session.specs.Running.{IsRunning}
 use Rattle.vfs_session.specs.Steps.{Answers, CanGo, CanName, first_told, spent_told}
 use Rattle.vfs_session.specs.World.{World}
@@ -83,16 +82,6 @@ pub record CanTake (world : World) (endpoint server : ℕ) (sent : Sent) : Type 
   pub counted : count world.queues ≡ world.known.waiting
   pub binds : (fate : Fate) (out : Written) (new : List Server) (before after : List ℕ) → Answers world.servers server endpoint (next_token_of world.known) sent fate out new before after →
       CanBind world.queues server new fate
-
--- what the deaths and the sending on count on
-pub record CanSettle (world : World) (sent : Sent) (fate : Fate) : Type 0 where
-  pub live : (dead : List ℕ) → AreDeaths world.queues (first_told sent fate) dead → All (λ endpoint. is_live (standing_of world.known endpoint) ≡ true) dead
-  pub out : (dead : List ℕ) → AreDeaths world.queues (first_told sent fate) dead → CanGo world.known (spent_told sent world.queues dead)
-  pub counted : count world.queues ≡ world.known.waiting
-  pub low : (mount object : ℕ) → fate ≡ fates.Forwards mount object → mount < 2 ^ 30
-  pub newest : IsAbove world.queues world.places
-  pub few : count world.queues < limit.MAX_WAITING
-  pub places : world.places < 2 ^ 62
 
 pub the_some : {X : Type 0} (o : Option X) → IsSome o → (x : X) × (o ≡ Some x)
 the_some None some = absurd (true≢false (sym some))

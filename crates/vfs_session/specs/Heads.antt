@@ -1,16 +1,18 @@
 -- The two parts of a serving: what comes before the deaths, and what comes with them. No public clause needs these.
-use Rattle.std.specs.Prelude.{◌≡◌, ◌≤◌, ◌+◌, ◌-◌, ◌++◌, ℕ, List, drop, fold, Some}
+use Rattle.std.specs.Prelude.{◌≡◌, ◌≤◌, ◌<◌, ◌+◌, ◌-◌, ◌^◌, ◌++◌, ℕ, All, List, drop, fold, Some, true}
+use Rattle.fidl_names.specs.declared.limits.TheConstants as limit
 use Rattle.fidl_wire.specs.Written.{Written}
 use Rattle.endpoint_link.specs.Frames.{spellings}
-use Rattle.endpoint_link.specs.Standings.{ended, gone, next_token_of}
+use Rattle.endpoint_link.specs.Standings.{ended, gone, is_live, next_token_of, standing_of}
 use Rattle.vfs_journal.specs.Entries.{Sent}
 use Rattle.vfs_journal.specs.View.{View}
 use Rattle.message_queues.specs.Dying.{AreDeaths, Buries, tokens_on}
-use Rattle.message_queues.specs.Queues.{Queues, Requeues, count, head_of, queue_of, server_of}
+use Rattle.message_queues.specs.Queues.{IsAbove, Queues, Requeues, count, head_of, queue_of, server_of}
 use Rattle.vfs_server.specs.declared.fate.Fate.{Fate}
+use Rattle.vfs_server.specs.declared.fate.Fate.TheVariants as fates
 use Rattle.vfs_server.specs.Servers.{Server}
 use Rattle.vfs_session.specs.Holding.{HoldsEach}
-use Rattle.vfs_session.specs.Steps.{Answers, AreApart, BindsTold, ForgetsAll, SendsOn, closed_for, end_told, first_told, is_sent_on, known_told, spent_told, without_in}
+use Rattle.vfs_session.specs.Steps.{Answers, AreApart, BindsTold, CanGo, ForgetsAll, SendsOn, closed_for, end_told, first_told, is_sent_on, known_told, spent_told, without_in}
 use Rattle.vfs_session.specs.World.{World}
 
 -- the first entry of an endpoint that is bound at a server is taken from what waits, and nothing else happens
@@ -33,6 +35,17 @@ pub record TakesHead (old : World) (endpoint server : ℕ) (sent : Sent) (fate :
   pub count : count new.queues + 1 ≡ count old.queues
   pub known : new.known ≡ record old.known { waiting = old.known.waiting - 1 }
   pub places : new.places ≡ old.places
+
+-- what was answered can be settled: whoever dies of it lives till then, each token that is spent is out, an Open goes on to a mount's end, what
+-- waits is counted and came earlier, and there is room for one more and a place for it
+pub record CanSettle (world : World) (sent : Sent) (fate : Fate) : Type 0 where
+  pub live : (dead : List ℕ) → AreDeaths world.queues (first_told sent fate) dead → All (λ endpoint. is_live (standing_of world.known endpoint) ≡ true) dead
+  pub out : (dead : List ℕ) → AreDeaths world.queues (first_told sent fate) dead → CanGo world.known (spent_told sent world.queues dead)
+  pub counted : count world.queues ≡ world.known.waiting
+  pub low : (mount object : ℕ) → fate ≡ fates.Forwards mount object → mount < 2 ^ 30
+  pub newest : IsAbove world.queues world.places
+  pub few : count world.queues < limit.MAX_WAITING
+  pub places : world.places < 2 ^ 62
 
 -- whoever dies is buried and closed, and these tokens were carried by what waited on them
 pub record LetsDie (old : World) (sent : Sent) (fate : Fate) (dropped : List ℕ) (new : World) (before after : List ℕ) : Type 0 where

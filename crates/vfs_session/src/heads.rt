@@ -1,15 +1,14 @@
 //! The serving of the first entry of an endpoint.
 
-ghost use Rattle.std.specs.Prelude.{◌≡◌, ◌<◌, ◌+◌, ◌^◌, ℕ, true, All, IfOk, List, OnOk};
-ghost use Rattle.fidl_names.specs.declared.limits.TheConstants as limit;
+ghost use Rattle.std.specs.Prelude.{◌≡◌, ◌^◌, ℕ, true, All, IfOk, List, OnOk};
 ghost use Rattle.endpoint_link.specs.Standings.{is_live, standing_of};
 ghost use Rattle.message_queues.specs.Dying.{AreDeaths};
-ghost use Rattle.message_queues.specs.Queues.{IsAbove, IsReady, count};
+ghost use Rattle.message_queues.specs.Queues.{IsReady, count};
 ghost use Rattle.vfs_journal.specs.Output.{Begins};
-ghost use Rattle.vfs_session.specs.Heads.{LetsDie, SettlesHead, Takes, TakesHead};
+ghost use Rattle.vfs_session.specs.Heads.{CanSettle, LetsDie, SettlesHead, Takes, TakesHead};
 ghost use Rattle.vfs_session.specs.Running.{IsRunning, whole};
 ghost use Rattle.vfs_session.specs.Servings.{ServesOne};
-ghost use Rattle.vfs_session.specs.Steps.{CanGo, first_told, spent_told};
+ghost use Rattle.vfs_session.specs.Steps.{first_told};
 ghost use Rattle.vfs_session.specs.World.{World};
 
 use crate::answering::answer;
@@ -103,13 +102,7 @@ impl Session {
         fate: &Fate,
         outbox: &mut Outbox,
     ) -> Result<(), NoMemory>
-        requires live { (dead : List ℕ) → AreDeaths self.old.queues (first_told sent.now fate.now) dead → All (λ endpoint. is_live (standing_of self.old.endpoints endpoint) ≡ true) dead }
-        requires out { (dead : List ℕ) → AreDeaths self.old.queues (first_told sent.now fate.now) dead → CanGo self.old.endpoints (spent_told sent.now self.old.queues dead) }
-        requires counted { count self.old.queues ≡ self.old.endpoints.waiting }
-        requires low { (mount object : ℕ) → fate.now ≡ Fate.Forwards mount object → mount < 2 ^ 30 }
-        requires newest { IsAbove self.old.queues self.old.places }
-        requires few { count self.old.queues < MAX_WAITING }
-        requires places { self.old.places < 2 ^ 62 }
+        requires can { CanSettle (whole self.old) sent.now fate.now }
         ensures settled { OnOk result (SettlesHead (whole self.old) sent.now fate.now self.old.out (whole self.new) outbox.old outbox.new) }
         ensures begins { Begins outbox.old outbox.new }
     {
@@ -131,13 +124,7 @@ impl Session {
         fate: &Fate,
         outbox: &mut Outbox,
     ) -> Result<(), NoMemory>
-        requires live { (dead : List ℕ) → AreDeaths self.old.queues (first_told sent.now fate.now) dead → All (λ endpoint. is_live (standing_of self.old.endpoints endpoint) ≡ true) dead }
-        requires out { (dead : List ℕ) → AreDeaths self.old.queues (first_told sent.now fate.now) dead → CanGo self.old.endpoints (spent_told sent.now self.old.queues dead) }
-        requires counted { count self.old.queues ≡ self.old.endpoints.waiting }
-        requires low { (mount object : ℕ) → fate.now ≡ Fate.Forwards mount object → mount < 2 ^ 30 }
-        requires newest { IsAbove self.old.queues self.old.places }
-        requires few { count self.old.queues < MAX_WAITING }
-        requires places { self.old.places < 2 ^ 62 }
+        requires can { CanSettle (whole self.old) sent.now fate.now }
         ensures settled { OnOk result (SettlesHead (whole self.old) sent.now fate.now self.old.out (whole self.new) outbox.old outbox.new) }
         ensures begins { Begins outbox.old outbox.new }
     {

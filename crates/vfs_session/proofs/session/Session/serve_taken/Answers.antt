@@ -7,8 +7,7 @@ use Rattle.vfs_session.proofs.session.Session.serve_taken.Goals as goal
 pub settle_head-requires : goal.settle_head-requires
 settle_head-requires c =
     let taken = c.requires.taken in
-    let can = can_settle taken.0 (whole c.answer_taken.new.self) taken.1.0 _ _ _ _ _ _ _ (c.in_ok-fate.ensures.taken taken.0 taken.1.1) in
-    record { live = can.live; out = can.out; counted = can.counted; low = can.low; newest = can.newest; few = can.few; places = can.places }
+    record { can = can_settle taken.0 (whole c.answer_taken.new.self) taken.1.0 _ _ _ _ _ _ _ (c.in_ok-fate.ensures.taken taken.0 taken.1.1) }
 
 pub returns-in_err-settle_head-clause-begins : goal.returns-in_err-settle_head-clause-begins
 returns-in_err-settle_head-clause-begins c = begins_on c.args.outbox.now c.answer_taken.new.outbox c.settle_head.new.outbox c.answer_taken.ensures.begins c.settle_head.ensures.begins

@@ -15,13 +15,13 @@ spend-requires c =
       out =
           subst (λ (tokens : List ℕ). CanGo c.let_die.new.self.endpoints (tokens_in c.args.sent.now ++ tokens)) (sym (c.deref.ensures.value ∙ died.tokens))
           (can_go_alike (spent_told c.args.sent.now c.args.self.now.queues died.dead) c.args.self.now.endpoints c.let_die.new.self.endpoints
-          (sym (ap (λ (k : Known). k.tokens) died.known ∙ ended_tokens died.dead c.args.self.now.endpoints)) (c.requires.out died.dead died.died));
+          (sym (ap (λ (k : Known). k.tokens) died.known ∙ ended_tokens died.dead c.args.self.now.endpoints)) (c.requires.can.out died.dead died.died));
     }
 
 pub send_on-requires-clause-newest : goal.send_on-requires-clause-newest
 send_on-requires-clause-newest c =
     subst (λ (n : ℕ). IsAbove c.let_die.new.self.queues (n + 1)) (sym c.in_ok-dropped.ensures.dead.places)
-    (above_left c.args.self.now.queues c.let_die.new.self.queues c.in_ok-dropped.ensures.dead.dead c.args.self.now.places c.requires.newest c.in_ok-dropped.ensures.dead.buried)
+    (above_left c.args.self.now.queues c.let_die.new.self.queues c.in_ok-dropped.ensures.dead.dead c.args.self.now.places c.requires.can.newest c.in_ok-dropped.ensures.dead.buried)
 
 pub send_on-requires-clause-counted : goal.send_on-requires-clause-counted
 send_on-requires-clause-counted c =
@@ -31,7 +31,7 @@ send_on-requires-clause-counted c =
     (count c.let_die.new.self.queues) died.known (ap (λ (tokens : List ℕ). tokens_in c.args.sent.now ++ tokens) (c.deref.ensures.value ∙ died.tokens)) c.spend.ensures.known c.in_ok-give.ensures))
 
 pub overflow_add-self : goal.overflow_add-self
-overflow_add-self c = let few = c.requires.places in let p = c.in_ok-dropped.ensures.dead.places in let a = c.in_ok-more.ensures.count in let b = one_at_most c.args.fate.now in omega (arith, few, p, a, b)
+overflow_add-self c = let few = c.requires.can.places in let p = c.in_ok-dropped.ensures.dead.places in let a = c.in_ok-more.ensures.count in let b = one_at_most c.args.fate.now in omega (arith, few, p, a, b)
 
 pub returns-clause-settled : goal.returns-clause-settled
 returns-clause-settled c =
