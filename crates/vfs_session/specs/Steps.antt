@@ -1,6 +1,6 @@
 -- Words of the steps of a world, which its private functions are told by. Public clauses that tell a serving by its steps (Servings) need them;
 -- none that tells it by a journal does.
-use Rattle.std.specs.Prelude.{◌≡◌, ◌≢◌, AllPairs, ℕ, ◌+◌, ◌<◌, ◌==◌, Bool, false, not, List, [], ◌∷◌, ◌++◌, length, map, filter, option_to_list, Option, Some, None, slice_get, slice_set}
+use Rattle.std.specs.Prelude.{◌≡◌, ◌≢◌, AllPairs, ℕ, ◌<◌, ◌==◌, Bool, false, not, List, [], ◌∷◌, ◌++◌, length, map, filter, option_to_list, Option, Some, None, slice_get, slice_set}
 use Rattle.std.specs.FinMap as finite
 use Rattle.std.specs.Option.{option_map_or}
 use Rattle.fidl_names.specs.declared.limits.TheConstants as limit
