@@ -162,12 +162,6 @@ without_more view dead d =
 pub apart_without : (view : View) (dead : List ℕ) → Apart view.living → Apart (without_in view dead).living
 apart_without view dead apart = AllPairs-filter (λ (one other : Bound × Position). one.0.endpoint ≢ other.0.endpoint) (λ pair. not (among pair.0.endpoint dead)) view.living apart
 
-pub let_go_more : (view : View) (one now : Server) (index : ℕ) (dead : List ℕ) (i d : ℕ) → i < length dead → d ≡ get_or dead i d → HoldsNumber (without_one (without_in view (take i dead)) d) index now →
-    HoldsNumber (without_in view (take (i + 1) dead)) index now
-let_go_more view one now index dead i d within is h =
-    let next : take i dead ++ d ∷ [] ≡ take (i + 1) dead = ap (λ (n : ℕ). take i dead ++ n ∷ []) is ∙ sym (take_more dead i d within) in
-    subst (λ (v : View). HoldsNumber v index now) (without_more view (take i dead) d ∙ ap (without_in view) next) h
-
 -- ---- as the call tells it
 
 pub go_first : (view : View) (one : Server) → HoldsAt view one → HoldsAt (without_in view []) one

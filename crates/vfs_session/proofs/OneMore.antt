@@ -1,12 +1,12 @@
 -- Servings with one more behind them are servings.
-use Rattle.std.proofs.Common.{◌≡◌, ℕ, zero, suc, ◌+◌, ◌-◌, ◌<◌, IsSome, List, [], ◌++◌, refl, sym, ap, ◌∙◌, subst, append-nil, append_assoc, arith}
+use Rattle.std.proofs.Common.{◌≡◌, ℕ, zero, suc, ◌+◌, ◌-◌, ◌<◌, List, ◌++◌, refl, sym, ap, ◌∙◌, subst, append_assoc, arith}
 use Rattle.std.specs.Prelude.{slice_get}
 use Rattle.std.proofs.lemmas.Option.{none-some}
 use Rattle.std.proofs.Math.Numerals.{add-one}
 use Rattle.vfs_journal.specs.Entries.{Sent}
 use Rattle.vfs_journal.specs.Output.{Begins}
 use Rattle.message_queues.specs.Oldest.{IsOldest, NothingWaits}
-use Rattle.message_queues.specs.Queues.{Queues, IsReady, server_of}
+use Rattle.message_queues.specs.Queues.{Queues}
 use Rattle.vfs_session.specs.Running.{IsRunning}
 use Rattle.vfs_session.specs.Servings.{ServesOne, ServesTimes}
 use Rattle.vfs_session.specs.World.{World}
@@ -35,9 +35,6 @@ fewer_left These most old new before after one running =
 
 -- ---- what is chosen
 
-pub oldest_ready : (queues : Queues) (These : ℕ → Type 0) (endpoint : ℕ) → ((n : ℕ) → These n → IsSome (server_of queues n)) → IsOldest queues These endpoint → IsReady queues endpoint
-oldest_ready queues These endpoint bound oldest = (bound endpoint oldest.one_of, subst IsSome (sym oldest.waits) refl)
-
 oldest_waits : (queues : Queues) (These : ℕ → Type 0) (endpoint : ℕ) → NothingWaits queues These → IsOldest queues These endpoint → ⊥
 oldest_waits queues These endpoint none oldest = none-some oldest.sent (sym (ap (λ (sents : List Sent). slice_get sents 0) (none endpoint oldest.one_of)) ∙ oldest.waits)
 
@@ -55,9 +52,6 @@ pub record AreDone (Chosen : Queues → ℕ → Type 0) (done : ℕ) (old new : 
   pub serves : ServesTimes Chosen done old new before after
   pub running : (most : ℕ) → IsRunning most old → IsRunning most new
   pub begins : Begins before after
-
-pub none_done : (Chosen : Queues → ℕ → Type 0) (world : World) (before : List ℕ) → AreDone Chosen 0 world world before before
-none_done Chosen world before = record { serves = (refl, refl); running = λ most running. running; begins = ([], sym (append-nil before)) }
 
 pub begins_on : (before between after : List ℕ) → Begins before between → Begins between after → Begins before after
 begins_on before between after one two = (one.0 ++ two.0, two.1 ∙ ap (λ (bytes : List ℕ). bytes ++ two.0) one.1 ∙ append_assoc before one.0 two.0)
