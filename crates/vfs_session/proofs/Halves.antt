@@ -1,5 +1,5 @@
 -- The two parts of a serving make the whole.
-use Rattle.std.proofs.Common.{◌≡◌, ℕ, ◌+◌, ◌-◌, ◌^◌, ◌≤◌, ◌<◌, ◌++◌, Bool, true, false, if◌then◌else◌, List, [], All, fold, append-nil, append_assoc, refl, sym, ap, ◌∙◌, subst, arith}
+use Rattle.std.proofs.Common.{◌≡◌, ℕ, ◌+◌, ◌-◌, ◌^◌, ◌≤◌, ◌<◌, ◌++◌, Bool, true, false, if◌then◌else◌, List, [], All, fold, append_assoc, refl, sym, ap, ◌∙◌, subst, arith}
 use Rattle.std.proofs.lemmas.List.Elements.{All-nil, All-weaker}
 use Rattle.fidl_wire.specs.Written.{Written}
 use Rattle.endpoint_link.specs.Frames.{spellings}
@@ -24,9 +24,6 @@ use Rattle.vfs_session.proofs.OneServed.{ready_in}
 use Rattle.vfs_session.proofs.Spending.{gone_with, told_with}
 
 -- what is written behind what was
-pub begins_same : (before : List ℕ) → Begins before before
-begins_same before = ([], sym (append-nil before))
-
 pub begins_on : (before between after : List ℕ) → Begins before between → Begins between after → Begins before after
 begins_on before between after one other =
     (one.0 ++ other.0, other.1 ∙ ap (λ (bytes : List ℕ). bytes ++ other.0) one.1 ∙ append_assoc before one.0 other.0)

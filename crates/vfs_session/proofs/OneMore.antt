@@ -1,5 +1,5 @@
 -- Servings with one more behind them are servings.
-use Rattle.std.proofs.Common.{◌≡◌, ℕ, zero, suc, ◌+◌, ◌-◌, ◌<◌, List, ◌++◌, refl, sym, ap, ◌∙◌, subst, append_assoc, arith}
+use Rattle.std.proofs.Common.{◌≡◌, ℕ, zero, suc, ◌+◌, ◌-◌, ◌<◌, List, refl, sym, ap, ◌∙◌, subst, arith}
 use Rattle.std.specs.Prelude.{slice_get}
 use Rattle.std.proofs.lemmas.Option.{none-some}
 use Rattle.std.proofs.Math.Numerals.{add-one}
@@ -10,6 +10,7 @@ use Rattle.message_queues.specs.Queues.{Queues}
 use Rattle.vfs_session.specs.Running.{IsRunning}
 use Rattle.vfs_session.specs.Servings.{ServesOne, ServesTimes}
 use Rattle.vfs_session.specs.World.{World}
+use Rattle.vfs_session.proofs.Halves.{begins_on}
 
 -- ---- one serving
 
@@ -52,9 +53,6 @@ pub record AreDone (Chosen : Queues → ℕ → Type 0) (done : ℕ) (old new : 
   pub serves : ServesTimes Chosen done old new before after
   pub running : (most : ℕ) → IsRunning most old → IsRunning most new
   pub begins : Begins before after
-
-pub begins_on : (before between after : List ℕ) → Begins before between → Begins between after → Begins before after
-begins_on before between after one two = (one.0 ++ two.0, two.1 ∙ ap (λ (bytes : List ℕ). bytes ++ two.0) one.1 ∙ append_assoc before one.0 two.0)
 
 pub one_more_done : (Chosen : Queues → ℕ → Type 0) (done endpoint : ℕ) (old k new : World) (before between after : List ℕ) → AreDone Chosen done old k before between → Chosen k.queues endpoint →
     ServesOne (λ one. one ≡ endpoint) k new between after → ((most : ℕ) → IsRunning most k → IsRunning most new) → Begins between after → AreDone Chosen (done + 1) old new before after

@@ -1,8 +1,7 @@
 -- What the parts of a serving count on, in a world that stands for a journal and where something waits on a bound endpoint.
-use Rattle.std.proofs.Common.{◌≡◌, ℕ, ◌-◌, ◌^◌, ◌<◌, ◌==◌, Bool, true, false, IsSome, if◌then◌else◌, List, [], ◌∷◌, length, All, Contains, Option, Some, None, refl, sym, ap, ◌∙◌, subst, arith}
+use Rattle.std.proofs.Common.{◌≡◌, ℕ, ◌-◌, ◌^◌, ◌<◌, ◌==◌, Bool, true, false, if◌then◌else◌, List, [], ◌∷◌, length, All, Contains, Some, None, sym, ap, ◌∙◌, subst, arith}
 use Rattle.std.specs.Prelude.{slice_get}
 use Rattle.std.specs.Option.{option_map}
-use Rattle.std.proofs.lemmas.Bool.{true≢false}
 use Rattle.std.proofs.lemmas.List.Elements.{All-contains_itself, All-filter, All-tail, All-weaker}
 use Rattle.std.proofs.lemmas.Option.{same_Some, slice_get_within}
 use Rattle.fidl_wire.specs.Written.{Written}
@@ -82,10 +81,6 @@ pub record CanTake (world : World) (endpoint server : ℕ) (sent : Sent) : Type 
   pub counted : count world.queues ≡ world.known.waiting
   pub binds : (fate : Fate) (out : Written) (new : List Server) (before after : List ℕ) → Answers world.servers server endpoint (next_token_of world.known) sent fate out new before after →
       CanBind world.queues server new fate
-
-pub the_some : {X : Type 0} (o : Option X) → IsSome o → (x : X) × (o ≡ Some x)
-the_some None some = absurd (true≢false (sym some))
-the_some (Some x) some = (x, refl)
 
 later_all : (P : Sent → Type 0) (ones : List Sent) → All P ones → All P (later_of ones)
 later_all P [] all = all

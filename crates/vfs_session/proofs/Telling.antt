@@ -10,7 +10,7 @@ use Rattle.vfs_journal.specs.Deaths.{first_deaths, is_settled}
 use Rattle.vfs_journal.specs.Entries.{Sent, endpoints_in}
 use Rattle.vfs_journal.specs.Outcomes.{Forwarded, Outcome}
 use Rattle.vfs_journal.specs.Starts.{Bound}
-use Rattle.vfs_server.specs.Effects.{Effects, effects_of, effects_told}
+use Rattle.vfs_server.specs.Effects.{effects_of, effects_told}
 use Rattle.vfs_server.specs.declared.fate.Fate.{Fate}
 use Rattle.vfs_server.specs.declared.fate.Fate.TheVariants as fates
 use Rattle.vfs_server.specs.Servers.{bound_with, watcher_with}
@@ -42,9 +42,6 @@ or_none false = refl
 by_parts : (outcome : Outcome) (bound : Option Bound) (ends : List ℕ) (forward : Option Forwarded) → outcome.bound ≡ bound → outcome.ends ≡ ends → outcome.forward ≡ forward → (n : ℕ) →
     is_settled outcome n ≡ (option_map_or (λ b. b.endpoint == n) bound false || (among n ends || option_map_or (λ f. f.object == n) forward false))
 by_parts outcome bound ends forward p q r n = λ i. option_map_or (λ b. b.endpoint == n) (p i) false || (among n (q i) || option_map_or (λ f. f.object == n) (r i) false)
-
-bound_is : Effects → Option Bound
-bound_is effects = effects.bound
 
 pub tells : (outcome : Outcome) (endpoint server : ℕ) (fate : Fate) (out : Written) → effects_of outcome ≡ effects_told endpoint server fate out → Tells outcome endpoint server fate out
 tells outcome endpoint server fates.Stays out e = record {
