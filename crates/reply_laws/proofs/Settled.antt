@@ -34,7 +34,7 @@ pub replies_are_in_order : RepliesAreInOrder
 replies_are_in_order start newer journal endpoint h = pipelined start journal endpoint (earlier_grown start newer journal (grown start (newer ++ journal) h))
 
 pub served_is_answered : ServedIsAnswered
-served_is_answered start newer journal sent h there = answered start journal sent (earlier_grown start newer journal (grown start (newer ++ journal) h)) there
+served_is_answered start newer journal h sent there = answered start journal sent (earlier_grown start newer journal (grown start (newer ++ journal) h)) there
 
 -- ---- requests
 

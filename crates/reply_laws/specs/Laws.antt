@@ -47,10 +47,13 @@ pub record IsAnswered (start : Start) (history : History) (sent : Sent) : Type 0
   pub unknown : (bytes handles : List ℕ) (txid ordinal : ℕ) → is_watcher bound.birth.protocol ≡ false → sent.sending ≡ message bytes handles →
       read_by bound.birth.protocol bytes handles ≡ Err (UnknownTwoWay txid ordinal) → HasOneReply history sent
 
+-- at one time: so is all that was served
+abbrev pub AreAnswered : Start → History → Type 0
+AreAnswered start history = (sent : Sent) → Contains (served_on history sent.endpoint) sent → IsAnswered start history sent
+
+-- so it is behind each entry of a lawful journal
 abbrev pub ServedIsAnswered : Type 0
-ServedIsAnswered =
-    (start : Start) (newer journal : Journal) (sent : Sent) → Lawful start (newer ++ journal) →
-    Contains (served_on (history_of start journal) sent.endpoint) sent → IsAnswered start (history_of start journal) sent
+ServedIsAnswered = (start : Start) (newer journal : Journal) → Lawful start (newer ++ journal) → AreAnswered start (history_of start journal)
 
 -- a message that is read as a request has its transaction id, and asks for a reply where its method has one
 abbrev pub RequestsAskByTheirIds : Type 0

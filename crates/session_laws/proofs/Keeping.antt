@@ -35,11 +35,11 @@ lawful_keep apart start journal s h =
       narrow = λ later past sent e. narrow_change_nothing under opens_narrow start later past sent s (lawful later (serves sent ∷ past) e);
       answers = λ later past sent e. answers_allowed under opens_narrow start later past sent s (lawful later (serves sent ∷ past) e);
       tokens = λ later past e. tokens_given under opens_narrow start later past s (lawful later past e);
-      sight = λ later past e watcher there is. told_their_sight under start later past watcher s (lawful later past e) there is;
-      deaths = λ later past sent e watcher there is dies. die_of_no_change under start later past sent watcher s (lawful later (serves sent ∷ past) e) there is dies;
-      names = λ named later past e watcher there is asks. know_their_names under events_once start later past watcher s named (lawful later past e) there is asks;
+      sight = λ later past e. told_their_sight under start later past s (lawful later past e);
+      deaths = λ later past sent e. die_of_no_change under start later past sent s (lawful later (serves sent ∷ past) e);
+      names = λ named later past e. know_their_names under events_once start later past s named (lawful later past e);
       replies = λ later past e endpoint. replies_are_in_order start later past endpoint (lawful later past e);
-      answered = λ later past e sent there. served_is_answered start later past sent (lawful later past e) there;
+      answered = λ later past e. served_is_answered start later past (lawful later past e);
       settled = λ later past e none endpoint. rests_are_settled start later past endpoint (lawful later past e) none;
       frames = λ bytes later past e. output_is_read_back under start later past s bytes (lawful later past e);
     } where

@@ -1,21 +1,15 @@
 -- What every session keeps, at each of its times: a field for each law, in the words of the crate that proves it.
-use Rattle.std.specs.Prelude.{◌≡◌, ℕ, true, All, Contains, [], ◌∷◌, ◌++◌, map}
-use Rattle.endpoint_link.specs.Numbering.{among}
-use Rattle.watch_events.specs.Messages.{watch_frame}
-use Rattle.vfs_journal.specs.Deaths.{deaths_of}
+use Rattle.std.specs.Prelude.{◌≡◌, ℕ, All, [], ◌∷◌, ◌++◌}
 use Rattle.vfs_journal.specs.Entries.{Journal, Sent, serves}
-use Rattle.vfs_journal.specs.History.{History, births, is_watcher, living, waiting}
+use Rattle.vfs_journal.specs.History.{waiting}
 use Rattle.vfs_journal.specs.Past.{history_of}
-use Rattle.vfs_journal.specs.Serving.{outcome_of}
-use Rattle.vfs_journal.specs.Starts.{Bound, Start}
+use Rattle.vfs_journal.specs.Starts.{Start}
 use Rattle.journal_laws.specs.Laws.{AreServedOnce}
 use Rattle.rights_laws.specs.Answering.{AnswerIsAllowed}
 use Rattle.rights_laws.specs.Authority.{ChangeIsAllowed, NarrowChangesNothing, TokensHaveAuthority}
 use Rattle.rights_laws.specs.Rights.{FlagsAreWithin, LineagesBegin, RightsAreWithin}
-use Rattle.reply_laws.specs.Laws.{ArePipelined, IsAnswered, IsSettled}
-use Rattle.reply_laws.specs.Pipelined.{served_on}
-use Rattle.watch_laws.specs.Laws.{AsksForNames, HasNames, KnowsItsNames}
-use Rattle.watch_laws.specs.Sight.{messages_on, sight}
+use Rattle.reply_laws.specs.Laws.{AreAnswered, ArePipelined, IsSettled}
+use Rattle.watch_laws.specs.Laws.{AreToldTheirSight, DieOfNoChange, HasNames, KnowTheirNames}
 use Rattle.frame_laws.specs.Bytes.{BeginsWithBytes}
 use Rattle.frame_laws.specs.Laws.{IsReadBack}
 
@@ -28,30 +22,6 @@ AtEachTime journal Holds = (later past : Journal) → journal ≡ later ++ past 
 -- of each serving in it, behind its past
 abbrev pub AtEachServing : Journal → (Journal → Sent → Type 0) → Type 0
 AtEachServing journal Holds = (later past : Journal) (sent : Sent) → journal ≡ later ++ serves sent ∷ past → Holds past sent
-
--- ---- of one time
-
--- what was written on whatever is or was bound as a watcher is its sight
-abbrev pub AreToldTheirSight : Start → History → Type 0
-AreToldTheirSight start history =
-    (watcher : Bound) → Contains (births start history) watcher → is_watcher watcher.birth.protocol ≡ true →
-    messages_on start history watcher.endpoint ≡ map (watch_frame watcher.endpoint) (sight start watcher history)
-
--- a serving of which a watcher dies tells nobody anything, so that it missed nothing
-abbrev pub DieOfNoChange : Start → History → Sent → Type 0
-DieOfNoChange start past sent =
-    (watcher : Bound) → Contains (living start past) watcher → is_watcher watcher.birth.protocol ≡ true →
-    among watcher.endpoint (deaths_of past sent (outcome_of start past sent)) ≡ true → (outcome_of start past sent).told ≡ []
-
--- a living watcher whose mask asks for EXISTING, ADDED and REMOVED knows its directory's names
-abbrev pub KnowTheirNames : Start → History → Type 0
-KnowTheirNames start history =
-    (watcher : Bound) → Contains (living start history) watcher → is_watcher watcher.birth.protocol ≡ true → AsksForNames watcher →
-    KnowsItsNames start history watcher
-
--- what was served has the replies that it asks for
-abbrev pub AreAnswered : Start → History → Type 0
-AreAnswered start history = (sent : Sent) → Contains (served_on history sent.endpoint) sent → IsAnswered start history sent
 
 -- ---- the laws
 

@@ -350,7 +350,7 @@ named_now tree directory events names knows name = by_test (bytes_eq name dot) r
   by_test false e = knows name (false_from_ne_true (bytes_eq dot name) (λ same. true≢false (sym (bytes_same name dot (sym (same_bytes dot name same))) ∙ e)))
 
 pub know_their_names : Below → EventsAreReadOnce → WatchersKnowTheirNames
-know_their_names below once start later past watcher s names h lives is asks =
+know_their_names below once start later past s names h watcher lives is asks =
     let time = earlier_timed start later past (timed start (later ++ past) h) in
     let history = history_of start past in
     let tree = tree_at (trees_of start history) watcher.server in

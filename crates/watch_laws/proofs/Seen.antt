@@ -323,11 +323,11 @@ times_seen below start journal s (serving earlier one all first h) =
 -- ---- the laws
 
 pub told_their_sight : Below → WatchersAreToldTheirSight
-told_their_sight below start later past watcher s h born is =
+told_their_sight below start later past s h watcher born is =
     (times_seen below start past s (earlier_timed start later past (timed start (later ++ past) h))).seen watcher born is
 
 pub die_of_no_change : Below → WatchersDieOfNoChange
-die_of_no_change below start later past sent watcher s h lives is dead =
+die_of_no_change below start later past sent s h watcher lives is dead =
     let first = was_head start past sent (earlier_timed start later (serves sent ∷ past) (timed start (later ++ serves sent ∷ past) h)) in
     let history = history_of start past in
     let on = served_on below start past sent s first.0 first.1 in

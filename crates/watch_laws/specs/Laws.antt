@@ -21,20 +21,26 @@ use Rattle.watch_laws.specs.Sight.{AreWritten, messages_on, sight}
 
 -- ---- sight
 
--- at each time of a session, whatever came later, the messages on an endpoint that is or was bound as a watcher are its sight
-abbrev pub WatchersAreToldTheirSight : Type 0
-WatchersAreToldTheirSight =
-    (start : Start) (later past : Journal) (watcher : Bound) → IsStart start → Lawful start (later ++ past) →
-    Contains (births start (history_of start past)) watcher → is_watcher watcher.birth.protocol ≡ true →
-    messages_on start (history_of start past) watcher.endpoint ≡ map (watch_frame watcher.endpoint) (sight start watcher (history_of start past))
+-- at one time: what was written on whatever is or was bound as a watcher is its sight
+abbrev pub AreToldTheirSight : Start → History → Type 0
+AreToldTheirSight start history =
+    (watcher : Bound) → Contains (births start history) watcher → is_watcher watcher.birth.protocol ≡ true →
+    messages_on start history watcher.endpoint ≡ map (watch_frame watcher.endpoint) (sight start watcher history)
 
--- where a watcher dies of a serving that serving tells nobody anything: a sight goes up to its watcher's death, and lacks nothing of it
+-- so it is at each time, whatever came later
+abbrev pub WatchersAreToldTheirSight : Type 0
+WatchersAreToldTheirSight = (start : Start) (later past : Journal) → IsStart start → Lawful start (later ++ past) → AreToldTheirSight start (history_of start past)
+
+-- of one serving: if a watcher dies of it, nobody is told anything, so that a sight goes up to its watcher's death and lacks nothing
+abbrev pub DieOfNoChange : Start → History → Sent → Type 0
+DieOfNoChange start past sent =
+    (watcher : Bound) → Contains (living start past) watcher → is_watcher watcher.birth.protocol ≡ true →
+    among watcher.endpoint (deaths_of past sent (outcome_of start past sent)) ≡ true → (outcome_of start past sent).told ≡ []
+
+-- so it is of each serving
 abbrev pub WatchersDieOfNoChange : Type 0
 WatchersDieOfNoChange =
-    (start : Start) (later past : Journal) (sent : Sent) (watcher : Bound) → IsStart start → Lawful start (later ++ serves sent ∷ past) →
-    Contains (living start (history_of start past)) watcher → is_watcher watcher.birth.protocol ≡ true →
-    among watcher.endpoint (deaths_of (history_of start past) sent (outcome_of start (history_of start past) sent)) ≡ true →
-    (outcome_of start (history_of start past) sent).told ≡ []
+    (start : Start) (later past : Journal) (sent : Sent) → IsStart start → Lawful start (later ++ serves sent ∷ past) → DieOfNoChange start (history_of start past) sent
 
 -- ---- names now
 
@@ -56,13 +62,17 @@ pub record AsksForNames (watcher : Bound) : Type 0 where
   pub additions : asks_for watcher.mask added ≡ true
   pub removals : asks_for watcher.mask removed ≡ true
 
--- so it is at each time for a watcher that lives and asks for names, and also when its directory is gone: that has no name
+-- at one time: a watcher that lives and asks for names knows those of its directory, and also when that is gone: then it has none
+abbrev pub KnowTheirNames : Start → History → Type 0
+KnowTheirNames start history =
+    (watcher : Bound) → Contains (living start history) watcher → is_watcher watcher.birth.protocol ≡ true → AsksForNames watcher →
+    KnowsItsNames start history watcher
+
+-- so it is at each time too
 abbrev pub WatchersKnowTheirNames : Type 0
 WatchersKnowTheirNames =
-    (start : Start) (later past : Journal) (watcher : Bound) → IsStart start → All HasNames start.trees → Lawful start (later ++ past) →
-    Contains (living start (history_of start past)) watcher → is_watcher watcher.birth.protocol ≡ true → AsksForNames watcher →
-    KnowsItsNames start (history_of start past) watcher
+    (start : Start) (later past : Journal) → IsStart start → All HasNames start.trees → Lawful start (later ++ past) → KnowTheirNames start (history_of start past)
 
--- so it is in each tree of a file that is accepted
+-- in the trees of each accepted file no name breaks a rule
 abbrev pub StartsHaveNames : Type 0
 StartsHaveNames = (lists : Lists) → AreAccepted lists → All HasNames (start_of lists).trees
