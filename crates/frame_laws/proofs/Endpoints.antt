@@ -23,7 +23,6 @@ use Rattle.vfs_journal.specs.Past.{event_of, history_of}
 use Rattle.vfs_journal.specs.Serving.{outcome_of}
 use Rattle.vfs_journal.specs.Session.{after_serving, head, with_forward}
 use Rattle.vfs_journal.specs.Starts.{Bound, Start}
-use Rattle.journal_laws.specs.Knowing.{IsNumbered}
 use Rattle.journal_laws.specs.Soundness.{IsOnDirectory, IsStart, mount_ends}
 use Rattle.journal_laws.proofs.Among.{among_of}
 use Rattle.journal_laws.proofs.Below.{Below}
@@ -48,10 +47,10 @@ few_mounts start s =
     (All-weaker (IsOnDirectory start.trees) (λ (bound : Bound). bound.server < length start.trees) (λ bound on. on.server) start.mounts (All-right (IsOnDirectory start.trees) start.firsts start.mounts s.placed))
     (λ server here. let room = s.room server in let more = count_more server start.firsts start.mounts in omega (arith, room, more))
 
-mount_fits : (start : Start) → IsStart start → IsNumbered start → (bound : Bound) → Contains start.mounts bound → FitsWord bound.endpoint
-mount_fits start s numbered bound there =
+mount_fits : (start : Start) → IsStart start → (bound : Bound) → Contains start.mounts bound → FitsWord bound.endpoint
+mount_fits start s bound there =
     let at : among bound.endpoint (mount_ends start) ≡ true = among_of bound.endpoint (mount_ends start) (contains_map (λ (b : Bound). b.endpoint) start.mounts bound there) in
-    let both = and_parts (nat_le 0x40000000 bound.endpoint) (nat_lt bound.endpoint (0x40000000 + length start.mounts)) (sym (mounts_among start bound.endpoint numbered) ∙ at) in
+    let both = and_parts (nat_le 0x40000000 bound.endpoint) (nat_lt bound.endpoint (0x40000000 + length start.mounts)) (sym (mounts_among start bound.endpoint s.numbered) ∙ at) in
     let high = ltb-true bound.endpoint (0x40000000 + length start.mounts) both.1 in
     let few = few_mounts start s in
     omega (arith, high, few)
@@ -61,11 +60,11 @@ client_fits endpoint client = let low = client_low endpoint client in omega (ari
 
 -- ---- who was born
 
-module _ (below : Below) (start : Start) (s : IsStart start) (numbered : IsNumbered start) where
+module _ (below : Below) (start : Start) (s : IsStart start) where
   pub birth_fits : (journal : Journal) → Lawful start journal → (bound : Bound) → Contains (births start (history_of start journal)) bound → FitsWord bound.endpoint
   birth_fits journal h bound born = by_birth ((lawful_kept below start s journal h).sound.born bound born) where
     by_birth : Contains start.mounts bound ⊎ IsKnown start (all_sent (history_of start journal)) bound.endpoint → FitsWord bound.endpoint
-    by_birth (inl mount) = mount_fits start s numbered bound mount
+    by_birth (inl mount) = mount_fits start s bound mount
     by_birth (inr known) = client_fits bound.endpoint known.0
 
   pub living_fit : (journal : Journal) → Lawful start journal → All (λ (bound : Bound). FitsWord bound.endpoint) (living start (history_of start journal))

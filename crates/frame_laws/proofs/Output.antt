@@ -22,7 +22,6 @@ use Rattle.vfs_journal.specs.Session.{head, sent_behind, with_forward}
 use Rattle.vfs_journal.specs.Starts.{Bound, Start}
 use Rattle.vfs_journal.specs.Tokens.{all_given, next_token, tokens_out}
 use Rattle.vfs_journal.specs.Watching.{first_frames, told_frames}
-use Rattle.journal_laws.specs.Knowing.{IsNumbered}
 use Rattle.journal_laws.specs.Soundness.{IsStart}
 use Rattle.journal_laws.proofs.Among.{carried_is}
 use Rattle.journal_laws.proofs.Below.{Below}
@@ -85,7 +84,7 @@ sent_holds start past sent h = record {
 
 -- ---- a serving
 
-module _ (below : Below) (start : Start) (s : IsStart start) (numbered : IsNumbered start) (journal : Journal) (sent : Sent) (h : Lawful start journal) (first : head start (history_of start journal) sent.endpoint ≡ Some sent) (trees : All HasBytes (trees_of start (history_of start journal))) where
+module _ (below : Below) (start : Start) (s : IsStart start) (journal : Journal) (sent : Sent) (h : Lawful start journal) (first : head start (history_of start journal) sent.endpoint ≡ Some sent) (trees : All HasBytes (trees_of start (history_of start journal))) where
   sound_at : (server : ℕ) → IsSound (tree_at (trees_of start (history_of start journal)) server)
   sound_at server = tree_sound (trees_of start (history_of start journal)) server (trees_sound below start journal s h)
 
@@ -99,7 +98,7 @@ module _ (below : Below) (start : Start) (s : IsStart start) (numbered : IsNumbe
       let born = (kept_of (λ (b : Bound). not (is_dead past b.endpoint)) (births start past) bound lives).0 in
       let whole : outcome_of start past sent ≡ outcome_of_sending (moment_of start past bound) sent.sending = ap (outcome_at start past sent) serving'.bound in
       subst IsWritten (sym whole)
-      (sending_written below (moment_of start past bound) (birth_fits below start s numbered journal h bound born)
+      (sending_written below (moment_of start past bound) (birth_fits below start s journal h bound born)
       (record { sound = sound_at bound.server; bytes = tree_bytes (trees_of start past) bound.server trees; token = token_fits past })
       sent.sending (sent_messages below start s journal h sent (waits_of_sent past sent serving'.answered.waits)))
 
@@ -136,7 +135,7 @@ module _ (below : Below) (start : Start) (s : IsStart start) (numbered : IsNumbe
       All-append (IsFrame Any) (answer ++ new ++ told) (close_frames event)
       (All-append (IsFrame Any) (answer ++ new) told
       (All-append (IsFrame Any) answer new written.frames (first_written event.outcome.bound refl))
-      (all_told (living start past) event.outcome.server (living_fit below start s numbered journal h) event.outcome.told written.told))
+      (all_told (living start past) event.outcome.server (living_fit below start s journal h) event.outcome.told written.told))
       closed_written
 
   served_holds : All (IsFrame Any) (frames_of start (history_of start journal)) → Holds start (behind start (serves sent) (history_of start journal))
@@ -157,7 +156,7 @@ onward_holds start journal origin None h = h
 onward_holds start journal origin (Some f) h =
     sent_holds start (history_of start journal) (sent_behind journal f.endpoint (message f.bytes (f.object ∷ [])) (Some origin)) h
 
-module _ (below : Below) (start : Start) (s : IsStart start) (numbered : IsNumbered start) (bytes : BeginsWithBytes start) where
+module _ (below : Below) (start : Start) (s : IsStart start) (bytes : BeginsWithBytes start) where
   lawful_holds : (journal : Journal) → Lawful start journal → Holds start (history_of start journal)
   unfolding history_of
   lawful_holds journal lawful.begun = record { trees = bytes; frames = All-nil (IsFrame Any) }
@@ -169,7 +168,7 @@ module _ (below : Below) (start : Start) (s : IsStart start) (numbered : IsNumbe
   lawful_holds journal (lawful.served earlier entry h first) =
       let before = lawful_holds earlier h in
       onward_holds start (serves entry ∷ earlier) entry.place (outcome_of start (history_of start earlier) entry).forward
-      (served_holds below start s numbered earlier entry h first before.trees before.frames)
+      (served_holds below start s earlier entry h first before.trees before.frames)
 
   pub frames_written : (journal : Journal) → Lawful start journal → All (IsFrame Any) (frames_of start (history_of start journal))
   frames_written journal h = (lawful_holds journal h).frames

@@ -1,7 +1,6 @@
 -- That frames which are written are read back.
-use Rattle.std.proofs.Common.{◌≡◌, ℕ, List, [], ◌∷◌, ◌++◌, All, AllPairs, sym, ap, subst, ◌∙◌, arith, append-nil, append_assoc, inl}
+use Rattle.std.proofs.Common.{◌≡◌, ℕ, List, [], ◌∷◌, ◌++◌, All, sym, ap, subst, ◌∙◌, arith, append-nil, append_assoc, inl}
 use Rattle.std.proofs.lemmas.List.{append_cancel_left}
-use Rattle.std.proofs.lemmas.List.Kept.{AllPairs-cons}
 use Rattle.endpoint_link.specs.Frames.{Frame, Frames, IsFrame, spellings}
 use Rattle.endpoint_link.specs.declared.kinds.Side.TheVariants.{Any}
 use Rattle.endpoint_link.proofs.Runs.{spellings-append}
@@ -11,11 +10,8 @@ use Rattle.vfs_journal.specs.Output.{frames_behind, frames_of_event}
 use Rattle.vfs_journal.specs.Past.{event_of, history_of}
 use Rattle.vfs_journal.specs.Session.{ended, session}
 use Rattle.vfs_journal.specs.Starts.{Start, start_of}
-use Rattle.journal_laws.specs.Knowing.{IsNumbered}
-use Rattle.journal_laws.specs.Soundness.{IsStart, OtherEndpoint}
 use Rattle.journal_laws.proofs.Below.{Below}
 use Rattle.journal_laws.proofs.Draining.{sessions_are_lawful}
-use Rattle.journal_laws.proofs.Lists.{pairs-head, pairs-tail}
 use Rattle.journal_laws.proofs.Starting.{accepted_starts_are_starts}
 use Rattle.frame_laws.proofs.Fields.{All-left, All-right}
 use Rattle.frame_laws.proofs.Output.{frames_written}
@@ -47,17 +43,10 @@ grown start (entry ∷ newer) journal =
     let new = frames_of_event start past (event_of start past entry) in
     (rest.0 ++ new, ap (λ (frames : List Frame). frames ++ new) rest.1 ∙ append_assoc (frames_behind start journal) rest.0 new)
 
-pairs_left : {X : Type 0} (R : X → X → Type 0) (xs ys : List X) → AllPairs R (xs ++ ys) → AllPairs R xs
-pairs_left R [] ys h = λ i j d l m. absurd (omega arith)
-pairs_left R (x ∷ xs) ys h = AllPairs-cons R x xs (All-left (R x) xs ys (pairs-head R x (xs ++ ys) h)) (pairs_left R xs ys (pairs-tail R x (xs ++ ys) h))
-
-numbered_start : (start : Start) → IsStart start → IsNumbered start
-numbered_start start s = record { firsts = pairs_left OtherEndpoint start.firsts start.mounts s.apart; mounts = s.numbered }
-
 pub output_is_read_back : Below → OutputIsReadBack
 output_is_read_back below start newer journal s bytes h =
     let more = grown start newer journal in
-    let all = frames_written below start s (numbered_start start s) bytes (newer ++ journal) h in
+    let all = frames_written below start s bytes (newer ++ journal) h in
     read_as (frames_behind start journal) (All-left (IsFrame Any) (frames_behind start journal) more.0 (subst (All (IsFrame Any)) more.1 all))
 
 -- ---- parts of an output
@@ -71,8 +60,8 @@ part_read earlier later part before after' e =
 
 pub parts_are_read_back : Below → PartsAreReadBack
 parts_are_read_back below start earlier later part s bytes h g e =
-    let before = frames_written below start s (numbered_start start s) bytes earlier h in
-    let after' = frames_written below start s (numbered_start start s) bytes later g in
+    let before = frames_written below start s bytes earlier h in
+    let after' = frames_written below start s bytes later g in
     let read = part_read (frames_behind start earlier) (frames_behind start later) part before after' e in
     record { more = read.0; grown = read.1; read = read.2 }
 

@@ -1,18 +1,18 @@
 -- A hang-up waits until its endpoint is dead.
-use Rattle.std.proofs.Common.{◌≡◌, ℕ, ◌==◌, ◌&&◌, ◌||◌, ◌⊎◌, Bool, true, false, not, if◌then◌else◌, List, [], ◌∷◌, ◌++◌, Option, Some, None, Contains, filter, inl, inr, refl, sym, ap, ◌∙◌, subst, arith}
+use Rattle.std.proofs.Common.{◌≡◌, ℕ, ◌==◌, ◌&&◌, ◌||◌, ◌⊎◌, Bool, true, false, not, if◌then◌else◌, List, [], ◌∷◌, Option, Some, None, Contains, inl, inr, refl, sym, ap, ◌∙◌, subst, arith}
 use Rattle.std.specs.List.{list_any}
 use Rattle.std.proofs.lemmas.List.Elements.{Contains-append_left}
 use Rattle.std.proofs.lemmas.Bool.{eq-eqb, eqb-true, or_cases, or_left, and_parts}
 use Rattle.endpoint_link.specs.Numbering.{among}
 use Rattle.vfs_journal.specs.Deaths.{deaths_of, others}
-use Rattle.vfs_journal.specs.Entries.{Sent, Sending, message, hang_up, Journal, sends, serves, refuses, is_hang_up}
-use Rattle.vfs_journal.specs.History.{History, all_sent, bound_at, hung_up, is_bound, is_dead, living, waiting, waits}
+use Rattle.vfs_journal.specs.Entries.{Sent, Sending, message, hang_up, Journal, sends, is_hang_up}
+use Rattle.vfs_journal.specs.History.{History, bound_at, hung_up, is_bound, is_dead, living, waiting, waits}
 use Rattle.vfs_journal.specs.Lawful.{Lawful}
 use Rattle.vfs_journal.specs.Past.{behind, event_of, history_of}
 use Rattle.vfs_journal.specs.Serving.{outcome_of, outcome_at, outcome_of_sending, moment_of}
 use Rattle.vfs_journal.specs.Starts.{Bound, Start}
-use Rattle.journal_laws.proofs.Among.{one_passes, one_place, passes_any, some_found}
-use Rattle.journal_laws.proofs.Members.{kept, kept_of}
+use Rattle.journal_laws.proofs.Among.{one_place, passes_any, some_found}
+use Rattle.journal_laws.proofs.Members.{kept}
 use Rattle.journal_laws.proofs.Places.{head_is, waiting_rises}
 use Rattle.journal_laws.proofs.Spreading.{among_front, spread_keeps}
 use Rattle.journal_laws.proofs.Stepping.{Stepped, stepped, none, refusing, sending, serving}

@@ -1,5 +1,5 @@
 -- What is known behind a serving: its deaths, the tokens that are gone, the one that is given, and what waits.
-use Rattle.std.proofs.Common.{◌≡◌, ◌≢◌, ℕ, ◌+◌, ◌-◌, ◌<◌, ◌≤◌, ◌==◌, ◌&&◌, ◌||◌, ◌⊎◌, Bool, true, false, cond, not, is_some, List, [], ◌∷◌, ◌++◌, length, map, fold, option_to_list, Option, Some, None, All, AllPairs, Contains, refl, sym, ap, ◌∙◌, subst, inl, inr, if◌then◌else◌, arith, length-append}
+use Rattle.std.proofs.Common.{◌≡◌, ◌≢◌, ℕ, ◌+◌, ◌-◌, ◌<◌, ◌≤◌, ◌==◌, ◌&&◌, ◌||◌, ◌⊎◌, Bool, true, false, cond, not, is_some, List, [], ◌∷◌, ◌++◌, length, map, fold, option_to_list, Option, Some, None, AllPairs, Contains, refl, sym, ap, ◌∙◌, subst, inl, inr, if◌then◌else◌, arith, length-append}
 use Rattle.std.specs.Prelude.{unwrap_or}
 use Rattle.std.specs.List.{list_any}
 use Rattle.std.specs.FinMap as finite
@@ -9,9 +9,9 @@ use Rattle.std.proofs.lemmas.Bool.{and_from, and_parts, cases_Bool, eq-eqb, eqb-
 use Rattle.std.proofs.lemmas.Bool.Decides.{nat_tests}
 use Rattle.std.proofs.lemmas.Cmp.{nat_cmp_total}
 use Rattle.std.proofs.lemmas.List.{length-map}
-use Rattle.std.proofs.lemmas.List.Elements.{All-nil, All-cons, All-head, All-tail, All-contains}
+use Rattle.std.proofs.lemmas.List.Elements.{All-contains}
 use Rattle.std.proofs.lemmas.List.Folds.{list_any-append}
-use Rattle.std.proofs.lemmas.List.Kept.{AllPairs-cons, AllPairs-filter}
+use Rattle.std.proofs.lemmas.List.Kept.{AllPairs-filter}
 use Rattle.fidl_names.specs.HandleNumber.{is_client}
 use Rattle.fidl_names.specs.declared.limits.TheConstants as limit
 use Rattle.endpoint_link.specs.declared.kinds.Standing.{Standing}
@@ -31,8 +31,8 @@ use Rattle.vfs_journal.specs.Starts.{Start}
 use Rattle.vfs_journal.specs.Tokens.{all_given, is_held, tokens_out, waits_with, was_given}
 use Rattle.vfs_journal.specs.View.{View, deaths_in, event_in, head_in, onward_in, outcome_in, serving_in, then_in}
 use Rattle.journal_laws.specs.Choosing.{IsListOf}
-use Rattle.journal_laws.specs.Knowing.{IsNumbered, Knows, known_served, spent_in, token_out}
-use Rattle.journal_laws.specs.Soundness.{IsStart, OtherEndpoint}
+use Rattle.journal_laws.specs.Knowing.{Knows, known_served, spent_in, token_out}
+use Rattle.journal_laws.specs.Soundness.{IsStart}
 use Rattle.journal_laws.specs.Viewing.{view_behind}
 use Rattle.journal_laws.proofs.Among.{among_of, carried_is, member_of, one_passes, passes_any}
 use Rattle.journal_laws.proofs.Below.{Below}
@@ -54,19 +54,6 @@ use Rattle.journal_laws.proofs.Steps.{sendings_wait_last, servings_take_effect}
 use Rattle.journal_laws.proofs.TokensGiven.{lawful_given, next_is_length}
 use Rattle.journal_laws.proofs.ViewLaws.{brings_new, served_behind_viewed}
 use Rattle.journal_laws.proofs.ViewParts.{deaths_are, head_is_in, outcome_is_in}
-
--- ---- the ends of mounts are numbered
-
-left_all : {X : Type 0} (P : X → Type 0) (xs ys : List X) → All P (xs ++ ys) → All P xs
-left_all P [] ys h = All-nil P
-left_all P (x ∷ xs) ys h = All-cons P x xs (All-head P x (xs ++ ys) h) (left_all P xs ys (All-tail P x (xs ++ ys) h))
-
-pub left_pairs : {X : Type 0} (R : X → X → Type 0) (xs ys : List X) → AllPairs R (xs ++ ys) → AllPairs R xs
-left_pairs R [] ys h = λ i j d a b. absurd (omega arith)
-left_pairs R (x ∷ xs) ys h = AllPairs-cons R x xs (left_all (R x) xs ys (pairs-head R x (xs ++ ys) h)) (left_pairs R xs ys (pairs-tail R x (xs ++ ys) h))
-
-pub numbered_of : (start : Start) → IsStart start → IsNumbered start
-numbered_of start s = record { firsts = left_pairs OtherEndpoint start.firsts start.mounts s.apart; mounts = s.numbered }
 
 -- ---- lists of numbers
 
@@ -477,7 +464,7 @@ servings_keep below start journal sent known deaths spent s h first k dead gone'
     let token = (outcome_in view sent).token in
     let all = deaths_in view sent in
     let deaths_same = deaths_are start past sent in
-    let died = servings_end below start journal sent s (numbered_of start s) h first in
+    let died = servings_end below start journal sent s h first in
     let told = told_behind below start journal sent spent s h first gone'.same in
     let ended' = fold ended_in known deaths in
     let same = ended_same deaths known in

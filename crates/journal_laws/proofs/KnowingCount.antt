@@ -1,9 +1,10 @@
 -- No endpoint lives twice, each known one lives or is dead, and so many fewer live as die.
-use Rattle.std.proofs.Common.{◌≡◌, ◌≢◌, ℕ, zero, suc, ◌+◌, ◌<◌, ◌≤◌, ◌==◌, ◌&&◌, ◌||◌, ◌⊎◌, Bool, true, false, not, is_some, nat_le, nat_lt, List, [], ◌∷◌, ◌++◌, length, map, find, option_to_list, Option, Some, None, Ok, Err, All, AllPairs, Contains, refl, sym, ap, ◌∙◌, subst, inl, inr, if◌then◌else◌, arith, length-append, append-nil}
-use Rattle.std.proofs.lemmas.List.{length-map, map-append}
+use Rattle.std.proofs.Common.{◌≡◌, ◌≢◌, ℕ, zero, suc, ◌+◌, ◌<◌, ◌≤◌, ◌==◌, ◌&&◌, ◌||◌, ◌⊎◌, Bool, true, false, not, is_some, nat_le, nat_lt, List, [], ◌∷◌, ◌++◌, length, map, find, Option, Some, None, Ok, Err, All, AllPairs, Contains, refl, sym, ap, ◌∙◌, subst, inl, inr, if◌then◌else◌, arith, length-append}
+use Rattle.std.proofs.lemmas.List.{length-map}
 use Rattle.std.specs.List.{list_any, range_with_len}
-use Rattle.std.proofs.lemmas.Bool.{eqb-true, eq-eqb, ne_eqb, or_cases, or_left, or_right, or_from, and_from, and_parts, le-leb, leb-true, lt-ltb, ltb-true, cases_Bool, cases_eq, false_from_ne_true, true≢false, not-true}
-use Rattle.std.proofs.lemmas.List.Elements.{All-head, All-tail, All-contains, Contains-append_left}
+use Rattle.std.proofs.lemmas.Bool.{eqb-true, eq-eqb, ne_eqb, or_cases, or_left, or_right, or_from, and_from, and_parts, le-leb, leb-true, lt-ltb, ltb-true, cases_eq, false_from_ne_true, true≢false, not-true}
+use Rattle.std.proofs.lemmas.List.Elements.{All-head, All-tail, Contains-append_left}
+use Rattle.std.proofs.lemmas.List.Kept.{AllPairs-filter}
 use Rattle.endpoint_link.specs.declared.kinds.FrameKind.{FrameKind}
 use Rattle.endpoint_link.specs.declared.kinds.FrameKind.TheVariants as kind
 use Rattle.endpoint_link.specs.declared.kinds.Refusal.{Refusal}
@@ -21,19 +22,18 @@ use Rattle.conn_rules.specs.Answers.{Answer, replies, closes, binds, watches, fo
 use Rattle.vfs_journal.specs.Deaths.{first_deaths, is_settled, deaths_of, others}
 use Rattle.vfs_journal.specs.Entries.{Sent, Sending, Journal, message, hang_up, handles_of, endpoints_in, sends, serves}
 use Rattle.vfs_journal.specs.History.{History, all_sent, births, living, waiting, travelling, is_dead, is_live, bound_at, hung_up, live_count}
-use Rattle.journal_laws.specs.Knowing.{IsNumbered}
-use Rattle.journal_laws.specs.Laws.{but_for, newly_living}
 use Rattle.vfs_journal.specs.Lawful.{Lawful, begun, refused, sent, closed, served}
 use Rattle.vfs_journal.specs.Outcomes.{Asker, Outcome, Forwarded, ends_of as ends_by}
-use Rattle.vfs_journal.specs.Past.{event_of, behind, history_of}
+use Rattle.vfs_journal.specs.Past.{behind, history_of}
 use Rattle.vfs_journal.specs.Serving.{Read, Moment, moment_of, read_by, object_of, asker_of, request_act, fault_txid, fault_answer, outcome_of_read, outcome_of_message, outcome_of_sending, outcome_at, outcome_of}
 use Rattle.vfs_journal.specs.Session.{head, look_ups, sent_behind, with_forward, after_serving}
-use Rattle.journal_laws.specs.Soundness.{IsStart, mount_ends}
+use Rattle.journal_laws.specs.Soundness.{IsStart, OtherEndpoint, mount_ends}
 use Rattle.vfs_journal.specs.Starts.{Bound, Start}
-use Rattle.journal_laws.proofs.Among.{one_passes, member_of, among_of, carried_from, carrier_of, some_found, is_found}
+use Rattle.journal_laws.proofs.Among.{one_passes, member_of, among_of, carried_from, carrier_of, is_found}
+use Rattle.journal_laws.proofs.Apart.{births_apart}
 use Rattle.journal_laws.proofs.Below.{Below}
 use Rattle.journal_laws.proofs.Kept.{lawful_kept, is_serving}
-use Rattle.journal_laws.proofs.KnowingLists.{Apart, no_more, apart_append, apart_one, apart_filter, ends_of, still_named, apart_kept, AreOwn, own_filter, apart_carried, apart_spread}
+use Rattle.journal_laws.proofs.KnowingLists.{Apart, no_more, apart_append, apart_one, apart_filter, ends_of, AreOwn, own_filter, apart_carried, apart_spread}
 use Rattle.journal_laws.proofs.KnowingServed.{after_served, unsettled, live_in, bound_lives, sent_lives, used_more}
 use Rattle.journal_laws.proofs.Members.{contains_none, kept_of}
 use Rattle.journal_laws.proofs.Lists.{pairs-head, pairs-tail}
@@ -41,7 +41,6 @@ use Rattle.journal_laws.proofs.Served.{IsAnswered, other_of}
 use Rattle.journal_laws.proofs.Sound.{View, view, IsView, Transit, used, bound_in, nothing_left}
 use Rattle.journal_laws.proofs.Spreading.{among-append, among_sides}
 use Rattle.journal_laws.proofs.Stepping.{Stepped, stepped, none}
-use Rattle.journal_laws.proofs.Steps.{refusals_change_nothing, sendings_wait_last, servings_take_effect}
 use Rattle.journal_laws.proofs.Views.{is_view, refused_view, sent_view, served_view, new_waits, fresh_unserved}
 
 le_refl_of : (n : ℕ) → n ≤ n
@@ -226,116 +225,32 @@ range_in a (suc m) n low high = by_test (cases_eq (0x40000000 + a) n) (λ apart.
   by_test (inl e) rest = or_left (0x40000000 + a == n) (among n (map end_of_mount (range_with_len (a + 1) m))) (eq-eqb (0x40000000 + a) n e)
   by_test (inr apart) rest = or_right (0x40000000 + a == n) (among n (map end_of_mount (range_with_len (a + 1) m))) (rest apart)
 
-range_apart : (a m : ℕ) → Apart (map end_of_mount (range_with_len a m))
-range_apart a zero = tt
-range_apart a (suc m) = (
-  false_from_ne_true (among (0x40000000 + a) (map end_of_mount (range_with_len (a + 1) m))) (λ h. let low = (in_range (a + 1) m (0x40000000 + a) h).0 in omega arith),
-  range_apart (a + 1) m,
-)
-
 -- the numbers of the ends of a start's mounts
-pub mounts_among : (start : Start) (n : ℕ) → IsNumbered start → among n (mount_ends start) ≡ (nat_le 0x40000000 n && nat_lt n (0x40000000 + length start.mounts))
+pub mounts_among : (start : Start) (n : ℕ) → mount_ends start ≡ map end_of_mount (range_with_len 0 (length start.mounts)) → among n (mount_ends start) ≡ (nat_le 0x40000000 n && nat_lt n (0x40000000 + length start.mounts))
 mounts_among start n numbered =
-    ap (among n) numbered.mounts
+    ap (among n) numbered
     ∙ same_bool (among n (map end_of_mount (range_with_len 0 (length start.mounts)))) (nat_le 0x40000000 n && nat_lt n (0x40000000 + length start.mounts))
     (λ h. let at = in_range 0 (length start.mounts) n h in and_from (nat_le 0x40000000 n) (nat_lt n (0x40000000 + length start.mounts)) (le-leb 0x40000000 n at.0) (lt-ltb n (0x40000000 + length start.mounts) at.1))
     (λ h.
     let at = and_parts (nat_le 0x40000000 n) (nat_lt n (0x40000000 + length start.mounts)) h in
     range_in 0 (length start.mounts) n (leb-true 0x40000000 n at.0) (ltb-true n (0x40000000 + length start.mounts) at.1))
 
--- first connections are apart
-unlike : (b : Bound) (bounds : List Bound) → All (λ other. b.endpoint ≢ other.endpoint) bounds → among b.endpoint (ends_of bounds) ≡ false
+unlike : (b : Bound) (bounds : List Bound) → All (OtherEndpoint b) bounds → among b.endpoint (ends_of bounds) ≡ false
 unlike b [] h = refl
 unlike b (x ∷ bounds) h =
-    or_from (x.endpoint == b.endpoint) (among b.endpoint (ends_of bounds)) (ne_eqb x.endpoint b.endpoint (λ e. All-head (λ other. b.endpoint ≢ other.endpoint) x bounds h (sym e)))
-    (unlike b bounds (All-tail (λ other. b.endpoint ≢ other.endpoint) x bounds h))
+    or_from (x.endpoint == b.endpoint) (among b.endpoint (ends_of bounds)) (ne_eqb x.endpoint b.endpoint (λ e. All-head (OtherEndpoint b) x bounds h (sym e)))
+    (unlike b bounds (All-tail (OtherEndpoint b) x bounds h))
 
-firsts_apart : (bounds : List Bound) → AllPairs (λ bound other. bound.endpoint ≢ other.endpoint) bounds → Apart (ends_of bounds)
-firsts_apart [] h = tt
-firsts_apart (b ∷ bounds) h = (
-  unlike b bounds (pairs-head (λ bound other. bound.endpoint ≢ other.endpoint) b bounds h),
-  firsts_apart bounds (pairs-tail (λ bound other. bound.endpoint ≢ other.endpoint) b bounds h),
-)
+bounds_apart : (bounds : List Bound) → AllPairs OtherEndpoint bounds → Apart (ends_of bounds)
+bounds_apart [] h = tt
+bounds_apart (b ∷ bounds) h = (unlike b bounds (pairs-head OtherEndpoint b bounds h), bounds_apart bounds (pairs-tail OtherEndpoint b bounds h))
 
--- a name among these is that of one of them
-named_one : (n : ℕ) (bounds : List Bound) → among n (ends_of bounds) ≡ true → (b : Bound) × Contains bounds b × (b.endpoint ≡ n)
-named_one n bounds h =
-    let b = some_found (λ bound. bound.endpoint == n) bounds (sym (named_is_bound bounds n) ∙ h) in
-    (b.0, b.2, eqb-true b.0.endpoint n b.3)
-
-pub births_apart : (start : Start) → IsStart start → IsNumbered start → Apart (ends_of (births start []))
-births_apart start s numbered =
-    subst (λ bounds. Apart (ends_of bounds)) (sym (append-nil (start.firsts ++ start.mounts)))
-    (subst Apart (sym (map-append (λ (bound : Bound). bound.endpoint) start.firsts start.mounts))
-    (apart_append (ends_of start.firsts) (ends_of start.mounts) (firsts_apart start.firsts numbered.firsts)
-    (subst Apart (sym numbered.mounts) (range_apart 0 (length start.mounts)))
-    (λ n h. false_from_ne_true (among n (ends_of start.mounts))
-    (λ g.
-    let one = named_one n start.firsts h in
-    let other = named_one n start.mounts g in
-    true≢false
-    (sym (All-contains (λ (bound : Bound). is_client bound.endpoint ≡ true) start.firsts one.0 s.firsts one.1)
-    ∙ ap is_client (one.2 ∙ sym other.2)
-    ∙ All-contains (λ (bound : Bound). is_client bound.endpoint ≡ false) start.mounts other.0 s.ends other.1)))))
-
-one_born : (o : Option Bound) → Apart (ends_of (option_to_list o))
-one_born None = tt
-one_born (Some b) = apart_one b.endpoint
-
-born_name : (n : ℕ) (o : Option Bound) → among n (ends_of (option_to_list o)) ≡ true → (b : Bound) × (o ≡ Some b) × (b.endpoint ≡ n)
-born_name n None h = absurd (true≢false (sym h))
-born_name n (Some b) h = (b, refl, by_test (cases_Bool (b.endpoint == n))) where
-  by_test : ((b.endpoint == n) ≡ true) ⊎ ((b.endpoint == n) ≡ false) → b.endpoint ≡ n
-  by_test (inl e) = eqb-true b.endpoint n e
-  by_test (inr e) = absurd (true≢false (sym h ∙ ap (λ (c : Bool). c || false) e))
-
--- what a serving binds wasn't bound
-served_apart : (start : Start) (history : History) (k : Sent) → IsAnswered (view start history) k (outcome_of start history k) → Transit start (view start history) nothing_left →
-    Apart (ends_of (living start history)) → Apart (ends_of (living start (behind start (serves k) history)))
-unfolding event_of
-served_apart start history k answered transit past =
-    let o = outcome_of start history k in
-    let event = event_of start history (serves k) in
-    let now = behind start (serves k) history in
-    let kept = but_for event.deaths (living start history) in
-    let new = newly_living now o.bound in
-    subst (λ bounds. Apart (ends_of bounds)) (sym (servings_take_effect start history k).alive)
-    (subst Apart (sym (map-append (λ (bound : Bound). bound.endpoint) kept new))
-    (apart_append (ends_of kept) (ends_of new)
-    (apart_kept (λ bound. not (among bound.endpoint event.deaths)) (living start history) past)
-    (apart_kept (λ bound. not (is_dead now bound.endpoint)) (option_to_list o.bound) (one_born o.bound))
-    (λ n h. false_from_ne_true (among n (ends_of new))
-    (λ g.
-    let b = born_name n o.bound (still_named (λ bound. not (is_dead now bound.endpoint)) n (option_to_list o.bound) g) in
-    let was = still_named (λ bound. not (among bound.endpoint event.deaths)) n (living start history) h in
-    let carried = ap (λ (m : ℕ). among m (endpoints_in k)) (sym b.2) ∙ answered.bound_in b.0 b.1 in
-    true≢false (sym was ∙ named_is_bound (living start history) n ∙ transit.unbound k n answered.waits carried)))))
-
--- and behind what it forwards
-forward_apart : (start : Start) (journal : Journal) (origin : ℕ) (x : Option Forwarded) → Apart (ends_of (living start (history_of start journal))) →
-    Apart (ends_of (living start (history_of start (with_forward origin journal x))))
-unfolding history_of
-forward_apart start journal origin None past = past
-forward_apart start journal origin (Some f) past =
-    subst (λ bounds. Apart (ends_of bounds))
-    (sym (sendings_wait_last start (history_of start journal) (sent_behind journal f.endpoint (message f.bytes (f.object ∷ [])) (Some origin))).same.alive) past
-
-pub lawful_apart : Below → (start : Start) → IsStart start → IsNumbered start → (journal : Journal) → Lawful start journal → Apart (ends_of (living start (history_of start journal)))
-unfolding history_of
-lawful_apart below start s numbered journal begun = apart_kept (λ bound. not (is_dead [] bound.endpoint)) (births start []) (births_apart start s numbered)
-lawful_apart below start s numbered journal (refused earlier frame why h is admits) =
-    subst (λ bounds. Apart (ends_of bounds)) (sym (refusals_change_nothing start (history_of start earlier) frame.endpoint why).same.alive) (lawful_apart below start s numbered earlier h)
-lawful_apart below start s numbered journal (sent earlier frame h is at admits) =
-    subst (λ bounds. Apart (ends_of bounds))
-    (sym (sendings_wait_last start (history_of start earlier) (sent_behind earlier frame.endpoint (message frame.bytes frame.handles) None)).same.alive) (lawful_apart below start s numbered earlier h)
-lawful_apart below start s numbered journal (closed earlier frame h is at admits) =
-    subst (λ bounds. Apart (ends_of bounds))
-    (sym (sendings_wait_last start (history_of start earlier) (sent_behind earlier frame.endpoint hang_up None)).same.alive) (lawful_apart below start s numbered earlier h)
-lawful_apart below start s numbered journal (served earlier entry h is) =
-    let past = lawful_kept below start s earlier h in
-    let serving' = is_serving below start earlier entry s (stepped start earlier h) past.sound is in
-    forward_apart start (serves entry ∷ earlier) entry.place (outcome_of start (history_of start earlier) entry).forward
-    (served_apart start (history_of start earlier) entry serving'.answered past.transit (lawful_apart below start s numbered earlier h))
+-- who lives was born, and none is born twice
+lives_apart : Below → (start : Start) → IsStart start → (journal : Journal) → Lawful start journal → Apart (ends_of (living start (history_of start journal)))
+lives_apart below start s journal lawful =
+    let past = history_of start journal in
+    bounds_apart (living start past)
+    (AllPairs-filter OtherEndpoint (λ bound. not (is_dead past bound.endpoint)) (births start past) (births_apart below start s s.apart journal lawful))
 
 -- ---- deaths, once each
 
@@ -435,26 +350,26 @@ ends_count start history =
     length-append (ends_of (living start history)) (travelling history) ∙ ap (λ (n : ℕ). n + length (travelling history)) (length-map (living start history) (λ (bound : Bound). bound.endpoint))
 
 -- no endpoint lives twice
-pub ends_apart : Below → (start : Start) (journal : Journal) → IsStart start → IsNumbered start → Lawful start journal → Apart (all_ends start (history_of start journal))
-ends_apart below start journal s numbered lawful =
+pub ends_apart : Below → (start : Start) (journal : Journal) → IsStart start → Lawful start journal → Apart (all_ends start (history_of start journal))
+ends_apart below start journal s lawful =
     let history = history_of start journal in
     let transit = (lawful_kept below start s journal lawful).transit in
-    apart_append (ends_of (living start history)) (travelling history) (lawful_apart below start s numbered journal lawful) (apart_carried (waiting history) (waiting_own below start journal s lawful))
+    apart_append (ends_of (living start history)) (travelling history) (lives_apart below start s journal lawful) (apart_carried (waiting history) (waiting_own below start journal s lawful))
     (λ n h. false_from_ne_true (among n (travelling history))
     (λ g.
     let one = carrier_of n (waiting history) g in
     true≢false (sym h ∙ named_is_bound (living start history) n ∙ transit.unbound one.0 n one.1 one.2)))
 
 -- so many fewer live as die
-pub fewer_live : Below → (start : Start) (journal : Journal) (k : Sent) → IsStart start → IsNumbered start → Lawful start journal → head start (history_of start journal) k.endpoint ≡ Some k →
+pub fewer_live : Below → (start : Start) (journal : Journal) (k : Sent) → IsStart start → Lawful start journal → head start (history_of start journal) k.endpoint ≡ Some k →
     live_count start (history_of start (after_serving start journal k)) + length (deaths_of (history_of start journal) k (outcome_of start (history_of start journal) k)) ≡ live_count start (history_of start journal)
-fewer_live below start journal k s numbered lawful h =
+fewer_live below start journal k s lawful h =
     let history = history_of start journal in
     let now = history_of start (after_serving start journal k) in
     let deaths = deaths_of history k (outcome_of start history k) in
     let after = after_served below start journal k s lawful h in
-    let was = ends_apart below start journal s numbered lawful in
-    let still = ends_apart below start (after_serving start journal k) s numbered (served journal k lawful h) in
+    let was = ends_apart below start journal s lawful in
+    let still = ends_apart below start (after_serving start journal k) s (served journal k lawful h) in
     let none = deaths_apart below start journal k s lawful h in
     let whole : Apart (all_ends start now ++ deaths) = apart_append (all_ends start now) deaths still none
     (λ n l. spared (is_live start history n) (among n deaths) (sym (after.live n) ∙ sym (ends_live start now n) ∙ l)) in

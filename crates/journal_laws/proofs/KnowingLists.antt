@@ -1,6 +1,6 @@
 -- Lists of numbers that are apart, and how many they are.
 use Rattle.std.proofs.Common.{◌≡◌, ◌≢◌, ℕ, suc, ◌<◌, ◌≤◌, ◌==◌, ◌||◌, ◌⊎◌, Bool, true, false, cond, List, [], ◌∷◌, ◌++◌, length, map, filter, flat_map, All, AllPairs, Contains, refl, sym, ap, ◌∙◌, inl, inr, if◌then◌else◌, arith}
-use Rattle.std.proofs.lemmas.Bool.{eqb-true, eq-eqb, or_cases, or_parts, or_from, false_from_ne_true, true≢false}
+use Rattle.std.proofs.lemmas.Bool.{eqb-true, eq-eqb, or_parts, or_from, false_from_ne_true, true≢false}
 use Rattle.std.proofs.lemmas.List.Elements.{All-nil, All-cons, All-contains}
 use Rattle.std.proofs.lemmas.List.Kept.{AllPairs-cons, AllPairs-filter}
 use Rattle.endpoint_link.specs.Numbering.{among}
@@ -87,23 +87,6 @@ apart_filter p (x ∷ xs) apart = by_test (p x) (apart_filter p xs apart.1) wher
 
 abbrev pub ends_of : List Bound → List ℕ
 ends_of bounds = map (λ bound. bound.endpoint) bounds
-
-pub still_named : (p : Bound → Bool) (n : ℕ) (bounds : List Bound) → among n (ends_of (filter p bounds)) ≡ true → among n (ends_of bounds) ≡ true
-still_named p n [] h = h
-still_named p n (b ∷ bounds) h = by_test (p b) (b.endpoint == n) (still_named p n bounds) h where
-  by_test : (c d : Bool) → (among n (ends_of (filter p bounds)) ≡ true → among n (ends_of bounds) ≡ true) → among n (ends_of (cond c (b ∷ filter p bounds) (filter p bounds))) ≡ true → (b.endpoint == n || among n (ends_of bounds)) ≡ true
-  by_test true d rest h = by_side (or_cases (b.endpoint == n) (among n (ends_of (filter p bounds))) h) where
-    by_side : ((b.endpoint == n) ≡ true) ⊎ (among n (ends_of (filter p bounds)) ≡ true) → (b.endpoint == n || among n (ends_of bounds)) ≡ true
-    by_side (inl e) = ap (λ (x : Bool). x || among n (ends_of bounds)) e
-    by_side (inr g) = later_among n b.endpoint (ends_of bounds) (rest g)
-  by_test false d rest h = later_among n b.endpoint (ends_of bounds) (rest h)
-
-pub apart_kept : (p : Bound → Bool) (bounds : List Bound) → Apart (ends_of bounds) → Apart (ends_of (filter p bounds))
-apart_kept p [] apart = tt
-apart_kept p (b ∷ bounds) apart = by_test (p b) (apart_kept p bounds apart.1) where
-  by_test : (c : Bool) → Apart (ends_of (filter p bounds)) → Apart (ends_of (cond c (b ∷ filter p bounds) (filter p bounds)))
-  by_test true rest = (false_from_ne_true (among b.endpoint (ends_of (filter p bounds))) (λ h. true≢false (sym (still_named p b.endpoint bounds h) ∙ apart.0)), rest)
-  by_test false rest = rest
 
 -- as pairs
 each_apart : (x : ℕ) (xs : List ℕ) → among x xs ≡ false → All (λ y. x ≢ y) xs

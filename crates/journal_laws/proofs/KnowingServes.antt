@@ -43,9 +43,9 @@ lives_so closed' p q = rw (p, q, either closed') where
   either true = refl
   either false = refl
 
-pub servings_end : Below → (start : Start) (journal : Journal) (sent : Sent) → IsStart start → IsNumbered start → Lawful start journal → head start (history_of start journal) sent.endpoint ≡ Some sent →
+pub servings_end : Below → (start : Start) (journal : Journal) (sent : Sent) → IsStart start → Lawful start journal → head start (history_of start journal) sent.endpoint ≡ Some sent →
     AreDeaths start (history_of start journal) (history_of start (after_serving start journal sent)) (deaths_at start journal sent)
-servings_end below start journal sent s numbered lawful h =
+servings_end below start journal sent s lawful h =
     let past = history_of start journal in
     let now = history_of start (after_serving start journal sent) in
     let deaths = deaths_at start journal sent in
@@ -60,7 +60,7 @@ servings_end below start journal sent s numbered lawful h =
           ∙ ap (λ (b : Bool). stands (among n deaths || is_dead past n) b (hung_up now n)) (after.live n)
           ∙ ap (λ (b : Bool). stands (among n deaths || is_dead past n) (is_live start past n && not (among n deaths)) b) (after.closed n)
           ∙ death_stands (is_dead past n) (is_live start past n) (hung_up past n) (among n deaths);
-      count = fewer_live below start journal sent s numbered lawful h;
+      count = fewer_live below start journal sent s lawful h;
     }
 
 -- ---- what is known behind deaths
@@ -105,7 +105,7 @@ first_living start = all_kept (births start []) ∙ append-nil (start.firsts ++ 
 
 first_live : (start : Start) (n : ℕ) → IsNumbered start → (among n (ends_of start.firsts) || is_mount_end (length start.mounts) n) ≡ is_live start [] n
 first_live start n numbered =
-    ap (λ (b : Bool). among n (ends_of start.firsts) || b) (sym (mounts_among start n numbered))
+    ap (λ (b : Bool). among n (ends_of start.firsts) || b) (sym (mounts_among start n numbered.mounts))
     ∙ sym (among-append n (ends_of start.firsts) (ends_of start.mounts))
     ∙ ap (among n) (sym (map-append (λ (bound : Bound). bound.endpoint) start.firsts start.mounts))
     ∙ named_is_bound (start.firsts ++ start.mounts) n

@@ -2,7 +2,7 @@
 use Rattle.std.proofs.Common.{◌≡◌, ℕ, suc, All, AllPairs, map, arith, ◌==◌, ◌&&◌, Bool, true, false, cond, List, [], ◌∷◌, ◌++◌, reverse, Option, Some, None, filter, filter_map, option_to_list, refl, sym, ap, ◌∙◌}
 use Rattle.std.proofs.lemmas.Bool.{eqb-true, eqb-false}
 use Rattle.std.proofs.lemmas.List.{reverse-append}
-use Rattle.std.proofs.lemmas.List.Elements.{All-append, All-head, All-tail, All-map, filter_map-append}
+use Rattle.std.proofs.lemmas.List.Elements.{All-append, All-cons, All-head, All-nil, All-tail, All-map, filter_map-append}
 use Rattle.std.proofs.lemmas.List.Kept.{AllPairs-cons}
 
 -- the newest one stands last when read in order
@@ -53,6 +53,14 @@ pairs-append R [] ys a b c = b
 pairs-append R (x ∷ xs) ys a b c =
     AllPairs-cons R x (xs ++ ys) (All-append (R x) xs ys (pairs-head R x xs a) (All-head (λ z. All (R z) ys) x xs c))
     (pairs-append R xs ys (pairs-tail R x xs a) b (All-tail (λ z. All (R z) ys) x xs c))
+
+left_all : {X : Type 0} (P : X → Type 0) (xs ys : List X) → All P (xs ++ ys) → All P xs
+left_all P [] ys h = All-nil P
+left_all P (x ∷ xs) ys h = All-cons P x xs (All-head P x (xs ++ ys) h) (left_all P xs ys (All-tail P x (xs ++ ys) h))
+
+pub pairs-left : {X : Type 0} (R : X → X → Type 0) (xs ys : List X) → AllPairs R (xs ++ ys) → AllPairs R xs
+pairs-left R [] ys h = λ i j d a b. absurd (omega arith)
+pairs-left R (x ∷ xs) ys h = AllPairs-cons R x xs (left_all (R x) xs ys (pairs-head R x (xs ++ ys) h)) (pairs-left R xs ys (pairs-tail R x (xs ++ ys) h))
 
 pub pairs-map : {X Y : Type 0} (R : Y → Y → Type 0) (f : X → Y) (xs : List X) → AllPairs (λ a b. R (f a) (f b)) xs → AllPairs R (map f xs)
 pairs-map R f [] a = λ i j d l m. absurd (omega arith)

@@ -123,7 +123,7 @@ deaths_at start journal sent =
 -- a serving ends its deaths, each once
 abbrev pub ServingsEndTheirDeaths : Type 0
 ServingsEndTheirDeaths =
-    (start : Start) (journal : Journal) (sent : Sent) → IsStart start → IsNumbered start → Lawful start journal → head start (history_of start journal) sent.endpoint ≡ Some sent →
+    (start : Start) (journal : Journal) (sent : Sent) → IsStart start → Lawful start journal → head start (history_of start journal) sent.endpoint ≡ Some sent →
     AreDeaths start (history_of start journal) (history_of start (after_serving start journal sent)) (deaths_at start journal sent)
 
 -- behind a serving its deaths, each once in any order, the tokens that are gone, so too, the one that is given, and the count of what waits

@@ -22,7 +22,7 @@ use Rattle.vfs_journal.specs.Session.{head, with_forward}
 use Rattle.vfs_journal.specs.Starts.{Bound, Start}
 use Rattle.journal_laws.specs.Soundness.{IsStart, OtherEndpoint}
 use Rattle.journal_laws.proofs.Below.{Below}
-use Rattle.journal_laws.proofs.KnowingBehind.{left_pairs}
+use Rattle.journal_laws.proofs.Lists.{pairs-left}
 use Rattle.journal_laws.proofs.Members.{contains_here, first_found, found, none_found}
 use Rattle.rights_laws.specs.Authority.{EachHas, HasAuthority, IsAllowed, IsNarrow, NarrowAncestorsChangeNothing}
 use Rattle.rights_laws.specs.Lineage.{ancestors_of, lineage_of, lines_of, masks_along, sent_from, trail_of, walk_at}
@@ -104,7 +104,7 @@ module _ (start : Start) (journal : Journal) (k : Sent) (moment : Moment) (first
 one_first : (start : Start) (one other : Bound) → IsStart start → Contains start.firsts one → Contains start.firsts other → one.endpoint ≡ other.endpoint → one ≡ other
 one_first start one other s here there same = by_found (find (λ b. b.endpoint == other.endpoint) start.firsts) refl where
   apart : AllPairs OtherEndpoint start.firsts
-  apart = left_pairs OtherEndpoint start.firsts start.mounts s.apart
+  apart = pairs-left OtherEndpoint start.firsts start.mounts s.apart
 
   by_side : (x z : Bound) → Contains start.firsts z → z.endpoint ≡ other.endpoint → find (λ b. b.endpoint == other.endpoint) start.firsts ≡ Some x → x ≡ z
   by_side x z in_them on e = by_case (first_found OtherEndpoint (λ b. b.endpoint == other.endpoint) start.firsts x z apart e in_them (eq-eqb z.endpoint other.endpoint on)) where

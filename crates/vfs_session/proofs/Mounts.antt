@@ -17,7 +17,6 @@ use Rattle.vfs_journal.specs.View.{is_bound_in}
 use Rattle.journal_laws.specs.Soundness.{IsOnDirectory, IsStart, mount_ends}
 use Rattle.journal_laws.specs.Viewing.{view_behind}
 use Rattle.journal_laws.proofs.Among.{among_of}
-use Rattle.journal_laws.proofs.KnowingBehind.{numbered_of}
 use Rattle.journal_laws.proofs.KnowingCount.{mounts_among}
 use Rattle.journal_laws.proofs.Members.{kept_of}
 use Rattle.journal_laws.proofs.TransitLaws.{are_known}
@@ -62,7 +61,7 @@ mount_low start journal mount apart s lawful other bound =
       by_kind (inr known) = absurd (true≢false (sym known.0 ∙ other))
       by_kind (inl c) =
           let n = end_of_mount mount in
-          let at = and_parts (nat_le 0x40000000 n) (nat_lt n (0x40000000 + length start.mounts)) (sym (mounts_among start n (numbered_of start s)) ∙ among_of n (mount_ends start) c) in
+          let at = and_parts (nat_le 0x40000000 n) (nat_lt n (0x40000000 + length start.mounts)) (sym (mounts_among start n s.numbered) ∙ among_of n (mount_ends start) c) in
           let low : 0x40000000 + mount < 0x40000000 + length start.mounts = ltb-true n (0x40000000 + length start.mounts) at.1 in
           let few = few_mounts start s in
           omega (arith, low, few)

@@ -26,7 +26,7 @@ use Rattle.journal_laws.proofs.Among.{among_of}
 use Rattle.journal_laws.proofs.Dying.{deaths_are_least}
 use Rattle.journal_laws.proofs.Fits.{views_fit}
 use Rattle.journal_laws.proofs.Growing.{trees_grow}
-use Rattle.journal_laws.proofs.KnowingBehind.{numbered_of, spent_known}
+use Rattle.journal_laws.proofs.KnowingBehind.{spent_known}
 use Rattle.journal_laws.proofs.KnowingServes.{servings_end}
 use Rattle.journal_laws.proofs.ViewLaws.{same_length}
 use Rattle.journal_laws.proofs.ViewParts.{deaths_are, head_is_in, token_is}
@@ -215,7 +215,7 @@ module _ (old : World) (run : IsRunning (2 ^ 61) old) (sent : Sent) (pair : Boun
     were_live dead died n c =
         let past = history_of run.start run.journal in
         let same = same_deaths dead died in
-        let ends = servings_end (below run.apart) run.start run.journal sent run.stands.sound (numbered_of run.start run.stands.sound) run.stands.lawful
+        let ends = servings_end (below run.apart) run.start run.journal sent run.stands.sound run.stands.lawful
         (head_is_in run.start past sent.endpoint ∙ first) in
         ap (λ (k : Known). is_live (standing_of k n)) d.known
         ∙ ap is_live (run.stands.knows.standing n)

@@ -19,10 +19,10 @@ use Rattle.journal_laws.specs.Choosing.{IsListOf, queue_beside}
 use Rattle.journal_laws.specs.Knowing.{dropped_in, known_served, spent_in}
 use Rattle.journal_laws.proofs.Among.{among_of, member_of}
 use Rattle.journal_laws.proofs.Dying.{beside}
-use Rattle.journal_laws.proofs.KnowingBehind.{from_pairs, left_pairs}
+use Rattle.journal_laws.proofs.KnowingBehind.{from_pairs}
 use Rattle.journal_laws.proofs.KnowingCount.{same_bool}
 use Rattle.journal_laws.proofs.KnowingLists.{Apart, apart_append, apart_filter, apart_pairs, first_among, later_among}
-use Rattle.journal_laws.proofs.Lists.{pairs-head, pairs-tail}
+use Rattle.journal_laws.proofs.Lists.{pairs-head, pairs-left, pairs-tail}
 use Rattle.journal_laws.proofs.LookedUp.{is_first}
 use Rattle.journal_laws.proofs.Members.{contains_cases, contains_here, contains_later, contains_none, kept, kept_of}
 use Rattle.journal_laws.proofs.Spent.{apart_right, carried_once, token_in_is, tokens_from_many, tokens_of_many}
@@ -120,7 +120,7 @@ module _ (view : View) (sent : Sent) (queues : Queues) (dead : List ℕ) (fit : 
   handles_apart one [] apart c = absurd (contains_none one c)
   handles_apart one (x ∷ ones) apart c = by_place (handles_apart one ones (apart_right (handles_of x.sending) (flat_map (λ y. handles_of y.sending) ones) apart)) (contains_cases one x ones c) where
     by_place : (Contains ones one → AllPairs (λ x y. x ≢ y) (handles_of one.sending)) → (x ≡ one) ⊎ Contains ones one → AllPairs (λ x y. x ≢ y) (handles_of one.sending)
-    by_place rest (inl e) = subst (λ (s : Sent). AllPairs (λ x y. x ≢ y) (handles_of s.sending)) e (left_pairs (λ x y. x ≢ y) (handles_of x.sending) (flat_map (λ y. handles_of y.sending) ones) apart)
+    by_place rest (inl e) = subst (λ (s : Sent). AllPairs (λ x y. x ≢ y) (handles_of s.sending)) e (pairs-left (λ x y. x ≢ y) (handles_of x.sending) (flat_map (λ y. handles_of y.sending) ones) apart)
     by_place rest (inr q) = rest q
 
   tokens_apart : (one : Sent) → Contains view.waiting one → Apart (tokens_in one)
