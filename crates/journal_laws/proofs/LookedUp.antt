@@ -1,5 +1,5 @@
 -- What is looked up behind a serving.
-use Rattle.std.proofs.Common.{◌≡◌, ◌≢◌, ℕ, ◌+◌, ◌*◌, ◌<◌, ◌≤◌, ◌==◌, ◌⊎◌, Bool, true, false, not, cond, is_some, if◌then◌else◌, List, [], ◌∷◌, ◌++◌, map, filter, find, option_to_list, Option, Some, None, AllPairs, Contains, refl, sym, ap, ◌∙◌, inl, inr, append-nil, arith}
+use Rattle.std.proofs.Common.{◌≡◌, ◌≢◌, ℕ, ◌<◌, ◌==◌, ◌⊎◌, Bool, true, false, not, cond, is_some, if◌then◌else◌, List, [], ◌∷◌, ◌++◌, map, filter, find, option_to_list, Option, Some, None, AllPairs, Contains, refl, sym, ap, ◌∙◌, inl, inr, append-nil, arith}
 use Rattle.std.specs.Option.{option_map, option_map_or, option_or}
 use Rattle.std.proofs.lemmas.Bool.{cases_Bool, eqb-true, eq-eqb, ne_eqb, true≢false}
 use Rattle.std.proofs.lemmas.List.Elements.{All-contains, filter-append}
@@ -9,19 +9,13 @@ use Rattle.conn_rules.specs.Births.{Position, fresh}
 use Rattle.vfs_journal.specs.Entries.{Sent}
 use Rattle.vfs_journal.specs.Fit.{IsFit}
 use Rattle.vfs_journal.specs.Outcomes.{Forwarded}
-use Rattle.vfs_journal.specs.Past.{history_of}
-use Rattle.vfs_journal.specs.Session.{after_serving, head, weight}
 use Rattle.vfs_journal.specs.Starts.{Bound}
-use Rattle.vfs_journal.specs.View.{View, at_in, deaths_in, event_in, head_in, is_bound_in, moved, onward_in, onward_sent, others_in, outcome_in, queue_in, sending_in, serving_in, then_in, weight_in}
+use Rattle.vfs_journal.specs.View.{View, at_in, deaths_in, event_in, head_in, is_bound_in, moved, onward_in, onward_sent, others_in, outcome_in, queue_in, sending_in, serving_in}
 use Rattle.journal_laws.specs.Behind.{IsBehind, at_behind, later_of, onward_to, queue_behind}
-use Rattle.journal_laws.specs.Viewing.{IsReached}
 use Rattle.journal_laws.proofs.Among.{carrier_travels, one_place}
-use Rattle.journal_laws.proofs.Below.{Below}
-use Rattle.journal_laws.proofs.Draining.{servings_lower_the_weight}
 use Rattle.journal_laws.proofs.Lists.{pairs-head, pairs-tail}
 use Rattle.journal_laws.proofs.Members.{contains_here, contains_later, found}
-use Rattle.journal_laws.proofs.ViewLaws.{served_behind_viewed}
-use Rattle.journal_laws.proofs.ViewParts.{find-map, find_agree, head_is_in}
+use Rattle.journal_laws.proofs.ViewParts.{find-map, find_agree}
 
 -- ---- endpoints among those that live on
 
@@ -229,20 +223,3 @@ is_behind view sent fit h =
           queue_onward mid sent o n
           ∙ ap (λ (x : List Sent). x ++ onward_to view sent n) (queue_served view sent fit first n);
     }
-
--- ---- places
-
-places_by : (view : View) (sent : Sent) (o : Option Forwarded) → (onward_in view sent o).places ≤ view.places + 1
-places_by view sent None = omega arith
-places_by view sent (Some forward) = omega arith
-
-pub places_counted : Below → (view : View) (sent : Sent) → IsReached view → head_in view sent.endpoint ≡ Some sent → (then_in view sent).places + 2 * weight_in (then_in view sent) ≤ view.places + 2 * weight_in view
-places_counted below view sent r h =
-    let past = history_of r.start r.journal in
-    let first : head r.start past sent.endpoint ≡ Some sent = head_is_in r.start past sent.endpoint ∙ ap (λ (v : View). head_in v sent.endpoint) r.seen ∙ h in
-    let less = servings_lower_the_weight below r.start r.journal sent r.sound r.lawful first in
-    let now : weight (history_of r.start (after_serving r.start r.journal sent)) ≡ weight_in (then_in view sent) =
-    ap weight_in (served_behind_viewed below r.start r.journal sent r.sound r.lawful first) ∙ ap (λ (v : View). weight_in (then_in v sent)) r.seen in
-    let was : weight past ≡ weight_in view = ap weight_in r.seen in
-    let places = places_by (serving_in view sent (event_in view sent)) sent (outcome_in view sent).forward in
-    omega (arith, less, now, was, places)

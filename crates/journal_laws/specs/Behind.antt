@@ -1,13 +1,12 @@
 -- What is looked up in the view behind a serving: each endpoint by itself, whatever else there is.
-use Rattle.std.specs.Prelude.{◌≡◌, ◌+◌, ◌*◌, ◌≤◌, ◌==◌, ℕ, false, if◌then◌else◌, List, [], ◌∷◌, ◌++◌, Option, Some, None}
+use Rattle.std.specs.Prelude.{◌≡◌, ◌+◌, ◌==◌, ℕ, false, if◌then◌else◌, List, [], ◌∷◌, ◌++◌, Option, Some, None}
 use Rattle.std.specs.Option.{option_map, option_map_or}
 use Rattle.endpoint_link.specs.Numbering.{among}
 use Rattle.conn_rules.specs.Births.{Position, fresh}
 use Rattle.vfs_journal.specs.Entries.{Sent}
 use Rattle.vfs_journal.specs.Fit.{IsFit}
 use Rattle.vfs_journal.specs.Starts.{Bound}
-use Rattle.vfs_journal.specs.View.{View, at_in, deaths_in, head_in, moved, onward_sent, outcome_in, queue_in, sending_in, then_in, weight_in}
-use Rattle.journal_laws.specs.Viewing.{IsReached}
+use Rattle.vfs_journal.specs.View.{View, at_in, deaths_in, head_in, moved, onward_sent, outcome_in, queue_in, sending_in, then_in}
 
 -- a dead endpoint isn't bound; what the outcome binds is at its beginning, and the served endpoint where the outcome leaves it
 abbrev pub at_behind : View → Sent → ℕ → Option (Bound × Position)
@@ -51,9 +50,3 @@ SendingsAreLookedUp =
     (view : View) (sent : Sent) (endpoint : ℕ) →
     (at_in (sending_in view sent) endpoint ≡ at_in view endpoint)
     × (queue_in (sending_in view sent) endpoint ≡ queue_in view endpoint ++ (if sent.endpoint == endpoint then sent ∷ [] else []))
-
--- the places that are taken, with those that what waits can still take, are never more behind a serving
-abbrev pub ServingsTakeCountedPlaces : Type 0
-ServingsTakeCountedPlaces =
-    (view : View) (sent : Sent) → IsReached view → head_in view sent.endpoint ≡ Some sent →
-    (then_in view sent).places + 2 * weight_in (then_in view sent) ≤ view.places + 2 * weight_in view

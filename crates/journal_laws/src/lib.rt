@@ -24,7 +24,6 @@ pub use laws::{
 pub use viewing::{
     connections_are_few, reached_views_go_on, reached_views_hear, refusals_are_viewed,
     sendings_are_looked_up, sendings_are_viewed, servings_are_in_view, servings_are_looked_up,
-    servings_are_viewed, servings_take_counted_places, servings_write_their_frames,
-    trees_grow_slowly, trees_stay_sound, turns_are_viewed, views_are_fit,
-    who_lives_stands_on_trees,
+    servings_are_viewed, servings_write_their_frames, trees_grow_slowly, trees_stay_sound,
+    turns_are_viewed, views_are_fit, who_lives_stands_on_trees,
 };

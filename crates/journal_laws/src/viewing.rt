@@ -1,7 +1,7 @@
 //! Laws of the view of a past. They compute nothing: what they say is in their clauses.
 
 ghost use Rattle.fidl_wire.specs.Names.{AreDistinct};
-ghost use Rattle.journal_laws.specs.Behind.{SendingsAreLookedUp, ServingsAreLookedUp, ServingsTakeCountedPlaces};
+ghost use Rattle.journal_laws.specs.Behind.{SendingsAreLookedUp, ServingsAreLookedUp};
 ghost use Rattle.journal_laws.specs.Hearing.{ReachedViewsHear};
 ghost use Rattle.journal_laws.specs.Rooms.{ConnectionsAreFew};
 ghost use Rattle.journal_laws.specs.Trees.{TreesGrowSlowly, TreesStaySound, WhoLivesStandsOnTrees};
@@ -78,16 +78,6 @@ pub fn servings_are_looked_up()
 pub fn sendings_are_looked_up()
     ensures { SendingsAreLookedUp }
 {}
-
-/// Behind a serving the places that are taken, with two for each part of the weight of what waits, are no more than before; where no two
-/// names have equal ordinals.
-pub fn servings_take_counted_places()
-    ensures { AreDistinct → ServingsTakeCountedPlaces }
-{
-    body_is_read_where_spelled();
-    written_request_is_read();
-    path_laws();
-}
 
 /// In a lawful journal no server has more connections than it may have, where none has more at the start: what binds found fewer.
 pub fn connections_are_few()
