@@ -3,10 +3,6 @@
 ghost use Rattle.fidl_wire.specs.Names.{AreDistinct};
 ghost use Rattle.frame_laws.specs.Laws.{OutputIsReadBack, PartsAreReadBack, SessionsAreReadBack, StartsHaveBytes};
 
-use fidl_wire::body_is_read_where_spelled;
-use io_messages::written_request_is_read;
-use path_walk::path_laws;
-
 /// The start of an accepted tree, whose files are bytes, has names of bytes as well.
 pub fn starts_have_bytes()
     ensures { StartsHaveBytes }
@@ -16,28 +12,16 @@ pub fn starts_have_bytes()
 /// no others; where no two names have equal ordinals.
 pub fn output_is_read_back()
     ensures { AreDistinct → OutputIsReadBack }
-{
-    body_is_read_where_spelled();
-    written_request_is_read();
-    path_laws();
-}
+{}
 
 /// What a lawful journal writes behind the output of another is read as the frames that it has more; where no two names have equal
 /// ordinals.
 pub fn parts_are_read_back()
     ensures { AreDistinct → PartsAreReadBack }
-{
-    body_is_read_where_spelled();
-    written_request_is_read();
-    path_laws();
-}
+{}
 
 /// The output of a session over an accepted tree whose files are bytes is read as the frames that were written, in either mode, before its
 /// last drain and behind it; where no two names have equal ordinals.
 pub fn sessions_are_read_back()
     ensures { AreDistinct → SessionsAreReadBack }
-{
-    body_is_read_where_spelled();
-    written_request_is_read();
-    path_laws();
-}
+{}

@@ -1,9 +1,14 @@
--- The laws of the layers below, which the laws of journals call.
+-- What the laws of journals stand on: the laws of the layers below, where no two names have equal ordinals.
 use Rattle.std.specs.Prelude.{◌≡◌, ℕ, List, None}
 use Rattle.fidl_wire.specs.Laws.{ReadsWhatIsSpelled, SpelledWhereRead}
 use Rattle.fidl_wire.specs.Names.{AreDistinct}
 use Rattle.io_messages.specs.Laws.{WrittenRequestsAreRead}
 use Rattle.path_walk.specs.Paths.{IsPath, names_of, path_fault}
+use Rattle.fidl_wire.proofs.Bodies.{spelled_read, read_spelled}
+use Rattle.fidl_wire.proofs.ReadHeaders.{header_again}
+use Rattle.fidl_wire.proofs.Spelled.{message_spelled}
+use Rattle.io_messages.proofs.WritingLaws.{written_request}
+use Rattle.path_walk.proofs.PathLemmas.{path_sound, path_complete}
 
 pub record Below : Type 0 where
   pub spelled : SpelledWhereRead
@@ -12,3 +17,13 @@ pub record Below : Type 0 where
   pub apart : AreDistinct
   pub sound : (text : List ℕ) → path_fault text ≡ None → IsPath text (names_of text)
   pub complete : (text : List ℕ) (names : List (List ℕ)) → IsPath text names → (path_fault text ≡ None) × (names_of text ≡ names)
+
+pub below : AreDistinct → Below
+below apart = record {
+  spelled = read_spelled;
+  reads = spelled_read;
+  written = written_request message_spelled header_again;
+  apart = apart;
+  sound = path_sound;
+  complete = path_complete;
+}

@@ -1,4 +1,5 @@
--- Laws, each proved, and words of steps between journals: beside `IsStart` in Soundness and `IsReached` in Viewing none has to be believed.
+-- Laws, each proved, and words of steps between journals. A reader of what is built on them believes `IsStart` in Soundness, `IsReached` in
+-- Viewing and `AreServedOnce` in Laws, and no others.
 pub mod Laws
 pub mod Soundness
 pub mod Carrying

@@ -3,10 +3,6 @@
 ghost use Rattle.fidl_wire.specs.Names.{AreDistinct};
 ghost use Rattle.journal_laws.specs.Knowing.{FewWait, KnowersAdmit, StartsAreKnown, RefusalsAreKnown, MessagesAreKnown, HangUpsAreKnown, ServingsEndTheirDeaths, ServingsCountWhatWaits, ServingsKeepWhatIsKnown, SpentTokensAreOut, StartsOfFilesAreNumbered};
 
-use fidl_wire::body_is_read_where_spelled;
-use io_messages::written_request_is_read;
-use path_walk::path_laws;
-
 /// What is known at the start is what looking back says of no past.
 pub fn starts_are_known()
     ensures { StartsAreKnown }
@@ -26,58 +22,34 @@ pub fn refusals_are_known()
 /// where no two names have equal ordinals.
 pub fn knowers_admit()
     ensures { AreDistinct → KnowersAdmit }
-{
-    body_is_read_where_spelled();
-    written_request_is_read();
-    path_laws();
-}
+{}
 
 /// Behind an admitted message, what its admission leaves is what looking back says; where no two names have equal ordinals.
 pub fn messages_are_known()
     ensures { AreDistinct → MessagesAreKnown }
-{
-    body_is_read_where_spelled();
-    written_request_is_read();
-    path_laws();
-}
+{}
 
 /// Behind an admitted hang-up, what its admission leaves is what looking back says; where no two names have equal ordinals.
 pub fn hang_ups_are_known()
     ensures { AreDistinct → HangUpsAreKnown }
-{
-    body_is_read_where_spelled();
-    written_request_is_read();
-    path_laws();
-}
+{}
 
 /// The endpoints that die of a serving are distinct and were live, each other endpoint stands as it stood, and so many fewer are live;
 /// where no two names have equal ordinals.
 pub fn servings_end_their_deaths()
     ensures { AreDistinct → ServingsEndTheirDeaths }
-{
-    body_is_read_where_spelled();
-    written_request_is_read();
-    path_laws();
-}
+{}
 
 /// Behind a serving, to end its deaths, to let go of the tokens of what was served and dropped, to give the token that is given and to
 /// count what waits leaves what looking back says; where no two names have equal ordinals.
 pub fn servings_keep_what_is_known()
     ensures { AreDistinct → ServingsKeepWhatIsKnown }
-{
-    body_is_read_where_spelled();
-    written_request_is_read();
-    path_laws();
-}
+{}
 
 /// Each token that a serving lets go of is known to be out, and not held; where no two names have equal ordinals.
 pub fn spent_tokens_are_out()
     ensures { AreDistinct → SpentTokensAreOut }
-{
-    body_is_read_where_spelled();
-    written_request_is_read();
-    path_laws();
-}
+{}
 
 /// Behind a serving of a fit view fewer wait by what was served and dropped, and one more where an Open goes on.
 pub fn servings_count_what_waits()

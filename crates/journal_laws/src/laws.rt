@@ -5,10 +5,6 @@ ghost use Rattle.journal_laws.specs.Carrying.{ServingsBindWhatTheyCarry};
 ghost use Rattle.journal_laws.specs.Laws.{HangUpsWait, PlacesRise, RefusalsChangeNothing, SendingsWaitLast, ServedOnce, ServingsTakeEffect, WhatIsSentWaits};
 ghost use Rattle.journal_laws.specs.Soundness.{AcceptedStartsAreStarts, DeathsReachAll, DrainsServeAll, EndpointsAreInTransit, EndpointsAreKnown, ServingsLowerTheWeight, SessionsAreLawful, SessionsServeAll, WhatGoesOnWaits};
 
-use fidl_wire::body_is_read_where_spelled;
-use io_messages::written_request_is_read;
-use path_walk::path_laws;
-
 /// Behind a refusal all that is found by looking back is as it was.
 pub fn refusals_change_nothing()
     ensures { RefusalsChangeNothing }
@@ -44,58 +40,34 @@ pub fn hang_ups_wait()
 /// have equal ordinals.
 pub fn endpoints_are_known()
     ensures { AreDistinct → EndpointsAreKnown }
-{
-    body_is_read_where_spelled();
-    written_request_is_read();
-    path_laws();
-}
+{}
 
 /// In a lawful journal each endpoint in transit is carried by one waiting entry, without a cycle, and what waits is on an endpoint that is
 /// bound or in transit; where no two names have equal ordinals.
 pub fn endpoints_are_in_transit()
     ensures { AreDistinct → EndpointsAreInTransit }
-{
-    body_is_read_where_spelled();
-    written_request_is_read();
-    path_laws();
-}
+{}
 
 /// In a lawful journal what a serving binds is an endpoint that the served entry carries; where no two names have equal ordinals.
 pub fn servings_bind_what_they_carry()
     ensures { AreDistinct → ServingsBindWhatTheyCarry }
-{
-    body_is_read_where_spelled();
-    written_request_is_read();
-    path_laws();
-}
+{}
 
 /// In a lawful journal the one pass over what waits reaches each endpoint that dies of a serving; where no two names have equal ordinals.
 pub fn deaths_reach_all()
     ensures { AreDistinct → DeathsReachAll }
-{
-    body_is_read_where_spelled();
-    written_request_is_read();
-    path_laws();
-}
+{}
 
 /// In a lawful journal each serving lowers the sum of the weights of what waits; where no two names have equal ordinals.
 pub fn servings_lower_the_weight()
     ensures { AreDistinct → ServingsLowerTheWeight }
-{
-    body_is_read_where_spelled();
-    written_request_is_read();
-    path_laws();
-}
+{}
 
 /// A drain of a lawful journal leaves a lawful journal in which nothing waits: each thing that was sent was served, or its endpoint is dead;
 /// where no two names have equal ordinals.
 pub fn drains_serve_all()
     ensures { AreDistinct → DrainsServeAll }
-{
-    body_is_read_where_spelled();
-    written_request_is_read();
-    path_laws();
-}
+{}
 
 /// The journal that frames make is lawful, before its last drain and behind it.
 pub fn sessions_are_lawful()
@@ -105,11 +77,7 @@ pub fn sessions_are_lawful()
 /// At the end of a session each thing that was sent was served, or its endpoint is dead; where no two names have equal ordinals.
 pub fn sessions_serve_all()
     ensures { AreDistinct → SessionsServeAll }
-{
-    body_is_read_where_spelled();
-    written_request_is_read();
-    path_laws();
-}
+{}
 
 /// The start of each tree file that is read is a start as the laws of journals want it.
 pub fn accepted_starts_are_starts()
@@ -124,8 +92,4 @@ pub fn what_is_sent_waits()
 /// In a lawful journal an Open that goes on behind a mount waits behind all others; where no two names have equal ordinals.
 pub fn what_goes_on_waits()
     ensures { AreDistinct → WhatGoesOnWaits }
-{
-    body_is_read_where_spelled();
-    written_request_is_read();
-    path_laws();
-}
+{}

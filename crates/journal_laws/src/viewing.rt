@@ -7,10 +7,6 @@ ghost use Rattle.journal_laws.specs.Rooms.{ConnectionsAreFew};
 ghost use Rattle.journal_laws.specs.Trees.{TreesGrowSlowly, TreesStaySound, WhoLivesStandsOnTrees};
 ghost use Rattle.journal_laws.specs.Viewing.{ReachedViewsGoOn, RefusalsAreViewed, SendingsAreViewed, ServingsAreInView, ServingsAreViewed, ServingsWriteTheirFrames, TurnsAreViewed, ViewsAreFit};
 
-use fidl_wire::body_is_read_where_spelled;
-use io_messages::written_request_is_read;
-use path_walk::path_laws;
-
 /// Who is bound, what is served next, what that answers, who dies of it and what is written for it can be told from the view of a past.
 pub fn servings_are_in_view()
     ensures { ServingsAreInView }
@@ -29,11 +25,7 @@ pub fn sendings_are_viewed()
 /// Behind a serving the view is what its outcome and its deaths make of the view before; where no two names have equal ordinals.
 pub fn servings_are_viewed()
     ensures { AreDistinct → ServingsAreViewed }
-{
-    body_is_read_where_spelled();
-    written_request_is_read();
-    path_laws();
-}
+{}
 
 /// A serving writes the frames that can be told from the view, behind all that was written.
 pub fn servings_write_their_frames()
@@ -44,29 +36,17 @@ pub fn servings_write_their_frames()
 /// equal ordinals.
 pub fn turns_are_viewed()
     ensures { AreDistinct → TurnsAreViewed }
-{
-    body_is_read_where_spelled();
-    written_request_is_read();
-    path_laws();
-}
+{}
 
 /// The view of each lawful journal is fit; where no two names have equal ordinals.
 pub fn views_are_fit()
     ensures { AreDistinct → ViewsAreFit }
-{
-    body_is_read_where_spelled();
-    written_request_is_read();
-    path_laws();
-}
+{}
 
 /// A view that a lawful journal reached is fit, and each serving leads to another; where no two names have equal ordinals.
 pub fn reached_views_go_on()
     ensures { AreDistinct → ReachedViewsGoOn }
-{
-    body_is_read_where_spelled();
-    written_request_is_read();
-    path_laws();
-}
+{}
 
 /// Behind a serving of a fit view each endpoint is bound, and has what waits on it, as its deaths and its outcome say: nothing waits on a
 /// dead one, all but the first on the served one, and on the others what waited; what goes on is last on its mount's end.
@@ -93,20 +73,12 @@ pub fn reached_views_hear()
 /// tokens name directories; where no two names have equal ordinals.
 pub fn who_lives_stands_on_trees()
     ensures { AreDistinct → WhoLivesStandsOnTrees }
-{
-    body_is_read_where_spelled();
-    written_request_is_read();
-    path_laws();
-}
+{}
 
 /// The trees of each lawful journal are sound; where no two names have equal ordinals.
 pub fn trees_stay_sound()
     ensures { AreDistinct → TreesStaySound }
-{
-    body_is_read_where_spelled();
-    written_request_is_read();
-    path_laws();
-}
+{}
 
 /// No tree has more nodes than a start's may have and the journal has places.
 pub fn trees_grow_slowly()

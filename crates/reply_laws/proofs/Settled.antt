@@ -13,7 +13,9 @@ use Rattle.vfs_journal.specs.Past.{history_of}
 use Rattle.vfs_journal.specs.Session.{drained}
 use Rattle.vfs_journal.specs.Starts.{Start}
 use Rattle.journal_laws.proofs.Members.{contains_none, kept, kept_of}
-use Rattle.journal_laws.specs.Soundness.{DrainsServeAll, IsDrained}
+use Rattle.journal_laws.specs.Soundness.{IsDrained}
+use Rattle.journal_laws.proofs.Below.{Below}
+use Rattle.journal_laws.proofs.Draining.{drains_serve_all}
 use Rattle.reply_laws.proofs.Forms.{HasId, read_has}
 use Rattle.reply_laws.proofs.Front.{front, not_served}
 use Rattle.reply_laws.proofs.Grown.{Grown, earlier_grown, grown}
@@ -109,7 +111,7 @@ rests_are_settled start newer journal endpoint h none =
     settled start journal endpoint (earlier_grown start newer journal (grown start (newer ++ journal) h))
     (record { none = none; each = λ sent there. served_or_dead (history_of start journal) none sent there })
 
-pub drains_settle_all : DrainsServeAll → DrainsSettleAll
-drains_settle_all serve_all start journal endpoint is h =
-    let behind = serve_all start journal is h in
+pub drains_settle_all : Below → DrainsSettleAll
+drains_settle_all below start journal endpoint is h =
+    let behind = drains_serve_all below start journal is h in
     settled start (drained start journal) endpoint (grown start (drained start journal) behind.0) behind.1

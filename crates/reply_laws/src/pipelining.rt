@@ -3,8 +3,6 @@
 ghost use Rattle.fidl_wire.specs.Names.{AreDistinct};
 ghost use Rattle.reply_laws.specs.Laws.{DrainsSettleAll, RepliesAreInOrder, RequestsAskByTheirIds, RestsAreSettled, ServedIsAnswered};
 
-use journal_laws::drains_serve_all;
-
 /// Behind each entry of a lawful journal the replies on an endpoint are those to what was served on it, in order of sending, and what
 /// was served is a front of what was sent.
 pub fn replies_are_in_order()
@@ -33,6 +31,4 @@ pub fn rests_are_settled()
 /// equal ordinals.
 pub fn drains_settle_all()
     ensures { AreDistinct → DrainsSettleAll }
-{
-    drains_serve_all();
-}
+{}

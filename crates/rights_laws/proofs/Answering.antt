@@ -20,7 +20,6 @@ use Rattle.conn_rules.specs.Acts.{act_of, is_beyond, lacks_right, method_refusal
 use Rattle.conn_rules.specs.Answers.{Act, failure_of, only}
 use Rattle.conn_rules.specs.Contexts.{Context}
 use Rattle.conn_rules.specs.Refusals.{unless}
-use Rattle.dir_conn.specs.Laws.{OpensOnlyNarrow}
 use Rattle.vfs_journal.specs.Entries.{Sent, serves}
 use Rattle.vfs_journal.specs.History.{History, births, is_dead, living}
 use Rattle.vfs_journal.specs.Outcomes.{outcome_with}
@@ -104,7 +103,7 @@ answer_allowed law start past sent holds bound txid request needed h needs = by_
       inr (All-weaker (λ member. IsTrue (is_within bound.birth.rights member)) (λ member. IsTrue (is_within needed member))
       (λ member own. within_trans needed bound.birth.rights member has' own) (lineage_of start past sent.endpoint) (bound_within start past sent bound txid request holds h))
 
-pub answers_allowed : Below → OpensOnlyNarrow → AnswersAreAllowed
-answers_allowed below narrow start later past sent s h =
+pub answers_allowed : Below → AnswersAreAllowed
+answers_allowed below start later past sent s h =
     answer_allowed below.spelled start (history_of start past) sent
-    (time_holds below narrow start s past (time_of start (later ++ serves sent ∷ past) h (later ++ serves sent ∷ []) past (joined later past (serves sent))))
+    (time_holds below start s past (time_of start (later ++ serves sent ∷ past) h (later ++ serves sent ∷ []) past (joined later past (serves sent))))

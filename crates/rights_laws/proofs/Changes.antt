@@ -5,7 +5,6 @@ use Rattle.io_messages.specs.Asked.{Asked}
 use Rattle.io_messages.specs.Asked as asks
 use Rattle.node_graph.specs.Tree.{stay}
 use Rattle.conn_rules.specs.Acts.{act_of}
-use Rattle.dir_conn.specs.Laws.{OpensOnlyNarrow}
 use Rattle.vfs_journal.specs.Entries.{Entry, Sent, Journal, message, serves}
 use Rattle.vfs_journal.specs.History.{History, births, bound_at, is_dead, living}
 use Rattle.vfs_journal.specs.Outcomes.{Outcome}
@@ -90,8 +89,8 @@ pub joined : (later past : Journal) (entry : Entry) → (later ++ entry ∷ []) 
 joined [] past entry = refl
 joined (one ∷ later) past entry = ap (λ (rest : Journal). one ∷ rest) (joined later past entry)
 
-pub changes_allowed : Below → OpensOnlyNarrow → ChangesAreAllowed
-changes_allowed below narrow start later past k s h =
+pub changes_allowed : Below → ChangesAreAllowed
+changes_allowed below start later past k s h =
     let first = served_head start past k (stepped_before start later (serves k ∷ past) (stepped start (later ++ serves k ∷ past) h)) in
-    let holds = time_holds below narrow start s past (time_of start (later ++ serves k ∷ past) h (later ++ serves k ∷ []) past (joined later past (serves k))) in
+    let holds = time_holds below start s past (time_of start (later ++ serves k ∷ past) h (later ++ serves k ∷ []) past (joined later past (serves k))) in
     head_allowed below start (history_of start past) k first.1 holds (are_given start past first.0)

@@ -10,7 +10,6 @@ use Rattle.io_rights.specs.declared.operations.Operation.TheVariants as op
 use Rattle.io_rights.specs.Operations.{OperationSet, bit_of, has, single, is_within}
 use Rattle.io_rights.proofs.OperationSets.{has-single, within_each}
 use Rattle.node_graph.specs.Tree.{Change, make, add, cut, move, fill, stay}
-use Rattle.dir_conn.specs.Laws.{OpensOnlyNarrow}
 use Rattle.vfs_journal.specs.Entries.{Sent, Journal, serves}
 use Rattle.vfs_journal.specs.History.{bound_at}
 use Rattle.vfs_journal.specs.Lawful.{Lawful}
@@ -128,11 +127,11 @@ same_bound e = cc
 
 -- ---- the law
 
-module _ (below : Below) (opens_narrow : OpensOnlyNarrow) (start : Start) (journal : Journal) (k : Sent) (s : IsStart start) (at : IsHead start journal k) (holds : Holds start (history_of start journal)) (first : Bound) (there : Contains start.firsts first) (from : sent_from (history_of start journal) k ≡ first.endpoint) (narrow : IsNarrow first) where
-  to_bound : (b : Bound) → bound_at start (history_of start journal) k.endpoint ≡ Some b → IsBoundTo below opens_narrow start journal k s at.all at.first holds b
+module _ (below : Below) (start : Start) (journal : Journal) (k : Sent) (s : IsStart start) (at : IsHead start journal k) (holds : Holds start (history_of start journal)) (first : Bound) (there : Contains start.firsts first) (from : sent_from (history_of start journal) k ≡ first.endpoint) (narrow : IsNarrow first) where
+  to_bound : (b : Bound) → bound_at start (history_of start journal) k.endpoint ≡ Some b → IsBoundTo below start journal k s at.all at.first holds b
   to_bound b e =
-      let to = bound_to below opens_narrow start journal k s at.all at.first holds in
-      subst (IsBoundTo below opens_narrow start journal k s at.all at.first holds) (same_bound (sym to.1.at ∙ e)) to.1
+      let to = bound_to below start journal k s at.all at.first holds in
+      subst (IsBoundTo below start journal k s at.all at.first holds) (same_bound (sym to.1.at ∙ e)) to.1
 
   nothing_allowed : (change : Change) → IsAllowed start (history_of start journal) k change → ⊥
   nothing_allowed change h =
@@ -140,9 +139,9 @@ module _ (below : Below) (opens_narrow : OpensOnlyNarrow) (start : Start) (journ
       let lines = lines_of start (history_of start journal) in
       let ancestors = ancestors_of (history_of start journal) in
       let to = to_bound h.bound h.at in
-      let own = own_begun below opens_narrow start journal k s at.all at.first holds h.bound to in
-      let over = over_begun below opens_narrow start journal k s at.all at.first holds in
-      let origins = opens below opens_narrow start journal k s at.all at.first holds h.bound to in
+      let own = own_begun below start journal k s at.all at.first holds h.bound to in
+      let over = over_begun below start journal k s at.all at.first holds in
+      let origins = opens below start journal k s at.all at.first holds h.bound to in
       denied start journal k moment first narrow
       (begun_in start first (sent_from (history_of start journal) k) (trail_of start (history_of start journal) k) s there from (trail_begins start moment lines ancestors k own over k.origin refl))
       h.request change
@@ -159,9 +158,9 @@ stays_unless (cut key) h = absurd (h (λ e. cc))
 stays_unless (move from to) h = absurd (h (λ e. cc))
 stays_unless (fill node bytes) h = absurd (h (λ e. cc))
 
-pub narrow_change_nothing : Below → OpensOnlyNarrow → NarrowAncestorsChangeNothing
-narrow_change_nothing below narrow start later past k s h first there from is =
+pub narrow_change_nothing : Below → NarrowAncestorsChangeNothing
+narrow_change_nothing below start later past k s h first there from is =
     let at = head_at start (serves k ∷ past) past k (time_of start (later ++ serves k ∷ past) h later (serves k ∷ past) refl) refl in
-    let holds = time_holds below narrow start s past (time_of start (later ++ serves k ∷ past) h (later ++ serves k ∷ []) past (joined later past (serves k))) in
+    let holds = time_holds below start s past (time_of start (later ++ serves k ∷ past) h (later ++ serves k ∷ []) past (joined later past (serves k))) in
     stays_unless (outcome_of start (history_of start past) k).change
-    (λ changes. nothing_allowed below narrow start past k s at holds first there from is (outcome_of start (history_of start past) k).change (changes_allowed below narrow start later past k s h changes))
+    (λ changes. nothing_allowed below start past k s at holds first there from is (outcome_of start (history_of start past) k).change (changes_allowed below start later past k s h changes))

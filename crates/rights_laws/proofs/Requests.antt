@@ -23,7 +23,8 @@ use Rattle.conn_rules.specs.Contexts.{Context}
 use Rattle.conn_rules.specs.Nodes.{edge_at}
 use Rattle.conn_rules.specs.Opens.{is_full, open_act}
 use Rattle.conn_rules.specs.Walks.{Walk, arrives, missing, crosses, stops, limit_of}
-use Rattle.dir_conn.specs.Laws.{OpensOnlyNarrow, masks_of}
+use Rattle.dir_conn.specs.Laws.{masks_of}
+use Rattle.dir_conn.proofs.Narrow.{opens_narrow}
 use Rattle.vfs_journal.specs.Entries.{Sent}
 use Rattle.vfs_journal.specs.History.{tree_at}
 use Rattle.vfs_journal.specs.Serving.{Moment, context_at}
@@ -85,7 +86,7 @@ along some (crosses mount rest masks) h = h
 along some (stops status) h = h
 
 -- a serving's moment, the lines of its past, and that the connection's rights lie within its lineage
-module _ (narrow : OpensOnlyNarrow) (moment : Moment) (lines : Lines) (sent : Sent) (within : AreWithinEach moment.bound.birth.rights (lines.lineage sent.endpoint)) where
+module _ (moment : Moment) (lines : Lines) (sent : Sent) (within : AreWithinEach moment.bound.birth.rights (lines.lineage sent.endpoint)) where
   abbrev context : Context
   context = context_at moment
 
@@ -98,7 +99,7 @@ module _ (narrow : OpensOnlyNarrow) (moment : Moment) (lines : Lines) (sent : Se
       AreWithinEach birth.rights (trail_in lines sent ++ masks_along (walk_at moment path word))
   open_within path word attributes object birth announced asked e =
       let row = open_row (context_at moment) path word attributes object birth announced e in
-      let narrowed = narrow (context_at moment) path word birth announced row in
+      let narrowed = opens_narrow (context_at moment) path word birth announced row in
       let got = open_grants (context_at moment) path word birth announced row in
       All-append (λ member. IsTrue (is_within birth.rights member)) (trail_in lines sent) (masks_along (walk_at moment path word))
       (trail_each (λ member. IsTrue (is_within birth.rights member)) lines word sent.endpoint moment.bound.birth.rights sent.origin within asked

@@ -14,7 +14,6 @@ use Rattle.io_flags.proofs.GrantLemmas.{within_self}
 use Rattle.io_rights.specs.Operations.{OperationSet, is_within}
 use Rattle.path_walk.specs.Paths.{text_of}
 use Rattle.remote_forward.specs.Onward.{onward_bytes}
-use Rattle.dir_conn.specs.Laws.{OpensOnlyNarrow}
 use Rattle.vfs_journal.specs.Entries.{Sent, Sending, Journal, message, hang_up, serves}
 use Rattle.vfs_journal.specs.History.{all_sent, births, bound_at, is_dead, living, serves_place, trees_of, was_served}
 use Rattle.vfs_journal.specs.Lawful.{Lawful}
@@ -74,7 +73,7 @@ same_word : {t u : ℕ} {p q : List ℕ} {v w : ℕ} {g h : Option ℕ} {m n : �
 unfolding word_of
 same_word e = ap word_of e
 
-module _ (below : Below) (narrow : OpensOnlyNarrow) (start : Start) (journal : Journal) (k : Sent) (s : IsStart start) (lawful' : Lawful start journal) (first : head start (history_of start journal) k.endpoint ≡ Some k) (holds : Holds start (history_of start journal)) where
+module _ (below : Below) (start : Start) (journal : Journal) (k : Sent) (s : IsStart start) (lawful' : Lawful start journal) (first : head start (history_of start journal) k.endpoint ≡ Some k) (holds : Holds start (history_of start journal)) where
   waits : Contains (all_sent (history_of start journal)) k × (was_served (history_of start journal) k ≡ false)
   waits =
       let is = head_is start (history_of start journal) k first in
@@ -160,7 +159,7 @@ module _ (below : Below) (narrow : OpensOnlyNarrow) (start : Start) (journal : J
       let b = to.0 in
       new_then (AreWithinEach x.birth.rights) x e b to.1
       (within_more x.birth.rights _
-      (bound_within below narrow (moment_of start (history_of start journal) b) (lines_of start (history_of start journal)) k to.1.within (holds.trails k waits.0) x
+      (bound_within below (moment_of start (history_of start journal) b) (lines_of start (history_of start journal)) k to.1.within (holds.trails k waits.0) x
       (sym (ap (λ (o : Outcome). o.bound) (whole b to.1)) ∙ e)))
 
   new_own : (x : Bound) → (outcome_of start (history_of start journal) k).bound ≡ Some x → Contains (lineage_of start (behind start (serves k) (history_of start journal)) x.endpoint) x.birth.rights
@@ -314,7 +313,7 @@ module _ (below : Below) (narrow : OpensOnlyNarrow) (start : Start) (journal : J
       let b = to.0 in
       let lines = lines_of start (history_of start journal) in
       let right = (lawful_kept below start s journal lawful').sound.right k waits.0 in
-      let on = onward_within below narrow (moment_of start (history_of start journal) b) lines k to.1.within (holds.trails k waits.0) start f (small_by b k.origin refl right.by_origin)
+      let on = onward_within below (moment_of start (history_of start journal) b) lines k to.1.within (holds.trails k waits.0) start f (small_by b k.origin refl right.by_origin)
       (λ word mount masks passes end there. end_is_passed start (trees_of start (history_of start journal)) b.server word mount masks (stand_on_trees below start journal s lawful').mounts passes end there)
       (sym (ap (λ (o : Outcome). o.forward) (whole b to.1)) ∙ e) in
       record {

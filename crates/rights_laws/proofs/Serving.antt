@@ -9,7 +9,6 @@ use Rattle.io_rights.specs.Operations.{OperationSet}
 use Rattle.path_walk.specs.Paths.{IsPath, names_of, text_of}
 use Rattle.remote_forward.specs.Onward.{onward_bytes}
 use Rattle.conn_rules.specs.Walks.{limit_of}
-use Rattle.dir_conn.specs.Laws.{OpensOnlyNarrow}
 use Rattle.vfs_journal.specs.Entries.{Sent, message}
 use Rattle.vfs_journal.specs.Outcomes.{Forwarded, Outcome, bound_of, forward_of}
 use Rattle.vfs_journal.specs.Serving.{Moment, asker_of, context_at, object_of, outcome_of_sending, read_by, request_act}
@@ -41,7 +40,7 @@ AreTrailed lines sent =
 abbrev pub found : (Asked → List OperationSet) → Option Asked → List OperationSet
 found given request = option_map_or given request []
 
-module _ (below : Below) (narrow : OpensOnlyNarrow) (moment : Moment) (lines : Lines) (sent : Sent) (within : AreWithinEach moment.bound.birth.rights (lines.lineage sent.endpoint)) (trailed : AreTrailed lines sent) where
+module _ (below : Below) (moment : Moment) (lines : Lines) (sent : Sent) (within : AreWithinEach moment.bound.birth.rights (lines.lineage sent.endpoint)) (trailed : AreTrailed lines sent) where
   -- the request that was read is the one that the lineage is found by
   asked_is : (bytes handles : List ℕ) (txid : ℕ) (request : Asked) → sent.sending ≡ message bytes handles → read_by moment.bound.birth.protocol bytes handles ≡ Ok (txid, request) → asked_by moment sent.sending ≡ Some request
   asked_is bytes handles txid request sending read = ap (asked_by moment) sending ∙ ap request_in read
@@ -60,10 +59,10 @@ module _ (below : Below) (narrow : OpensOnlyNarrow) (moment : Moment) (lines : L
       subst (λ (some : OperationSet). AreWithinEach some (lineage_given lines sent moment request)) (sym none') (none_within_each (lineage_given lines sent moment request))
   connection_within bytes handles txid (asks.open_path path word attributes object) new sending read (connection birth announced answer is) =
       subst (λ (some : OperationSet). AreWithinEach some (lineage_given lines sent moment (asks.open_path path word attributes object))) (sym (ap (λ b. b.rights) is))
-      (request_within narrow moment lines sent within (asks.open_path path word attributes object) birth announced (open_asked bytes handles txid path word attributes object sending read) answer)
+      (request_within moment lines sent within (asks.open_path path word attributes object) birth announced (open_asked bytes handles txid path word attributes object sending read) answer)
   connection_within bytes handles txid request new sending read (connection birth announced answer is) =
       subst (λ (some : OperationSet). AreWithinEach some (lineage_given lines sent moment request)) (sym (ap (λ b. b.rights) is))
-      (request_within narrow moment lines sent within request birth announced tt answer)
+      (request_within moment lines sent within request birth announced tt answer)
 
   bound_by : (new : Bound) → Heard moment sent.sending (outcome_of_sending moment sent.sending) → (outcome_of_sending moment sent.sending).bound ≡ Some new →
       AreWithinEach new.birth.rights (found (lineage_given lines sent moment) (asked_by moment sent.sending))
@@ -104,7 +103,7 @@ module _ (below : Below) (narrow : OpensOnlyNarrow) (moment : Moment) (lines : L
         path = path_onward path walked.front on.rest (below.sound path crossed.good) walked.split;
         small = subst (λ (n : ℕ). n < 256 ^ 8) (sym crossed.left) (onward_small word (limit_of moment.bound.birth.rights crossed.masks) small);
         asked = subst (λ (o : Option Asked). All (HasAllAsked on.flags) (found (trail_given start lines sent moment) o)) (sym (asked_is bytes handles txid (asks.open_path path word attributes object) sending read))
-            (crossed_within narrow moment lines sent within start path word on.mount on.flags on.rest (open_asked bytes handles txid path word attributes object sending read) crossed (mounted on.mount));
+            (crossed_within moment lines sent within start path word on.mount on.flags on.rest (open_asked bytes handles txid path word attributes object sending read) crossed (mounted on.mount));
       }
 
   abbrev AreSmall : Type 0

@@ -1,7 +1,6 @@
 -- At each time of a lawful journal it is lawful, or its last serving owes what goes on; at each the rights lie within.
 use Rattle.std.proofs.Common.{◌≡◌, ℕ, [], ◌∷◌, ◌++◌, Option, Some, None, refl, sym, subst}
 use Rattle.std.specs.Prelude.{All}
-use Rattle.dir_conn.specs.Laws.{OpensOnlyNarrow}
 use Rattle.vfs_journal.specs.Entries.{Entry, Sent, Journal, message, hang_up, sends, serves, refuses}
 use Rattle.vfs_journal.specs.Lawful.{Lawful}
 use Rattle.vfs_journal.specs.Lawful as lawful
@@ -52,19 +51,19 @@ time_of start journal (lawful.served earlier k h first) later past e =
 
 -- ---- what holds at each
 
-module _ (below : Below) (narrow : OpensOnlyNarrow) (start : Start) (s : IsStart start) where
+module _ (below : Below) (start : Start) (s : IsStart start) where
   serving_holds : (earlier : Journal) (k : Sent) → Lawful start earlier → head start (history_of start earlier) k.endpoint ≡ Some k → Holds start (history_of start earlier) → Holds start (history_of start (serves k ∷ earlier))
   unfolding history_of
-  serving_holds earlier k h first holds = served_holds below narrow start earlier k s h first holds
+  serving_holds earlier k h first holds = served_holds below start earlier k s h first holds
 
   onward_holds : (earlier : Journal) (k : Sent) (o : Option Forwarded) → (outcome_of start (history_of start earlier) k).forward ≡ o → Lawful start earlier → head start (history_of start earlier) k.endpoint ≡ Some k →
       Holds start (history_of start earlier) → Holds start (history_of start (with_forward k.place (serves k ∷ earlier) o))
   unfolding history_of
-  onward_holds earlier k None e h first holds = served_holds below narrow start earlier k s h first holds
+  onward_holds earlier k None e h first holds = served_holds below start earlier k s h first holds
   onward_holds earlier k (Some f) e h first holds =
       sent_holds start (behind start (serves k) (history_of start earlier)) (sent_behind (serves k ∷ earlier) f.endpoint (message f.bytes (f.object ∷ [])) (Some k.place))
-      (forward_new below narrow start earlier k s h first holds f e)
-      (served_holds below narrow start earlier k s h first holds)
+      (forward_new below start earlier k s h first holds f e)
+      (served_holds below start earlier k s h first holds)
 
   lawful_holds : (journal : Journal) → Lawful start journal → Holds start (history_of start journal)
   unfolding history_of
@@ -85,18 +84,18 @@ module _ (below : Below) (narrow : OpensOnlyNarrow) (start : Start) (s : IsStart
 
 -- ---- the laws
 
-pub rights_stay : Below → OpensOnlyNarrow → RightsStayWithinLineage
-rights_stay below narrow start later past s h bound there =
-    let holds = time_holds below narrow start s past (time_of start (later ++ past) h later past refl) in (
+pub rights_stay : Below → RightsStayWithinLineage
+rights_stay below start later past s h bound there =
+    let holds = time_holds below start s past (time_of start (later ++ past) h later past refl) in (
       holds.own bound there,
       holds.rights bound there,
     )
 
-pub lineages_begin : Below → OpensOnlyNarrow → LineagesBeginAtFirsts
-lineages_begin below narrow start later past s h = (time_holds below narrow start s past (time_of start (later ++ past) h later past refl)).begun
+pub lineages_begin : Below → LineagesBeginAtFirsts
+lineages_begin below start later past s h = (time_holds below start s past (time_of start (later ++ past) h later past refl)).begun
 
-pub flags_stay : Below → OpensOnlyNarrow → FlagsStayWithinTrail
-flags_stay below narrow start later past s h sent origin bytes handles txid path word attributes object there from sending read =
-    let holds = time_holds below narrow start s past (time_of start (later ++ past) h later past refl) in
+pub flags_stay : Below → FlagsStayWithinTrail
+flags_stay below start later past s h sent origin bytes handles txid path word attributes object there from sending read =
+    let holds = time_holds below start s past (time_of start (later ++ past) h later past refl) in
     subst (λ (o : Option ℕ). All (HasAllAsked word) (trail_by (lines_of start (history_of start past)) sent.endpoint o)) (sym from)
     (holds.trails sent there origin bytes handles txid path word attributes object from sending read).asked

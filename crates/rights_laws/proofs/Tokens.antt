@@ -1,6 +1,5 @@
 -- Each token was given with authority.
 use Rattle.std.proofs.Common.{◌++◌, refl}
-use Rattle.dir_conn.specs.Laws.{OpensOnlyNarrow}
 use Rattle.vfs_journal.specs.Past.{history_of}
 use Rattle.journal_laws.proofs.Below.{Below}
 use Rattle.journal_laws.proofs.Stepping.{stepped}
@@ -9,7 +8,7 @@ use Rattle.rights_laws.proofs.Changes.{stepped_before}
 use Rattle.rights_laws.proofs.Times.{time_holds, time_of}
 use Rattle.rights_laws.proofs.TokensGiven.{are_given, given_with_authority}
 
-pub tokens_given : Below → OpensOnlyNarrow → TokensAreGivenWithAuthority
-tokens_given below narrow start later past s h given there =
-    let holds = time_holds below narrow start s past (time_of start (later ++ past) h later past refl) in
+pub tokens_given : Below → TokensAreGivenWithAuthority
+tokens_given below start later past s h given there =
+    let holds = time_holds below start s past (time_of start (later ++ past) h later past refl) in
     given_with_authority start (history_of start past) given holds (are_given start past (stepped_before start later past (stepped start (later ++ past) h)) given there)

@@ -3,40 +3,20 @@
 ghost use Rattle.fidl_wire.specs.Names.{AreDistinct};
 ghost use Rattle.rights_laws.specs.Rights.{FlagsStayWithinTrail, LineagesBeginAtFirsts, RightsStayWithinLineage};
 
-use dir_conn::opens_only_narrow;
-use fidl_wire::body_is_read_where_spelled;
-use io_messages::written_request_is_read;
-use path_walk::path_laws;
-
 /// At each time of a lawful journal over a sound start the rights of each endpoint that is or was bound stand in its lineage and lie within
 /// every member of it, the rights of each connection on the way among them; where no two names have equal ordinals.
 pub fn rights_stay_within_lineage()
     ensures { AreDistinct → RightsStayWithinLineage }
-{
-    opens_only_narrow();
-    body_is_read_where_spelled();
-    written_request_is_read();
-    path_laws();
-}
+{}
 
 /// At each time of a lawful journal over a sound start the lineage of each client's endpoint that is or was bound begins with the rights of
 /// its ancestor, which is a first connection; where no two names have equal ordinals.
 pub fn lineages_begin_at_firsts()
     ensures { AreDistinct → LineagesBeginAtFirsts }
-{
-    opens_only_narrow();
-    body_is_read_where_spelled();
-    written_request_is_read();
-    path_laws();
-}
+{}
 
 /// At each time of a lawful journal over a sound start all that the flags of an Open can get which came over a mount lies within every
 /// member of its trail; where no two names have equal ordinals.
 pub fn flags_stay_within_trail()
     ensures { AreDistinct → FlagsStayWithinTrail }
-{
-    opens_only_narrow();
-    body_is_read_where_spelled();
-    written_request_is_read();
-    path_laws();
-}
+{}

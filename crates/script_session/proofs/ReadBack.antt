@@ -5,16 +5,12 @@ use Rattle.std.proofs.Math.Seq.{drop-append_seam}
 use Rattle.endpoint_link.specs.Frames.{Frame, IsFrame, spellings}
 use Rattle.endpoint_link.specs.declared.kinds.Side.TheVariants as side
 use Rattle.endpoint_link.specs.declared.kinds.Mode.{Mode}
-use Rattle.fidl_wire.proofs.Bodies.{read_spelled, spelled_read}
-use Rattle.fidl_wire.proofs.ReadHeaders.{header_again}
-use Rattle.fidl_wire.proofs.Spelled.{message_spelled}
 use Rattle.fidl_wire.specs.Names.{AreDistinct}
 use Rattle.frame_laws.proofs.Readings.{parts_are_read_back}
 use Rattle.frame_laws.specs.Bytes.{BeginsWithBytes}
-use Rattle.frame_laws.specs.Laws.{AreMore, PartsAreReadBack}
-use Rattle.io_messages.proofs.WritingLaws.{written_request}
+use Rattle.frame_laws.specs.Laws.{AreMore}
+use Rattle.journal_laws.proofs.Below.{below}
 use Rattle.journal_laws.specs.Soundness.{IsStart}
-use Rattle.path_walk.proofs.PathLemmas.{path_complete, path_sound}
 use Rattle.vfs_journal.specs.Entries.{Journal}
 use Rattle.vfs_journal.specs.Lawful.{Lawful}
 use Rattle.vfs_journal.specs.Output.{frames_behind}
@@ -25,19 +21,6 @@ use Rattle.vfs_session.specs.World.{LeadsTo, StandsFor, World}
 use Rattle.io_client.specs.Calls.{Calls}
 use Rattle.script_session.specs.Playing.{Played, frames_since}
 use Rattle.script_session.specs.Steps.{Plays}
-
--- all that a lawful journal writes are frames, those of its history one after the other
-output_is_frames : AreDistinct → PartsAreReadBack
-output_is_frames distinct =
-    parts_are_read_back
-    (record {
-      spelled = read_spelled;
-      reads = spelled_read;
-      written = written_request message_spelled header_again;
-      apart = distinct;
-      sound = path_sound;
-      complete = path_complete;
-    })
 
 -- these frames come back, and the bytes of the output spell them
 pub record ComesBack (start : Start) (earlier later : Journal) (before after : List ℕ) : Type 0 where
@@ -51,7 +34,7 @@ since_is start earlier later more grown = ap (drop (length (frames_behind start 
 pub comes_back : (start : Start) (earlier later : Journal) (new : World) (before after : List ℕ) → AreDistinct → BeginsWithBytes start → IsStart start → Lawful start earlier →
     LeadsTo start later new earlier before after → ComesBack start earlier later before after
 comes_back start earlier later new before after distinct bytes sound lawful led =
-    let are : AreMore start earlier later led.part = output_is_frames distinct start earlier later led.part sound bytes lawful led.stands.lawful led.more in
+    let are : AreMore start earlier later led.part = parts_are_read_back (below distinct) start earlier later led.part sound bytes lawful led.stands.lawful led.more in
     let same = since_is start earlier later are.more are.grown in
     let spelled : led.part ≡ spellings are.more = are.read.reads.split ∙ append-nil (spellings are.more) in
     record {

@@ -13,6 +13,7 @@ use Rattle.vfs_journal.specs.View.{at_in}
 use Rattle.journal_laws.specs.Soundness.{IsStart}
 use Rattle.journal_laws.specs.Trees.{IsOnNode}
 use Rattle.journal_laws.specs.Viewing.{view_behind}
+use Rattle.journal_laws.proofs.Below.{below}
 use Rattle.journal_laws.proofs.Members.{contains_cases, contains_here, contains_later, contains_none, found}
 use Rattle.journal_laws.proofs.OnTrees.{stand_on_trees}
 use Rattle.journal_laws.proofs.ViewParts.{bounds_are}
@@ -20,7 +21,6 @@ use Rattle.message_queues.specs.Queues.{head_of, server_of}
 use Rattle.vfs_session.specs.Servings.{ServesHead}
 use Rattle.vfs_session.specs.World.{LeadsTo, StandsFor, World}
 use Rattle.vfs_session.proofs.EachServer.{by_length}
-use Rattle.vfs_session.proofs.Grounds.{below}
 use Rattle.vfs_session.proofs.OneServed.{IsReadyIn, ready_in, serving_leads}
 
 -- ---- whoever is bound is at one of the servers

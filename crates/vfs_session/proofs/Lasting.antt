@@ -9,13 +9,13 @@ use Rattle.vfs_journal.specs.Past.{history_of}
 use Rattle.vfs_journal.specs.Session.{after_serving, look_ups, sent_behind}
 use Rattle.vfs_journal.specs.View.{View, head_in, refusing_in, sending_in, then_in}
 use Rattle.journal_laws.specs.Viewing.{view_behind}
+use Rattle.journal_laws.proofs.Below.{below}
 use Rattle.journal_laws.proofs.ViewLaws.{hang_up_viewed, message_viewed, served_behind_viewed}
 use Rattle.journal_laws.proofs.ViewParts.{head_is_in}
 use Rattle.journal_laws.proofs.ViewSteps.{refused_viewed}
 use Rattle.vfs_session.specs.Places.{names_left, places_left}
 use Rattle.vfs_session.specs.Running.{IsRunning}
 use Rattle.vfs_session.specs.World.{StandsFor, World}
-use Rattle.vfs_session.proofs.Grounds.{below}
 use Rattle.vfs_session.proofs.PlacesLeft.{few_left, sending_takes, serving_takes}
 
 few_in : (v w : View) (most : ℕ) → v ≡ w → w.places + places_left w ≤ most → v.places + places_left v ≤ most

@@ -1,4 +1,3 @@
-pub mod Grounds
 pub mod Between
 pub mod PlacesLeft
 pub mod ServerSteps

@@ -17,11 +17,11 @@ use Rattle.vfs_journal.specs.View.{is_bound_in}
 use Rattle.journal_laws.specs.Soundness.{IsOnDirectory, IsStart, mount_ends}
 use Rattle.journal_laws.specs.Viewing.{view_behind}
 use Rattle.journal_laws.proofs.Among.{among_of}
+use Rattle.journal_laws.proofs.Below.{below}
 use Rattle.journal_laws.proofs.KnowingCount.{mounts_among}
 use Rattle.journal_laws.proofs.Members.{kept_of}
 use Rattle.journal_laws.proofs.TransitLaws.{are_known}
 use Rattle.journal_laws.proofs.ViewParts.{bound_is}
-use Rattle.vfs_session.proofs.Grounds.{below}
 
 -- at so many servers, each with no more than it may have
 few_at : (servers : ℕ) (bounds : List Bound) → All (λ bound. bound.server < servers) bounds → ((server : ℕ) → count_by (λ bound. bound.server == server) bounds ≤ 4096) → length bounds ≤ servers * 4096

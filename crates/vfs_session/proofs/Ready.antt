@@ -23,6 +23,7 @@ use Rattle.journal_laws.specs.Behind.{later_of}
 use Rattle.journal_laws.specs.Choosing.{queue_beside}
 use Rattle.journal_laws.specs.Viewing.{view_behind}
 use Rattle.journal_laws.proofs.Among.{among_of}
+use Rattle.journal_laws.proofs.Below.{below}
 use Rattle.journal_laws.proofs.Dying.{deaths_are_least}
 use Rattle.journal_laws.proofs.Fits.{views_fit}
 use Rattle.journal_laws.proofs.Growing.{trees_grow}
@@ -46,7 +47,6 @@ use Rattle.vfs_session.specs.Steps.{Answers, CanGo, CanName, first_told, spent_t
 use Rattle.vfs_session.specs.World.{World}
 use Rattle.vfs_session.proofs.Between.{answered_in, given_told}
 use Rattle.vfs_session.proofs.EachServer.{by_length, numbered}
-use Rattle.vfs_session.proofs.Grounds.{below}
 use Rattle.vfs_session.proofs.HeadServed.{server_low}
 use Rattle.vfs_session.proofs.Leaving.{new_token}
 use Rattle.vfs_session.proofs.Moments.{is_moment}

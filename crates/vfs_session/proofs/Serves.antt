@@ -12,6 +12,7 @@ use Rattle.vfs_journal.specs.Starts.{Start}
 use Rattle.vfs_journal.specs.View.{is_bound_in}
 use Rattle.journal_laws.specs.Choosing.{first_on}
 use Rattle.journal_laws.specs.Viewing.{view_behind}
+use Rattle.journal_laws.proofs.Below.{below}
 use Rattle.journal_laws.proofs.Draining.{drains_serve_all}
 use Rattle.journal_laws.proofs.Fits.{views_fit}
 use Rattle.journal_laws.proofs.LeastPlaces.{chosen_by_place}
@@ -22,7 +23,6 @@ use Rattle.vfs_session.specs.Servings.{IsDrain, IsOldestAt, IsOldestOfAll, IsPic
 use Rattle.vfs_session.specs.World.{LeadsTo, StandsFor, World}
 use Rattle.vfs_session.proofs.Chosen as chosen
 use Rattle.vfs_session.proofs.Counted.{one_more_served}
-use Rattle.vfs_session.proofs.Grounds.{below}
 use Rattle.vfs_session.proofs.HeadServed.{head_served}
 use Rattle.vfs_session.proofs.OneServed.{IsReadyIn, ready_in}
 use Rattle.vfs_session.proofs.Times.{Drains, Goes, drain_begins, drain_ends, drain_on, goes_ended, goes_first, goes_on, goes_whole, pick_none, pick_some, serving_over, serving_some}

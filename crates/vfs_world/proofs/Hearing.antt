@@ -22,13 +22,13 @@ use Rattle.vfs_journal.specs.Past.{history_of}
 use Rattle.vfs_journal.specs.Session.{admitted, arrives, by_refusal, look_ups, turned}
 use Rattle.vfs_journal.specs.Starts.{Start}
 use Rattle.journal_laws.specs.Viewing.{view_behind}
+use Rattle.journal_laws.proofs.Below.{below}
 use Rattle.journal_laws.proofs.Fits.{views_fit}
 use Rattle.message_queues.specs.Queues.{Requeues, queue_of}
 use Rattle.message_queues.proofs.Counting.{counts_its_list}
 use Rattle.vfs_session.specs.Running.{IsRunning}
 use Rattle.vfs_session.specs.Servings.{IsPick, IsTurn}
 use Rattle.vfs_session.specs.World.{LeadsTo, StandsFor, World}
-use Rattle.vfs_session.proofs.Grounds.{below}
 use Rattle.vfs_session.proofs.Heard.{SendsIt, admits_same, hang_up_on, message_on, refused_on}
 use Rattle.vfs_session.proofs.Lasting.{lasts_hang_up, lasts_message, lasts_more, lasts_refused}
 use Rattle.vfs_session.proofs.Serves.{pick_leads, turn_leads}

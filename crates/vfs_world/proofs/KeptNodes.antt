@@ -12,13 +12,13 @@ use Rattle.vfs_journal.specs.Past.{history_of}
 use Rattle.vfs_journal.specs.Starts.{Start}
 use Rattle.vfs_journal.specs.View.{View}
 use Rattle.journal_laws.specs.Viewing.{view_behind}
+use Rattle.journal_laws.proofs.Below.{below}
 use Rattle.journal_laws.proofs.SoundTrees.{trees_sound}
 use Rattle.vfs_server.specs.KeptNodes.{kept_in}
 use Rattle.vfs_server.specs.Holding.{HoldsAt}
 use Rattle.vfs_server.specs.Servers.{Server}
 use Rattle.vfs_session.specs.Running.{IsRunning, IsWithin, whole}
 use Rattle.vfs_session.specs.World.{StandsFor, World}
-use Rattle.vfs_session.proofs.Grounds.{below}
 use Rattle.vfs_world.specs.declared.world.World.TheInside.{Inside}
 use Rattle.vfs_world.proofs.Worlds.{as_world, stands_inside}
 

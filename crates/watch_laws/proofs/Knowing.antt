@@ -12,10 +12,10 @@ use Rattle.path_walk.specs.Names.{IsName, dot}
 use Rattle.path_walk.proofs.NameLemmas.{dot_is_no_name}
 use Rattle.path_walk.proofs.PartLemmas.{name_short}
 use Rattle.path_walk.proofs.PathLemmas.{same_bytes}
-use Rattle.conn_rules.specs.Answers.{Happening, only}
+use Rattle.conn_rules.specs.Answers.{Happening}
 use Rattle.conn_rules.specs.Answers as news
 use Rattle.conn_rules.specs.NameRows.{name_in}
-use Rattle.watch_events.specs.Events.{Event, EventsAreReadOnce, bytes_of}
+use Rattle.watch_events.specs.Events.{Event, bytes_of}
 use Rattle.watch_events.specs.Messages.{asks_for, idle}
 use Rattle.watch_events.specs.NamesNow.{is_named_now}
 use Rattle.vfs_journal.specs.Entries.{Journal, Sent, sends, serves, refuses}
@@ -349,8 +349,8 @@ named_now tree directory events names knows name = by_test (bytes_eq name dot) r
   by_test true e = sym (no_dot (same_bytes name dot e))
   by_test false e = knows name (false_from_ne_true (bytes_eq dot name) (λ same. true≢false (sym (bytes_same name dot (sym (same_bytes dot name same))) ∙ e)))
 
-pub know_their_names : Below → EventsAreReadOnce → WatchersKnowTheirNames
-know_their_names below once start later past s names h watcher lives is asks =
+pub know_their_names : Below → WatchersKnowTheirNames
+know_their_names below start later past s names h watcher lives is asks =
     let time = earlier_timed start later past (timed start (later ++ past) h) in
     let history = history_of start past in
     let tree = tree_at (trees_of start history) watcher.server in
@@ -363,7 +363,7 @@ know_their_names below once start later past s names h watcher lives is asks =
     record {
       events = events;
       written = written';
-      alone = λ others these. written_once once (messages_on start history watcher.endpoint) others events these written';
+      alone = λ others these. written_once (messages_on start history watcher.endpoint) others events these written';
       named = λ name. (
         λ now. there_is_among tree.edges watcher.birth.node name (sym (named name) ∙ now),
         λ there. named name ∙ among_is_there tree.edges watcher.birth.node name there,

@@ -6,8 +6,9 @@ use Rattle.std.proofs.lemmas.List.Concat.{flat_map-append}
 use Rattle.std.proofs.lemmas.List.Elements.{All-append, All-cons, All-head, All-nil, All-tail}
 use Rattle.fidl_names.specs.declared.limits.TheConstants as limit
 use Rattle.path_walk.specs.Names.{dot}
-use Rattle.watch_events.specs.Events.{AreEvents, Event, EventsAreReadOnce, bytes_of, event_bytes}
+use Rattle.watch_events.specs.Events.{AreEvents, Event, bytes_of, event_bytes}
 use Rattle.watch_events.specs.Messages.{asks_for, existing, first_messages, gathered, idle, snapshot, watch_frame}
+use Rattle.watch_events.proofs.Once.{events_once}
 use Rattle.endpoint_link.specs.Frames.{Frame}
 use Rattle.watch_laws.specs.Sight.{AreWritten}
 use Rattle.watch_laws.proofs.Named.{all_said, is_existing}
@@ -93,9 +94,9 @@ written endpoint [] events h = h
 written endpoint (message ∷ later) events h = (h.0, h.1, h.2, written endpoint later h.1 h.3, h.4)
 
 -- messages are events of one list alone
-pub written_once : EventsAreReadOnce → (frames : List Frame) (es fs : List Event) → AreWritten frames es → AreWritten frames fs → es ≡ fs
-written_once once [] es fs h k = h ∙ sym k
-written_once once (frame ∷ frames) es fs h k =
-    let first = (once frame.bytes [] [] h.0 k.0 h.2 k.2).0 in
-    let others = written_once once frames h.1 k.1 h.3 k.3 in
+pub written_once : (frames : List Frame) (es fs : List Event) → AreWritten frames es → AreWritten frames fs → es ≡ fs
+written_once [] es fs h k = h ∙ sym k
+written_once (frame ∷ frames) es fs h k =
+    let first = (events_once frame.bytes [] [] h.0 k.0 h.2 k.2).0 in
+    let others = written_once frames h.1 k.1 h.3 k.3 in
     h.4 ∙ ap (λ gs. gs ++ h.1) first ∙ ap (λ gs. k.0 ++ gs) others ∙ sym k.4

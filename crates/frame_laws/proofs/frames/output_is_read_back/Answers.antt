@@ -1,13 +1,6 @@
+use Rattle.journal_laws.proofs.Below.{below}
 use Rattle.frame_laws.proofs.Readings.{output_is_read_back}
 use Rattle.frame_laws.proofs.frames.output_is_read_back.Goals as goal
 
 pub returns : goal.returns
-returns c = λ apart. output_is_read_back
-    (record {
-      spelled = c.body_is_read_where_spelled.ensures.spelled;
-      reads = c.body_is_read_where_spelled.ensures.reads;
-      written = c.written_request_is_read.ensures;
-      apart = apart;
-      sound = c.path_laws.ensures.sound;
-      complete = c.path_laws.ensures.complete;
-    })
+returns c = λ apart. output_is_read_back (below apart)

@@ -1,14 +1,6 @@
+use Rattle.journal_laws.proofs.Below.{below}
 use Rattle.rights_laws.proofs.Tokens.{tokens_given}
 use Rattle.rights_laws.proofs.authority.tokens_are_given_with_authority.Goals as goal
 
 pub returns : goal.returns
-returns c = λ apart. tokens_given
-    (record {
-      spelled = c.body_is_read_where_spelled.ensures.spelled;
-      reads = c.body_is_read_where_spelled.ensures.reads;
-      written = c.written_request_is_read.ensures;
-      apart = apart;
-      sound = c.path_laws.ensures.sound;
-      complete = c.path_laws.ensures.complete;
-    })
-    c.opens_only_narrow.ensures
+returns c = λ apart. tokens_given (below apart)
