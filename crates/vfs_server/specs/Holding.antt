@@ -1,8 +1,9 @@
 -- That a server holds what is looked up in a view, endpoint by endpoint and node by node.
-use Rattle.std.specs.Prelude.{◌≡◌, ℕ, ◌+◌, ◌==◌, ◌&&◌, if◌then◌else◌, List, length, filter, count_by, Option, Some, None}
+use Rattle.std.specs.Prelude.{◌≡◌, ℕ, ◌+◌, ◌==◌, ◌&&◌, Bool, if◌then◌else◌, List, length, filter, count_by, Option, Some, None}
 use Rattle.conn_rules.specs.Births.{Position}
 use Rattle.node_graph.specs.Graph.{StandsFor, holds_at}
 use Rattle.vfs_journal.specs.History.{is_watcher, tree_at}
+use Rattle.vfs_journal.specs.Outcomes.{Given}
 use Rattle.vfs_journal.specs.Starts.{Bound}
 use Rattle.vfs_journal.specs.View.{View, at_in, bounds_in, directory_in, is_out_in}
 use Rattle.vfs_server.specs.Servers.{Server, in_use, named, seen}
@@ -16,13 +17,16 @@ if_at index (Some pair) = if pair.0.server == index then Some pair else None
 abbrev pub living_at : View → ℕ → List Bound
 living_at view index = filter (λ bound. bound.server == index) (bounds_in view)
 
+-- a token that was given is out, and names a node of a server
+abbrev pub names_node : View → ℕ → ℕ → Given → Bool
+names_node view index number given = is_out_in view given.token && (given.server == index && given.node == number)
+
 -- how many who live at a server hold a node, and how many tokens that are out name it
 abbrev pub bound_to : View → ℕ → ℕ → ℕ
 bound_to view index number = count_by (λ bound. bound.birth.node == number) (living_at view index)
 
 abbrev pub named_by : View → ℕ → ℕ → ℕ
-named_by view index number =
-    count_by (λ given. is_out_in view given.token && (given.server == index && given.node == number)) view.given
+named_by view index number = count_by (names_node view index number) view.given
 
 -- the directory of a server that a token names, where that is out
 abbrev pub named_in : View → ℕ → ℕ → Option ℕ
