@@ -300,8 +300,8 @@ fn status_of(bytes: &[u8]) -> i32
     LittleEndian::read_u32(bytes).cast_signed()
 }
 
-/// The endpoint that a Watch carries.
-fn watcher_of(request: &Request<'_>) -> Option<u32>
+/// The endpoint that a Watch carries; `None` for every other request.
+pub fn watcher_of(request: &Request<'_>) -> Option<u32>
     ensures { result ≡ watcher_of (asked request.now) }
 {
     match request {

@@ -55,6 +55,6 @@ mod client;
 mod faults;
 mod taking;
 
-pub use client::Client;
+pub use client::{Client, watcher_of};
 pub use faults::ClientFault;
 pub use taking::Taken;

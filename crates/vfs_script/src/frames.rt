@@ -3,7 +3,6 @@
 ghost use Rattle.std.specs.Prelude.{◌≡◌, ◌<◌, ◌≤◌, [], length, IfOk, IfErr, OnOk, None, Some};
 ghost use Rattle.std.specs.Str.{IsUtf8};
 ghost use Rattle.endpoint_link.specs.Frames.{HasShape, frame_with};
-ghost use Rattle.io_client.specs.Calls.{watcher_of};
 ghost use Rattle.io_messages.specs.Asked.{asked};
 ghost use Rattle.io_messages.specs.Writing.{HasTexts};
 ghost use Rattle.vfs_script.specs.declared.faults.ScriptFault.TheVariants as fault;
@@ -21,6 +20,7 @@ use byteorder::{ByteOrder, LittleEndian};
 use endpoint_link::{FrameKind, Outbox, write_frame, write_message};
 use fidl_names::{MAX_BYTES, MAX_HANDLES, NoMemory};
 use fidl_wire::{Ordinals, Out};
+use io_client::watcher_of;
 use io_messages::{Request, is_one_way, write_request};
 use std::alloc::Global;
 use std::marker::Model;
@@ -244,14 +244,4 @@ fn call_of(endpoint: u32, txid: u32, request: &Request<'_>) -> Option<Call>
         method,
         watcher: watcher_of(request),
     })
-}
-
-// The endpoint that a Watch carries.
-fn watcher_of(request: &Request<'_>) -> Option<u32>
-    ensures { result ≡ watcher_of (asked request.now) }
-{
-    match request {
-        Request::Watch { watcher, .. } => Some(*watcher),
-        _ => None,
-    }
 }
