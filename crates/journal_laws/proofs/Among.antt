@@ -52,14 +52,16 @@ carried_from one n client h = among_of n (endpoints_in one) (kept is_client (han
 
 -- ---- what entries carry
 
-travels_by : (n : ℕ) (one : Sent) (ones : List Sent) → (among n (flat_map endpoints_in ones) ≡ true → (x : Sent) × Contains ones x × (among n (endpoints_in x) ≡ true)) →
-    (among n (endpoints_in one) ≡ true) ⊎ (among n (flat_map endpoints_in ones) ≡ true) → (x : Sent) × Contains (one ∷ ones) x × (among n (endpoints_in x) ≡ true)
-travels_by n one ones rest (inl h) = (one, contains_here one ones, h)
-travels_by n one ones rest (inr h) = let later = rest h in (later.0, contains_later later.0 one ones later.1, later.2)
+-- what one of them has
+pub from_many : (f : Sent → List ℕ) (n : ℕ) (ones : List Sent) → among n (flat_map f ones) ≡ true → (x : Sent) × Contains ones x × (among n (f x) ≡ true)
+from_many f n [] h = absurd (cc)
+from_many f n (one ∷ ones) h = by_side (from_many f n ones) (among_sides n (f one) (flat_map f ones) h) where
+  by_side : (among n (flat_map f ones) ≡ true → (x : Sent) × Contains ones x × (among n (f x) ≡ true)) → (among n (f one) ≡ true) ⊎ (among n (flat_map f ones) ≡ true) → (x : Sent) × Contains (one ∷ ones) x × (among n (f x) ≡ true)
+  by_side rest (inl g) = (one, contains_here one ones, g)
+  by_side rest (inr g) = let later = rest g in (later.0, contains_later later.0 one ones later.1, later.2)
 
 pub carrier_of : (n : ℕ) (ones : List Sent) → among n (flat_map endpoints_in ones) ≡ true → (x : Sent) × Contains ones x × (among n (endpoints_in x) ≡ true)
-carrier_of n [] h = absurd (cc)
-carrier_of n (one ∷ ones) h = travels_by n one ones (carrier_of n ones) (among_sides n (endpoints_in one) (flat_map endpoints_in ones) h)
+carrier_of n ones h = from_many endpoints_in n ones h
 
 carries_by : (n : ℕ) (x one : Sent) (ones : List Sent) → (Contains ones x → among n (flat_map endpoints_in ones) ≡ true) → among n (endpoints_in x) ≡ true → (one ≡ x) ⊎ Contains ones x → among n (endpoints_in one ++ flat_map endpoints_in ones) ≡ true
 carries_by n x one ones rest h (inl e) = among_front n (endpoints_in one) (flat_map endpoints_in ones) (ap (λ (s : Sent). among n (endpoints_in s)) e ∙ h)

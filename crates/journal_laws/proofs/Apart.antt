@@ -17,7 +17,7 @@ use Rattle.vfs_journal.specs.Serving.{outcome_of}
 use Rattle.vfs_journal.specs.Session.{head, look_ups, sent_behind, with_forward}
 use Rattle.journal_laws.specs.Soundness.{IsStart, OtherEndpoint}
 use Rattle.vfs_journal.specs.Starts.{Bound, Start}
-use Rattle.journal_laws.proofs.Among.{among_of, carrier_of, is_found}
+use Rattle.journal_laws.proofs.Among.{among_of, from_many, is_found}
 use Rattle.journal_laws.proofs.Below.{Below}
 use Rattle.journal_laws.proofs.Kept.{lawful_kept, is_serving, message_admitted, refusal_of}
 use Rattle.journal_laws.proofs.Lists.{pairs-append, pairs-head, pairs-tail}
@@ -83,7 +83,7 @@ OtherNumber one other = one ≢ other
 abbrev pub CarryApart : List Sent → Type 0
 CarryApart ones = (one : Sent) → Contains ones one → AllPairs OtherNumber (handles_of one.sending)
 
-endpoints_apart : (one : Sent) → AllPairs OtherNumber (handles_of one.sending) → AllPairs OtherNumber (endpoints_in one)
+pub endpoints_apart : (one : Sent) → AllPairs OtherNumber (handles_of one.sending) → AllPairs OtherNumber (endpoints_in one)
 endpoints_apart one h = AllPairs-filter OtherNumber is_client (handles_of one.sending) h
 
 more_apart : (ones now : List Sent) (new : Sent) → CarryApart ones → AllPairs OtherNumber (handles_of new.sending) → now ≡ ones ++ new ∷ [] → CarryApart now
@@ -125,28 +125,28 @@ carry_apart start journal (lawful.served earlier entry h is) =
     forward_apart start (serves entry ∷ earlier) entry.place (outcome_of start (history_of start earlier) entry).forward
     (same_apart (all_sent (history_of start earlier)) (all_sent (behind start (serves entry) (history_of start earlier))) (carry_apart start earlier h) (servings_take_effect start (history_of start earlier) entry).sent_same)
 
-abbrev CarriedOnce : List Sent → Type 0
-CarriedOnce ones = (one other : Sent) (n : ℕ) → Contains ones one → Contains ones other → among n (endpoints_in one) ≡ true → among n (endpoints_in other) ≡ true → one ≡ other
-
-flat_apart : (ones : List Sent) → CarryApart ones → CarriedOnce ones → AllPairs (λ one other. one.place < other.place) ones → AllPairs OtherNumber (flat_map endpoints_in ones)
-flat_apart [] each once rises = λ i j d a b. absurd (omega arith)
-flat_apart (one ∷ ones) each once rises =
-    pairs-append OtherNumber (endpoints_in one) (flat_map endpoints_in ones) (endpoints_apart one (each one (contains_here one ones)))
-    (flat_apart ones (λ x p. each x (contains_later x one ones p)) (λ x y n p q. once x y n (contains_later x one ones p) (contains_later y one ones q)) (pairs-tail (λ (x y : Sent). x.place < y.place) one ones rises))
-    (All-weaker (Contains (endpoints_in one)) (λ n. All (OtherNumber n) (flat_map endpoints_in ones))
-    (λ n p. All-weaker (Contains (flat_map endpoints_in ones)) (OtherNumber n) (λ m q same. clash n m p q same) (flat_map endpoints_in ones) (All-contains_itself (flat_map endpoints_in ones)))
-    (endpoints_in one) (All-contains_itself (endpoints_in one))) where
-      clash : (n m : ℕ) → Contains (endpoints_in one) n → Contains (flat_map endpoints_in ones) m → n ≡ m → ⊥
+-- numbers that no entry has twice, and no two entries have, are apart
+pub many_apart : (f : Sent → List ℕ) (ones : List Sent) → ((one : Sent) → Contains ones one → AllPairs OtherNumber (f one)) →
+    ((one other : Sent) (n : ℕ) → Contains ones one → Contains ones other → among n (f one) ≡ true → among n (f other) ≡ true → one ≡ other) →
+    AllPairs (λ one other. one.place < other.place) ones → AllPairs OtherNumber (flat_map f ones)
+many_apart f [] each once rises = λ i j d a b. absurd (omega arith)
+many_apart f (one ∷ ones) each once rises =
+    pairs-append OtherNumber (f one) (flat_map f ones) (each one (contains_here one ones))
+    (many_apart f ones (λ x p. each x (contains_later x one ones p)) (λ x y n p q. once x y n (contains_later x one ones p) (contains_later y one ones q)) (pairs-tail (λ (x y : Sent). x.place < y.place) one ones rises))
+    (All-weaker (Contains (f one)) (λ n. All (OtherNumber n) (flat_map f ones))
+    (λ n p. All-weaker (Contains (flat_map f ones)) (OtherNumber n) (λ m q same. clash n m p q same) (flat_map f ones) (All-contains_itself (flat_map f ones)))
+    (f one) (All-contains_itself (f one))) where
+      clash : (n m : ℕ) → Contains (f one) n → Contains (flat_map f ones) m → n ≡ m → ⊥
       clash n m p q same =
-          let u = carrier_of m ones (among_of m (flat_map endpoints_in ones) q) in
-          let carried : among m (endpoints_in one) ≡ true = among_of m (endpoints_in one) (subst (Contains (endpoints_in one)) same p) in
-          let one_is : one ≡ u.0 = once one u.0 m (contains_here one ones) (contains_later u.0 one ones u.1) carried u.2 in
+          let u = from_many f m ones (among_of m (flat_map f ones) q) in
+          let has : among m (f one) ≡ true = among_of m (f one) (subst (Contains (f one)) same p) in
+          let one_is : one ≡ u.0 = once one u.0 m (contains_here one ones) (contains_later u.0 one ones u.1) has u.2 in
           let after : one.place < u.0.place = All-contains (λ (x : Sent). one.place < x.place) ones u.0 (pairs-head (λ (x y : Sent). x.place < y.place) one ones rises) u.1 in
           let equal : one.place ≡ u.0.place = ap (λ (x : Sent). x.place) one_is in
-          omega arith
+          omega (arith, after, equal)
 
 pub travelling_apart : (start : Start) (journal : Journal) → Lawful start journal → IsView (view start (history_of start journal)) → Transit start (view start (history_of start journal)) nothing_left →
     AllPairs OtherNumber (travelling (history_of start journal))
 travelling_apart start journal h is transit =
     let history = history_of start journal in
-    flat_apart (waiting history) (λ one p. carry_apart start journal h one (is.waits one p)) transit.once is.rises
+    many_apart endpoints_in (waiting history) (λ one p. endpoints_apart one (carry_apart start journal h one (is.waits one p))) transit.once is.rises

@@ -1,5 +1,5 @@
 -- The view of each lawful journal is fit.
-use Rattle.std.proofs.Common.{◌≡◌, ◌≢◌, ℕ, ◌+◌, ◌<◌, ◌≤◌, ◌==◌, ◌⊎◌, ◌&&◌, Bool, true, false, not, List, [], ◌∷◌, length, flat_map, Some, All, AllPairs, Contains, refl, sym, ap, ◌∙◌, subst, inl, inr, arith}
+use Rattle.std.proofs.Common.{◌≡◌, ◌≢◌, ℕ, ◌+◌, ◌<◌, ◌≤◌, ◌==◌, ◌⊎◌, ◌&&◌, Bool, true, false, not, [], ◌∷◌, length, Some, All, AllPairs, Contains, refl, sym, ap, ◌∙◌, subst, inl, inr, arith}
 use Rattle.std.specs.List.{list_any}
 use Rattle.std.proofs.lemmas.Bool.{or_cases, true≢false}
 use Rattle.std.proofs.lemmas.List.Elements.{All-weaker, All-filter, All-contains, All-contains_itself}
@@ -23,18 +23,16 @@ use Rattle.vfs_journal.specs.Tokens.{all_given, is_held, was_given}
 use Rattle.vfs_journal.specs.View.{View, deaths_in, head_in, is_bound_in, is_held_in, then_in, view_of, with_position}
 use Rattle.journal_laws.specs.Soundness.{IsStart, OtherEndpoint}
 use Rattle.journal_laws.specs.Viewing.{IsReached, view_behind}
-use Rattle.journal_laws.proofs.Among.{carried_from, among_of, passes_any}
-use Rattle.journal_laws.proofs.Apart.{births_apart, carry_apart}
+use Rattle.journal_laws.proofs.Among.{carried_from, from_many, passes_any}
+use Rattle.journal_laws.proofs.Apart.{births_apart, carry_apart, many_apart}
 use Rattle.journal_laws.proofs.Below.{Below}
 use Rattle.journal_laws.proofs.Kept.{end_lives, is_forwarded, is_serving, lawful_kept, mounts_born}
 use Rattle.journal_laws.proofs.KnowingCount.{deaths_apart}
 use Rattle.journal_laws.proofs.KnowingLists.{apart_pairs}
 use Rattle.journal_laws.proofs.KnowingServed.{after_served}
-use Rattle.journal_laws.proofs.Lists.{pairs-append, pairs-head, pairs-map, pairs-tail}
-use Rattle.journal_laws.proofs.Members.{contains_here, contains_later}
+use Rattle.journal_laws.proofs.Lists.{pairs-map}
 use Rattle.journal_laws.proofs.Places.{in_order, waiting_rises, waits_of_sent}
 use Rattle.journal_laws.proofs.Sound.{end_apart, view}
-use Rattle.journal_laws.proofs.Spreading.{among_sides}
 use Rattle.journal_laws.proofs.Served.{how_it_dies, known_by_death}
 use Rattle.journal_laws.proofs.Stepping.{stepped}
 use Rattle.journal_laws.proofs.TokensGiven.{lawful_given}
@@ -42,36 +40,6 @@ use Rattle.journal_laws.proofs.TransitLaws.{deaths_reach_all, in_transit}
 use Rattle.journal_laws.proofs.ViewParts.{bound_is, deaths_are, head_is_in, held_is, outcome_is_in, token_is}
 use Rattle.journal_laws.proofs.ViewLaws.{served_behind_viewed}
 use Rattle.journal_laws.proofs.Views.{is_view}
-
--- ---- numbers of many entries
-
--- what one of them has
-from_many : (f : Sent → List ℕ) (n : ℕ) (ones : List Sent) → among n (flat_map f ones) ≡ true → (x : Sent) × Contains ones x × (among n (f x) ≡ true)
-from_many f n [] h = absurd (true≢false (sym h))
-from_many f n (one ∷ ones) h = by_side (from_many f n ones) (among_sides n (f one) (flat_map f ones) h) where
-  by_side : (among n (flat_map f ones) ≡ true → (x : Sent) × Contains ones x × (among n (f x) ≡ true)) → (among n (f one) ≡ true) ⊎ (among n (flat_map f ones) ≡ true) → (x : Sent) × Contains (one ∷ ones) x × (among n (f x) ≡ true)
-  by_side rest (inl g) = (one, contains_here one ones, g)
-  by_side rest (inr g) = let later = rest g in (later.0, contains_later later.0 one ones later.1, later.2)
-
--- numbers that no entry has twice, and no two entries have, are apart
-many_apart : (f : Sent → List ℕ) (ones : List Sent) → ((one : Sent) → Contains ones one → AllPairs (λ (x y : ℕ). x ≢ y) (f one)) →
-    ((one other : Sent) (n : ℕ) → Contains ones one → Contains ones other → among n (f one) ≡ true → among n (f other) ≡ true → one ≡ other) →
-    AllPairs (λ one other. one.place < other.place) ones → AllPairs (λ (x y : ℕ). x ≢ y) (flat_map f ones)
-many_apart f [] each once rises = λ i j d a b. absurd (omega arith)
-many_apart f (one ∷ ones) each once rises =
-    pairs-append (λ (x y : ℕ). x ≢ y) (f one) (flat_map f ones) (each one (contains_here one ones))
-    (many_apart f ones (λ x p. each x (contains_later x one ones p)) (λ x y n p q. once x y n (contains_later x one ones p) (contains_later y one ones q)) (pairs-tail (λ (x y : Sent). x.place < y.place) one ones rises))
-    (All-weaker (Contains (f one)) (λ n. All (λ m. n ≢ m) (flat_map f ones))
-    (λ n p. All-weaker (Contains (flat_map f ones)) (λ m. n ≢ m) (λ m q same. clash n m p q same) (flat_map f ones) (All-contains_itself (flat_map f ones)))
-    (f one) (All-contains_itself (f one))) where
-      clash : (n m : ℕ) → Contains (f one) n → Contains (flat_map f ones) m → n ≡ m → ⊥
-      clash n m p q same =
-          let u = from_many f m ones (among_of m (flat_map f ones) q) in
-          let has : among m (f one) ≡ true = among_of m (f one) (subst (Contains (f one)) same p) in
-          let one_is : one ≡ u.0 = once one u.0 m (contains_here one ones) (contains_later u.0 one ones u.1) has u.2 in
-          let after : one.place < u.0.place = All-contains (λ (x : Sent). one.place < x.place) ones u.0 (pairs-head (λ (x y : Sent). x.place < y.place) one ones rises) u.1 in
-          let equal : one.place ≡ u.0.place = ap (λ (x : Sent). x.place) one_is in
-          omega (arith, after, equal)
 
 -- ---- who lives, and what is in transit
 

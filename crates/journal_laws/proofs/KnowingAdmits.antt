@@ -128,7 +128,7 @@ used_where below start journal n s lawful client =
     let past = lawful_kept below start s journal lawful in
     let is = is_view start journal (stepped start journal lawful) in
     same_bool (is_used start history n) (is_dead history n || is_live start history n)
-    (λ h. either (is_dead history n) (is_live start history n) ((lawful_accounted below start s journal lawful).known n client h))
+    (λ h. either (is_dead history n) (is_live start history n) (lawful_accounted below start s journal lawful n client h))
     (λ h. known_by (past.sound.dead n) (λ g. lives_known start (view start history) n s past.sound is client (how_it_lives (view start history) n g)) (or_cases (is_dead history n) (is_live start history n) h)) where
       either : (a b : Bool) → (a ≡ true) ⊎ (b ≡ true) → (a || b) ≡ true
       either a b (inl h) = or_left a b h

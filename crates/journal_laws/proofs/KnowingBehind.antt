@@ -39,7 +39,7 @@ use Rattle.journal_laws.proofs.Below.{Below}
 use Rattle.journal_laws.proofs.KnowingCount.{same_bool}
 use Rattle.journal_laws.proofs.Fits.{views_fit}
 use Rattle.journal_laws.proofs.Kept.{is_serving, lawful_kept, one_handle}
-use Rattle.journal_laws.proofs.KnowingLists.{Apart, apart_append, apart_one, no_more}
+use Rattle.journal_laws.proofs.KnowingLists.{Apart, apart_append, apart_one, no_more, from_pairs}
 use Rattle.journal_laws.proofs.KnowingSent.{no_token}
 use Rattle.journal_laws.proofs.KnowingServes.{ended_live, ended_same, ended_standing, servings_end}
 use Rattle.journal_laws.proofs.KnowingTokens.{holds_from, next_from, out_of}
@@ -56,13 +56,6 @@ use Rattle.journal_laws.proofs.ViewLaws.{brings_new, served_behind_viewed}
 use Rattle.journal_laws.proofs.ViewParts.{deaths_are, head_is_in, outcome_is_in}
 
 -- ---- lists of numbers
-
-pub from_pairs : (xs : List ℕ) → AllPairs (λ one other. one ≢ other) xs → Apart xs
-from_pairs [] h = tt
-from_pairs (x ∷ xs) h = (
-  false_from_ne_true (among x xs) (λ g. All-contains (λ (y : ℕ). x ≢ y) xs x (pairs-head (λ (a b : ℕ). a ≢ b) x xs h) (member_of x xs g) refl),
-  from_pairs xs (pairs-tail (λ (a b : ℕ). a ≢ b) x xs h),
-)
 
 -- two lists that are apart and have the same members are equally long
 pub as_long : (xs ys : List ℕ) → Apart xs → Apart ys → ((n : ℕ) → among n xs ≡ among n ys) → length xs ≡ length ys

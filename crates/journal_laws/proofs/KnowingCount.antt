@@ -5,14 +5,7 @@ use Rattle.std.specs.List.{list_any, range_with_len}
 use Rattle.std.proofs.lemmas.Bool.{eqb-true, eq-eqb, ne_eqb, or_cases, or_left, or_right, or_from, and_from, and_parts, le-leb, leb-true, lt-ltb, ltb-true, cases_eq, false_from_ne_true, true≢false, not-true}
 use Rattle.std.proofs.lemmas.List.Elements.{All-head, All-tail, Contains-append_left}
 use Rattle.std.proofs.lemmas.List.Kept.{AllPairs-filter}
-use Rattle.endpoint_link.specs.declared.kinds.FrameKind.{FrameKind}
 use Rattle.endpoint_link.specs.declared.kinds.FrameKind.TheVariants as kind
-use Rattle.endpoint_link.specs.declared.kinds.Refusal.{Refusal}
-use Rattle.endpoint_link.specs.declared.kinds.Refusal.TheVariants as refusal
-use Rattle.endpoint_link.specs.declared.kinds.Standing.TheVariants as standing
-use Rattle.endpoint_link.specs.Admission.{LookUps, admission, refusal_by, by_standing, may_travel, all_may_travel}
-use Rattle.fidl_names.specs.First.{cause_if, first_of}
-use Rattle.endpoint_link.specs.Frames.{Frame}
 use Rattle.fidl_names.specs.HandleNumber.{is_client}
 use Rattle.endpoint_link.specs.Numbering.{among}
 use Rattle.io_messages.specs.declared.protocols.Protocol.{Protocol}
@@ -20,28 +13,28 @@ use Rattle.io_messages.specs.declared.protocols.Protocol.TheVariants as protocol
 use Rattle.tree_file.specs.Numbering.{end_of_mount}
 use Rattle.conn_rules.specs.Answers.{Answer, replies, closes, binds, watches, forwards, refuses as refuses_to, ends, hangs_up, silent}
 use Rattle.vfs_journal.specs.Deaths.{first_deaths, is_settled, deaths_of, others}
-use Rattle.vfs_journal.specs.Entries.{Sent, Sending, Journal, message, hang_up, handles_of, endpoints_in, sends, serves}
-use Rattle.vfs_journal.specs.History.{History, all_sent, births, living, waiting, travelling, is_dead, is_live, bound_at, hung_up, live_count}
+use Rattle.vfs_journal.specs.Entries.{Sent, Sending, Journal, message, hang_up, handles_of, endpoints_in, sends}
+use Rattle.vfs_journal.specs.History.{History, all_sent, births, living, waiting, travelling, is_dead, is_live, bound_at, live_count}
 use Rattle.vfs_journal.specs.Lawful.{Lawful, begun, refused, sent, closed, served}
-use Rattle.vfs_journal.specs.Outcomes.{Asker, Outcome, Forwarded, ends_of as ends_by}
+use Rattle.vfs_journal.specs.Outcomes.{Asker, Outcome, ends_of as ends_by}
 use Rattle.vfs_journal.specs.Past.{behind, history_of}
 use Rattle.vfs_journal.specs.Serving.{Read, Moment, moment_of, read_by, object_of, asker_of, request_act, fault_txid, fault_answer, outcome_of_read, outcome_of_message, outcome_of_sending, outcome_at, outcome_of}
-use Rattle.vfs_journal.specs.Session.{head, look_ups, sent_behind, with_forward, after_serving}
+use Rattle.vfs_journal.specs.Session.{head, look_ups, sent_behind, after_serving}
 use Rattle.journal_laws.specs.Soundness.{IsStart, OtherEndpoint, mount_ends}
 use Rattle.vfs_journal.specs.Starts.{Bound, Start}
 use Rattle.journal_laws.proofs.Among.{one_passes, member_of, among_of, carried_from, carrier_of, is_found}
-use Rattle.journal_laws.proofs.Apart.{births_apart}
+use Rattle.journal_laws.proofs.Apart.{births_apart, carry_apart, endpoints_apart, travelling_apart}
 use Rattle.journal_laws.proofs.Below.{Below}
-use Rattle.journal_laws.proofs.Kept.{lawful_kept, is_serving}
-use Rattle.journal_laws.proofs.KnowingLists.{Apart, no_more, apart_append, apart_one, apart_filter, ends_of, AreOwn, own_filter, apart_carried, apart_spread}
+use Rattle.journal_laws.proofs.Kept.{close_admitted, is_serving, lawful_kept, message_admitted, refusal_of}
+use Rattle.journal_laws.proofs.KnowingLists.{Apart, from_pairs, no_more, apart_append, apart_one, apart_filter, ends_of, AreOwn, own_filter, apart_spread}
 use Rattle.journal_laws.proofs.KnowingServed.{after_served, unsettled, live_in, bound_lives, sent_lives, used_more}
-use Rattle.journal_laws.proofs.Members.{contains_none, kept_of}
+use Rattle.journal_laws.proofs.Members.{kept_of}
 use Rattle.journal_laws.proofs.Lists.{pairs-head, pairs-tail}
 use Rattle.journal_laws.proofs.Served.{IsAnswered, other_of}
 use Rattle.journal_laws.proofs.Sound.{View, view, IsView, Transit, used, bound_in, nothing_left}
 use Rattle.journal_laws.proofs.Spreading.{among-append, among_sides}
 use Rattle.journal_laws.proofs.Stepping.{Stepped, stepped, none}
-use Rattle.journal_laws.proofs.Views.{is_view, refused_view, sent_view, served_view, new_waits, fresh_unserved}
+use Rattle.journal_laws.proofs.Views.{is_view, refused_view, sent_view, new_waits, fresh_unserved}
 
 le_refl_of : (n : ℕ) → n ≤ n
 le_refl_of n = omega arith
@@ -50,125 +43,43 @@ pub same_bool : (a b : Bool) → (a ≡ true → b ≡ true) → (b ≡ true →
 same_bool true b f g = sym (f refl)
 same_bool false b f g = sym (false_from_ne_true b (λ h. true≢false (sym (g h))))
 
--- ---- what an admission has tested
-
-pub record IsLetIn (start : Start) (history : History) (endpoint : ℕ) : Type 0 where
-  pub alive : is_dead history endpoint ≡ false
-  pub live : is_live start history endpoint ≡ true
-  pub client : is_client endpoint ≡ true
-
-first_none : (o : Option Refusal) (rest : List (Option Refusal)) → first_of (o ∷ rest) ≡ None → (o ≡ None) × (first_of rest ≡ None)
-first_none None rest h = (refl, h)
-first_none (Some why) rest h = absurd (cc)
-
-not_refused : (b : Bool) (why : Refusal) → cause_if (not b) why ≡ None → b ≡ true
-not_refused true why h = refl
-not_refused false why h = absurd (cc)
-
-standing_live : (dead live closed' : Bool) → by_standing (if dead then standing.Dead else if live then (if closed' then standing.HungUp else standing.Live) else standing.Unused) ≡ None → (dead ≡ false) × (live ≡ true)
-standing_live true live closed' h = absurd (cc)
-standing_live false true closed' h = (refl, refl)
-standing_live false false closed' h = absurd (cc)
-
-pub message_let_in : (start : Start) (history : History) (frame : Frame) → frame.kind ≡ kind.Message → admission (look_ups start history) frame ≡ None →
-    IsLetIn start history frame.endpoint × (all_may_travel (look_ups start history) frame.handles ≡ true)
-message_let_in start history frame is h =
-    let l = look_ups start history in
-    let first : refusal_by kind.Message l frame.endpoint frame.handles ≡ None = ap (λ (x : FrameKind). refusal_by x l frame.endpoint frame.handles) (sym is) ∙ h in
-    let a = first_none (by_standing (l.standing frame.endpoint)) _ first in
-    let b = first_none (cause_if (not (is_client frame.endpoint)) refusal.BadHandle) _ a.1 in
-    let c = first_none (cause_if (not (all_may_travel l frame.handles)) refusal.BadHandle) _ b.1 in
-    let live = standing_live (is_dead history frame.endpoint) (is_live start history frame.endpoint) (hung_up history frame.endpoint) a.0 in
-    (record { alive = live.0; live = live.1; client = not_refused (is_client frame.endpoint) refusal.BadHandle b.0 }, not_refused (all_may_travel l frame.handles) refusal.BadHandle c.0)
-
-pub close_let_in : (start : Start) (history : History) (frame : Frame) → frame.kind ≡ kind.Close → admission (look_ups start history) frame ≡ None → IsLetIn start history frame.endpoint
-close_let_in start history frame is h =
-    let l = look_ups start history in
-    let first : refusal_by kind.Close l frame.endpoint frame.handles ≡ None = ap (λ (x : FrameKind). refusal_by x l frame.endpoint frame.handles) (sym is) ∙ h in
-    let a = first_none (by_standing (l.standing frame.endpoint)) _ first in
-    let b = first_none (cause_if (not (is_client frame.endpoint)) refusal.BadHandle) _ a.1 in
-    let live = standing_live (is_dead history frame.endpoint) (is_live start history frame.endpoint) (hung_up history frame.endpoint) a.0 in
-    record { alive = live.0; live = live.1; client = not_refused (is_client frame.endpoint) refusal.BadHandle b.0 }
-
-three : (a b c : Bool) → a && b && c ≡ true → (b ≡ true) × (c ≡ true)
-three true true true h = (refl, refl)
-three true true false h = absurd (cc)
-three true false c h = absurd (cc)
-three false b c h = absurd (cc)
-
-pub handles_apart : (l : LookUps) (handles : List ℕ) → all_may_travel l handles ≡ true → Apart handles
-handles_apart l [] h = tt
-handles_apart l (n ∷ ns) h =
-    let parts = three (may_travel l n) (not (among n ns)) (all_may_travel l ns) h in
-    (not-true (among n ns) parts.0, handles_apart l ns parts.1)
-
 -- ---- each known endpoint lives or is dead
 
-pub record IsAccounted (start : Start) (v : View) : Type 0 where
-  pub each : (one : Sent) → Contains v.waiting one → Apart (endpoints_in one)
-  pub known : (n : ℕ) → is_client n ≡ true → used start v.sent n ≡ true → (v.dead n ≡ true) ⊎ (live_in v n ≡ true)
+abbrev pub IsAccounted : Start → View → Type 0
+IsAccounted start v = (n : ℕ) → is_client n ≡ true → used start v.sent n ≡ true → (v.dead n ≡ true) ⊎ (live_in v n ≡ true)
 
 begun_accounted : (start : Start) → IsAccounted start (view start (history_of start []))
 unfolding history_of
-begun_accounted start =
-    let is = is_view start [] none in
-    record {
-      each = λ one p. absurd (contains_none one p);
-      known = λ n client h. inr (first_lives is n (or_cases (list_any (λ (bound : Bound). bound.endpoint == n) start.firsts) false h));
-    } where
-      first_lives : IsView (view start []) → (n : ℕ) → (list_any (λ (bound : Bound). bound.endpoint == n) start.firsts ≡ true) ⊎ (false ≡ true) → live_in (view start []) n ≡ true
-      first_lives is n (inl h) =
-          let b = one_passes (λ (bound : Bound). bound.endpoint == n) start.firsts h in
-          bound_lives (view start []) b.0 n
-          (is.born_living b.0 (Contains-append_left (start.firsts ++ start.mounts) [] b.0 (Contains-append_left start.firsts start.mounts b.0 b.1)) refl)
-          (eqb-true b.0.endpoint n b.2)
-      first_lives is n (inr h) = absurd (true≢false (sym h))
+begun_accounted start n client h = inr (first_lives (is_view start [] none) n (or_cases (list_any (λ (bound : Bound). bound.endpoint == n) start.firsts) false h)) where
+  first_lives : IsView (view start []) → (n : ℕ) → (list_any (λ (bound : Bound). bound.endpoint == n) start.firsts ≡ true) ⊎ (false ≡ true) → live_in (view start []) n ≡ true
+  first_lives is n (inl h) =
+      let b = one_passes (λ (bound : Bound). bound.endpoint == n) start.firsts h in
+      bound_lives (view start []) b.0 n
+      (is.born_living b.0 (Contains-append_left (start.firsts ++ start.mounts) [] b.0 (Contains-append_left start.firsts start.mounts b.0 b.1)) refl)
+      (eqb-true b.0.endpoint n b.2)
+  first_lives is n (inr h) = absurd (true≢false (sym h))
 
 -- an admitted sending
-sent_accounted : (start : Start) (earlier : Journal) (endpoint : ℕ) (sending' : Sending) → Stepped start earlier → is_dead (history_of start earlier) endpoint ≡ false → Apart (handles_of sending') →
+sent_accounted : (start : Start) (earlier : Journal) (endpoint : ℕ) (sending' : Sending) → Stepped start earlier → is_dead (history_of start earlier) endpoint ≡ false →
     IsAccounted start (view start (history_of start earlier)) → IsAccounted start (view start (history_of start (sends (sent_behind earlier endpoint sending' None) ∷ earlier)))
 unfolding history_of
-sent_accounted start earlier endpoint sending' steps alive apart past =
+sent_accounted start earlier endpoint sending' steps alive past =
     let history = history_of start earlier in
     let new = sent_behind earlier endpoint sending' None in
     let now = behind start (sends new) history in
     let adds = sent_view start history new in
     let waits = new_waits start history new (fresh_unserved start earlier new steps (le_refl_of (length earlier))) alive in
     let lives = λ (n : ℕ). sent_lives (view start history) (view start now) new n adds waits in
-    record {
-      each = λ one p. each_by one (apart_filter is_client (handles_of sending') apart) (adds.waited one p);
-      known = λ n client h. by_used n client (lives n) (adds.dead n) (used_more start (all_sent history) new n (subst (λ sents. used start sents n ≡ true) adds.sent h));
-    } where
-      each_by : (one : Sent) → Apart (endpoints_in (sent_behind earlier endpoint sending' None)) → Contains (waiting (history_of start earlier)) one ⊎ (sent_behind earlier endpoint sending' None ≡ one) → Apart (endpoints_in one)
-      each_by one own (inl p) = past.each one p
-      each_by one own (inr e) = subst (λ (x : Sent). Apart (endpoints_in x)) e own
-
+    λ n client h. by_used n client (lives n) (adds.dead n) (used_more start (all_sent history) new n (subst (λ sents. used start sents n ≡ true) adds.sent h)) where
       still : (d e a b c : Bool) → d ≡ e → a ≡ (b || c) → (e ≡ true) ⊎ (b ≡ true) → (d ≡ true) ⊎ (a ≡ true)
       still d e a b c p q (inl h) = inl (p ∙ h)
       still d e a b c p q (inr h) = inr (q ∙ or_left b c h)
 
       by_used : {d a : Bool} (n : ℕ) → is_client n ≡ true → a ≡ (live_in (view start (history_of start earlier)) n || among n (endpoints_in (sent_behind earlier endpoint sending' None))) →
           d ≡ is_dead (history_of start earlier) n → (used start (all_sent (history_of start earlier)) n ≡ true) ⊎ (among n (handles_of sending') ≡ true) → (d ≡ true) ⊎ (a ≡ true)
-      by_used {d} {a} n client lives dead (inl h) = still d (is_dead (history_of start earlier) n) a (live_in (view start (history_of start earlier)) n) (among n (endpoints_in (sent_behind earlier endpoint sending' None))) dead lives (past.known n client h)
+      by_used {d} {a} n client lives dead (inl h) = still d (is_dead (history_of start earlier) n) a (live_in (view start (history_of start earlier)) n) (among n (endpoints_in (sent_behind earlier endpoint sending' None))) dead lives (past n client h)
       by_used n client lives dead (inr h) =
           inr (lives ∙ or_right (live_in (view start (history_of start earlier)) n) (among n (endpoints_in (sent_behind earlier endpoint sending' None))) (carried_from (sent_behind earlier endpoint sending' None) n client h))
-
--- what waits behind a serving carries nothing twice
-served_each : Below → (start : Start) (earlier : Journal) (k : Sent) → IsStart start → Lawful start earlier → head start (history_of start earlier) k.endpoint ≡ Some k →
-    ((one : Sent) → Contains (waiting (history_of start earlier)) one → Apart (endpoints_in one)) →
-    (x : Option Forwarded) → (one : Sent) → Contains (waiting (history_of start (with_forward k.place (serves k ∷ earlier) x))) one → Apart (endpoints_in one)
-unfolding history_of
-served_each below start earlier k s lawful h past None one p =
-    let serving' = is_serving below start earlier k s (stepped start earlier lawful) (lawful_kept below start s earlier lawful).sound h in
-    past one ((served_view start (history_of start earlier) k serving'.keeps).waited one p).0
-served_each below start earlier k s lawful h past (Some f) one p =
-    let serving' = is_serving below start earlier k s (stepped start earlier lawful) (lawful_kept below start s earlier lawful).sound h in
-    let mid = behind start (serves k) (history_of start earlier) in
-    let new = sent_behind (serves k ∷ earlier) f.endpoint (message f.bytes (f.object ∷ [])) (Some k.place) in
-    by_side (λ q. past one ((served_view start (history_of start earlier) k serving'.keeps).waited one q).0) ((sent_view start mid new).waited one p) where
-      by_side : {A : Type 0} → (A → Apart (endpoints_in one)) → A ⊎ (sent_behind (serves k ∷ earlier) f.endpoint (message f.bytes (f.object ∷ [])) (Some k.place) ≡ one) → Apart (endpoints_in one)
-      by_side old (inl q) = old q
-      by_side old (inr e) = subst (λ (x : Sent). Apart (endpoints_in x)) e (apart_filter is_client (f.object ∷ []) (apart_one f.object))
 
 served_accounted : Below → (start : Start) (earlier : Journal) (k : Sent) → IsStart start → Lawful start earlier → head start (history_of start earlier) k.endpoint ≡ Some k →
     IsAccounted start (view start (history_of start earlier)) → IsAccounted start (view start (history_of start (after_serving start earlier k)))
@@ -177,10 +88,7 @@ served_accounted below start earlier k s lawful h past =
     let now = history_of start (after_serving start earlier k) in
     let deaths = deaths_of history k (outcome_of start history k) in
     let after = after_served below start earlier k s lawful h in
-    record {
-      each = λ one p. served_each below start earlier k s lawful h past.each (outcome_of start history k).forward one p;
-      known = λ n client u. now_by (is_dead now n) (is_live start now n) (among n deaths) (is_dead history n) (is_live start history n) (after.dead n) (after.live n) (past.known n client (after.known n u));
-    } where
+    λ n client u. now_by (is_dead now n) (is_live start now n) (among n deaths) (is_dead history n) (is_live start history n) (after.dead n) (after.live n) (past n client (after.known n u)) where
       now_by : (d a among' e b : Bool) → d ≡ (among' || e) → a ≡ (b && not among') → (e ≡ true) ⊎ (b ≡ true) → (d ≡ true) ⊎ (a ≡ true)
       now_by d a among' e b p q (inl h) = inl (p ∙ or_right among' e h)
       now_by d a true e b p q (inr h) = inl p
@@ -192,11 +100,13 @@ lawful_accounted below start s journal begun = begun_accounted start
 lawful_accounted below start s journal (refused earlier frame why h is admits) =
     subst (IsAccounted start) (refused_view start (history_of start earlier) frame.endpoint why) (lawful_accounted below start s earlier h)
 lawful_accounted below start s journal (sent earlier frame h is at admits) =
-    let admitted = message_let_in start (history_of start earlier) frame at admits in
-    sent_accounted start earlier frame.endpoint (message frame.bytes frame.handles) (stepped start earlier h) admitted.0.alive (handles_apart (look_ups start (history_of start earlier)) frame.handles admitted.1)
+    sent_accounted start earlier frame.endpoint (message frame.bytes frame.handles) (stepped start earlier h)
+    (message_admitted start (history_of start earlier) frame.endpoint frame.handles (refusal_of (look_ups start (history_of start earlier)) frame kind.Message at admits)).alive
     (lawful_accounted below start s earlier h)
 lawful_accounted below start s journal (closed earlier frame h is at admits) =
-    sent_accounted start earlier frame.endpoint hang_up (stepped start earlier h) (close_let_in start (history_of start earlier) frame at admits).alive tt (lawful_accounted below start s earlier h)
+    sent_accounted start earlier frame.endpoint hang_up (stepped start earlier h)
+    (close_admitted start (history_of start earlier) frame.endpoint frame.handles (refusal_of (look_ups start (history_of start earlier)) frame kind.Close at admits)).alive
+    (lawful_accounted below start s earlier h)
 lawful_accounted below start s journal (served earlier entry h is) = served_accounted below start earlier entry s h is (lawful_accounted below start s earlier h)
 
 -- ---- no endpoint lives twice
@@ -288,11 +198,11 @@ outcome_ends start history k (Some b) = sending_ends (moment_of start history b)
 -- what waits carries nothing twice
 pub waiting_own : Below → (start : Start) (journal : Journal) → IsStart start → Lawful start journal → AreOwn (waiting (history_of start journal))
 waiting_own below start journal s lawful =
-    let transit = (lawful_kept below start s journal lawful).transit in
+    let is = is_view start journal (stepped start journal lawful) in
     record {
-      rises = (is_view start journal (stepped start journal lawful)).rises;
-      each = (lawful_accounted below start s journal lawful).each;
-      once = transit.once;
+      rises = is.rises;
+      each = λ one p. from_pairs (endpoints_in one) (endpoints_apart one (carry_apart start journal lawful one (is.waits one p)));
+      once = (lawful_kept below start s journal lawful).transit.once;
     }
 
 unsettled_is : (k : Sent) (o : Outcome) (n : ℕ) → among n (unsettled k o) ≡ true → (among n (endpoints_in k) ≡ true) × (not (is_settled o n) ≡ true)
@@ -354,7 +264,7 @@ pub ends_apart : Below → (start : Start) (journal : Journal) → IsStart start
 ends_apart below start journal s lawful =
     let history = history_of start journal in
     let transit = (lawful_kept below start s journal lawful).transit in
-    apart_append (ends_of (living start history)) (travelling history) (lives_apart below start s journal lawful) (apart_carried (waiting history) (waiting_own below start journal s lawful))
+    apart_append (ends_of (living start history)) (travelling history) (lives_apart below start s journal lawful) (from_pairs (travelling history) (travelling_apart start journal lawful (is_view start journal (stepped start journal lawful)) transit))
     (λ n h. false_from_ne_true (among n (travelling history))
     (λ g.
     let one = carrier_of n (waiting history) g in

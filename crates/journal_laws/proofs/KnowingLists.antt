@@ -1,5 +1,5 @@
 -- Lists of numbers that are apart, and how many they are.
-use Rattle.std.proofs.Common.{◌≡◌, ◌≢◌, ℕ, suc, ◌<◌, ◌≤◌, ◌==◌, ◌||◌, ◌⊎◌, Bool, true, false, cond, List, [], ◌∷◌, ◌++◌, length, map, filter, flat_map, All, AllPairs, Contains, refl, sym, ap, ◌∙◌, inl, inr, if◌then◌else◌, arith}
+use Rattle.std.proofs.Common.{◌≡◌, ◌≢◌, ℕ, suc, ◌<◌, ◌≤◌, ◌==◌, ◌||◌, ◌⊎◌, Bool, true, false, cond, List, [], ◌∷◌, ◌++◌, length, map, filter, All, AllPairs, Contains, refl, sym, ap, ◌∙◌, inl, inr, if◌then◌else◌, arith}
 use Rattle.std.proofs.lemmas.Bool.{eqb-true, eq-eqb, or_parts, or_from, false_from_ne_true, true≢false}
 use Rattle.std.proofs.lemmas.List.Elements.{All-nil, All-cons, All-contains}
 use Rattle.std.proofs.lemmas.List.Kept.{AllPairs-cons, AllPairs-filter}
@@ -7,7 +7,7 @@ use Rattle.endpoint_link.specs.Numbering.{among}
 use Rattle.vfs_journal.specs.Deaths.{spread}
 use Rattle.vfs_journal.specs.Entries.{Sent, endpoints_in}
 use Rattle.vfs_journal.specs.Starts.{Bound}
-use Rattle.journal_laws.proofs.Among.{among_of, member_of, carrier_of}
+use Rattle.journal_laws.proofs.Among.{among_of, member_of}
 use Rattle.journal_laws.proofs.Members.{contains_here, contains_later, kept_of}
 use Rattle.journal_laws.proofs.Lists.{pairs-head, pairs-tail}
 use Rattle.journal_laws.proofs.Spreading.{among-append, among_sides}
@@ -99,6 +99,13 @@ pub apart_pairs : (xs : List ℕ) → Apart xs → AllPairs (λ x y. x ≢ y) xs
 apart_pairs [] apart = λ i j d l m. absurd (omega arith)
 apart_pairs (x ∷ xs) apart = AllPairs-cons (λ a b. a ≢ b) x xs (each_apart x xs apart.0) (apart_pairs xs apart.1)
 
+pub from_pairs : (xs : List ℕ) → AllPairs (λ one other. one ≢ other) xs → Apart xs
+from_pairs [] h = tt
+from_pairs (x ∷ xs) h = (
+  false_from_ne_true (among x xs) (λ g. All-contains (λ (y : ℕ). x ≢ y) xs x (pairs-head (λ (a b : ℕ). a ≢ b) x xs h) (member_of x xs g) refl),
+  from_pairs xs (pairs-tail (λ (a b : ℕ). a ≢ b) x xs h),
+)
+
 -- ---- what entries carry
 
 abbrev Before : Sent → Sent → Type 0
@@ -132,13 +139,6 @@ own_first x other ones n own p h = false_from_ne_true (among n (endpoints_in oth
     let after : x.place < other.place = All-contains (Before x) ones other (pairs-head Before x ones own.rises) p in
     let equal : x.place ≡ other.place = ap (λ (s : Sent). s.place) same in
     omega arith)
-
-pub apart_carried : (ones : List Sent) → AreOwn ones → Apart (flat_map endpoints_in ones)
-apart_carried [] own = tt
-apart_carried (x ∷ ones) own =
-    apart_append (endpoints_in x) (flat_map endpoints_in ones) (own.each x (contains_here x ones)) (apart_carried ones (own_tail x ones own))
-    (λ n h. false_from_ne_true (among n (flat_map endpoints_in ones))
-    (λ g. let other = carrier_of n ones g in true≢false (sym other.2 ∙ own_first x other.0 ones n own other.1 h)))
 
 -- ---- deaths
 

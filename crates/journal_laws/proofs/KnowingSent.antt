@@ -15,12 +15,12 @@ use Rattle.endpoint_link.specs.declared.kinds.FrameKind.{FrameKind}
 use Rattle.endpoint_link.specs.declared.kinds.FrameKind.TheVariants as kind
 use Rattle.endpoint_link.specs.declared.kinds.Standing.{Standing}
 use Rattle.endpoint_link.specs.declared.kinds.Standing.TheVariants as standing
-use Rattle.endpoint_link.specs.Admission.{admission, may_travel, all_may_travel, Admits, AdmitsKind}
+use Rattle.endpoint_link.specs.Admission.{admission, may_travel, Admits, AdmitsKind}
 use Rattle.endpoint_link.specs.Frames.{Frame}
 use Rattle.fidl_names.specs.HandleNumber.{is_client}
 use Rattle.endpoint_link.specs.Numbering.{among}
 use Rattle.endpoint_link.specs.Standings.{Known, Sends, hung_up as hung_up_in}
-use Rattle.endpoint_link.proofs.Travelling.{travel_each, unused_by, held_by as held_when}
+use Rattle.endpoint_link.proofs.Travelling.{unused_by, held_by as held_when}
 use Rattle.vfs_journal.specs.Entries.{Sent, Sending, Journal, message, hang_up, handles_of, endpoints_in, is_hang_up, sends}
 use Rattle.vfs_journal.specs.History.{History, all_sent, waiting, travelling, waits, was_served, was_carried, is_dead, is_live, is_used, hung_up, live_count}
 use Rattle.journal_laws.specs.Knowing.{Knows, token_out}
@@ -33,9 +33,9 @@ use Rattle.vfs_journal.specs.Starts.{Start}
 use Rattle.vfs_journal.specs.Tokens.{all_given, is_held, was_given, waits_with, tokens_out}
 use Rattle.journal_laws.proofs.Among.{carried_is, carried_from, one_passes}
 use Rattle.journal_laws.proofs.Below.{Below}
-use Rattle.journal_laws.proofs.Kept.{lawful_kept, client_low}
+use Rattle.journal_laws.proofs.Kept.{client_low, close_admitted, lawful_kept, message_admitted, refusal_of}
 use Rattle.journal_laws.proofs.KnowingAdmits.{used_where}
-use Rattle.journal_laws.proofs.KnowingCount.{message_let_in, close_let_in, same_bool}
+use Rattle.journal_laws.proofs.KnowingCount.{same_bool}
 use Rattle.journal_laws.proofs.KnowingLists.{or-none}
 use Rattle.journal_laws.proofs.KnowingServed.{sent_lives}
 use Rattle.journal_laws.proofs.KnowingTokens.{holds_from, next_from, out_of, outs_same, token_same, token_sent}
@@ -159,13 +159,13 @@ message_stands d l c true x h = let at = h refl in rw (at.0, at.1, live_either l
   live_either false = refl
 
 -- what a message carries of clients' numbers is new
-new_numbers : Below → (start : Start) (journal : Journal) (handles : List ℕ) (n : ℕ) → IsStart start → Lawful start journal → all_may_travel (look_ups start (history_of start journal)) handles ≡ true →
-    is_client n ≡ true → among n handles ≡ true → (is_dead (history_of start journal) n ≡ false) × (hung_up (history_of start journal) n ≡ false)
-new_numbers below start journal handles n s lawful travel client h =
+new_numbers : Below → (start : Start) (journal : Journal) (n : ℕ) → IsStart start → Lawful start journal → may_travel (look_ups start (history_of start journal)) n ≡ true →
+    is_client n ≡ true → (is_dead (history_of start journal) n ≡ false) × (hung_up (history_of start journal) n ≡ false)
+new_numbers below start journal n s lawful travel client =
     let history = history_of start journal in
     let past = (lawful_kept below start s journal lawful).sound in
     let unheld : is_held history n ≡ false = ap (λ (b : Bool). b && not (was_carried history n)) (no_token start history n past client) in
-    let unused : is_used start history n ≡ false = unused_by (look_ups start history) n (travel_each (look_ups start history) handles travel n h) unheld in (
+    let unused : is_used start history n ≡ false = unused_by (look_ups start history) n travel unheld in (
       (or_parts (is_dead history n) (is_live start history n) (sym (used_where below start journal n s lawful client) ∙ unused)).0,
       false_from_ne_true (hung_up history n)
           (λ g.
@@ -188,14 +188,13 @@ messages_known below start journal frame known new s lawful is admits k became =
     let now = history_of start (sends one ∷ journal) in
     let sound = (lawful_kept below start s journal lawful).sound in
     let sent' : Sends known frame.handles new = subst (λ (x : FrameKind). AdmitsKind x known frame.endpoint frame.handles new) is became in
-    let admitted = message_let_in start past frame is admits in
-    let h = is_behind start journal frame.endpoint (message frame.bytes frame.handles) lawful admitted.0.alive in
-    let travels = λ (n : ℕ) (carried : among n frame.handles ≡ true). travel_each (look_ups start past) frame.handles admitted.1 n carried in
+    let admitted = message_admitted start past frame.endpoint frame.handles (refusal_of (look_ups start past) frame kind.Message is admits) in
+    let h = is_behind start journal frame.endpoint (message frame.bytes frame.handles) lawful admitted.alive in
     let tokens : (n : ℕ) → map.get new.tokens n ≡ token_out now n = λ n.
     sent'.tokens n
     ∙ ap (λ (o : Option Bool). if not (is_client n) && among n frame.handles then Some false else o) (k.tokens n)
-    ∙ token_then start past now one h n (λ carried other. held_when (look_ups start past) n (travels n carried) other) (no_token start past n sound) in
-    let out : new.out ≡ length (tokens_out now) = sent'.same_out ∙ k.out ∙ sym (ap length (same_out start past now one h (λ n given carried. held_is n given (travels n carried)))) in
+    ∙ token_then start past now one h n (λ carried other. held_when (look_ups start past) n (admitted.travel n carried) other) (no_token start past n sound) in
+    let out : new.out ≡ length (tokens_out now) = sent'.same_out ∙ k.out ∙ sym (ap length (same_out start past now one h (λ n given carried. held_is n given (admitted.travel n carried)))) in
     let given : new.next ≡ limit.FIRST_TOKEN + length (all_given now) = sent'.same_next ∙ k.given ∙ sym (ap (λ (ones : List Given). limit.FIRST_TOKEN + length ones) h.given) in
     record {
       standing = λ n.
@@ -203,7 +202,7 @@ messages_known below start journal frame known new s lawful is admits k became =
           sent'.standing n
           ∙ ap (λ (x : Standing). if m then standing.Live else x) (k.standing n)
           ∙ message_stands (is_dead past n) (is_live start past n) (hung_up past n) m (frame.endpoint == n)
-          (λ e. let at = and_parts (is_client n) (among n frame.handles) e in new_numbers below start journal frame.handles n s lawful admitted.1 at.0 at.1)
+          (λ e. let at = and_parts (is_client n) (among n frame.handles) e in new_numbers below start journal n s lawful (admitted.travel n at.1) at.0)
           ∙ ap (λ (b : Bool). stands (is_dead past n) (is_live start past n || b) (hung_up past n || (false && (frame.endpoint == n)))) (sym (among_clients one n))
           ∙ ap (λ (b : Bool). stands b (is_live start past n || among n (endpoints_in one)) (hung_up past n || (false && (frame.endpoint == n)))) (sym (h.dead n))
           ∙ ap (λ (b : Bool). stands (is_dead now n) b (hung_up past n || (false && (frame.endpoint == n)))) (sym (h.live n))
@@ -239,7 +238,7 @@ hang_ups_known below start journal frame known new s lawful is admits k became =
     let now = history_of start (sends one ∷ journal) in
     let e = frame.endpoint in
     let is_new : new ≡ hung_up_in known e = subst (λ (x : FrameKind). AdmitsKind x known e frame.handles new) is became in
-    let admitted = close_let_in start past frame is admits in
+    let admitted = close_admitted start past e frame.handles (refusal_of (look_ups start past) frame kind.Close is admits) in
     let h = is_behind start journal e hang_up lawful admitted.alive in
     let carries_none = λ (n : ℕ) (carried : among n [] ≡ true). true≢false (sym carried) in
     let tokens : (n : ℕ) → map.get known.tokens n ≡ token_out now n = λ n.

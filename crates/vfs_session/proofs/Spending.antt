@@ -19,9 +19,8 @@ use Rattle.journal_laws.specs.Choosing.{IsListOf, queue_beside}
 use Rattle.journal_laws.specs.Knowing.{dropped_in, known_served, spent_in}
 use Rattle.journal_laws.proofs.Among.{among_of, member_of}
 use Rattle.journal_laws.proofs.Dying.{beside}
-use Rattle.journal_laws.proofs.KnowingBehind.{from_pairs}
 use Rattle.journal_laws.proofs.KnowingCount.{same_bool}
-use Rattle.journal_laws.proofs.KnowingLists.{Apart, apart_append, apart_filter, apart_pairs, first_among, later_among}
+use Rattle.journal_laws.proofs.KnowingLists.{Apart, apart_append, apart_filter, apart_pairs, first_among, from_pairs, later_among}
 use Rattle.journal_laws.proofs.Lists.{pairs-head, pairs-left, pairs-tail}
 use Rattle.journal_laws.proofs.LookedUp.{is_first}
 use Rattle.journal_laws.proofs.Members.{contains_cases, contains_here, contains_later, contains_none, kept, kept_of}
