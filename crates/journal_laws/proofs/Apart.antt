@@ -61,18 +61,18 @@ served_born below start earlier k s h first past =
     subst (AllPairs OtherEndpoint) (sym (servings_take_effect start history k).born)
     (more_born (births start history) (outcome_of start history k).bound past (λ x e. new_born start history k (outcome_of start history k) x (is_view start earlier steps) kept.transit answered e))
 
-pub births_apart : Below → (start : Start) → IsStart start → AllPairs OtherEndpoint (start.firsts ++ start.mounts) → (journal : Journal) → Lawful start journal → AllPairs OtherEndpoint (births start (history_of start journal))
+pub births_apart : Below → (start : Start) → IsStart start → (journal : Journal) → Lawful start journal → AllPairs OtherEndpoint (births start (history_of start journal))
 unfolding history_of
-births_apart below start s apart journal lawful.begun = subst (AllPairs OtherEndpoint) (sym (append-nil (start.firsts ++ start.mounts))) apart
-births_apart below start s apart journal (lawful.refused earlier frame why h is admits) =
-    subst (AllPairs OtherEndpoint) (sym (refusals_change_nothing start (history_of start earlier) frame.endpoint why).same.born) (births_apart below start s apart earlier h)
-births_apart below start s apart journal (lawful.sent earlier frame h is at admits) =
-    subst (AllPairs OtherEndpoint) (sym (sendings_wait_last start (history_of start earlier) (sent_behind earlier frame.endpoint (message frame.bytes frame.handles) None)).same.born) (births_apart below start s apart earlier h)
-births_apart below start s apart journal (lawful.closed earlier frame h is at admits) =
-    subst (AllPairs OtherEndpoint) (sym (sendings_wait_last start (history_of start earlier) (sent_behind earlier frame.endpoint hang_up None)).same.born) (births_apart below start s apart earlier h)
-births_apart below start s apart journal (lawful.served earlier entry h is) =
+births_apart below start s journal lawful.begun = subst (AllPairs OtherEndpoint) (sym (append-nil (start.firsts ++ start.mounts))) s.apart
+births_apart below start s journal (lawful.refused earlier frame why h is admits) =
+    subst (AllPairs OtherEndpoint) (sym (refusals_change_nothing start (history_of start earlier) frame.endpoint why).same.born) (births_apart below start s earlier h)
+births_apart below start s journal (lawful.sent earlier frame h is at admits) =
+    subst (AllPairs OtherEndpoint) (sym (sendings_wait_last start (history_of start earlier) (sent_behind earlier frame.endpoint (message frame.bytes frame.handles) None)).same.born) (births_apart below start s earlier h)
+births_apart below start s journal (lawful.closed earlier frame h is at admits) =
+    subst (AllPairs OtherEndpoint) (sym (sendings_wait_last start (history_of start earlier) (sent_behind earlier frame.endpoint hang_up None)).same.born) (births_apart below start s earlier h)
+births_apart below start s journal (lawful.served earlier entry h is) =
     forward_born start (serves entry ∷ earlier) entry.place (outcome_of start (history_of start earlier) entry).forward
-    (served_born below start earlier entry s h is (births_apart below start s apart earlier h))
+    (served_born below start earlier entry s h is (births_apart below start s earlier h))
 
 -- ---- what travels
 

@@ -48,7 +48,7 @@ lives_apart : Below → (start : Start) (journal : Journal) → IsStart start �
 lives_apart below start journal s h =
     let past = history_of start journal in
     pairs-map (λ (one other : Bound × Position). one.0.endpoint ≢ other.0.endpoint) (with_position past) (living start past)
-    (AllPairs-filter OtherEndpoint (λ bound. not (is_dead past bound.endpoint)) (births start past) (births_apart below start s s.apart journal h))
+    (AllPairs-filter OtherEndpoint (λ bound. not (is_dead past bound.endpoint)) (births start past) (births_apart below start s journal h))
 
 live_by : (start : Start) (past : History) (n : ℕ) → (is_bound start past n ≡ true) ⊎ (among n (travelling past) ≡ true) → (is_bound_in (view_of start past) n ≡ true) ⊎ (among n (travelling past) ≡ true)
 live_by start past n (inl h) = inl (sym (bound_is start past n) ∙ h)

@@ -160,7 +160,7 @@ lives_apart : Below → (start : Start) → IsStart start → (journal : Journal
 lives_apart below start s journal lawful =
     let past = history_of start journal in
     bounds_apart (living start past)
-    (AllPairs-filter OtherEndpoint (λ bound. not (is_dead past bound.endpoint)) (births start past) (births_apart below start s s.apart journal lawful))
+    (AllPairs-filter OtherEndpoint (λ bound. not (is_dead past bound.endpoint)) (births start past) (births_apart below start s journal lawful))
 
 -- ---- deaths, once each
 

@@ -68,7 +68,7 @@ are_known below start journal s h =
           let b = some_found (λ bound. bound.endpoint == n) (living start history) yes in
           bound_by start history n b.0 (eqb-true b.0.endpoint n b.3) (kept.sound.born b.0 (is.living_born b.0 b.2).0);
       ends = λ n c. end_lives start (view start history) n s kept.sound is (mounts_born start history) c;
-      apart = births_apart below start s s.apart journal h;
+      apart = births_apart below start s journal h;
       tokens = λ given c. kept.sound.tokens given c;
     }
 

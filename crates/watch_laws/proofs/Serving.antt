@@ -76,7 +76,7 @@ served_on below start earlier k s h first =
       at = serving'.at;
       lives = here.0;
       whole = ap (outcome_at start past k) serving'.bound;
-      apart = births_apart below start s s.apart earlier h;
+      apart = births_apart below start s earlier h;
       ends_other = ends_none start past k serving' is kept.transit own;
       binds_other = λ b born new e.
           ne_eqb new.endpoint b.endpoint
