@@ -2,6 +2,7 @@
 use Rattle.std.proofs.Common.{◌≡◌, ℕ, ◌⊎◌, Bool, true, false, not, List, [], ◌∷◌, Option, Some, None, refl, sym, ap, ◌∙◌, inl, inr}
 use Rattle.std.specs.Option.{option_map_or}
 use Rattle.fidl_names.specs.First.{cause_if, first_of}
+use Rattle.fidl_names.specs.declared.methods.Method.{Method}
 use Rattle.fidl_names.specs.declared.methods.Method.TheVariants as method
 use Rattle.fidl_names.specs.declared.statuses.Status.{Status}
 use Rattle.fidl_names.specs.declared.statuses.Status.TheVariants as status
@@ -14,8 +15,8 @@ use Rattle.node_graph.specs.Tree.{stay}
 use Rattle.conn_rules.specs.Acts.{act_of, is_beyond, lacks_right, method_refusals, row_act}
 use Rattle.conn_rules.specs.Answers.{Act}
 use Rattle.conn_rules.specs.Contexts.{Context}
-use Rattle.conn_rules.specs.NameRows.{link_act, link_into, rename_act, rename_into, two_names_refusal}
-use Rattle.conn_rules.specs.Refusals.{lacks}
+use Rattle.conn_rules.specs.NameRows.{link_into, rename_into, two_names_refusal}
+use Rattle.conn_rules.specs.Refusals.{lacks, unless}
 use Rattle.journal_laws.proofs.Acts.{unless_holds}
 
 -- ---- the right of a method
@@ -54,26 +55,23 @@ stays_or_right context request operation needs =
 abbrev HasTarget : Context → ℕ → Act → Type 0
 HasTarget context token act = (act.change ≡ stay) ⊎ ((target : ℕ) × (context.directory token ≡ Some target))
 
-link_target : (context : Context) (src dst : List ℕ) (token : ℕ) (o : Option ℕ) → context.directory token ≡ o → HasTarget context token (link_into context src dst o)
-link_target context src dst token None is = inl refl
-link_target context src dst token (Some target) is = inr (target, is)
+-- a token that has no directory leads to no change
+target_of : (context : Context) (token : ℕ) (into : Option ℕ → Act) → (into None).change ≡ stay → (o : Option ℕ) → context.directory token ≡ o → HasTarget context token (into o)
+target_of context token into none None is = inl none
+target_of context token into none (Some target) is = inr (target, is)
+
+-- of Link and Rename alike
+two_names_target : (context : Context) (src dst : List ℕ) (token : ℕ) (method' : Method) (into : Option ℕ → Act) → (into None).change ≡ stay → (refused : Option Status) →
+    HasTarget context token (unless refused context.position method' (unless (two_names_refusal src dst (context.directory token)) context.position method' (into (context.directory token))))
+two_names_target context src dst token method' into none refused =
+    unless_holds (HasTarget context token) refused context.position method' _ (λ s. inl refl)
+    (λ e. unless_holds (HasTarget context token) (two_names_refusal src dst (context.directory token)) context.position method' (into (context.directory token))
+    (λ s. inl refl) (λ f. target_of context token into none (context.directory token) refl))
 
 pub link_has_target : (context : Context) (src dst : List ℕ) (token : ℕ) → ((act_of context (asks.link src token dst)).change ≡ stay) ⊎ ((target : ℕ) × (context.directory token ≡ Some target))
 unfolding act_of
-link_has_target context src dst token =
-    unless_holds (HasTarget context token) (first_of (method_refusals context.birth (method_of (asks.link src token dst)))) context.position (method_of (asks.link src token dst)) (link_act context src token dst)
-    (λ s. inl refl)
-    (λ e. unless_holds (HasTarget context token) (two_names_refusal src dst (context.directory token)) context.position method.Link (link_into context src dst (context.directory token))
-    (λ s. inl refl) (λ f. link_target context src dst token (context.directory token) refl))
-
-rename_target : (context : Context) (src dst : List ℕ) (token : ℕ) (o : Option ℕ) → context.directory token ≡ o → HasTarget context token (rename_into context src dst o)
-rename_target context src dst token None is = inl refl
-rename_target context src dst token (Some target) is = inr (target, is)
+link_has_target context src dst token = two_names_target context src dst token method.Link (link_into context src dst) refl (first_of (method_refusals context.birth method.Link))
 
 pub rename_has_target : (context : Context) (src dst : List ℕ) (token : ℕ) → ((act_of context (asks.rename src token dst)).change ≡ stay) ⊎ ((target : ℕ) × (context.directory token ≡ Some target))
 unfolding act_of
-rename_has_target context src dst token =
-    unless_holds (HasTarget context token) (first_of (method_refusals context.birth (method_of (asks.rename src token dst)))) context.position (method_of (asks.rename src token dst)) (rename_act context src token dst)
-    (λ s. inl refl)
-    (λ e. unless_holds (HasTarget context token) (two_names_refusal src dst (context.directory token)) context.position method.Rename (rename_into context src dst (context.directory token))
-    (λ s. inl refl) (λ f. rename_target context src dst token (context.directory token) refl))
+rename_has_target context src dst token = two_names_target context src dst token method.Rename (rename_into context src dst) refl (first_of (method_refusals context.birth method.Rename))
