@@ -1,6 +1,7 @@
 -- The lemmas of this crate.
 pub mod Maps
 pub mod Counts
+mod FileReads
 pub mod Seats
 pub mod Walking
 pub mod Acting

@@ -1,6 +1,6 @@
 //! What is done with what a connection gives, and with a message that is no request.
 
-ghost use Rattle.std.specs.Prelude.{◌≡◌, ◌≢◌, ◌++◌, IfOk, OnErr, OnOk};
+ghost use Rattle.std.specs.Prelude.{◌≡◌, ◌≢◌, ◌++◌, ℕ, IfOk, OnErr, OnOk};
 ghost use Rattle.endpoint_link.specs.Frames.{spellings};
 ghost use Rattle.io_messages.specs.Asked.{asked};
 ghost use Rattle.vfs_journal.specs.Outcomes.{announcement, ending};
@@ -17,6 +17,7 @@ use endpoint_link::Outbox;
 use fidl_names::{Handle, NoMemory, Status};
 use fidl_wire::{Ordinals, Out};
 use io_messages::{Protocol, Reply, Request, RequestFault, write_reply};
+use node_graph::NodeRef;
 use remote_forward::forward;
 
 /// The endpoint that a request carries, 0 for none.
@@ -46,10 +47,7 @@ pub(crate) fn answer(
 {
     let endpoint = asking.endpoint;
     match given {
-        Given::Reply => {
-            put_message(endpoint, out, outbox)?;
-            Ok(replied(conn, out))
-        }
+        Given::Reply => put_reply(endpoint, conn.node(), out, outbox),
         Given::ReplyEnd => {
             put_last(endpoint, out, outbox)?;
             Ok(Fate::Ends)
@@ -79,14 +77,30 @@ pub(crate) fn answer(
     }
 }
 
-/// What becomes of the endpoint by the reply in an output: a token that it has names the connection's node.
-fn replied(conn: &Conn, out: &Out) -> Fate
-    ensures { result ≡ fate_by (connection_of conn.now).birth.node out.now.handles }
+/// Writes the reply in an output on an endpoint, whose connection is to this node. A token that it has names the node.
+#[inline(always)]
+pub(crate) fn put_reply(
+    endpoint: u32,
+    node: NodeRef,
+    out: &Out,
+    outbox: &mut Outbox,
+) -> Result<Fate, NoMemory>
+    ensures does { (object : ℕ) → IfOk result (λ fate. DoesGiven endpoint object node Given.Reply out.now fate out.now outbox.old outbox.new) }
+    ensures no_memory { OnErr result (outbox.new ≡ outbox.old) }
+{
+    put_message(endpoint, out, outbox)?;
+    Ok(replied(node, out))
+}
+
+/// What becomes of an endpoint by the reply in an output: a token that it has names this node.
+#[inline(always)]
+fn replied(node: NodeRef, out: &Out) -> Fate
+    ensures { result ≡ fate_by node out.now.handles }
 {
     match out.handles().first() {
         Some(Handle::Token(token)) => Fate::Gives {
             token: *token,
-            directory: conn.node(),
+            directory: node,
         },
         _ => Fate::Stays,
     }

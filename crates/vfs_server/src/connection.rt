@@ -1,8 +1,8 @@
 //! A connection, and the serving of what is sent to it.
 
-ghost use Rattle.std.specs.Prelude.{◌≡◌, ◌≤◌, ◌<◌, ◌^◌, ◌≢◌, ℕ, true, OnErr, IfOk, Ok, length};
+ghost use Rattle.std.specs.Prelude.{◌≡◌, ◌≤◌, ◌<◌, ◌^◌, ◌≢◌, ℕ, true, OnErr, IfOk, IfSome, Ok, length};
 ghost use Rattle.fidl_names.specs.declared.limits.TheConstants as limit;
-ghost use Rattle.io_messages.specs.Asked.{asked, method_of};
+ghost use Rattle.io_messages.specs.Asked.{asked, method_of, read};
 ghost use Rattle.io_messages.specs.Protocols.{has_method};
 ghost use Rattle.io_messages.specs.Requests.{has_txid, request_of};
 ghost use Rattle.io_messages.specs.Shapes.{is_one_way};
@@ -15,15 +15,16 @@ ghost use Rattle.vfs_journal.specs.Serving.{Moment, outcome_of_read};
 ghost use Rattle.vfs_server.specs.Kept.{HasTree, NameDirectories};
 ghost use Rattle.vfs_server.specs.Steps.{Answers, AreNamed, CanEcho, CanTell, IsAskedAt, NamesAsThere, done_with};
 
-use crate::answers::{answer, answer_fault};
+use crate::answers::{answer, answer_fault, put_reply};
 use crate::asking::Asking;
 use crate::conn::Conn;
 use crate::fate::Fate;
+use crate::reading::read_in;
 use crate::tokens::Tokens;
-use conn_rules::{Birth, Changes};
+use conn_rules::{Birth, Changes, Room, Served};
 use endpoint_link::Outbox;
 use fidl_names::{Handle, NoMemory};
-use fidl_wire::Out;
+use fidl_wire::{Ordinals, Out};
 use io_messages::{Protocol, Request, read_request};
 use node_graph::{Graph, NodeRef};
 use std::alloc::Global;
@@ -71,7 +72,7 @@ impl Connection {
     /// the output.
     ///
     /// For want of memory no frame is written.
-    #[inline(always)]
+    #[inline(never)]
     pub fn serve<'a>(
         &mut self,
         asking: &Asking<'_>,
@@ -103,6 +104,71 @@ impl Connection {
                 asking, graph, tokens, txid, &request, out, outbox, changes,
             ),
             Err(fault) => answer_fault(asking, fault, out, outbox),
+        }
+    }
+
+    /// The transaction id and the count of a message that asks a file for a Read; `None` for any other, and
+    /// where it is a connection to something else.
+    pub fn read_in(
+        &self,
+        ordinals: &Ordinals,
+        bytes: &[u8],
+        handles: &[Handle],
+    ) -> Option<(u32, u64)>
+        ensures file { IfSome result (λ asked. self.now.birth.protocol ≡ Protocol.File) }
+        ensures read { IfSome result (λ asked. request_of self.now.birth.protocol bytes.now handles.now ≡ Ok (asked.0, read asked.1)) }
+        ensures txid { IfSome result (λ asked. 0 < asked.0) }
+    {
+        match &self.conn {
+            Conn::File(_) => read_in(ordinals, bytes, handles),
+            Conn::Directory(_) | Conn::Node(_) | Conn::Echo(_) => None,
+        }
+    }
+
+    /// Serves a Read of a file: its reply is written, and the endpoint stays.
+    ///
+    /// For want of memory no frame is written.
+    #[inline(always)]
+    pub fn serve_read(
+        &mut self,
+        asking: &Asking<'_>,
+        graph: &mut Graph,
+        txid: u32,
+        count: u64,
+        out: &mut Out,
+        outbox: &mut Outbox,
+    ) -> Result<Fate, NoMemory>
+        requires tree { HasTree graph.old }
+        requires node { CanBeBound graph.old self.old.birth }
+        requires protocol { self.old.birth.protocol ≡ Protocol.File }
+        requires txid { 0 < txid }
+        ensures answers { (server : ℕ) (moment : Moment) → IsAskedAt server asking.now graph.old self.old moment →
+            IfOk result (λ fate. Answers moment (outcome_of_read moment (Ok (txid, read count))) (record { fate = fate; told = nothing_told }) out.new self.new graph.old graph.new outbox.old outbox.new) }
+        ensures tells { IfOk result (λ fate. CanTell (record { fate = fate; told = nothing_told }) self.new outbox.old outbox.new) }
+        ensures holds { KeepsHolds self.old self.new graph.old graph.new }
+        ensures tree { HasTree graph.new }
+        ensures no_memory { OnErr result (outbox.new ≡ outbox.old) }
+    {
+        let Conn::File(conn) = &mut self.conn else {
+            unreachable!();
+        };
+        out.clear();
+        let room = Room {
+            connections: asking.connections,
+            watchers: 0,
+            token: asking.token,
+        };
+        let node = conn.node();
+        match conn.serve(
+            asking.ordinals,
+            graph,
+            room,
+            txid,
+            &Request::Read { count },
+            out,
+        ) {
+            Served::Reply => put_reply(asking.endpoint, node, out, outbox),
+            _ => unreachable!(),
         }
     }
 

@@ -114,6 +114,11 @@ impl Connections {
         let Some(connection) = self.kept.get_mut(&asking.endpoint) else {
             return Ok(Fate::Stays);
         };
-        connection.serve(asking, graph, tokens, bytes, handles, out, outbox, changes)
+        // Most messages are Reads of files, and are served by code of their own.
+        if let Some((txid, count)) = connection.read_in(asking.ordinals, bytes, handles) {
+            return connection.serve_read(asking, graph, txid, count, out, outbox);
+        }
+        let asking = *asking;
+        connection.serve(&asking, graph, tokens, bytes, handles, out, outbox, changes)
     }
 }

@@ -12,6 +12,7 @@ mod firsts;
 mod frames;
 mod given;
 mod making;
+mod reading;
 mod server;
 mod telling;
 mod tokens;

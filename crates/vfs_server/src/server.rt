@@ -109,7 +109,7 @@ impl Server {
     /// nothing yet. A message to a watcher is passed over.
     ///
     /// For want of memory no frame is written.
-    #[inline(never)]
+    #[inline(always)]
     pub fn serve(
         &mut self,
         ordinals: &Ordinals,

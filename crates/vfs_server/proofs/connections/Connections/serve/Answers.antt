@@ -1,15 +1,17 @@
-use Rattle.std.proofs.Common.{◌≡◌, ◌∙◌, ℕ, IfOk, List, None, Option, Some, ap, eqb, refl, subst, sym}
+use Rattle.std.proofs.Common.{◌≡◌, ◌∙◌, ℕ, IfOk, List, None, Ok, Option, Some, ap, eqb, refl, subst, sym}
 use Rattle.std.specs.Prelude.{IsSome}
 use Rattle.std.specs.FinMap as finite
 use Rattle.std.specs.Map.{lookup}
 use Rattle.endpoint_link.proofs.Tabled.{changes-table, get-table, map-insert}
+use Rattle.conn_rules.specs.Answers.{Happening}
 use Rattle.conn_rules.specs.Births.{Connection}
 use Rattle.conn_rules.specs.Served.{KeepsHolds}
+use Rattle.io_messages.specs.Asked.{read}
 use Rattle.io_messages.specs.Requests.{request_of}
 use Rattle.vfs_journal.specs.Handles.{numbers_of}
 use Rattle.vfs_journal.specs.Serving.{Moment, outcome_of_read}
 use Rattle.vfs_server.specs.Kept.{Connections}
-use Rattle.vfs_server.specs.Steps.{Answers, AreNamed, IsAskedAt, done_with}
+use Rattle.vfs_server.specs.Steps.{Answers, AreNamed, CanTell, IsAskedAt, done_with}
 use Rattle.vfs_server.proofs.connections.Connections.serve.Goals as goal
 
 -- what the map has at an endpoint stands there in its table
@@ -19,6 +21,10 @@ looked_up entries map endpoint found is here = sym (ap (λ m. finite.get m endpo
 
 pub serve-requires-clause-node : goal.serve-requires-clause-node
 serve-requires-clause-node c =
+    c.requires.node c.in-Some.connection.now (looked_up c.self.inside.kept.entries c.args.self.now c.args.asking.now.endpoint (Some c.in-Some.connection.now) c.self.view_is c.in-Some.ensures.value)
+
+pub serve_read-requires-clause-node : goal.serve_read-requires-clause-node
+serve_read-requires-clause-node c =
     c.requires.node c.in-Some.connection.now (looked_up c.self.inside.kept.entries c.args.self.now c.args.asking.now.endpoint (Some c.in-Some.connection.now) c.self.view_is c.in-Some.ensures.value)
 
 pub returns-clause-served : goal.returns-clause-served
@@ -43,6 +49,36 @@ returns-clause-served c old is =
           same c.serve.ensures.answers,
     )
 
+pub returns-in-Some-read_in-clause-served : goal.returns-in-Some-read_in-clause-served
+returns-in-Some-read_in-clause-served c old is =
+    let endpoint = c.args.asking.now.endpoint in
+    let entries = c.self.inside.kept.entries in
+    let new = c.serve_read.new.self in
+    let written = (c.get_mut.follows.lender new).entries in
+    let found = looked_up entries c.args.self.now endpoint (Some c.in-Some.connection.now) c.self.view_is c.in-Some.ensures.value in
+    let both : Some c.in-Some.connection.now ≡ Some old = sym found ∙ is in
+    let same : c.in-Some.connection.now ≡ old = cc in
+    let there : IsSome (lookup (eqb endpoint) entries) = subst IsSome c.in-Some.ensures.value refl in (
+      new,
+      subst (λ (was : Connection). KeepsHolds was new c.args.graph.now c.serve_read.new.graph) same c.serve_read.ensures.holds,
+      map-insert (finite.from_entries entries) (finite.from_entries written) endpoint new (changes-table entries written endpoint (Some new) ((c.get_mut.follows.holds new).3 there).0)
+          ∙ ap (λ m. finite.insert m endpoint new) c.self.view_is,
+      subst (λ (told : List Happening). IfOk c.serve_read.result (λ fate. CanTell (record { fate = fate; told = told }) new c.args.outbox.now c.serve_read.new.outbox))
+          (sym c.requires.none) c.serve_read.ensures.tells,
+      subst
+          (λ (was : Connection). (server : ℕ) (moment : Moment) → IsAskedAt server c.args.asking.now c.args.graph.now was moment →
+          AreNamed c.args.tokens.now (numbers_of c.args.handles.now) moment.directory →
+          IfOk c.serve_read.result (λ fate. Answers moment (outcome_of_read moment (request_of was.birth.protocol c.args.bytes.now c.args.handles.now)) (done_with fate c.args.changes.now) c.serve_read.new.out new c.args.graph.now c.serve_read.new.graph c.args.outbox.now c.serve_read.new.outbox))
+          same
+          (λ server moment asks named.
+          subst
+          (λ read. IfOk c.serve_read.result (λ fate. Answers moment (outcome_of_read moment read) (done_with fate c.args.changes.now) c.serve_read.new.out new c.args.graph.now c.serve_read.new.graph c.args.outbox.now c.serve_read.new.outbox))
+          (sym c.in-Some-read_in.ensures.read)
+          (subst
+          (λ (told : List Happening). IfOk c.serve_read.result (λ fate. Answers moment (outcome_of_read moment (Ok (c.in-Some-read_in.txid, read c.in-Some-read_in.count))) (record { fate = fate; told = told }) c.serve_read.new.out new c.args.graph.now c.serve_read.new.graph c.args.outbox.now c.serve_read.new.outbox))
+          (sym c.requires.none) (c.serve_read.ensures.answers server moment asks))),
+    )
+
 -- an endpoint that has a connection isn't without
 not_none : (map : Connections) (endpoint : ℕ) (connection : Connection) → finite.get map endpoint ≡ Some connection → finite.get map endpoint ≡ None → ⊥
 not_none map endpoint connection some none =
@@ -55,6 +91,14 @@ returns-clause-passed_over c none =
 
 pub returns-clause-unchanged : goal.returns-clause-unchanged
 returns-clause-unchanged c none =
+    absurd (not_none c.args.self.now c.args.asking.now.endpoint c.in-Some.connection.now (looked_up c.self.inside.kept.entries c.args.self.now c.args.asking.now.endpoint (Some c.in-Some.connection.now) c.self.view_is c.in-Some.ensures.value) none)
+
+pub returns-in-Some-read_in-clause-passed_over : goal.returns-in-Some-read_in-clause-passed_over
+returns-in-Some-read_in-clause-passed_over c none =
+    absurd (not_none c.args.self.now c.args.asking.now.endpoint c.in-Some.connection.now (looked_up c.self.inside.kept.entries c.args.self.now c.args.asking.now.endpoint (Some c.in-Some.connection.now) c.self.view_is c.in-Some.ensures.value) none)
+
+pub returns-in-Some-read_in-clause-unchanged : goal.returns-in-Some-read_in-clause-unchanged
+returns-in-Some-read_in-clause-unchanged c none =
     absurd (not_none c.args.self.now c.args.asking.now.endpoint c.in-Some.connection.now (looked_up c.self.inside.kept.entries c.args.self.now c.args.asking.now.endpoint (Some c.in-Some.connection.now) c.self.view_is c.in-Some.ensures.value) none)
 
 pub returns-in_default-clause-served : goal.returns-in_default-clause-served

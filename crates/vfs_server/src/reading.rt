@@ -1,0 +1,45 @@
+//! Which messages are Reads of files. There are more of them than of all others.
+
+ghost use Rattle.std.specs.Prelude.{◌≡◌, ◌<◌, IfSome, Ok};
+ghost use Rattle.io_messages.specs.Asked.{read};
+ghost use Rattle.io_messages.specs.Requests.{fields_of, request_of};
+
+use fidl_names::{Handle, Method};
+use fidl_wire::{Body, Header, Ordinals};
+use io_messages::Protocol;
+
+/// The transaction id and the count of a message that asks a file for a Read; `None` for any other.
+pub(crate) fn read_in(ordinals: &Ordinals, bytes: &[u8], handles: &[Handle]) -> Option<(u32, u64)>
+    ensures read { IfSome result (λ asked. request_of Protocol.File bytes.now handles.now ≡ Ok (asked.0, read asked.1)) }
+    ensures txid { IfSome result (λ asked. 0 < asked.0) }
+{
+    let Ok(header) = Header::read(bytes) else {
+        return None;
+    };
+    match ordinals.method(header.ordinal) {
+        Some(Method::Read) => {}
+        _ => return None,
+    }
+    if header.txid == 0 {
+        return None;
+    }
+    let count = count_in(bytes, handles)?;
+    Some((header.txid, count))
+}
+
+/// The count of a Read, which is all that follows the header.
+#[tactic(auto, unfolding(io_messages::specs::Requests::fields_of))]
+fn count_in(bytes: &[u8], handles: &[Handle]) -> Option<u64>
+    ensures { IfSome result (λ count. fields_of Method.Read bytes.now handles.now ≡ Ok (read count)) }
+{
+    let Ok(mut body) = Body::new(bytes, handles, 8) else {
+        return None;
+    };
+    let Ok(count) = body.get_u64() else {
+        return None;
+    };
+    match body.finish() {
+        Ok(()) => Some(count),
+        Err(_) => None,
+    }
+}
