@@ -1,4 +1,4 @@
-use Rattle.std.proofs.Common.{◌≡◌, ◌∙◌, ℕ, IfOk, List, None, Ok, Option, Some, ap, eqb, refl, subst, sym}
+use Rattle.std.proofs.Common.{◌≡◌, ◌∙◌, ℕ, cond, IfOk, List, None, Ok, Option, Some, ap, eqb, refl, subst, sym}
 use Rattle.std.specs.Prelude.{IsSome}
 use Rattle.std.specs.FinMap as finite
 use Rattle.std.specs.Map.{lookup}
@@ -19,6 +19,20 @@ looked_up : (entries : List (ℕ × Connection)) (map : Connections) (endpoint :
     finite.from_entries entries ≡ map → found ≡ lookup (eqb endpoint) entries → finite.get map endpoint ≡ found
 looked_up entries map endpoint found is here = sym (ap (λ m. finite.get m endpoint) is) ∙ get-table entries endpoint ∙ sym here
 
+-- and it is the one that is found
+is_found : (entries : List (ℕ × Connection)) (map : Connections) (endpoint : ℕ) (here old : Connection) →
+    finite.from_entries entries ≡ map → Some here ≡ lookup (eqb endpoint) entries → finite.get map endpoint ≡ Some old → here ≡ old
+is_found entries map endpoint here old is there some =
+    let both : Some here ≡ Some old = sym (looked_up entries map endpoint (Some here) is there) ∙ some in
+    cc
+
+-- where another stands there in the table, it is put there in the map
+put_back : (entries written : List (ℕ × Connection)) (map : Connections) (endpoint : ℕ) (new : Connection) → finite.from_entries entries ≡ map →
+    ((q : ℕ) → lookup (eqb q) written ≡ cond (eqb endpoint q) (Some new) (lookup (eqb q) entries)) → finite.from_entries written ≡ finite.insert map endpoint new
+put_back entries written map endpoint new is updates =
+    map-insert (finite.from_entries entries) (finite.from_entries written) endpoint new (changes-table entries written endpoint (Some new) updates)
+    ∙ ap (λ m. finite.insert m endpoint new) is
+
 pub serve-requires-clause-node : goal.serve-requires-clause-node
 serve-requires-clause-node c =
     c.requires.node c.in-Some.connection.now (looked_up c.self.inside.kept.entries c.args.self.now c.args.asking.now.endpoint (Some c.in-Some.connection.now) c.self.view_is c.in-Some.ensures.value)
@@ -32,15 +46,11 @@ returns-clause-served c old is =
     let endpoint = c.args.asking.now.endpoint in
     let entries = c.self.inside.kept.entries in
     let new = c.serve.new.self in
-    let written = (c.get_mut.follows.lender new).entries in
-    let found = looked_up entries c.args.self.now endpoint (Some c.in-Some.connection.now) c.self.view_is c.in-Some.ensures.value in
-    let both : Some c.in-Some.connection.now ≡ Some old = sym found ∙ is in
-    let same : c.in-Some.connection.now ≡ old = cc in
+    let same = is_found entries c.args.self.now endpoint c.in-Some.connection.now old c.self.view_is c.in-Some.ensures.value is in
     let there : IsSome (lookup (eqb endpoint) entries) = subst IsSome c.in-Some.ensures.value refl in (
       new,
       subst (λ (was : Connection). KeepsHolds was new c.args.graph.now c.serve.new.graph) same c.serve.ensures.holds,
-      map-insert (finite.from_entries entries) (finite.from_entries written) endpoint new (changes-table entries written endpoint (Some new) ((c.get_mut.follows.holds new).3 there).0)
-          ∙ ap (λ m. finite.insert m endpoint new) c.self.view_is,
+      put_back entries (c.get_mut.follows.lender new).entries c.args.self.now endpoint new c.self.view_is ((c.get_mut.follows.holds new).3 there).0,
       c.serve.ensures.tells,
       subst
           (λ (was : Connection). (server : ℕ) (moment : Moment) → IsAskedAt server c.args.asking.now c.args.graph.now was moment →
@@ -54,15 +64,11 @@ returns-in-Some-read_in-clause-served c old is =
     let endpoint = c.args.asking.now.endpoint in
     let entries = c.self.inside.kept.entries in
     let new = c.serve_read.new.self in
-    let written = (c.get_mut.follows.lender new).entries in
-    let found = looked_up entries c.args.self.now endpoint (Some c.in-Some.connection.now) c.self.view_is c.in-Some.ensures.value in
-    let both : Some c.in-Some.connection.now ≡ Some old = sym found ∙ is in
-    let same : c.in-Some.connection.now ≡ old = cc in
+    let same = is_found entries c.args.self.now endpoint c.in-Some.connection.now old c.self.view_is c.in-Some.ensures.value is in
     let there : IsSome (lookup (eqb endpoint) entries) = subst IsSome c.in-Some.ensures.value refl in (
       new,
       subst (λ (was : Connection). KeepsHolds was new c.args.graph.now c.serve_read.new.graph) same c.serve_read.ensures.holds,
-      map-insert (finite.from_entries entries) (finite.from_entries written) endpoint new (changes-table entries written endpoint (Some new) ((c.get_mut.follows.holds new).3 there).0)
-          ∙ ap (λ m. finite.insert m endpoint new) c.self.view_is,
+      put_back entries (c.get_mut.follows.lender new).entries c.args.self.now endpoint new c.self.view_is ((c.get_mut.follows.holds new).3 there).0,
       subst (λ (told : List Happening). IfOk c.serve_read.result (λ fate. CanTell (record { fate = fate; told = told }) new c.args.outbox.now c.serve_read.new.outbox))
           (sym c.requires.none) c.serve_read.ensures.tells,
       subst
