@@ -95,7 +95,7 @@ fn reason_of(
 
 /// The number of 32 bits in front, the low byte first.
 #[tactic(auto, unfolding(fidl_names::specs::Numbers::number_at))]
-pub(crate) fn word_in(bytes: &[u8]) -> u32
+pub fn word_in(bytes: &[u8]) -> u32
     requires { 4 ≤ length bytes.now }
     ensures { result ≡ word_in bytes.now }
 {

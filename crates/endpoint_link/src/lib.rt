@@ -17,7 +17,7 @@ mod tokens;
 pub use admission::{LookUp, first_refusal};
 pub use deframer::Deframer;
 pub use endpoints::Endpoints;
-pub use fixed::{FIXED_LEN, MAX_FRAME_LEN};
+pub use fixed::{FIXED_LEN, MAX_FRAME_LEN, word_in};
 pub use frame::{FrameView, HandleBytes, Reading};
 pub use kinds::{
     AdmitFault, FrameKind, FrameReason, LinkFault, Mode, Refusal, Side, Standing, TokenFault,

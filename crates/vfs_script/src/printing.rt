@@ -11,7 +11,7 @@ ghost use Rattle.vfs_script.specs.Transcripts.{bytes_text, counts_line, frame_li
 
 use crate::outtext::Outtext;
 use byteorder::{ByteOrder, LittleEndian};
-use endpoint_link::{FrameKind, FrameView, HandleBytes};
+use endpoint_link::{FrameKind, FrameView, HandleBytes, word_in};
 use fidl_names::{MAX_BYTES, Method, NoMemory};
 use fidl_wire::Ordinals;
 use itoa::Buffer;
@@ -125,22 +125,13 @@ fn put_message(
     put_bytes(bytes, to)
 }
 
-// The number of 32 bits in front.
-#[tactic(auto, unfolding(fidl_names::specs::Numbers::number_at))]
-fn front_word(bytes: &[u8]) -> u32
-    requires { 4 ≤ length bytes.now }
-    ensures { result ≡ word_in bytes.now }
-{
-    LittleEndian::read_u32(bytes)
-}
-
 fn put_turn(bytes: &[u8], to: &mut Outtext) -> Result<(), NoMemory>
     requires { 4 ≤ length bytes.now }
     ensures put { OnOk result (to.new ≡ to.old ++ codes " turn " ++ decimal (word_in bytes.now)) }
     ensures grows { take (length to.old) to.new ≡ to.old }
 {
     to.put(b" turn ")?;
-    put_number(front_word(bytes), to)
+    put_number(word_in(bytes), to)
 }
 
 fn put_refused(bytes: &[u8], to: &mut Outtext) -> Result<(), NoMemory>
@@ -149,7 +140,7 @@ fn put_refused(bytes: &[u8], to: &mut Outtext) -> Result<(), NoMemory>
     ensures grows { take (length to.old) to.new ≡ to.old }
 {
     to.put(b" refused ")?;
-    put_signed(front_word(bytes).cast_signed(), to)
+    put_signed(word_in(bytes).cast_signed(), to)
 }
 
 // Handles in decimal, joined by commas; `-` for none.

@@ -18,7 +18,9 @@ ghost use Rattle.vfs_session.specs.World.{LeadsTo, StandsFor, World};
 ghost use Rattle.vfs_world.specs.Steps.{CanWait, Hears, IsAdmitted, IsFree, IsPlain, Reaches, WaitsLast};
 
 use byteorder::{ByteOrder, LittleEndian};
-use endpoint_link::{AdmitFault, FrameKind, FrameView, Mode, Outbox, Refusal, write_frame};
+use endpoint_link::{
+    AdmitFault, FrameKind, FrameView, Mode, Outbox, Refusal, word_in, write_frame,
+};
 use fidl_names::{Handle, NoMemory, is_client};
 use message_queues::{Lent, Parcel, Sent, handles_in};
 use vfs_session::Session;
@@ -256,7 +258,7 @@ fn perform(session: &mut Session, frame: FrameView<'_>, outbox: &mut Outbox) -> 
         FrameKind::Message => send_message(session, frame),
         FrameKind::Close => send(session, frame.endpoint, Parcel::hang_up()),
         FrameKind::Turn => {
-            session.turn(frame.endpoint, number_in(frame.bytes), outbox)?;
+            session.turn(frame.endpoint, word_in(frame.bytes), outbox)?;
             Ok(())
         }
         FrameKind::Pick => {
@@ -295,15 +297,6 @@ fn send(session: &mut Session, endpoint: u32, parcel: Parcel) -> Result<(), NoMe
     session.queues.push(sent)?;
     session.places += 1;
     Ok(())
-}
-
-/// The number of 32 bits that some bytes begin with.
-#[tactic(auto, unfolding(fidl_names::specs::Numbers::number_at))]
-fn number_in(bytes: &[u8]) -> u32
-    requires { 4 ≤ length bytes.now }
-    ensures { result ≡ word_in bytes.now }
-{
-    LittleEndian::read_u32(bytes)
 }
 
 /// Answers a frame that is refused. It takes a place.
