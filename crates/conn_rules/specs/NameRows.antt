@@ -6,6 +6,7 @@ use Rattle.fidl_names.specs.declared.statuses.Status.{Status}
 use Rattle.fidl_names.specs.declared.statuses.Status.TheVariants as status
 use Rattle.io_messages.specs.Replies.{done, settled, token}
 use Rattle.node_graph.specs.Refusals.{directory_behind, is_same_name, link_change, link_refusal, rename_change, rename_refusal, unlink_refusal}
+pub use Rattle.node_graph.specs.Tree.{name_in}
 use Rattle.node_graph.specs.Tree.{Tree, EdgeKey, cut}
 use Rattle.path_walk.specs.Names.{name_fault}
 use Rattle.conn_rules.specs.declared.births.Room.{Room}
@@ -14,10 +15,6 @@ use Rattle.conn_rules.specs.Answers.{Answer, Act, Happening, added, only, failur
 use Rattle.conn_rules.specs.Opens.{is_full}
 use Rattle.fidl_names.specs.First.{cause_if, first_of}
 use Rattle.conn_rules.specs.Refusals.{as_status, unless}
-
--- a name in a directory
-abbrev pub name_in : ℕ → List ℕ → EdgeKey
-name_in directory name = record { directory = directory; name = name }
 
 abbrev pub is_bad_name : List ℕ → Bool
 is_bad_name name = is_some (name_fault name)

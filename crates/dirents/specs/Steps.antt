@@ -2,8 +2,8 @@
 use Rattle.std.specs.Prelude.{◌≡◌, ℕ, ◌+◌, ◌*◌, ◌≤◌, List, ◌++◌, length, Option, Some, None, IfSome}
 use Rattle.std.specs.List.{flat_map}
 use Rattle.std.specs.Borrow.{Bor}
-use Rattle.fidl_names.specs.declared.limits.TheConstants as limit
 use Rattle.fidl_wire.specs.Written.{Written}
+use Rattle.node_graph.specs.Tree.{HasNameLength}
 use Rattle.dirents.specs.declared.packing.Tally.{Tally}
 use Rattle.dirents.specs.declared.place.Place.{Place}
 use Rattle.dirents.specs.declared.place.Place.TheVariants.{Start, After}
@@ -18,13 +18,13 @@ abbrev pub name_at : Place → Option (List ℕ)
 name_at (After name) = Some name
 name_at _ = None
 
--- the name of an entry has 1 to 255 bytes
+-- the name of an entry is as long as a name may be
 abbrev pub HasEntryName : Dirent → Type 0
-HasEntryName entry = (1 ≤ length entry.name) × (length entry.name ≤ limit.MAX_NAME)
+HasEntryName entry = HasNameLength entry.name
 
 -- the name of the last entry is one that an entry can have
 abbrev pub HasName : Option (Bor (List ℕ)) → Type 0
-HasName last = IfSome last (λ name. (1 ≤ length name.now) × (length name.now ≤ limit.MAX_NAME))
+HasName last = IfSome last (λ name. HasNameLength name.now)
 
 -- the place behind the last entry, if there is one
 abbrev pub behind_last : Place → Option (Bor (List ℕ)) → Place

@@ -1,5 +1,5 @@
 -- The names of a server as its graph keeps them: each leads to a place in memory, too.
-use Rattle.std.specs.Prelude.{◌≡◌, ℕ, ◌≤◌, ◌==◌, ◌&&◌, true, List, map, filter, length, Option, Some, None, [], take, refl}
+use Rattle.std.specs.Prelude.{◌≡◌, ℕ, ◌==◌, ◌&&◌, true, List, map, filter, length, Option, Some, None, [], take, refl}
 use Rattle.std.specs.Coded.{Coded, code_by, coded×}
 use Rattle.std.specs.declared.ops.Bound.{Bound}
 use Rattle.std.specs.declared.ops.Bound.TheVariants.{Included, Excluded}
@@ -9,12 +9,10 @@ use Rattle.io_rights.specs.Operations.{OperationSet}
 use Rattle.node_graph.specs.declared.nodes.NodeKind.{NodeKind}
 use Rattle.node_graph.specs.declared.nodes.NodeRef.{NodeRef}
 use Rattle.node_graph.specs.declared.edges.Target.{Target}
-use Rattle.node_graph.specs.Tree.{EdgeKey, EdgeTo, Edges, edge_cmp}
+pub use Rattle.node_graph.specs.Tree.{name_in}
+use Rattle.node_graph.specs.Tree.{EdgeKey, EdgeTo, Edges, HasNameLength, edge_cmp}
 use Rattle.node_graph.specs.Codes.{key_code, node_code, kind_code, mask_code}
 use Rattle.node_graph.specs.Graph.{Listed, comes_after}
-
-abbrev pub End : Type 0
-End = Target
 
 abbrev pub Ends : Type 0
 Ends = finite.FinMap edge_cmp Target
@@ -24,9 +22,6 @@ target_code = code_by (NodeRef × (NodeKind × OperationSet)) (coded× node_code
 
 abbrev pub ends_code : Coded Ends
 ends_code = finite.code key_code target_code
-
-abbrev pub name_in : ℕ → List ℕ → EdgeKey
-name_in directory name = record { directory = directory; name = name }
 
 -- the edge of a tree that a kept one is
 abbrev pub end_of : Target → EdgeTo
@@ -41,7 +36,7 @@ edges_of ends = finite.from_entries (map edge_of (finite.entries ends))
 -- the rows stand in the order of their keys, and each name has 1 to 255 bytes
 pub record IsNamed (entries : List (EdgeKey × Target)) : Type 0 where
   pub in_order : finite.is_sorted edge_cmp entries ≡ true
-  pub named : (key : EdgeKey) (to : Target) → finite.get (finite.from_entries {R = edge_cmp} entries) key ≡ Some to → (1 ≤ length key.name) × (length key.name ≤ limit.MAX_NAME)
+  pub named : (key : EdgeKey) (to : Target) → finite.get (finite.from_entries {R = edge_cmp} entries) key ≡ Some to → HasNameLength key.name
 
 -- the names of a directory behind a place in its listing
 abbrev pub ends_after : Ends → ℕ → Option (List ℕ) → List (EdgeKey × Target)

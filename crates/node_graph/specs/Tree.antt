@@ -26,6 +26,14 @@ pub record EdgeKey : Type 0 where
   pub directory : ℕ
   pub name : List ℕ
 
+-- a name in a directory
+abbrev pub name_in : ℕ → List ℕ → EdgeKey
+name_in directory name = record { directory = directory; name = name }
+
+-- as long as a name may be
+abbrev pub HasNameLength : List ℕ → Type 0
+HasNameLength name = (1 ≤ length name) × (length name ≤ limit.MAX_NAME)
+
 -- where an edge leads: the number of a node, and the rights that pass through the name
 pub record EdgeTo : Type 0 where
   pub child : ℕ
@@ -119,7 +127,7 @@ pub record IsSound (tree : Tree) : Type 0 where
   -- node 1 is the root, a directory
   pub root : kind_of tree 1 ≡ Some Directory
   -- a name has 1 to 255 bytes; that it is there once in its directory is in the map
-  pub names : (from : EdgeKey) (to : EdgeTo) → finite.get tree.edges from ≡ Some to → (1 ≤ length from.name) × (length from.name ≤ limit.MAX_NAME)
+  pub names : (from : EdgeKey) (to : EdgeTo) → finite.get tree.edges from ≡ Some to → HasNameLength from.name
   -- only directories have names in them, and what a name leads to is a node
   pub parents : (from : EdgeKey) (to : EdgeTo) → finite.get tree.edges from ≡ Some to → kind_of tree from.directory ≡ Some Directory
   pub children : (from : EdgeKey) (to : EdgeTo) → finite.get tree.edges from ≡ Some to → IsSome (row_of tree.nodes to.child)

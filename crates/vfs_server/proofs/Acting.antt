@@ -47,7 +47,7 @@ use Rattle.conn_rules.specs.Refusals.{as_status, unless}
 use Rattle.conn_rules.specs.Shared.{CanBeBound, is_spoken_at}
 use Rattle.conn_rules.specs.Walks.{Walk, arrives, missing, crosses, stops, walk, limit_of}
 use Rattle.vfs_server.specs.Serving.{HasMount}
-use Rattle.vfs_server.specs.Watched.{HasLength, IsShort}
+use Rattle.vfs_server.specs.Watched.{HasNameLength, IsShort}
 use Rattle.vfs_server.proofs.Walking.{IsNoMount, LeadsWell, walk_none}
 
 -- ---- acts
@@ -171,11 +171,11 @@ watch_acts birth position room tree directory mask options is =
 
 -- ---- names
 
-good_name : (name : List ℕ) → is_bad_name name ≡ false → HasLength name
+good_name : (name : List ℕ) → is_bad_name name ≡ false → HasNameLength name
 good_name name good = name_short name (no_fault (name_fault name) good)
 
 -- both names are good where they aren't refused
-good_names : (src dst : List ℕ) (target : Option ℕ) → two_names_refusal src dst target ≡ None → HasLength src × HasLength dst
+good_names : (src dst : List ℕ) (target : Option ℕ) → two_names_refusal src dst target ≡ None → HasNameLength src × HasNameLength dst
 good_names src dst target none =
     let here = first_of-none (cause_if (is_bad_name src || is_bad_name dst) status.InvalidArgs) _ none in
     let good = or_parts (is_bad_name src) (is_bad_name dst) (cause_if-none (is_bad_name src || is_bad_name dst) status.InvalidArgs here.0) in
@@ -185,14 +185,14 @@ gone_short : (o : Option ℕ) → All IsShort (gone o)
 gone_short None = All-nil IsShort
 gone_short (Some directory) = All-cons IsShort (deleted directory) [] tt (All-nil IsShort)
 
-link_acts : (birth : Birth) (position : Position) (room : Room) (tree : Tree) (directory : ℕ → Option ℕ) (src dst : List ℕ) (target : Option ℕ) → HasLength dst →
+link_acts : (birth : Birth) (position : Position) (room : Room) (tree : Tree) (directory : ℕ → Option ℕ) (src dst : List ℕ) (target : Option ℕ) → HasNameLength dst →
     CanAct birth.protocol room tree (link_into (context_with birth position room tree directory) src dst target)
 link_acts birth position room tree directory src dst None good = failure_acts birth.protocol room tree position method.Link status.NotFound
 link_acts birth position room tree directory src dst (Some target) good =
     unless_acts birth.protocol room tree (as_status (link_refusal tree (name_in birth.node src) (name_in target dst))) position method.Link _
     (λ none. record { answer = tt; told = All-cons IsShort (added (name_in target dst)) [] good (All-nil IsShort) })
 
-rename_short : (tree : Tree) (from to : EdgeKey) → HasLength from.name → HasLength to.name → All IsShort (rename_told tree from to)
+rename_short : (tree : Tree) (from to : EdgeKey) → HasNameLength from.name → HasNameLength to.name → All IsShort (rename_told tree from to)
 rename_short tree from to good_from good_to = by_test (is_same_name from to) where
   by_test : (b : Bool) → All IsShort (if b then nothing_told else removed from ∷ added to ∷ gone (directory_behind tree to))
   by_test true = All-nil IsShort
@@ -200,7 +200,7 @@ rename_short tree from to good_from good_to = by_test (is_same_name from to) whe
       All-cons IsShort (removed from) (added to ∷ gone (directory_behind tree to)) good_from
       (All-cons IsShort (added to) (gone (directory_behind tree to)) good_to (gone_short (directory_behind tree to)))
 
-rename_acts : (birth : Birth) (position : Position) (room : Room) (tree : Tree) (directory : ℕ → Option ℕ) (src dst : List ℕ) (target : Option ℕ) → HasLength src → HasLength dst →
+rename_acts : (birth : Birth) (position : Position) (room : Room) (tree : Tree) (directory : ℕ → Option ℕ) (src dst : List ℕ) (target : Option ℕ) → HasNameLength src → HasNameLength dst →
     CanAct birth.protocol room tree (rename_into (context_with birth position room tree directory) src dst target)
 rename_acts birth position room tree directory src dst None good_src good_dst = failure_acts birth.protocol room tree position method.Rename status.NotFound
 rename_acts birth position room tree directory src dst (Some target) good_src good_dst =

@@ -1,10 +1,10 @@
 -- Who watches, as a server keeps it, and what they are told. No public clause needs these.
-use Rattle.std.specs.Prelude.{◌≡◌, ℕ, ◌≤◌, ◌==◌, Bool, List, [], length, map, filter, Option, Some, None}
+use Rattle.std.specs.Prelude.{◌≡◌, ℕ, ◌==◌, Bool, List, [], map, filter, Option, Some, None}
 use Rattle.std.specs.List.{flat_map}
 use Rattle.std.specs.Map.{lookup, remove_entry}
-use Rattle.fidl_names.specs.declared.limits.TheConstants as limit
 use Rattle.endpoint_link.specs.Frames.{Frame}
 use Rattle.node_graph.specs.Graph.{number_of}
+pub use Rattle.node_graph.specs.Tree.{HasNameLength}
 use Rattle.node_graph.specs.Tree.{Edges, names_in}
 use Rattle.path_walk.specs.Names.{dot}
 use Rattle.conn_rules.specs.declared.changes.At.{At}
@@ -55,13 +55,10 @@ AreByDirectory seats watching = (directory : ℕ) → watchers_of watching direc
 
 -- ---- what they are told
 
--- a name that is told has a byte, and no more than a name may have
-abbrev pub HasLength : List ℕ → Type 0
-HasLength name = (1 ≤ length name) × (length name ≤ limit.MAX_NAME)
-
+-- a name that is told is as long as a name may be
 abbrev pub IsShort : Happening → Type 0
-IsShort (news.removed name) = HasLength name.name
-IsShort (news.added name) = HasLength name.name
+IsShort (news.removed name) = HasNameLength name.name
+IsShort (news.added name) = HasNameLength name.name
 IsShort (news.deleted directory) = Unit {0}
 
 abbrev pub told_to : Seats → Happening → List Frame

@@ -8,7 +8,7 @@ ghost use Rattle.node_graph.specs.Graph.{Names, number_of};
 ghost use Rattle.conn_rules.specs.Served.{told_by};
 ghost use Rattle.watch_events.specs.Messages as messages;
 ghost use Rattle.vfs_server.specs.declared.watching.Seat.{Seat};
-ghost use Rattle.vfs_server.specs.Watched.{HasLength, IsShort, gone_told, is_at, name_told, seat_at, told_of, without};
+ghost use Rattle.vfs_server.specs.Watched.{HasNameLength, IsShort, gone_told, is_at, name_told, seat_at, told_of, without};
 ghost use Rattle.vfs_journal.specs.Output.{Begins};
 
 use conn_rules::{At, Changes};
@@ -21,7 +21,7 @@ use std::marker::Model;
 use watch_events::{WatchEvent, Watchers};
 
 /// What an endpoint watches, and the bits of the events that it asks for.
-#[derive(Clone, Copy, Debug, PartialEq, Eq)]
+#[derive(Clone, Copy)]
 pub(crate) struct Seat {
     directory: NodeRef,
     mask: u32,
@@ -131,7 +131,7 @@ impl Watching {
         at: &Option<At<'_>>,
         outbox: &mut Outbox,
     ) -> Result<(), NoMemory>
-        requires short { (one : At) → at.now ≡ Some one → HasLength one.name.now }
+        requires short { (one : At) → at.now ≡ Some one → HasNameLength one.name.now }
         ensures told { OnOk result (outbox.new ≡ outbox.old ++ spellings (name_told self.now (messages.number_of event) at.now)) }
         ensures front { OnErr result (Begins outbox.old outbox.new) }
     {
