@@ -8,7 +8,7 @@ use Rattle.endpoint_link.specs.Admission.{LookUps, may_travel, all_may_travel}
 use Rattle.fidl_names.specs.HandleNumber.{is_client}
 use Rattle.endpoint_link.specs.Numbering.{among}
 use Rattle.endpoint_link.specs.Standings.{is_used}
-use Rattle.endpoint_link.specs.Tables.{AreDistinct}
+use Rattle.endpoint_link.specs.Tables.{AreEachOnce}
 
 pub three : (a b c : Bool) → a && b && c ≡ true → (a ≡ true) × (b ≡ true) × (c ≡ true)
 three true true true h = (refl, refl, refl)
@@ -44,7 +44,7 @@ among_at (n ∷ ns) zero h = ap (λ (b : Bool). b || among n ns) (eqb_same n)
 among_at (n ∷ ns) (suc i) h = or_right (eqb n (slice_index ns i)) (among (slice_index ns i) ns) (among_at ns i (omega arith))
 
 -- no handle stands twice
-pub travel_distinct : (l : LookUps) (hs : List ℕ) → all_may_travel l hs ≡ true → AreDistinct hs
+pub travel_distinct : (l : LookUps) (hs : List ℕ) → all_may_travel l hs ≡ true → AreEachOnce hs
 travel_distinct l [] all i h = absurd (omega arith)
 travel_distinct l (n ∷ ns) all zero h = refl
 travel_distinct l (n ∷ ns) all (suc i) h =

@@ -29,13 +29,13 @@ abbrev pub IsTable : {X : Type 0} → List (ℕ × X) → Type 0
 IsTable es = IsDistinct nat_eq (keys_of es)
 
 -- no number stands twice
-abbrev pub AreDistinct : List ℕ → Type 0
-AreDistinct ns = (i : ℕ) → i < length ns → among (slice_index ns i) (take i ns) ≡ false
+abbrev pub AreEachOnce : List ℕ → Type 0
+AreEachOnce ns = (i : ℕ) → i < length ns → among (slice_index ns i) (take i ns) ≡ false
 
 -- the client numbers among these were never used, and none stands twice
 pub record AreNew (t : Table Standing) (ns : List ℕ) : Type 0 where
   pub unused : (q : ℕ) → is_client q ≡ true → among q ns ≡ true → value_at t q ≡ None
-  pub distinct : AreDistinct ns
+  pub distinct : AreEachOnce ns
 
 -- the client numbers among these are live endpoints now, and all else is as it was
 abbrev pub Makes : List ℕ → Table Standing → Table Standing → Type 0

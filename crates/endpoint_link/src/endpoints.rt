@@ -3,7 +3,7 @@
 ghost use Rattle.std.specs.Prelude.{◌≡◌, ◌≢◌, ◌≤◌, ◌<◌, ◌+◌, ◌-◌, ◌⊎◌, ℕ, true, false, [], All, Some, None, IsTrue, length, count_by, IfOk, OnOk, OnErr, MatchOption};
 ghost use Rattle.std.specs.FinMap as map;
 ghost use Rattle.fidl_names.specs.HandleNumber.{is_client};
-ghost use Rattle.endpoint_link.specs.Tables.{AreDistinct};
+ghost use Rattle.endpoint_link.specs.Tables.{AreEachOnce};
 ghost use Rattle.endpoint_link.specs.Standings.{standing_of, is_used, is_live, next_token_of, Starts, Sends, hung_up, ended, given, gone};
 ghost use Rattle.endpoint_link.specs.Admission.{look_ups, all_may_travel, admission, refusal_by, Admits};
 ghost use Rattle.endpoint_link.specs.Frames.{goes_to};
@@ -149,7 +149,7 @@ impl Endpoints {
         servers: u32,
     ) -> Result<Endpoints, NoMemory>
         requires clients { All (λ n. is_client n ≡ true) firsts.now }
-        requires distinct { AreDistinct firsts.now }
+        requires distinct { AreEachOnce firsts.now }
         requires few { length firsts.now + mounts ≤ MAX_LIVE }
         ensures { IfOk result (Starts firsts.now mounts servers) }
     {

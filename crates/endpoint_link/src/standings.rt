@@ -44,7 +44,7 @@ fn weight(standing: Standing) -> usize
 
 impl Standings {
     ghost use Rattle.endpoint_link.specs.Views.{handle_numbers};
-    ghost use Rattle.endpoint_link.specs.Tables.{AreNew, AreDistinct, Makes, TakesBack};
+    ghost use Rattle.endpoint_link.specs.Tables.{AreNew, AreEachOnce, Makes, TakesBack};
 
     pub(crate) fn new(alloc: Global) -> Standings
         ensures unused { (q : ℕ) → value_at result.entries q ≡ None }
@@ -155,7 +155,7 @@ impl Standings {
     pub(crate) fn make_firsts(&mut self, firsts: &[u32]) -> Result<(), NoMemory>
         requires unused { (q : ℕ) → value_at self.old.entries q ≡ None }
         requires none { self.old.live ≡ 0 }
-        requires distinct { AreDistinct firsts.now }
+        requires distinct { AreEachOnce firsts.now }
         requires few { length firsts.now ≤ MAX_LIVE }
         ensures made { OnOk result ((q : ℕ) → value_at self.new.entries q
             ≡ (if among q firsts.now then Some Standing.Live else None)) }

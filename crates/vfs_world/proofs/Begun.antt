@@ -12,7 +12,7 @@ use Rattle.std.proofs.lemmas.Option.{get_or_from_slice_get, same_Some, slice_get
 use Rattle.fidl_names.specs.HandleNumber.{is_client}
 use Rattle.fidl_names.specs.declared.limits.TheConstants as limit
 use Rattle.endpoint_link.specs.Standings.{Known, Starts}
-use Rattle.endpoint_link.specs.Tables.{AreDistinct}
+use Rattle.endpoint_link.specs.Tables.{AreEachOnce}
 use Rattle.tree_file.specs.Accepted.{AreAccepted}
 use Rattle.tree_file.specs.Items.{ClientItem, Lists, MountItem}
 use Rattle.tree_file.specs.Numbering.{end_of_mount, tree_of}
@@ -58,7 +58,7 @@ each_more P [] y h p (suc i) x e = absurd (cc)
 each_more P (z ∷ xs) y h p zero x e = h 0 x e
 each_more P (z ∷ xs) y h p (suc i) x e = each_more (λ k. P (suc k)) xs y (λ k w there. h (suc k) w there) p i x e
 
-distinct : (ns : List ℕ) → AllPairs (λ n m. n ≢ m) ns → AreDistinct ns
+distinct : (ns : List ℕ) → AllPairs (λ n m. n ≢ m) ns → AreEachOnce ns
 distinct ns apart i inside =
     list_any_none (λ (m : ℕ). m == get_or ns i 0) (take i ns)
     (All-from_get_or (λ (m : ℕ). (m == get_or ns i 0) ≡ false) (take i ns) 0
@@ -243,7 +243,7 @@ module _ (lists : Lists) (accepted : AreAccepted lists) where
   pub clients_are : All (λ n. is_client n ≡ true) (map (λ (bound : Bound). bound.endpoint) (start_of lists).firsts)
   clients_are = All-map (λ (n : ℕ). is_client n ≡ true) (λ (bound : Bound). bound.endpoint) (start_of lists).firsts (accepted_starts_are_starts lists accepted).firsts
 
-  pub clients_distinct : AreDistinct (map (λ (bound : Bound). bound.endpoint) (start_of lists).firsts)
+  pub clients_distinct : AreEachOnce (map (λ (bound : Bound). bound.endpoint) (start_of lists).firsts)
   clients_distinct = distinct (map (λ (bound : Bound). bound.endpoint) (start_of lists).firsts) (pairs-map (λ (n m : ℕ). n ≢ m) (λ (bound : Bound). bound.endpoint) (start_of lists).firsts numbered.firsts)
 
   pub few_live : length (map (λ (bound : Bound). bound.endpoint) (start_of lists).firsts) + length lists.mounts ≤ limit.MAX_LIVE

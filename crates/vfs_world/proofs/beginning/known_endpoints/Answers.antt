@@ -1,7 +1,7 @@
 use Rattle.std.proofs.Common.{◌≡◌, ◌∙◌, ℕ, All, IfOk, List, Ok, Err, Result, arith, length, map, subst, sym, true}
 use Rattle.fidl_names.specs.HandleNumber.{is_client}
 use Rattle.endpoint_link.specs.Standings.{Known, Starts}
-use Rattle.endpoint_link.specs.Tables.{AreDistinct}
+use Rattle.endpoint_link.specs.Tables.{AreEachOnce}
 use Rattle.vfs_journal.specs.Starts.{Bound, start_of}
 use Rattle.vfs_world.proofs.Begun.{clients_are, clients_distinct, few_live, knows}
 use Rattle.vfs_world.proofs.beginning.known_endpoints.Goals as goal
@@ -16,7 +16,7 @@ new-requires-clause-clients c =
 
 pub new-requires-clause-distinct : goal.new-requires-clause-distinct
 new-requires-clause-distinct c =
-    subst AreDistinct (sym (c.deref.ensures.value ∙ c.in_ok-firsts.ensures)) (clients_distinct c.args.start.now c.requires.accepted)
+    subst AreEachOnce (sym (c.deref.ensures.value ∙ c.in_ok-firsts.ensures)) (clients_distinct c.args.start.now c.requires.accepted)
 
 pub new-requires-clause-few : goal.new-requires-clause-few
 new-requires-clause-few c =
