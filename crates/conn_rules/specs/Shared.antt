@@ -18,14 +18,6 @@ can_fail method.Query = false
 can_fail method.EchoString = false
 can_fail _ = true
 
--- bound like a connection of this birth: to the same node, with its rights, protocol and append setting, and not announced
-pub record IsCloneOf (birth found : code.Birth) : Type 0 where
-  pub node : found.node ≡ birth.node
-  pub rights : found.rights ≡ birth.rights
-  pub protocol : found.protocol ≡ birth.protocol
-  pub append : found.append ≡ birth.append
-  pub silent : found.announce ≡ false
-
 -- where a protocol is spoken: each at its kind of node, and a reference at any but a mount
 abbrev pub is_spoken_at : Protocol → NodeKind → Bool
 is_spoken_at protocol.Directory kind = is_directory kind

@@ -1,12 +1,9 @@
 -- Padding, and the zeros that it is.
-use Rattle.std.proofs.Common.{◌≡◌, ℕ, zero, suc, ◌-◌, ◌≤◌, Bool, false, not, cond, List, [], ◌∷◌, length, replicate, drop, slice_range, nat_lt, nat_eq, Option, Some, None, Ok, refl, ap, ◌∙◌, length-take, length-drop, arith}
+use Rattle.std.proofs.Common.{◌≡◌, ℕ, zero, suc, ◌-◌, ◌≤◌, false, not, cond, List, [], ◌∷◌, length, replicate, drop, slice_range, nat_lt, nat_eq, Option, Some, None, Ok, refl, ap, ◌∙◌, length-take, length-drop, arith}
 use Rattle.std.proofs.lemmas.List.{length-replicate}
 use Rattle.std.proofs.lemmas.Bool.Decides.{nat_tests}
 use Rattle.std.specs.List.{position, prefix_len}
 use Rattle.fidl_wire.specs.Reading.{blank_or, all_blank}
-
-is_zero : ℕ → Bool
-is_zero b = not (not (nat_eq b 0))
 
 abbrev pub zeros_len : List ℕ → ℕ
 zeros_len xs = prefix_len (λ b. not (not (nat_eq b 0))) xs

@@ -12,7 +12,7 @@ use fidl_names::{MAX_CHUNK, Status};
 use node_graph::{Graph, GraphFault, NodeRef};
 
 /// What came of filling a file anew.
-#[derive(Clone, Copy, Debug, PartialEq, Eq)]
+#[derive(Clone, Copy)]
 pub(crate) enum Filled {
     Done,
     /// It is refused, and nothing was done.

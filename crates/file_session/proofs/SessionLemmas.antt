@@ -101,6 +101,3 @@ retold course other e Stands Stands' before frame held held' says one = record {
   more = subst (λ (k : Course). k.so_far (before ++ frame ∷ []) ≡ k.so_far before ++ one.part) (sym e) one.more;
   appends = one.appends;
 }
-
-pub retold_end : (course other : Course) → course ≡ other → (frames : List Frame) (held held' : List ℕ) → HeardEnd other frames held held' → HeardEnd course frames held held'
-retold_end course other e frames held held' last = subst (λ (k : Course). HeardEnd k frames held held') (sym e) last

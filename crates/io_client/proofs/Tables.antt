@@ -1,6 +1,6 @@
 -- The ordered tables of a client, seen as finite maps and sets.
 use Rattle.std.proofs.Common.{◌≡◌, ℕ, Bool, true, false, cond, List, [], ◌∷◌, length, refl, sym, ap, subst, ◌∙◌, T}
-use Rattle.std.specs.Prelude.{◌&&◌, ◌||◌, not, Option, Some, None}
+use Rattle.std.specs.Prelude.{◌&&◌, ◌||◌, Option, Some, None}
 use Rattle.std.specs.declared.cmp.Ordering.{Ordering}
 use Rattle.std.specs.declared.cmp.Ordering.TheVariants.{Less}
 use Rattle.std.specs.BTreeMap.{is_at}
@@ -95,10 +95,6 @@ module _ {K X : Type 0} {R : K → K → Ordering} (o : IsTotalOrder R) (same : 
 or_cond : (a b : Bool) → cond a true b ≡ a || b
 or_cond true b = refl
 or_cond false b = refl
-
-and_cond : (a b : Bool) → cond a false b ≡ not a && b
-and_cond true b = refl
-and_cond false b = refl
 
 -- a table of numbers, seen as a set
 pub contains-table : (ks : List ℕ) (q : ℕ) → set.contains (set.from_list {R = nat_cmp} ks) q ≡ list_any (is_at (nat_cmp q)) ks

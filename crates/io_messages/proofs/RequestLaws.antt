@@ -36,9 +36,6 @@ way_ok : (b : Bool) (txid : ℕ) (r : Result Asked WireFault) (x : Read) → wit
 way_ok true txid r x h = (refl, h)
 way_ok false txid r x h = absurd (cc)
 
-same_pair : (a b : Read) (r : Result Read WireFault) → r ≡ Ok a → r ≡ Ok b → a ≡ b
-same_pair a b r h k = cc
-
 fields_read : (law : SpelledWhereRead) (p : Protocol) (bytes : List ℕ) (handles : List Handle) (t : ℕ) (a : Asked) (h : Header) (m : Method) → header_of bytes ≡ Ok h →
     method_in p h.ordinal ≡ Some m → has_txid (is_one_way m) h.txid ≡ true → with_txid true h.txid (fields_of m bytes handles) ≡ Ok (t, a) → Reads p bytes handles t a
 unfolding fields_of

@@ -16,7 +16,7 @@ const MEMBER_SIZE: u64 = 8;
 const MOST_BODY: usize = MAX_BYTES - 16;
 
 /// What is written in a field.
-#[derive(Clone, Copy, Debug)]
+#[derive(Clone, Copy)]
 pub enum Field<'a, 'b> {
     Word(u32),
     Long(u64),

@@ -18,7 +18,7 @@ use Rattle.message_queues.specs.Queues.{Binds, Mailbox, Requeues, count, queue_o
 use Rattle.message_queues.specs.Dying.{Buries}
 use Rattle.message_queues.specs.Steps.{queues_with}
 use Rattle.message_queues.proofs.Finite.{sum-map}
-use Rattle.message_queues.proofs.Numbers.{among-one, either_one, itself, same_number}
+use Rattle.message_queues.proofs.Numbers.{among-one, same_number}
 
 -- what a mailbox that may be there has
 abbrev pub queue_in : Option Mailbox → List Sent
@@ -96,9 +96,6 @@ count_cut old new endpoint servers before after moves =
     omega (arith, cut, is, had, count-entries old.entries servers before, count-entries new.entries servers after)
 
 -- ---- the changes, as all queues see them
-
-either_here : (endpoint : ℕ) → {A : Type 0} (x y : A) → (if endpoint == endpoint then x else y) ≡ x
-either_here endpoint x y = either_one (endpoint == endpoint) x y (itself endpoint)
 
 choice : (other endpoint : ℕ) → {A : Type 0} (P : ℕ → A) (x : A) → P endpoint ≡ x → (if other == endpoint then x else P other) ≡ P other
 choice other endpoint P x is = by_test (other == endpoint) refl

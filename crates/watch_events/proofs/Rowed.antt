@@ -147,9 +147,6 @@ no_row r is = absurd (cc)
 this_row : (row r : List Watcher) → IsFew row → Some row ≡ Some r → IsFew r
 this_row row r few is = let same : row ≡ r = cc in subst IsFew same few
 
-pub few_none : (rows : Rows) → rows.entries ≡ [] → AreKept rows
-few_none rows none directory row there = no_row row (sym (ap (λ (es : List (ℕ × List Watcher)). lookup (is_at (nat_cmp directory)) es) none) ∙ there)
-
 pub few_same : (m n : Rows) → AreKept m → n.entries ≡ m.entries → AreKept n
 few_same m n kept same directory row there = kept directory row (sym (ap (λ (es : List (ℕ × List Watcher)). lookup (is_at (nat_cmp directory)) es) same) ∙ there)
 

@@ -84,9 +84,6 @@ all_speak number (words ∷ lines) good = rw good.0.told (rw (speaks number word
 
 -- ---- the text
 
-auto_skipped : is_skipped (codes "auto") ≡ false
-auto_skipped = refl
-
 auto_mode : mode_of (codes "auto") ≡ Some mode.Auto
 unfolding mode_of
 auto_mode = refl
