@@ -14,7 +14,8 @@ use Rattle.endpoint_link.specs.declared.kinds.FrameKind.{FrameKind}
 use Rattle.endpoint_link.specs.declared.kinds.FrameKind.TheVariants as kind
 use Rattle.endpoint_link.specs.Frames.{Frame}
 use Rattle.io_messages.specs.declared.protocols.Protocol.{Protocol}
-use Rattle.io_messages.specs.Replies.{Answered, IsPayloadOf, answered, reply_of, event_of}
+use Rattle.io_messages.specs.Replies.{Answered, answered}
+use Rattle.io_replies.specs.Reading.{IsPayloadOf, reply_of, event_of}
 use Rattle.watch_events.specs.Events.{left}
 use Rattle.io_client.specs.declared.taking.Taken.{Taken}
 use Rattle.io_client.specs.declared.taking.Taken.TheVariants as code

@@ -1,15 +1,9 @@
 pub mod BegunListings
 pub mod Parts
 pub mod Known
-pub mod Numbered
 pub mod RequestLaws
 pub mod Lengths
 pub mod Unions
-pub mod ReadObjects
-pub mod Framework
-pub mod ReplyLaws
 pub mod WritingLaws
-pub mod WrittenReplies
-pub mod Payloads
 pub mod Carrying
 pub mod PutAtOnce

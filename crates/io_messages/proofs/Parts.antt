@@ -171,15 +171,6 @@ handle_takes kind nullable c d x h =
 pub handle_keeps : (kind : HandleKind) (nullable : Bool) (c d : Cursor) (x : Option Handle) → cell_at (handle kind nullable) c ≡ Ok (held x, d) → Keeps c d
 handle_keeps kind nullable c d x h = (handle_takes kind nullable c d x h).keeps
 
--- what a handle's cell has is a handle, or none
-pub handle_held : (kind : HandleKind) (nullable : Bool) (c : Cursor) (y : Item × Cursor) → cell_at (handle kind nullable) c ≡ Ok y → (x : Option Handle) × (y.0 ≡ held x)
-unfolding cell_at
-handle_held kind nullable c y h =
-    let cell = bind_ok (handle_cell kind nullable c) _ y h in
-    let got : Item × Cursor = (held cell.0.0, cell.0.1) in
-    let same : got ≡ y = cc cell.2 in
-    (cell.0.0, sym (ap (λ (v : Item × Cursor). v.0) same))
-
 -- a token that may not be absent is there
 pub token_there : (kind : HandleKind) (c d : Cursor) (n : Option ℕ) → cell_at (handle kind false) c ≡ Ok (held (option_map Token n), d) → is_some n ≡ true
 token_there kind c d None h = (handle_takes kind false c d None h).some refl

@@ -1,4 +1,4 @@
--- What holds of every message and all handles.
+-- What holds of every request and all handles.
 use Rattle.std.specs.Prelude.{◌≡◌, ℕ, ◌^◌, ◌<◌, true, List, Contains, Ok}
 use Rattle.fidl_names.specs.declared.methods.Handle.{Handle}
 use Rattle.fidl_names.specs.declared.methods.Handle.TheVariants.{Endpoint}
@@ -6,8 +6,6 @@ use Rattle.io_messages.specs.declared.protocols.Protocol.{Protocol}
 use Rattle.io_messages.specs.Asked.{Asked, method_of}
 use Rattle.io_messages.specs.Asked as asks
 use Rattle.io_messages.specs.Protocols.{has_method}
-use Rattle.io_messages.specs.Replies.{Answered, IsFrameworkError, IsReply, ReadsReply, ReadsEvent, kind_of}
-use Rattle.io_messages.specs.ReplyWriting.{HasReply, PayloadFits, NumbersFit, reply_bytes, reply_handles, event_bytes, branch_of_kind}
 use Rattle.io_messages.specs.Requests.{Reads, has_txid, request_of}
 use Rattle.io_messages.specs.Shapes.{is_one_way}
 use Rattle.io_messages.specs.Writing.{request_bytes, request_handles, IsRequest}
@@ -17,33 +15,10 @@ abbrev pub RequestsAreReadOnce : Type 0
 RequestsAreReadOnce =
     (p : Protocol) (bytes : List ℕ) (handles : List Handle) (t u : ℕ) (a b : Asked) → Reads p bytes handles t a → Reads p bytes handles u b → (t ≡ u) × (a ≡ b)
 
--- two readings as a reply are one
-abbrev pub RepliesAreReadOnce : Type 0
-RepliesAreReadOnce =
-    (bytes : List ℕ) (handles : List Handle) (t u : ℕ) (a b : Answered) → ReadsReply bytes handles t a → ReadsReply bytes handles u b → (t ≡ u) × (a ≡ b)
-
--- the framework's error is no method's reply
-abbrev pub FrameworkErrorIsNoReply : Type 0
-FrameworkErrorIsNoReply =
-    (bytes : List ℕ) (handles : List Handle) (t u ordinal : ℕ) (a : Answered) → IsFrameworkError bytes handles t ordinal → IsReply bytes handles u a → ⊥
-
--- two readings as an event are one
-abbrev pub EventsAreReadOnce : Type 0
-EventsAreReadOnce = (bytes : List ℕ) (k l : Protocol) → ReadsEvent bytes k → ReadsEvent bytes l → k ≡ l
-
 -- what is written for a request is that request, to each protocol that has its method
 abbrev pub WrittenRequestsAreRead : Type 0
 WrittenRequestsAreRead =
     (p : Protocol) (t : ℕ) (a : Asked) → has_method p (method_of a) ≡ true → t < 2 ^ 32 → has_txid (is_one_way (method_of a)) t ≡ true → IsRequest a → Reads p (request_bytes t a) (request_handles a) t a
-
--- what is written for a reply is that reply
-abbrev pub WrittenRepliesAreRead : Type 0
-WrittenRepliesAreRead =
-    (t : ℕ) (a : Answered) → 0 < t → t < 2 ^ 32 → HasReply a → PayloadFits a → NumbersFit a → ReadsReply (reply_bytes t a) (reply_handles a) t a
-
--- what is written for a kind is an event that tells it, or node for a service
-abbrev pub WrittenEventsAreRead : Type 0
-WrittenEventsAreRead = (k : Protocol) → ReadsEvent (event_bytes k) (kind_of (branch_of_kind k))
 
 -- the endpoint that a request carries is among these handles
 abbrev pub Carries : Asked → List Handle → Type 0

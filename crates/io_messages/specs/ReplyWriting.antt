@@ -1,5 +1,5 @@
 -- The one spelling of each reply and of the event.
-use Rattle.std.specs.Prelude.{◌≡◌, ◌≢◌, ℕ, ◌+◌, ◌^◌, ◌<◌, ◌≤◌, true, List, [], ◌∷◌, ◌++◌, length, Option, Some, None, IfSome}
+use Rattle.std.specs.Prelude.{◌≡◌, ◌≢◌, ℕ, ◌+◌, ◌≤◌, true, List, [], ◌∷◌, ◌++◌, length, Option, Some, None}
 use Rattle.std.specs.Int.{w32, cast_unsigned}
 use Rattle.std.specs.Str.{IsUtf8}
 use Rattle.fidl_names.specs.declared.limits.TheConstants as limit
@@ -56,18 +56,6 @@ HasReply (answers.unknown ordinal) = Unit {0}
 abbrev pub PayloadFits : Answered → Type 0
 PayloadFits (answers.payload m bytes) = beside_payload (shape_of m) + padded (length bytes) ≤ limit.MAX_BYTES
 PayloadFits _ = Unit {0}
-
--- a number that is there has eight bytes
-abbrev pub IsLong : Option ℕ → Type 0
-IsLong value = IfSome value (λ x. x < 2 ^ 64)
-
--- each number has the size of its field
-abbrev pub NumbersFit : Answered → Type 0
-NumbersFit (answers.counted m x) = x < 2 ^ 64
-NumbersFit (answers.attributes a) =
-    IsLong a.protocols × IsLong a.abilities × IsLong a.content_size × IsLong a.link_count × IsLong a.id
-NumbersFit (answers.unknown ordinal) = ordinal < 2 ^ 64
-NumbersFit _ = Unit {0}
 
 -- ---- layouts and fields
 

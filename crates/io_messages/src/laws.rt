@@ -1,7 +1,7 @@
-//! Laws of the messages. They compute nothing: what they say is in their clauses.
+//! Laws of requests. They compute nothing: what they say is in their clauses.
 
 ghost use Rattle.fidl_wire.specs.Names.{MethodsHaveTheirOwn};
-ghost use Rattle.io_messages.specs.Laws.{RequestsAreReadOnce, RequestsAreFound, FoundRequestsAreRead, RequestsCarryTheirEndpoints, RepliesAreReadOnce, FrameworkErrorIsNoReply, EventsAreReadOnce, WrittenRequestsAreRead, WrittenRepliesAreRead, WrittenEventsAreRead};
+ghost use Rattle.io_messages.specs.Laws.{RequestsAreReadOnce, RequestsAreFound, FoundRequestsAreRead, RequestsCarryTheirEndpoints, WrittenRequestsAreRead};
 
 use fidl_wire::{body_is_read_where_spelled, spelling_is_read, written_header_is_read};
 
@@ -25,46 +25,9 @@ pub fn carried_endpoint_is_a_handle()
     ensures { RequestsCarryTheirEndpoints }
 {}
 
-/// Bytes and handles are at most one reply, where each method has an ordinal of its own.
-pub fn reply_is_read_once()
-    ensures { MethodsHaveTheirOwn → RepliesAreReadOnce }
-{
-    body_is_read_where_spelled();
-}
-
-/// The framework's error is no method's reply.
-pub fn framework_error_is_no_reply()
-    ensures { FrameworkErrorIsNoReply }
-{
-    body_is_read_where_spelled();
-}
-
-/// Bytes are at most one event.
-pub fn event_is_read_once()
-    ensures { EventsAreReadOnce }
-{
-    body_is_read_where_spelled();
-}
-
 /// What is written for a request is that request, to each protocol that has its method.
 pub fn written_request_is_read()
     ensures { WrittenRequestsAreRead }
-{
-    spelling_is_read();
-    written_header_is_read();
-}
-
-/// What is written for a reply is that reply, under the conditions of `write_reply`.
-pub fn written_reply_is_read()
-    ensures { WrittenRepliesAreRead }
-{
-    spelling_is_read();
-    written_header_is_read();
-}
-
-/// What is written for a kind of node is an event that tells it; a service is told as node.
-pub fn written_event_is_read()
-    ensures { WrittenEventsAreRead }
 {
     spelling_is_read();
     written_header_is_read();

@@ -1,13 +1,11 @@
-//! The messages of `fuchsia.io`, in this project's profile: requests, replies and the event, read and
-//! written.
+//! The messages of `fuchsia.io`, in this project's profile: requests are read and written, replies and the
+//! event are written. `io_replies` reads replies and the event.
 #![tactic(auto)]
 
 mod fields;
 mod laws;
 mod protocols;
 mod replies;
-mod reply_fields;
-mod reply_reader;
 mod reply_writer;
 mod request_fields;
 mod request_reader;
@@ -15,13 +13,12 @@ mod request_writer;
 mod requests;
 
 pub use laws::{
-    carried_endpoint_is_a_handle, event_is_read_once, framework_error_is_no_reply,
-    reply_is_read_once, request_is_read_once, requests_are_found, written_event_is_read,
-    written_reply_is_read, written_request_is_read,
+    carried_endpoint_is_a_handle, request_is_read_once, requests_are_found, written_request_is_read,
 };
 pub use protocols::{Protocol, has_method};
-pub use replies::{Attributes, Reply, Shape, is_one_way, shape_of};
-pub use reply_reader::{read_event, read_reply};
+pub use replies::{
+    Attributes, FRAMEWORK_ENVELOPE, FRAMEWORK_ORDINAL, Reply, Shape, is_one_way, shape_of,
+};
 pub use reply_writer::{begin_listing, write_bytes, write_event, write_reply};
 pub use request_reader::read_request;
 pub use request_writer::write_request;

@@ -58,6 +58,11 @@ pub enum Shape {
     Token,
 }
 
+/// The framework's error: a union with the ordinal 3, and in its envelope the number -2.
+pub const FRAMEWORK_ORDINAL: u64 = 3;
+
+pub const FRAMEWORK_ENVELOPE: u64 = 0x0001_0000_ffff_fffe;
+
 /// The shape of a method's reply; `None` for a one-way method, which has none.
 pub fn shape_of(method: Method) -> Option<Shape>
     ensures { result ≡ shape_of method }

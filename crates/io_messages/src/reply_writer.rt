@@ -11,8 +11,7 @@ ghost use Rattle.io_messages.specs.ReplyWriting.{HasReply, PayloadFits, CanFail,
 
 use crate::fields::{Field, put_count, put_object, put_padded, size_of};
 use crate::protocols::Protocol;
-use crate::replies::{Attributes, Reply, Shape, shape_of};
-use crate::reply_reader::{FRAMEWORK_ENVELOPE, FRAMEWORK_ORDINAL};
+use crate::replies::{Attributes, FRAMEWORK_ENVELOPE, FRAMEWORK_ORDINAL, Reply, Shape, shape_of};
 use fidl_names::{Handle, MAX_BYTES, Method, Status};
 use fidl_wire::{Header, Ordinals, Out, long_array, word_array};
 

@@ -16,7 +16,7 @@ use Rattle.endpoint_link.specs.declared.kinds.FrameKind.{FrameKind}
 use Rattle.endpoint_link.specs.declared.kinds.FrameKind.TheVariants as kind
 use Rattle.endpoint_link.specs.Frames.{Frame}
 use Rattle.io_client.specs.Calls.{Calls, answered_at, call_at, is_waiting, is_watched}
-use Rattle.io_messages.specs.Replies.{event_of}
+use Rattle.io_replies.specs.Reading.{event_of}
 use Rattle.io_client.specs.Taking.{Takes, Taking, TakesMessage, by_call, by_header, told_event}
 use Rattle.transcripts.specs.Answering.{Past, gets, count_answers, count_calls, headed_txid, is_answer, is_epitaph, is_open, is_reply_to, kind_txid, message_txid, one_if, txid_of, was_watched}
 use Rattle.transcripts.specs.Telling.{IsWithin, Knows}

@@ -14,9 +14,10 @@ mod request_rows;
 use fidl_names::{Handle, Method, Status};
 use fidl_wire::{Ordinals, Out};
 use io_messages::{
-    Protocol, Reply, Request, Shape, TooLong, is_one_way, read_event, read_reply, read_request,
-    shape_of, write_event, write_reply, write_request,
+    Protocol, Reply, Request, Shape, TooLong, is_one_way, read_request, shape_of, write_event,
+    write_reply, write_request,
 };
+use io_replies::{read_event, read_reply};
 use std::alloc::Global;
 use std::test::Fail;
 use test_rows::{BadCell, Row, Table, all_hold};

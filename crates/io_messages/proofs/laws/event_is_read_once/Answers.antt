@@ -1,5 +1,0 @@
-use Rattle.io_messages.proofs.ReplyLaws.{event_once}
-use Rattle.io_messages.proofs.laws.event_is_read_once.Goals as goal
-
-pub returns : goal.returns
-returns c = event_once c.body_is_read_where_spelled.ensures.reads

@@ -1,5 +1,0 @@
-use Rattle.io_messages.proofs.ReplyLaws.{no_reply}
-use Rattle.io_messages.proofs.laws.framework_error_is_no_reply.Goals as goal
-
-pub returns : goal.returns
-returns c = no_reply c.body_is_read_where_spelled.ensures.reads

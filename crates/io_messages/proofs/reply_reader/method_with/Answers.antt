@@ -1,5 +1,0 @@
-use Rattle.io_messages.proofs.Known.{method_with-is}
-use Rattle.io_messages.proofs.reply_reader.method_with.Goals as goal
-
-pub returns : goal.returns
-returns c = method_with-is c.method.result c.args.ordinal c.method.ensures.found c.method.ensures.only c.method.ensures.none

@@ -1,0 +1,7 @@
+mod Numbered
+mod ReadObjects
+mod Framework
+mod ReplyLaws
+mod WrittenReplies
+mod WrittenEvents
+mod Payloads
