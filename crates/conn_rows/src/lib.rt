@@ -1,16 +1,9 @@
-//! Outside values of connections (to directories, files, references and the echo service), of changes of names, and of messages to
-//! watchers and of who gets them, and the tests that read them. They stand in a crate of their own, since a crate with tests is proved
-//! a second time with them.
+//! Outside values of connections to directories, and of messages to watchers and of who gets them, and the tests that read them. They
+//! stand in a crate of their own, since a crate with tests is proved a second time with them.
 #![tactic(auto)]
 
 #[cfg(test)]
 mod directories;
-#[cfg(test)]
-mod files;
-#[cfg(test)]
-mod names;
-#[cfg(test)]
-mod references;
 #[cfg(test)]
 mod requests;
 #[cfg(test)]
