@@ -1,9 +1,12 @@
-//! Outside values of the client, of the lines of scripts and of frames, and of generated scripts, and the tests that read them.
+//! Outside values of the client, of messages to watchers, of the lines of scripts and of frames, and of generated scripts, and the tests
+//! that read them.
 //! They stand in a crate of their own, since a crate with tests is proved a second time with them.
 #![tactic(auto)]
 
 #[cfg(test)]
 mod client;
+#[cfg(test)]
+mod events;
 #[cfg(test)]
 mod scripts;
 #[cfg(test)]
