@@ -1,6 +1,6 @@
 //! What waits, over all endpoints.
 
-ghost use Rattle.std.specs.Prelude.{◌≡◌, ◌≢◌, ◌↔◌, AllPairs, ◌≤◌, ◌<◌, ◌+◌, ◌++◌, ◌∷◌, [], Some, None, IfOk, IfSome, IsOk, IsSome, IsTrue, OnOk, OnErr, MatchOption, drop, flat_map, length, nat_eq, slice_get, sum_by, unwrap_or};
+ghost use Rattle.std.specs.Prelude.{◌≡◌, ◌≢◌, ◌↔◌, AllPairs, ◌≤◌, ◌<◌, ◌+◌, ◌++◌, ◌∷◌, [], true, false, Some, None, IfOk, IfSome, IsOk, IsSome, IsTrue, OnOk, OnErr, MatchOption, drop, flat_map, length, nat_eq, slice_get, sum_by, unwrap_or};
 ghost use Rattle.std.specs.HashMap.{IsUnique, PutsEntry, Updates, get};
 ghost use Rattle.std.specs.List.Sorted.{IsPermutation};
 ghost use Rattle.vfs_journal.specs.Entries.{endpoints_in, tokens_in};
@@ -186,6 +186,23 @@ impl Queues {
         let tokens = self.tokens_on(alloc, &dead)?;
         self.close_all(&dead);
         Ok(Buried { dead, tokens })
+    }
+
+    /// Buries an endpoint alone, where nothing waits: nobody dies with it, and nothing is dropped. Tells whether that is so; where
+    /// something waits all is as it was.
+    pub fn bury_alone(&mut self, endpoint: u32) -> bool
+        ensures alone { IsTrue result ↔ (count self.old ≡ 0) }
+        ensures died { result ≡ true → AreDeaths self.old (endpoint ∷ []) (endpoint ∷ []) }
+        ensures buried { result ≡ true → Buries self.old (endpoint ∷ []) self.new }
+        ensures tokens { result ≡ true → tokens_on self.old (endpoint ∷ []) ≡ [] }
+        ensures count { result ≡ true → count self.new ≡ count self.old }
+        ensures unchanged { result ≡ false → self.new ≡ self.old }
+    {
+        if self.count != 0 {
+            return false;
+        }
+        self.close(endpoint);
+        true
     }
 
     /// Who dies with these.

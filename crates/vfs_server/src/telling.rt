@@ -1,10 +1,11 @@
 //! What watchers are told of a serving, behind its answer.
 
-ghost use Rattle.std.specs.Prelude.{◌≡◌, ◌≤◌, ◌++◌, ℕ, true, IfOk, Ok, OnErr, OnOk, length, take};
+ghost use Rattle.std.specs.Prelude.{◌≡◌, ◌≤◌, ◌++◌, [], ℕ, true, IfOk, Ok, OnErr, OnOk, length, take};
 ghost use Rattle.endpoint_link.specs.Frames.{spellings};
 ghost use Rattle.conn_rules.specs.Answers.{nothing_told};
 ghost use Rattle.conn_rules.specs.Served.{told_by};
 ghost use Rattle.node_graph.specs.declared.nodes.NodeRef.{NodeRef};
+ghost use Rattle.node_graph.specs.Tree.{Edges};
 ghost use Rattle.vfs_server.specs.Binding.{IsDirectory};
 ghost use Rattle.vfs_server.specs.Steps.{CanBeTold, IsTold, done_with};
 ghost use Rattle.vfs_server.specs.Watched.{first_of};
@@ -19,7 +20,7 @@ use node_graph::{Graph, NodeRef};
 use watch_events::snapshot;
 
 /// Tells watchers of what was done, and what becomes of endpoints. For want of memory, then or before, the
-/// outbox is cut back to a length. Most requests tell nothing, and their fate need not lie in memory.
+/// outbox is cut back to a length. Most requests tell nothing, and their fate need not lie in memory: a copy of it is lent.
 #[inline(always)]
 pub(crate) fn tell(
     watching: &Watching,
@@ -36,13 +37,29 @@ pub(crate) fn tell(
     ensures no_memory { OnErr result (outbox.new ≡ take len outbox.old) }
 {
     match fate {
-        Ok(Fate::Stays) if are_none(changes) => Ok(Fate::Stays),
-        Ok(Fate::Ends) if are_none(changes) => Ok(Fate::Ends),
-        Ok(fate) => tell_all(watching, graph, &fate, changes, len, outbox),
+        Ok(fate) => {
+            if is_silent(&fate, changes) {
+                return Ok(fate);
+            }
+            let told = fate;
+            tell_all(watching, graph, &told, changes, len, outbox)
+        }
         Err(_) => {
             outbox.truncate(len);
             Err(NoMemory)
         }
+    }
+}
+
+/// Whether nothing is to be told: no name came or went, no directory is gone, and nobody begins to watch.
+#[inline(always)]
+fn is_silent(fate: &Fate, changes: &Changes<'_>) -> bool
+    ensures none { result ≡ true → told_by changes.now ≡ nothing_told }
+    ensures first { result ≡ true → (edges : Edges) → first_of edges fate.now ≡ [] }
+{
+    match fate {
+        Fate::Watches { .. } => false,
+        _ => are_none(changes),
     }
 }
 

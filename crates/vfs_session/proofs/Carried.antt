@@ -1,8 +1,12 @@
 -- The endpoints that an entry carries, but one.
-use Rattle.std.proofs.Common.{◌≡◌, ℕ, ◌&&◌, Bool, true, false, not, cond, List, [], ◌∷◌, filter, Option, refl, sym, ap, ◌∙◌}
+use Rattle.std.proofs.Common.{◌≡◌, ℕ, ◌&&◌, Bool, true, false, not, cond, List, [], ◌∷◌, filter, Option, None, Some, refl, sym, ap, ◌∙◌}
 use Rattle.fidl_names.specs.HandleNumber.{is_client}
-use Rattle.vfs_journal.specs.Entries.{Sent, handles_of}
-use Rattle.vfs_session.specs.Steps.{carried_but, is_it}
+use Rattle.std.proofs.lemmas.Bool.{eq-eqb}
+use Rattle.conn_rules.specs.declared.births.Birth as code
+use Rattle.node_graph.specs.declared.nodes.NodeRef as nodes
+use Rattle.vfs_journal.specs.Entries.{Sent, handles_of, tokens_in}
+use Rattle.vfs_server.specs.declared.fate.Fate.TheVariants as fates
+use Rattle.vfs_session.specs.Steps.{IsLoneEnd, IsQuiet, carried_but, is_it}
 
 -- the endpoints among these numbers, but one
 abbrev pub carried_of : Option ℕ → List ℕ → List ℕ
@@ -23,3 +27,46 @@ filter_both p q (x ∷ xs) = by_tests (p x) (q x) x _ _ (filter_both p q xs) ∙
 
 pub carried_all : (but : Option ℕ) (sent : Sent) → carried_but but sent ≡ carried_of but (handles_of sent.sending)
 carried_all but sent = sym (filter_both is_client (λ number. not (is_it but number)) (handles_of sent.sending))
+
+-- ---- an entry that carries one endpoint, or nothing
+
+carried_alone : (object : ℕ) (sent : Sent) → handles_of sent.sending ≡ object ∷ [] → is_client object ≡ true → carried_but (Some object) sent ≡ []
+carried_alone object sent is client =
+    ap (λ (numbers : List ℕ). filter (λ number. not (is_it (Some object) number)) (filter is_client numbers)) is
+    ∙ ap (λ (b : Bool). filter (λ number. not (is_it (Some object) number)) (cond b (object ∷ []) [])) client
+    ∙ ap (λ (b : Bool). cond (not b) (object ∷ []) []) (eq-eqb object object refl)
+
+no_tokens : (object : ℕ) (sent : Sent) → handles_of sent.sending ≡ object ∷ [] → is_client object ≡ true → tokens_in sent ≡ []
+no_tokens object sent is client =
+    ap (λ (numbers : List ℕ). filter (λ number. not (is_client number)) numbers) is ∙ ap (λ (b : Bool). cond (not b) (object ∷ []) []) client
+
+none_carried : (one : Option ℕ) (sent : Sent) → handles_of sent.sending ≡ [] → carried_but one sent ≡ []
+none_carried one sent none = ap (λ (numbers : List ℕ). filter (λ number. not (is_it one number)) (filter is_client numbers)) none
+
+nothing_spent : (sent : Sent) → handles_of sent.sending ≡ [] → tokens_in sent ≡ []
+nothing_spent sent none = ap (λ (numbers : List ℕ). filter (λ number. not (is_client number)) numbers) none
+
+pub quiet_stays : (sent : Sent) → handles_of sent.sending ≡ [] → IsQuiet sent fates.Stays
+quiet_stays sent none = record { first = none_carried None sent none; tokens = nothing_spent sent none; here = refl }
+
+pub quiet_binds : (sent : Sent) (object : ℕ) (birth : code.Birth) → handles_of sent.sending ≡ object ∷ [] → is_client object ≡ true → IsQuiet sent (fates.Binds object birth)
+quiet_binds sent object birth is client = record { first = carried_alone object sent is client; tokens = no_tokens object sent is client; here = refl }
+
+pub quiet_watches : (sent : Sent) (object mask : ℕ) (directory : nodes.NodeRef) → handles_of sent.sending ≡ object ∷ [] → is_client object ≡ true → IsQuiet sent (fates.Watches object directory mask)
+quiet_watches sent object mask directory is client = record { first = carried_alone object sent is client; tokens = no_tokens object sent is client; here = refl }
+
+pub lone_ends : (sent : Sent) → handles_of sent.sending ≡ [] → IsLoneEnd sent fates.Ends sent.endpoint
+lone_ends sent none = record {
+  first = ap (λ (others : List ℕ). sent.endpoint ∷ others) (none_carried (Some sent.endpoint) sent none);
+  told = refl;
+  tokens = nothing_spent sent none;
+  here = refl;
+}
+
+pub lone_refuses : (sent : Sent) (object : ℕ) → handles_of sent.sending ≡ object ∷ [] → is_client object ≡ true → IsLoneEnd sent (fates.Refuses object) object
+lone_refuses sent object is client = record {
+  first = ap (λ (others : List ℕ). object ∷ others) (carried_alone object sent is client);
+  told = refl;
+  tokens = no_tokens object sent is client;
+  here = refl;
+}

@@ -29,6 +29,7 @@ pub mod Room
 pub mod Ready
 pub mod NoneDie
 pub mod Quiet
+pub mod Alone
 pub mod Taken
 pub mod Halves
 pub mod OneMore

@@ -28,13 +28,13 @@ nobody queues = record {
   once = λ i j d a b. absurd (omega arith);
 }
 
-nothing_waits_less : (known : Known) (n : ℕ) → n ≡ known.waiting → ◌≡◌ {A = Known} known (record known { waiting = n })
+pub nothing_waits_less : (known : Known) (n : ℕ) → n ≡ known.waiting → ◌≡◌ {A = Known} known (record known { waiting = n })
 nothing_waits_less known n e = ap (λ (k : ℕ). let x : Known = record known { waiting = k } in x) (sym e)
 
 none_go : (view : View) (servers : List Server) → HoldsEach view servers → HoldsEach (without_in view []) servers
 none_go view servers h = subst (λ (l : Living). HoldsEach (record view { living = l }) servers) (sym (filter_true view.living)) h
 
-none_rise : rising [] ≡ []
+pub none_rise : rising [] ≡ []
 unfolding IsStrictlySortedBy
 none_rise = rising_is [] [] tt (λ n. refl)
 

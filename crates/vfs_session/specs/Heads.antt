@@ -1,5 +1,5 @@
 -- The two parts of a serving: what comes before the deaths, and what comes with them. Of these a public clause needs Takes alone.
-use Rattle.std.specs.Prelude.{◌≡◌, ◌≤◌, ◌<◌, ◌+◌, ◌-◌, ◌^◌, ◌++◌, ℕ, All, List, drop, fold, Some, true}
+use Rattle.std.specs.Prelude.{◌≡◌, ◌≤◌, ◌<◌, ◌+◌, ◌-◌, ◌^◌, ◌++◌, ◌∷◌, [], ℕ, All, List, drop, fold, Some, true}
 use Rattle.fidl_names.specs.declared.limits.TheConstants as limit
 use Rattle.fidl_wire.specs.Written.{Written}
 use Rattle.endpoint_link.specs.Frames.{spellings}
@@ -57,6 +57,16 @@ pub record LetsDie (old : World) (sent : Sent) (fate : Fate) (dropped : List ℕ
   pub closed : after ≡ before ++ spellings (closed_for (end_told sent.endpoint fate) dead)
   pub known : new.known ≡ record (fold ended old.known dead) { waiting = count new.queues }
   pub count : count new.queues ≤ count old.queues
+  pub places : new.places ≡ old.places
+
+-- an endpoint is buried with which nobody dies, and on which nothing waited
+pub record DiesAlone (old : World) (end : ℕ) (new : World) : Type 0 where
+  pub died : AreDeaths old.queues (end ∷ []) (end ∷ [])
+  pub buried : Buries old.queues (end ∷ []) new.queues
+  pub tokens : tokens_on old.queues (end ∷ []) ≡ []
+  pub goes : (view : View) → AreApart view.living → HoldsEach view old.servers → HoldsEach (without_in view (end ∷ [])) new.servers
+  pub known : new.known ≡ ended old.known end
+  pub count : count new.queues ≡ count old.queues
   pub places : new.places ≡ old.places
 
 -- whoever dies is buried and closed, the tokens that are spent are forgotten, what goes on is sent, and what is known and how many places

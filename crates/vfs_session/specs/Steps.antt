@@ -1,6 +1,6 @@
 -- Words of the steps of a world, which its private functions are told by. Public clauses that tell a serving by its steps (Servings) need them;
 -- none that tells it by a journal does.
-use Rattle.std.specs.Prelude.{◌≡◌, ◌≢◌, AllPairs, ℕ, ◌<◌, ◌==◌, Bool, false, not, List, [], ◌∷◌, ◌++◌, length, map, filter, option_to_list, Option, Some, None, slice_get, slice_set}
+use Rattle.std.specs.Prelude.{◌≡◌, ◌≢◌, AllPairs, ℕ, ◌<◌, ◌==◌, Bool, true, false, not, List, [], ◌∷◌, ◌++◌, length, map, filter, option_to_list, Option, Some, None, slice_get, slice_set}
 use Rattle.std.specs.FinMap as finite
 use Rattle.std.specs.Option.{option_map_or}
 use Rattle.fidl_names.specs.declared.limits.TheConstants as limit
@@ -111,6 +111,29 @@ carried_but one sent = filter (λ number. not (is_it one number)) (endpoints_in 
 -- the first that die
 abbrev pub first_told : Sent → Fate → List ℕ
 first_told sent fate = option_to_list (end_told sent.endpoint fate) ++ carried_but (settled_told sent.endpoint fate) sent
+
+-- whether no Open goes on by a fate, and no token is given
+abbrev pub ends_here : Fate → Bool
+ends_here fates.Stays = true
+ends_here fates.Ends = true
+ends_here (fates.Binds object birth) = true
+ends_here (fates.Watches object directory mask) = true
+ends_here (fates.Refuses object) = true
+ends_here (fates.Forwards mount object) = false
+ends_here (fates.Gives token directory) = false
+
+-- a serving that leaves all others as they are: nobody dies of it, and the entry carries no token
+pub record IsQuiet (sent : Sent) (fate : Fate) : Type 0 where
+  pub first : first_told sent fate ≡ []
+  pub tokens : tokens_in sent ≡ []
+  pub here : ends_here fate ≡ true
+
+-- a serving of which one endpoint dies first, which its answer closed, and no other; the entry carries no token
+pub record IsLoneEnd (sent : Sent) (fate : Fate) (end : ℕ) : Type 0 where
+  pub first : first_told sent fate ≡ end ∷ []
+  pub told : end_told sent.endpoint fate ≡ Some end
+  pub tokens : tokens_in sent ≡ []
+  pub here : ends_here fate ≡ true
 
 -- the Close frames for deaths beside the one that the answer closed
 abbrev pub closed_for : Option ℕ → List ℕ → List Frame

@@ -1,10 +1,11 @@
 //! The endpoints that die of a serving first.
 
-ghost use Rattle.std.specs.Prelude.{◌≡◌, ◌++◌, [], true, IfOk, OnOk};
-ghost use Rattle.vfs_journal.specs.Entries.{handles_of};
-ghost use Rattle.vfs_session.specs.Steps.{carried_but, end_told, first_told, is_it, settled_told};
+ghost use Rattle.std.specs.Prelude.{◌≡◌, ◌++◌, ◌∷◌, [], true, IfSome, OnOk};
+ghost use Rattle.fidl_names.specs.HandleNumber.{is_client};
+ghost use Rattle.vfs_journal.specs.Handles.{numbers_of};
+ghost use Rattle.vfs_session.specs.Steps.{IsLoneEnd, IsQuiet, carried_but, end_told, first_told, is_it, settled_told};
 
-use fidl_names::{NoMemory, is_client};
+use fidl_names::{Handle, NoMemory, is_client};
 use message_queues::Lent;
 use vfs_server::Fate;
 
@@ -75,9 +76,36 @@ pub(crate) fn list_first_deaths(
     add_carried(sent, settled_told(sent.endpoint, fate), dying)
 }
 
-/// Whether a serving leaves all others as they are: the endpoint stays, and the entry carries nothing.
-pub(crate) fn is_quiet(sent: &Lent<'_>, fate: &Fate) -> bool
-    ensures { result ≡ true → (fate.now ≡ Fate.Stays) × (handles_of sent.now.sending ≡ []) }
+/// Whether these are one handle, this endpoint.
+fn are_it(handles: &[Handle], object: u32) -> bool
+    ensures { result ≡ true → (numbers_of handles.now ≡ object ∷ []) × (is_client object ≡ true) }
 {
-    matches!(fate, Fate::Stays) && sent.handles().is_empty()
+    handles.len() == 1 && handles[0].number() == object && is_client(object)
+}
+
+/// Whether a serving leaves all others as they are: the endpoint stays, and the entry carries nothing, or one
+/// endpoint that is bound.
+#[tactic(auto, using(crate::proofs::Carried::quiet_stays, crate::proofs::Carried::quiet_binds, crate::proofs::Carried::quiet_watches))]
+pub(crate) fn is_quiet(sent: &Lent<'_>, fate: &Fate) -> bool
+    ensures { result ≡ true → IsQuiet sent.now fate.now }
+{
+    let handles = sent.handles();
+    match fate {
+        Fate::Stays => handles.is_empty(),
+        Fate::Binds { object, .. } | Fate::Watches { object, .. } => are_it(handles, *object),
+        _ => false,
+    }
+}
+
+/// The endpoint that alone dies first of a serving that ends it, where the entry carries nothing else.
+#[tactic(auto, using(crate::proofs::Carried::lone_ends, crate::proofs::Carried::lone_refuses))]
+pub(crate) fn lone_end(sent: &Lent<'_>, fate: &Fate) -> Option<u32>
+    ensures { IfSome result (IsLoneEnd sent.now fate.now) }
+{
+    let handles = sent.handles();
+    match fate {
+        Fate::Ends if handles.is_empty() => Some(sent.endpoint),
+        Fate::Refuses { object } if are_it(handles, *object) => Some(*object),
+        _ => None,
+    }
 }

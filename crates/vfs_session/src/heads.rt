@@ -1,11 +1,11 @@
 //! The serving of the first entry of an endpoint.
 
-ghost use Rattle.std.specs.Prelude.{◌≡◌, ◌^◌, ℕ, true, All, IfOk, List, OnOk};
+ghost use Rattle.std.specs.Prelude.{◌≡◌, ◌^◌, ◌∷◌, [], ℕ, true, false, All, IfOk, List, OnOk};
 ghost use Rattle.endpoint_link.specs.Standings.{is_live, standing_of};
 ghost use Rattle.message_queues.specs.Dying.{AreDeaths};
 ghost use Rattle.message_queues.specs.Queues.{IsReady, count};
 ghost use Rattle.vfs_journal.specs.Output.{Begins};
-ghost use Rattle.vfs_session.specs.Heads.{CanSettle, LetsDie, SettlesHead, Takes, TakesHead};
+ghost use Rattle.vfs_session.specs.Heads.{CanSettle, DiesAlone, LetsDie, SettlesHead, Takes, TakesHead};
 ghost use Rattle.vfs_session.specs.Running.{IsRunning, whole};
 ghost use Rattle.vfs_session.specs.Servings.{ServesOne};
 ghost use Rattle.vfs_session.specs.Steps.{first_told};
@@ -13,10 +13,10 @@ ghost use Rattle.vfs_session.specs.World.{World};
 
 use crate::answering::answer;
 use crate::closing::close_others;
-use crate::deaths::{end_told, is_quiet, list_first_deaths};
+use crate::deaths::{end_told, is_quiet, list_first_deaths, lone_end};
 use crate::forgetting::{give, spend};
 use crate::session::Session;
-use crate::settling::{bind, bury, send_on};
+use crate::settling::{bind, bury, let_all_go, send_on};
 use endpoint_link::Outbox;
 use fidl_names::{MAX_WAITING, NoMemory};
 use message_queues::{Lent, Sent};
@@ -110,9 +110,32 @@ impl Session {
             self.places += 1;
             return Ok(());
         }
+        if let Some(end) = lone_end(sent, fate) {
+            if self.bury_alone(end) {
+                self.places += 1;
+                return Ok(());
+            }
+        }
         let sent = sent.lend();
         let fate = *fate;
         self.settle_all(&sent, &fate, outbox)
+    }
+
+    /// Buries an endpoint that dies alone, since nothing waits, and tells whether that is so; else all is as it
+    /// was.
+    #[inline(never)]
+    fn bury_alone(&mut self, end: u32) -> bool
+        requires live { (dead : List ℕ) → AreDeaths self.old.queues (end ∷ []) dead → All (λ endpoint. is_live (standing_of self.old.endpoints endpoint) ≡ true) dead }
+        ensures alone { result ≡ true → DiesAlone (whole self.old) end (whole self.new) }
+        ensures unchanged { result ≡ false → whole self.new ≡ whole self.old }
+        ensures out { self.new.out ≡ self.old.out }
+    {
+        if !self.queues.bury_alone(end) {
+            return false;
+        }
+        self.endpoints.ended(end);
+        let_all_go(&mut self.servers, &[end]);
+        true
     }
 
     /// Lets whoever dies of a serving die, forgets the tokens that are spent, gives the one that is given, and

@@ -76,7 +76,7 @@ fn let_go(server: &mut Server, dead: &[u32])
 }
 
 /// Lets these endpoints go wherever they are bound.
-fn let_all_go(servers: &mut Vec<Server>, dead: &[u32])
+pub(crate) fn let_all_go(servers: &mut Vec<Server>, dead: &[u32])
     ensures gone { (view : View) → AreApart view.living → HoldsEach view servers.old.items → HoldsEach (without_in view dead.now) servers.new.items }
 {
     for at in 0..servers.len() {
