@@ -1,5 +1,6 @@
 -- What is done with what a connection gives is what the outcome of its request says.
-use Rattle.std.proofs.Common.{◌≡◌, ◌≢◌, ◌∙◌, ℕ, ◌++◌, List, true, false, All, Option, Some, None, Result, Ok, Err, IfOk, refl, sym, ap, subst, rules}
+use Rattle.std.proofs.Common.{◌≡◌, ◌≢◌, ◌∙◌, ℕ, ◌++◌, List, true, false, All, Option, Some, None, Result, Ok, Err, IfOk, IfSome, [], append-nil, refl, sym, ap, subst, rules}
+use Rattle.std.specs.Result.{OnErr, OnOk}
 use Rattle.std.specs.Option.{option_map_or}
 use Rattle.std.proofs.lemmas.List.Elements.{All-nil}
 use Rattle.fidl_wire.specs.Written.{Written}
@@ -22,6 +23,7 @@ use Rattle.conn_rules.specs.Contexts.{context_of}
 use Rattle.conn_rules.specs.Shared.{CanBeBound, is_spoken_at}
 use Rattle.vfs_journal.specs.Outcomes as outcomes
 use Rattle.vfs_journal.specs.Outcomes.{Asker, frames_of}
+use Rattle.vfs_journal.specs.Output.{Begins}
 use Rattle.vfs_journal.specs.Serving.{Moment, fault_answer, fault_txid, object_of, outcome_of_read}
 use Rattle.vfs_server.specs.declared.asking.Asking.{Asking}
 use Rattle.vfs_server.specs.declared.fate.Fate.{Fate}
@@ -244,3 +246,23 @@ ok_map P Q (Err e) f h = tt
 pub ok_both : {X E : Type 0} (P Q : X → Type 0) (r : Result X E) → IfOk r P → IfOk r Q → IfOk r (λ x. P x × Q x)
 ok_both P Q (Ok x) p q = (p, q)
 ok_both P Q (Err e) p q = tt
+
+pub on_ok : {X E P Q : Type 0} (r : Result X E) → (P → Q) → OnOk r P → OnOk r Q
+on_ok (Ok x) f h = f h
+on_ok (Err e) f h = h
+
+pub of_ok : {X E P : Type 0} (r : Result X E) (x : X) → r ≡ Ok x → OnOk r P → P
+of_ok {X} {E} {P} r x is h = subst (λ (one : Result X E). OnOk one P) is h
+
+pub some_both : {X : Type 0} (P Q R : X → Type 0) (o : Option X) → ((x : X) → P x → Q x → R x) → IfSome o P → IfSome o Q → IfSome o R
+some_both P Q R (Some x) f p q = f x p q
+some_both P Q R None f p q = tt
+
+pub some_none : {X : Type 0} (P : X → Type 0) (o : Option X) → o ≡ None → IfSome o P
+some_none P (Some x) e = absurd (cc)
+some_none P None e = tt
+
+-- what was written stands behind what was there, or nothing was written
+pub begins_by : {X E : Type 0} (r : Result X E) (before after more : List ℕ) → OnOk r (after ≡ before ++ more) → OnErr r (after ≡ before) → Begins before after
+begins_by (Ok x) before after more written none = (more, written)
+begins_by (Err e) before after more written none = ([], none ∙ sym (append-nil before))

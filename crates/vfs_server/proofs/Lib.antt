@@ -2,6 +2,7 @@
 pub mod Maps
 pub mod Counts
 mod FileReads
+mod Found
 pub mod Seats
 pub mod Walking
 pub mod Acting

@@ -275,6 +275,10 @@ pub record Done : Type 0 where
 abbrev pub done_with : Fate → Changes → Done
 done_with fate changes = record { fate = fate; told = told_by changes }
 
+-- the endpoint stays, and watchers are told nothing
+abbrev pub stays : Done
+stays = record { fate = fates.Stays; told = nothing_told }
+
 -- a connection does what an outcome says, and changes the graph as it says; watchers aren't told yet
 pub record Answers (moment : Moment) (outcome : Outcome) (done : Done) (out : Written) (new : Connection) (graph changed : Kept) (before after : List ℕ) : Type 0 where
   pub frames : after ≡ before ++ spellings outcome.frames

@@ -1,6 +1,7 @@
 //! What is done with what a connection gives, and with a message that is no request.
 
-ghost use Rattle.std.specs.Prelude.{◌≡◌, ◌≢◌, ◌++◌, ℕ, IfOk, OnErr, OnOk};
+ghost use Rattle.std.specs.Prelude.{◌≡◌, ◌≢◌, ◌++◌, [], ℕ, IfOk, OnErr, OnOk};
+ghost use Rattle.node_graph.specs.declared.nodes.NodeRef.{NodeRef};
 ghost use Rattle.endpoint_link.specs.Frames.{spellings};
 ghost use Rattle.io_messages.specs.Asked.{asked};
 ghost use Rattle.vfs_journal.specs.Outcomes.{announcement, ending};
@@ -13,7 +14,7 @@ use crate::fate::Fate;
 use crate::frames::{put_announcement, put_ending, put_last, put_message};
 use crate::given::Given;
 use conn_rules::Birth;
-use endpoint_link::Outbox;
+use endpoint_link::{Outbox, write_message};
 use fidl_names::{Handle, NoMemory, Status};
 use fidl_wire::{Ordinals, Out};
 use io_messages::{Protocol, Reply, Request, RequestFault, write_reply};
@@ -77,8 +78,17 @@ pub(crate) fn answer(
     }
 }
 
-/// Writes the reply in an output on an endpoint, whose connection is to this node. A token that it has names the node.
+/// Writes the reply in an output, which has no handles, on an endpoint. That stays.
 #[inline(always)]
+pub(crate) fn put_bare_reply(endpoint: u32, out: &Out, outbox: &mut Outbox) -> Result<(), NoMemory>
+    requires bare { out.now.handles ≡ [] }
+    ensures does { (object : ℕ) (node : NodeRef) → OnOk result (DoesGiven endpoint object node Given.Reply out.now Fate.Stays out.now outbox.old outbox.new) }
+    ensures no_memory { OnErr result (outbox.new ≡ outbox.old) }
+{
+    write_message(outbox, endpoint, &[], out.as_bytes())
+}
+
+/// Writes the reply in an output on an endpoint, whose connection is to this node. A token that it has names the node.
 pub(crate) fn put_reply(
     endpoint: u32,
     node: NodeRef,

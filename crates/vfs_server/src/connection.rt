@@ -1,6 +1,6 @@
 //! A connection, and the serving of what is sent to it.
 
-ghost use Rattle.std.specs.Prelude.{◌≡◌, ◌≤◌, ◌<◌, ◌^◌, ◌≢◌, ℕ, true, OnErr, IfOk, IfSome, Ok, length};
+ghost use Rattle.std.specs.Prelude.{◌≡◌, ◌≤◌, ◌<◌, ◌^◌, ◌≢◌, ℕ, true, OnErr, OnOk, IfOk, IfSome, IsSome, None, Ok, length};
 ghost use Rattle.fidl_names.specs.declared.limits.TheConstants as limit;
 ghost use Rattle.io_messages.specs.Asked.{asked, method_of, read};
 ghost use Rattle.io_messages.specs.Protocols.{has_method};
@@ -11,11 +11,13 @@ ghost use Rattle.conn_rules.specs.Births.{fresh};
 ghost use Rattle.conn_rules.specs.Served.{HasNothing, KeepsHolds, told_by};
 ghost use Rattle.conn_rules.specs.Shared.{CanBeBound};
 ghost use Rattle.vfs_journal.specs.Handles.{numbers_of};
+ghost use Rattle.vfs_journal.specs.Output.{Begins};
 ghost use Rattle.vfs_journal.specs.Serving.{Moment, outcome_of_read};
 ghost use Rattle.vfs_server.specs.Kept.{HasTree, NameDirectories};
-ghost use Rattle.vfs_server.specs.Steps.{Answers, AreNamed, CanEcho, CanTell, IsAskedAt, NamesAsThere, done_with};
+ghost use Rattle.vfs_server.specs.declared.asking.Asking.{Asking};
+ghost use Rattle.vfs_server.specs.Steps.{Answers, AreNamed, CanEcho, CanTell, IsAskedAt, NamesAsThere, done_with, stays};
 
-use crate::answers::{answer, answer_fault, put_reply};
+use crate::answers::{answer, answer_fault, put_bare_reply};
 use crate::asking::Asking;
 use crate::conn::Conn;
 use crate::fate::Fate;
@@ -107,6 +109,50 @@ impl Connection {
         }
     }
 
+    /// Serves a Read of so many bytes, where it is a connection to a file: its reply is written, and the endpoint
+    /// stays. For any other connection `None`, and nothing is done.
+    ///
+    /// For want of memory no frame is written.
+    #[inline(always)]
+    pub fn read(
+        &mut self,
+        ordinals: &Ordinals,
+        endpoint: u32,
+        graph: &mut Graph,
+        txid: u32,
+        count: u64,
+        out: &mut Out,
+        outbox: &mut Outbox,
+    ) -> Option<Result<(), NoMemory>>
+        requires tree { HasTree graph.old }
+        requires node { CanBeBound graph.old self.old.birth }
+        requires txid { 0 < txid }
+        ensures file { IfSome result (λ replied. self.old.birth.protocol ≡ Protocol.File) }
+        ensures reads { self.old.birth.protocol ≡ Protocol.File → IsSome result }
+        ensures begins { Begins outbox.old outbox.new }
+        ensures answers { (server : ℕ) (asking : Asking) (moment : Moment) → asking.endpoint ≡ endpoint → IsAskedAt server asking graph.old self.old moment →
+            IfSome result (λ replied. OnOk replied (Answers moment (outcome_of_read moment (Ok (txid, read count))) stays out.new self.new graph.old graph.new outbox.old outbox.new)) }
+        ensures holds { KeepsHolds self.old self.new graph.old graph.new }
+        ensures tree { HasTree graph.new }
+        ensures unchanged { result ≡ None → (self.new ≡ self.old) × (graph.new ≡ graph.old) × (outbox.new ≡ outbox.old) }
+        ensures no_memory { IfSome result (λ replied. OnErr replied (outbox.new ≡ outbox.old)) }
+    {
+        let Conn::File(conn) = &mut self.conn else {
+            return None;
+        };
+        out.clear();
+        // A Read looks at nothing that is in use.
+        let room = Room {
+            connections: 0,
+            watchers: 0,
+            token: None,
+        };
+        match conn.serve(ordinals, graph, room, txid, &Request::Read { count }, out) {
+            Served::Reply => Some(put_bare_reply(endpoint, out, outbox)),
+            _ => unreachable!(),
+        }
+    }
+
     /// The transaction id and the count of a message that asks a file for a Read; `None` for any other, and
     /// where it is a connection to something else.
     pub fn read_in(
@@ -125,9 +171,7 @@ impl Connection {
         }
     }
 
-    /// Serves a Read of a file: its reply is written, and the endpoint stays.
-    ///
-    /// For want of memory no frame is written.
+    /// Serves a Read of a file, as any message is served.
     #[inline(always)]
     pub fn serve_read(
         &mut self,
@@ -149,26 +193,18 @@ impl Connection {
         ensures tree { HasTree graph.new }
         ensures no_memory { OnErr result (outbox.new ≡ outbox.old) }
     {
-        let Conn::File(conn) = &mut self.conn else {
-            unreachable!();
-        };
-        out.clear();
-        let room = Room {
-            connections: asking.connections,
-            watchers: 0,
-            token: asking.token,
-        };
-        let node = conn.node();
-        match conn.serve(
+        match self.read(
             asking.ordinals,
+            asking.endpoint,
             graph,
-            room,
             txid,
-            &Request::Read { count },
+            count,
             out,
+            outbox,
         ) {
-            Served::Reply => put_reply(asking.endpoint, node, out, outbox),
-            _ => unreachable!(),
+            Some(Ok(())) => Ok(Fate::Stays),
+            Some(Err(_)) => Err(NoMemory),
+            None => unreachable!(),
         }
     }
 

@@ -1,6 +1,6 @@
 //! The connections of a server, by their endpoints.
 
-ghost use Rattle.std.specs.Prelude.{◌≡◌, ◌≤◌, ◌<◌, ◌^◌, ℕ, IfOk, OnErr, OnOk, Option, Some, None, length};
+ghost use Rattle.std.specs.Prelude.{◌≡◌, ◌≤◌, ◌<◌, ◌^◌, ℕ, IfOk, IfSome, OnErr, OnOk, Ok, Option, Some, None, length};
 ghost use Rattle.fidl_names.specs.declared.limits.TheConstants as limit;
 ghost use Rattle.std.specs.FinMap as finite;
 ghost use Rattle.conn_rules.specs.Births as births;
@@ -8,10 +8,12 @@ ghost use Rattle.conn_rules.specs.Answers.{nothing_told};
 ghost use Rattle.conn_rules.specs.Served.{KeepsHolds, told_by};
 ghost use Rattle.conn_rules.specs.Shared.{CanBeBound};
 ghost use Rattle.vfs_server.specs.Kept.{HasTree, NameDirectories};
+ghost use Rattle.io_messages.specs.Asked as asks;
 ghost use Rattle.io_messages.specs.Requests.{request_of};
 ghost use Rattle.vfs_journal.specs.Handles.{numbers_of};
 ghost use Rattle.vfs_journal.specs.Serving.{Moment, outcome_of_read};
-ghost use Rattle.vfs_server.specs.Steps.{Answers, AreNamed, CanTell, IsAskedAt, IsPassedOver, done_with};
+ghost use Rattle.vfs_server.specs.declared.asking.Asking as asking;
+ghost use Rattle.vfs_server.specs.Steps.{Answers, AreNamed, CanTell, IsAskedAt, IsPassedOver, done_with, stays};
 
 use crate::asking::Asking;
 use crate::connection::Connection;
@@ -20,7 +22,8 @@ use crate::tokens::Tokens;
 use conn_rules::Changes;
 use endpoint_link::Outbox;
 use fidl_names::{Handle, NoMemory};
-use fidl_wire::Out;
+use fidl_wire::{Ordinals, Out};
+use io_messages::Protocol;
 use node_graph::Graph;
 use std::alloc::Global;
 use std::collections::HashMap;
@@ -120,5 +123,35 @@ impl Connections {
         }
         let asking = *asking;
         connection.serve(&asking, graph, tokens, bytes, handles, out, outbox, changes)
+    }
+
+    /// Serves a Read of so many bytes on the one of an endpoint, where that is to a file. No other changes. Where
+    /// it has none or another, `None`, and nothing is done.
+    #[inline(always)]
+    pub fn read(
+        &mut self,
+        ordinals: &Ordinals,
+        endpoint: u32,
+        graph: &mut Graph,
+        txid: u32,
+        count: u64,
+        out: &mut Out,
+        outbox: &mut Outbox,
+    ) -> Option<Result<(), NoMemory>>
+        requires tree { HasTree graph.old }
+        requires txid { 0 < txid }
+        requires node { (connection : births.Connection) → finite.get self.old endpoint ≡ Some connection → CanBeBound graph.old connection.birth }
+        ensures read { (old : births.Connection) → finite.get self.old endpoint ≡ Some old →
+            (new : births.Connection) × KeepsHolds old new graph.old graph.new × (self.new ≡ finite.insert self.old endpoint new)
+            × IfSome result (λ read. old.birth.protocol ≡ Protocol.File)
+            × ((server : ℕ) (asking : asking.Asking) (moment : Moment) → asking.endpoint ≡ endpoint → IsAskedAt server asking graph.old old moment →
+            IfSome result (λ read. OnOk read (Answers moment (outcome_of_read moment (Ok (txid, asks.read count))) stays out.new new graph.old graph.new outbox.old outbox.new))) }
+        ensures there { finite.get self.old endpoint ≡ None → result ≡ None }
+        ensures unchanged { result ≡ None → (self.new ≡ self.old) × (graph.new ≡ graph.old) × (outbox.new ≡ outbox.old) }
+        ensures tree { HasTree graph.new }
+        ensures no_memory { IfSome result (λ read. OnErr read (outbox.new ≡ outbox.old)) }
+    {
+        let connection = self.kept.get_mut(&endpoint)?;
+        connection.read(ordinals, endpoint, graph, txid, count, out, outbox)
     }
 }

@@ -19,4 +19,5 @@ mod tokens;
 mod watching;
 
 pub use fate::Fate;
+pub use reading::read_in;
 pub use server::Server;

@@ -1,4 +1,4 @@
-//! Which messages are Reads of files. There are more of them than of all others.
+//! Which messages ask a file for a Read. There are more of them than of all others.
 
 ghost use Rattle.std.specs.Prelude.{◌≡◌, ◌<◌, IfSome, Ok};
 ghost use Rattle.io_messages.specs.Asked.{read};
@@ -9,7 +9,7 @@ use fidl_wire::{Body, Header, Ordinals};
 use io_messages::Protocol;
 
 /// The transaction id and the count of a message that asks a file for a Read; `None` for any other.
-pub(crate) fn read_in(ordinals: &Ordinals, bytes: &[u8], handles: &[Handle]) -> Option<(u32, u64)>
+pub fn read_in(ordinals: &Ordinals, bytes: &[u8], handles: &[Handle]) -> Option<(u32, u64)>
     ensures read { IfSome result (λ asked. request_of Protocol.File bytes.now handles.now ≡ Ok (asked.0, read asked.1)) }
     ensures txid { IfSome result (λ asked. 0 < asked.0) }
 {

@@ -1,6 +1,8 @@
-ghost use Rattle.std.specs.Prelude.{◌≡◌, ◌≤◌, ◌<◌, ◌+◌, ◌^◌, ℕ, IfOk, IsSome, None, OnErr, OnOk, [], length};
+ghost use Rattle.std.specs.Prelude.{◌≡◌, ◌≤◌, ◌<◌, ◌+◌, ◌^◌, ℕ, IfOk, IfSome, IsSome, List, None, Ok, OnErr, OnOk, Option, [], length};
 ghost use Rattle.fidl_names.specs.declared.limits.TheConstants as limit;
 ghost use Rattle.std.specs.FinMap as finite;
+ghost use Rattle.io_messages.specs.Asked as asks;
+ghost use Rattle.io_messages.specs.Requests.{request_of};
 ghost use Rattle.node_graph.specs.Graph.{holds_at, number_of};
 ghost use Rattle.vfs_journal.specs.Entries.{message};
 ghost use Rattle.vfs_journal.specs.Handles.{AreByNumber, numbers_of};
@@ -26,6 +28,7 @@ use conn_rules::{Birth, Changes};
 use endpoint_link::Outbox;
 use fidl_names::{Handle, NoMemory};
 use fidl_wire::{Ordinals, Out};
+use io_messages::Protocol;
 use node_graph::{Graph, NodeRef};
 use std::alloc::Global;
 use std::marker::Model;
@@ -148,6 +151,39 @@ impl Server {
             &mut changes,
         );
         tell(&self.watching, &self.graph, fate, &changes, len, outbox)
+    }
+
+    /// Serves a Read of so many bytes on an endpoint, where that is bound to a file here: its reply is written to
+    /// the outbox, and the endpoint stays. Otherwise `None`, and nothing is done. What stands in the output then
+    /// is of no account.
+    ///
+    /// For want of memory no frame is written.
+    #[inline(always)]
+    pub fn read(
+        &mut self,
+        ordinals: &Ordinals,
+        endpoint: u32,
+        txid: u32,
+        count: u64,
+        out: &mut Out,
+        outbox: &mut Outbox,
+    ) -> Option<Result<(), NoMemory>>
+        requires txid { 0 < txid }
+        ensures serves { (bytes : List ℕ) (token : Option ℕ) (moment : Moment) → request_of Protocol.File bytes [] ≡ Ok (txid, asks.read count) → IsMomentOf self.old endpoint token [] moment →
+            IfSome result (λ read. OnOk read (Serves moment (outcome_of_sending moment (message bytes [])) Fate.Stays out.new self.old self.new outbox.old outbox.new)) }
+        ensures bound { IfSome result (λ read. IsSome (seen self.old endpoint)) }
+        ensures unchanged { result ≡ None → (self.new ≡ self.old) × (outbox.new ≡ outbox.old) }
+        ensures no_memory { IfSome result (λ read. OnErr read (outbox.new ≡ outbox.old)) }
+    {
+        self.connections.read(
+            ordinals,
+            endpoint,
+            &mut self.graph,
+            txid,
+            count,
+            out,
+            outbox,
+        )
     }
 
     /// Binds an endpoint that isn't bound here, and holds its node. Of want of memory the server is as

@@ -1,6 +1,7 @@
 -- What a call's result tells.
-use Rattle.std.proofs.Common.{◌≡◌, ◌⊎◌, Option, Some, None, Result, Ok, Err, MatchOption, inl, inr, refl}
-use Rattle.std.specs.Result.{OnOk}
+use Rattle.std.proofs.Common.{◌≡◌, ◌∙◌, ◌⊎◌, ℕ, List, [], append-nil, Option, Some, None, Result, Ok, Err, MatchOption, inl, inr, refl, sym}
+use Rattle.std.specs.Result.{OnErr, OnOk}
+use Rattle.vfs_journal.specs.Output.{Begins}
 use Rattle.endpoint_link.specs.declared.kinds.AdmitFault.{AdmitFault}
 use Rattle.endpoint_link.specs.declared.kinds.AdmitFault.TheVariants as fault
 use Rattle.endpoint_link.specs.declared.kinds.Refusal.{Refusal}
@@ -12,6 +13,11 @@ on_ok (Err e) f h = h
 pub on_both : {T E P Q R : Type 0} (r : Result T E) → (P → Q → R) → OnOk r P → OnOk r Q → OnOk r R
 on_both (Ok x) f g h = f g h
 on_both (Err e) f g h = h
+
+-- what was written stands behind what was there, or nothing was written
+pub begins_by : {T E : Type 0} (r : Result T E) (before after : List ℕ) → OnOk r (Begins before after) → OnErr r (after ≡ before) → Begins before after
+begins_by (Ok x) before after written none = written
+begins_by (Err e) before after written none = ([], none ∙ sym (append-nil before))
 
 -- ---- what admission answers
 

@@ -163,7 +163,7 @@ sent_lasts most old now new frame r is (inr close) admitted waits =
     hang_up_lasts most old now new frame r is close admitted (subst (λ k. WaitsLast now frame.endpoint (sent_by k frame) new) close waits)
 
 -- where none are counted, nothing waits, and nothing on any endpoint
-nothing_waits : (most : ℕ) (world : World) (r : IsRunning most world) → count world.queues ≡ 0 → waiting (history_of r.start r.journal) ≡ []
+pub nothing_waits : (most : ℕ) (world : World) (r : IsRunning most world) → count world.queues ≡ 0 → waiting (history_of r.start r.journal) ≡ []
 nothing_waits most world r none =
     let view = r.stands.holds.queues in
     no_items (waiting (history_of r.start r.journal)) (sym (counts_its_list world.queues (waiting (history_of r.start r.journal)) view.queue) ∙ none)

@@ -17,6 +17,7 @@ ghost use Rattle.vfs_session.specs.Running.{IsRunning, whole};
 ghost use Rattle.vfs_session.specs.World.{LeadsTo, StandsFor, World};
 ghost use Rattle.vfs_world.specs.Steps.{CanWait, Hears, IsAdmitted, IsFree, IsPlain, Reaches, WaitsLast};
 
+use crate::reading::hear_read;
 use byteorder::{ByteOrder, LittleEndian};
 use endpoint_link::{
     AdmitFault, FrameKind, FrameView, Mode, Outbox, Refusal, word_in, write_frame,
@@ -58,7 +59,11 @@ pub(crate) fn hear(
     ensures begins { Begins outbox.old outbox.new }
 {
     match mode {
-        Mode::Auto => hear_out(session, frame, outbox),
+        // Most frames are Reads of files, and have a way of their own.
+        Mode::Auto => match hear_read(session, frame, outbox) {
+            Some(heard) => heard,
+            None => hear_out(session, frame, outbox),
+        },
         Mode::Given => arrive(session, frame, outbox),
     }
 }
@@ -134,7 +139,7 @@ fn serve_at_once(
 
 /// Whether a frame is a message without handles on a client's endpoint. Where that is bound and nothing waits,
 /// only want of room can refuse it.
-fn is_plain(frame: FrameView<'_>) -> bool
+pub(crate) fn is_plain(frame: FrameView<'_>) -> bool
     ensures { result ≡ true → IsPlain (frame_of frame.entry) }
 {
     match frame.kind {

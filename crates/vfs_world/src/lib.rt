@@ -3,6 +3,7 @@
 
 mod arriving;
 mod beginning;
+mod reading;
 mod world;
 
 pub use world::{Picked, World, WorldFault};

@@ -1,8 +1,6 @@
-use Rattle.std.proofs.Common.{◌≡◌, ◌∙◌, ℕ, cond, IfOk, List, None, Ok, Option, Some, ap, eqb, refl, subst, sym}
+use Rattle.std.proofs.Common.{ℕ, IfOk, List, None, Ok, Some, eqb, refl, subst, sym}
 use Rattle.std.specs.Prelude.{IsSome}
-use Rattle.std.specs.FinMap as finite
 use Rattle.std.specs.Map.{lookup}
-use Rattle.endpoint_link.proofs.Tabled.{changes-table, get-table, map-insert}
 use Rattle.conn_rules.specs.Answers.{Happening}
 use Rattle.conn_rules.specs.Births.{Connection}
 use Rattle.conn_rules.specs.Served.{KeepsHolds}
@@ -10,28 +8,9 @@ use Rattle.io_messages.specs.Asked.{read}
 use Rattle.io_messages.specs.Requests.{request_of}
 use Rattle.vfs_journal.specs.Handles.{numbers_of}
 use Rattle.vfs_journal.specs.Serving.{Moment, outcome_of_read}
-use Rattle.vfs_server.specs.Kept.{Connections}
 use Rattle.vfs_server.specs.Steps.{Answers, AreNamed, CanTell, IsAskedAt, done_with}
+use Rattle.vfs_server.proofs.Found.{is_found, looked_up, not_none, put_back}
 use Rattle.vfs_server.proofs.connections.Connections.serve.Goals as goal
-
--- what the map has at an endpoint stands there in its table
-looked_up : (entries : List (ℕ × Connection)) (map : Connections) (endpoint : ℕ) (found : Option Connection) →
-    finite.from_entries entries ≡ map → found ≡ lookup (eqb endpoint) entries → finite.get map endpoint ≡ found
-looked_up entries map endpoint found is here = sym (ap (λ m. finite.get m endpoint) is) ∙ get-table entries endpoint ∙ sym here
-
--- and it is the one that is found
-is_found : (entries : List (ℕ × Connection)) (map : Connections) (endpoint : ℕ) (here old : Connection) →
-    finite.from_entries entries ≡ map → Some here ≡ lookup (eqb endpoint) entries → finite.get map endpoint ≡ Some old → here ≡ old
-is_found entries map endpoint here old is there some =
-    let both : Some here ≡ Some old = sym (looked_up entries map endpoint (Some here) is there) ∙ some in
-    cc
-
--- where another stands there in the table, it is put there in the map
-put_back : (entries written : List (ℕ × Connection)) (map : Connections) (endpoint : ℕ) (new : Connection) → finite.from_entries entries ≡ map →
-    ((q : ℕ) → lookup (eqb q) written ≡ cond (eqb endpoint q) (Some new) (lookup (eqb q) entries)) → finite.from_entries written ≡ finite.insert map endpoint new
-put_back entries written map endpoint new is updates =
-    map-insert (finite.from_entries entries) (finite.from_entries written) endpoint new (changes-table entries written endpoint (Some new) updates)
-    ∙ ap (λ m. finite.insert m endpoint new) is
 
 pub serve-requires-clause-node : goal.serve-requires-clause-node
 serve-requires-clause-node c =
@@ -84,12 +63,6 @@ returns-in-Some-read_in-clause-served c old is =
           (λ (told : List Happening). IfOk c.serve_read.result (λ fate. Answers moment (outcome_of_read moment (Ok (c.in-Some-read_in.txid, read c.in-Some-read_in.count))) (record { fate = fate; told = told }) c.serve_read.new.out new c.args.graph.now c.serve_read.new.graph c.args.outbox.now c.serve_read.new.outbox))
           (sym c.requires.none) (c.serve_read.ensures.answers server moment asks))),
     )
-
--- an endpoint that has a connection isn't without
-not_none : (map : Connections) (endpoint : ℕ) (connection : Connection) → finite.get map endpoint ≡ Some connection → finite.get map endpoint ≡ None → ⊥
-not_none map endpoint connection some none =
-    let wrong : None ≡ Some connection = sym none ∙ some in
-    cc
 
 pub returns-clause-passed_over : goal.returns-clause-passed_over
 returns-clause-passed_over c none =

@@ -1,0 +1,41 @@
+use Rattle.std.proofs.Common.{◌-◌, ◌^◌, arith}
+use Rattle.endpoint_link.specs.Views.{frame_of}
+use Rattle.vfs_session.specs.Running.{whole}
+use Rattle.vfs_world.proofs.Answered.{begins_by, on_ok}
+use Rattle.vfs_world.proofs.Hearing.{places_low}
+use Rattle.vfs_world.proofs.ReadAtOnce.{read_lasts, read_leads}
+use Rattle.vfs_world.proofs.reading.hear_read.Goals as goal
+
+pub overflow_add-session : goal.overflow_add-session
+overflow_add-session c = let low = places_low (2 ^ 61 - 4098) (whole c.args.session.now) c.requires.running in omega (arith, low)
+
+pub returns-clause-heard : goal.returns-clause-heard
+returns-clause-heard c =
+    λ start journal stands.
+    on_ok c.in_ok-read.read
+    (λ answers. (read_leads (whole c.args.session.now) c.requires.running (frame_of c.args.frame) c.requires.frame (c.can_be_served.ensures c.if-not-can_be_served.false) c.in_ok-at.at c.in_ok-txid.txid c.in_ok-txid.count _ _ c.args.outbox.now c.read_at.new.outbox c.in_ok-txid.ensures.read answers start journal stands).0)
+    c.in_ok-read.ensures.answers
+
+pub returns-clause-none : goal.returns-clause-none
+returns-clause-none c =
+    λ start journal stands.
+    on_ok c.in_ok-read.read
+    (λ answers. (read_leads (whole c.args.session.now) c.requires.running (frame_of c.args.frame) c.requires.frame (c.can_be_served.ensures c.if-not-can_be_served.false) c.in_ok-at.at c.in_ok-txid.txid c.in_ok-txid.count _ _ c.args.outbox.now c.read_at.new.outbox c.in_ok-txid.ensures.read answers start journal stands).1)
+    c.in_ok-read.ensures.answers
+
+pub returns-clause-running : goal.returns-clause-running
+returns-clause-running c =
+    λ most running.
+    on_ok c.in_ok-read.read
+    (λ answers. read_lasts (whole c.args.session.now) c.requires.running (frame_of c.args.frame) c.requires.frame (c.can_be_served.ensures c.if-not-can_be_served.false) c.in_ok-at.at c.in_ok-txid.txid c.in_ok-txid.count _ _ c.args.outbox.now c.read_at.new.outbox c.in_ok-txid.ensures.read answers most running)
+    c.in_ok-read.ensures.answers
+
+pub returns-clause-begins : goal.returns-clause-begins
+returns-clause-begins c =
+    begins_by c.in_ok-read.read c.args.outbox.now c.read_at.new.outbox
+    (on_ok c.in_ok-read.read
+    (λ answers.
+    let leads = (read_leads (whole c.args.session.now) c.requires.running (frame_of c.args.frame) c.requires.frame (c.can_be_served.ensures c.if-not-can_be_served.false) c.in_ok-at.at c.in_ok-txid.txid c.in_ok-txid.count _ _ c.args.outbox.now c.read_at.new.outbox c.in_ok-txid.ensures.read answers c.requires.running.start c.requires.running.journal c.requires.running.stands).0 in
+    (leads.part, leads.written))
+    c.in_ok-read.ensures.answers)
+    c.in_ok-read.ensures.no_memory

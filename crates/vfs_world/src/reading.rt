@@ -1,0 +1,104 @@
+//! A Read of a file that arrives while nothing waits. Nothing becomes of anybody by it, so that it is neither put
+//! among what waits nor settled.
+
+ghost use Rattle.std.specs.Prelude.{◌≡◌, ◌≢◌, ◌<◌, ◌+◌, ◌-◌, ◌^◌, ℕ, [], true, IfSome, None, OnErr, OnOk, Some, length};
+ghost use Rattle.endpoint_link.specs.Frames.{IsFrame};
+ghost use Rattle.endpoint_link.specs.Views.{frame_of};
+ghost use Rattle.endpoint_link.specs.declared.kinds.Side.TheVariants as side;
+ghost use Rattle.vfs_journal.specs.Entries.{Journal};
+ghost use Rattle.vfs_journal.specs.History.{waiting};
+ghost use Rattle.vfs_journal.specs.Output.{Begins};
+ghost use Rattle.vfs_journal.specs.Past.{history_of};
+ghost use Rattle.vfs_journal.specs.Session.{arrives, drained};
+ghost use Rattle.vfs_journal.specs.Starts.{Start};
+ghost use Rattle.message_queues.specs.Queues.{server_of};
+ghost use Rattle.vfs_session.specs.Running.{IsRunning, whole};
+ghost use Rattle.vfs_session.specs.World.{LeadsTo, StandsFor};
+ghost use Rattle.vfs_world.specs.Steps.{AnswersRead, CanBeServed};
+
+use crate::arriving::is_plain;
+use endpoint_link::{FrameView, LookUp, Outbox};
+use fidl_names::{MAX_LIVE, NoMemory};
+use fidl_wire::{Ordinals, Out};
+use vfs_server::{Server, read_in};
+use vfs_session::Session;
+
+/// Hears a Read of a file, where nothing waits: its reply is written, and it takes two places. For any other frame
+/// `None`, and nothing is done.
+#[inline(always)]
+pub(crate) fn hear_read(
+    session: &mut Session,
+    frame: FrameView<'_>,
+    outbox: &mut Outbox,
+) -> Option<Result<(), NoMemory>>
+    requires frame { IsFrame side.ToServers (frame_of frame) }
+    requires running { IsRunning (2 ^ 61 - 4098) (whole session.old) }
+    ensures heard { (start : Start) (journal : Journal) → StandsFor start (whole session.old) journal →
+        IfSome result (λ heard. OnOk heard (LeadsTo start (drained start (arrives start journal (frame_of frame.entry))) (whole session.new) journal outbox.old outbox.new)) }
+    ensures none { (start : Start) (journal : Journal) → StandsFor start (whole session.old) journal →
+        IfSome result (λ heard. OnOk heard (waiting (history_of start (drained start (arrives start journal (frame_of frame.entry)))) ≡ [])) }
+    ensures running { (most : ℕ) → IsRunning most (whole session.old) → IfSome result (λ heard. OnOk heard (IsRunning (most + 4098) (whole session.new))) }
+    ensures unchanged { result ≡ None → (whole session.new ≡ whole session.old) × (outbox.new ≡ outbox.old) }
+    ensures begins { Begins outbox.old outbox.new }
+{
+    if !can_be_served(session, frame) {
+        return None;
+    }
+    let (txid, count) = read_in(&session.ordinals, frame.bytes, &[])?;
+    let at = server_for(session, frame.endpoint)?;
+    let read = read_at(
+        &mut session.servers,
+        &session.ordinals,
+        at,
+        frame.endpoint,
+        txid,
+        count,
+        &mut session.out,
+        outbox,
+    )?;
+    session.places += 2;
+    Some(read)
+}
+
+/// Whether a frame is a message without handles that needn't wait, and that nothing refuses where its endpoint is
+/// bound.
+fn can_be_served(session: &Session, frame: FrameView<'_>) -> bool
+    ensures { result ≡ true → CanBeServed (frame_of frame.entry) (whole session.now) }
+{
+    session.queues.len() == 0 && session.endpoints.live() as usize <= MAX_LIVE && is_plain(frame)
+}
+
+/// The server at which an endpoint may be bound. Where there is but one, nobody need look.
+fn server_for(session: &Session, endpoint: u32) -> Option<u32>
+    ensures alone { length session.now.servers.items ≡ 1 → result ≡ Some 0 }
+    ensures among { length session.now.servers.items ≢ 1 → result ≡ server_of session.now.queues endpoint }
+{
+    if session.servers.len() == 1 {
+        return Some(0);
+    }
+    session.queues.server_of(endpoint)
+}
+
+/// Serves a Read of so many bytes at a server, where the endpoint is bound to a file there.
+#[inline(always)]
+fn read_at(
+    servers: &mut Vec<Server>,
+    ordinals: &Ordinals,
+    at: u32,
+    endpoint: u32,
+    txid: u32,
+    count: u64,
+    out: &mut Out,
+    outbox: &mut Outbox,
+) -> Option<Result<(), NoMemory>>
+    requires txid { 0 < txid }
+    ensures answers { IfSome result (λ read. OnOk read (AnswersRead servers.old.items at endpoint txid count out.new servers.new.items outbox.old outbox.new)) }
+    ensures unchanged { result ≡ None → (servers.new.items ≡ servers.old.items) × (outbox.new ≡ outbox.old) }
+    ensures no_memory { IfSome result (λ read. OnErr read (outbox.new ≡ outbox.old)) }
+{
+    if at as usize >= servers.len() {
+        return None;
+    }
+    let one = &mut servers[at as usize];
+    one.read(ordinals, endpoint, txid, count, out, outbox)
+}
