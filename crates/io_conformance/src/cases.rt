@@ -1,0 +1,80 @@
+use crate::outside::{Setting, tree};
+use crate::tally::Tally;
+use anyhow::{Context, Result, ensure};
+use std::alloc::Global;
+
+/// What a case gives to the program, and what is wanted of it.
+#[derive(Clone, Copy)]
+struct Case<'a> {
+    name: &'a str,
+    given: &'a str,
+    wanted: &'a str,
+}
+
+/// What stands behind a `== `.
+fn case_in(part: &str) -> Option<Case<'_>> {
+    let (front, wanted) = part.split_once("\n--\n")?;
+    let (name, given) = front.split_once('\n').unwrap_or((front, ""));
+    Some(Case {
+        name,
+        given,
+        wanted,
+    })
+}
+
+impl Case<'_> {
+    /// What comes of the case: of a script over a tree, or of a tree that is checked.
+    fn play(&self, alloc: Global, tree: Option<&str>) -> Result<String> {
+        let setting = Setting {
+            files: [
+                ("given", self.given.as_bytes()),
+                ("tree", tree.unwrap_or("").as_bytes()),
+            ],
+            input: &[],
+            read_size: 1000,
+            room: 10_000_000,
+            write_size: 1000,
+            fault: None,
+        };
+        let words = if tree.is_some() {
+            "run tree given"
+        } else {
+            "check given"
+        };
+        let (_status, outside) = setting.run(alloc, words)?;
+        let mut came = String::from_utf8_lossy(alloc, outside.sink.written())?;
+        came.push_str(str::from_utf8(outside.notes.written())?)?;
+        Ok(came)
+    }
+}
+
+/// Plays the cases of a text, which are scripts over a tree, or trees that are checked.
+fn play(rt: &HostRuntime, text: &str, tree: Option<&str>, tally: &mut Tally) -> Result<()> {
+    for part in text.split("\n== ").skip(1) {
+        let case = case_in(part).context("a case has no line --")?;
+        tally.count(rt, case.name, case.wanted, &case.play(rt.alloc(), tree)?)?;
+    }
+    Ok(())
+}
+
+/// Plays the trees of a text.
+pub fn play_trees(rt: &HostRuntime, text: &str) -> Result<Tally> {
+    let mut tally = Tally::new();
+    play(rt, text, None, &mut tally)?;
+    Ok(tally)
+}
+
+/// Plays the sessions of a text.
+pub fn play_sessions(rt: &HostRuntime, text: &str) -> Result<Tally> {
+    let mut tally = Tally::new();
+    for (place, part) in text.split("\ntree ").enumerate() {
+        if place == 0 {
+            ensure!(part.split_once("\n== ").is_none(), "a session has no tree");
+        } else {
+            for name in part.lines().next().unwrap_or("").split(' ') {
+                play(rt, part, Some(&tree(rt, name)?), &mut tally)?;
+            }
+        }
+    }
+    Ok(tally)
+}

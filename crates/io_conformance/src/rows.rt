@@ -1,0 +1,144 @@
+//! Rows of runs, with `|` between their cells: a name; the words, or `-`; the file `held`; the input, which the file `input` has as well; the
+//! most bytes of a read, where several say as many runs; the call that fails; the sink's room, and the most bytes of a write; the output (`?`:
+//! any), the note (`-`: none) and the exit status.
+//!
+//! Bytes are hexadecimal digits, `-` for none, `'` and a text in which `;` ends a line, or `tree NAME`. `FROM..TO of` in front of an input says
+//! that there are runs for each of its beginnings that has at least FROM bytes and fewer than TO.
+
+use crate::outside::{Fault, Setting, tree};
+use crate::tally::Tally;
+use anyhow::{Context, Result};
+use std::alloc::Global;
+
+const USAGE: &str =
+    "usage: vfs file NAME | serve TREE auto | serve TREE given | run TREE SCRIPT | check TREE | show | make N";
+
+/// The cells of a row; what is wanted is its output, note and exit status.
+#[derive(Clone, Copy)]
+struct Row<'a> {
+    name: &'a str,
+    words: &'a str,
+    held: &'a str,
+    input: &'a str,
+    pieces: &'a str,
+    failing: &'a str,
+    room: &'a str,
+    wanted: &'a str,
+}
+
+/// Plays the rows of a text.
+pub fn play_rows(rt: &HostRuntime, text: &str) -> Result<Tally> {
+    let mut tally = Tally::new();
+    for line in text.lines() {
+        if !line.is_empty() && !line.starts_with('#') {
+            let row = row_in(line).context("a row has too few cells")?;
+            row.play(rt, &mut tally)?;
+        }
+    }
+    Ok(tally)
+}
+
+fn row_in(line: &str) -> Option<Row<'_>> {
+    let mut cells = line.splitn(8, " | ");
+    Some(Row {
+        name: cells.next()?,
+        words: cells.next()?,
+        held: cells.next()?,
+        input: cells.next()?,
+        pieces: cells.next()?,
+        failing: cells.next()?,
+        room: cells.next()?,
+        wanted: cells.next()?,
+    })
+}
+
+impl Row<'_> {
+    /// Plays the runs of the row: for each of the beginnings of its input, and each of its pieces.
+    fn play(&self, rt: &HostRuntime, tally: &mut Tally) -> Result<()> {
+        let (beginnings, input) = self.input.split_once(" of ").unwrap_or(("", self.input));
+        let input = bytes(rt, input)?;
+        let (from, to) = match beginnings.split_once("..") {
+            Some((from, to)) => (from.parse::<usize>()?, to.parse::<usize>()?),
+            None => (input.len(), input.len().saturating_add(1)),
+        };
+        for size in from..to {
+            let beginning = input.get(..size).context("an input is too short")?;
+            for piece in self.pieces.split(',') {
+                let came = self.run(rt, beginning, piece.parse::<usize>()?)?;
+                tally.count(rt, self.name, self.wanted, &came)?;
+            }
+        }
+        Ok(())
+    }
+
+    /// What comes of a run over an input, by such pieces.
+    fn run(&self, rt: &HostRuntime, input: &[u8], read_size: usize) -> Result<String> {
+        let held = bytes(rt, self.held)?;
+        let (room, write_size) = self.room.split_once(',').context("a row has no room")?;
+        let setting = Setting {
+            files: [("held", &held), ("input", input)],
+            input,
+            read_size,
+            room: room.parse::<usize>()?,
+            write_size: write_size.parse::<usize>()?,
+            fault: fault_in(self.failing)?,
+        };
+        let (status, outside) = setting.run(rt.alloc(), self.words)?;
+        let output = self.spelled(rt.alloc(), outside.sink.written())?;
+        let note = match str::from_utf8(outside.notes.written())?.trim() {
+            "" => "-",
+            USAGE => "usage",
+            note => note,
+        };
+        Ok(format!(in rt.alloc(); "{output} | {note} | {}", status.exit_code())?)
+    }
+
+    /// An output, in the way in which the row says its own.
+    fn spelled(&self, alloc: Global, output: &[u8]) -> Result<String> {
+        if self.wanted.starts_with("? ") {
+            Ok(String::from_str(alloc, "?")?)
+        } else if self.wanted.starts_with('\'') {
+            let text = str::from_utf8(output)?;
+            let mut all = String::from_str(alloc, "'")?;
+            for (place, part) in text.split('\n').enumerate() {
+                if place > 0 {
+                    all.push(';')?;
+                }
+                all.push_str(part)?;
+            }
+            Ok(all)
+        } else if output.is_empty() {
+            Ok(String::from_str(alloc, "-")?)
+        } else {
+            Ok(hex::encode(alloc, output)?)
+        }
+    }
+}
+
+/// The call of a cell that fails.
+fn fault_in(cell: &str) -> Result<Option<Fault>> {
+    Ok(match cell.split_once(' ') {
+        Some(("file", call)) => Some(Fault::File(call.parse::<u64>()?)),
+        Some(("read", call)) => Some(Fault::Read(call.parse::<u64>()?)),
+        Some(("write", call)) => Some(Fault::Write(call.parse::<u64>()?)),
+        _ => None,
+    })
+}
+
+/// The bytes that a cell says.
+fn bytes(rt: &HostRuntime, cell: &str) -> Result<Vec<u8>> {
+    let alloc = rt.alloc();
+    if let Some(text) = cell.strip_prefix("'") {
+        let mut all = Vec::new(alloc);
+        for byte in text.bytes() {
+            all.push(if byte == b';' { b'\n' } else { byte })?;
+        }
+        Ok(all)
+    } else if let Some(name) = cell.strip_prefix("tree ") {
+        Ok(tree(rt, name)?.into_bytes())
+    } else if cell == "-" {
+        Ok(Vec::new(alloc))
+    } else {
+        Ok(hex::decode(alloc, cell)?)
+    }
+}
