@@ -1,4 +1,4 @@
-use crate::outside::{Setting, tree};
+use crate::outside::{Sizes, run, tree};
 use crate::tally::Tally;
 use anyhow::{Context, Result, ensure};
 use std::alloc::Global;
@@ -25,23 +25,16 @@ fn case_in(part: &str) -> Option<Case<'_>> {
 impl Case<'_> {
     /// What comes of the case: of a script over a tree, or of a tree that is checked.
     fn play(&self, alloc: Global, tree: Option<&str>) -> Result<String> {
-        let setting = Setting {
-            files: [
-                ("given", self.given.as_bytes()),
-                ("tree", tree.unwrap_or("").as_bytes()),
-            ],
-            input: &[],
-            read_size: 1000,
+        let sizes = Sizes {
+            read: 1000,
             room: 10_000_000,
-            write_size: 1000,
-            fault: None,
+            write: 1000,
         };
-        let words = if tree.is_some() {
-            "run tree given"
-        } else {
-            "check given"
+        let given = self.given.as_bytes();
+        let (_status, outside) = match tree {
+            Some(tree) => run(alloc, "run held input", tree.as_bytes(), given, sizes, None)?,
+            None => run(alloc, "check held", given, &[], sizes, None)?,
         };
-        let (_status, outside) = setting.run(alloc, words)?;
         let mut came = String::from_utf8_lossy(alloc, outside.sink.written())?;
         came.push_str(str::from_utf8(outside.notes.written())?)?;
         Ok(came)

@@ -14,18 +14,15 @@ pub enum Fault {
     Write(u64),
 }
 
-/// What a run has outside: two files, its input and the most bytes of a read, the room for its output and the most bytes of a write.
+/// The most bytes of a read, how many bytes may be written, and the most of a write.
 #[derive(Clone, Copy)]
-pub struct Setting<'a> {
-    pub files: [(&'a str, &'a [u8]); 2],
-    pub input: &'a [u8],
-    pub read_size: usize,
+pub struct Sizes {
+    pub read: usize,
     pub room: usize,
-    pub write_size: usize,
-    pub fault: Option<Fault>,
+    pub write: usize,
 }
 
-/// A setting in memory.
+/// What a run has outside, in memory: its files, its input, and where its output and its note go.
 #[derive(Drop)]
 pub struct Outside {
     files: MemFiles,
@@ -34,47 +31,59 @@ pub struct Outside {
     pub notes: MemSink,
 }
 
-impl Setting<'_> {
-    fn outside(&self, alloc: Global) -> Result<Outside, NoMemory> {
-        let mut files = MemFiles::new(alloc);
-        for (name, bytes) in &self.files {
-            files.put(name, bytes)?;
-        }
-        let (mut reads, mut writes) = (Vec::new(alloc), Vec::new(alloc));
-        match self.fault {
-            Some(Fault::File(call)) => files.fail_at(call)?,
-            Some(Fault::Read(call)) => reads.push(call)?,
-            Some(Fault::Write(call)) => writes.push(call)?,
-            None => (),
-        }
-        let input = Vec::from_slice(alloc, self.input)?;
-        Ok(Outside {
-            files,
-            source: MemSource::new(input, self.read_size, reads),
-            sink: MemSink::new(alloc, self.room, self.write_size, writes)?,
-            notes: MemSink::new(alloc, 1000, 1000, Vec::new(alloc))?,
-        })
+/// The outside with the file `held`, and an input that is the file `input` as well.
+fn outside_of(
+    alloc: Global,
+    held: &[u8],
+    input: &[u8],
+    sizes: Sizes,
+    fault: Option<Fault>,
+) -> Result<Outside, NoMemory> {
+    let mut files = MemFiles::new(alloc);
+    files.put("held", held)?;
+    files.put("input", input)?;
+    let (mut reads, mut writes) = (Vec::new(alloc), Vec::new(alloc));
+    match fault {
+        Some(Fault::File(call)) => files.fail_at(call)?,
+        Some(Fault::Read(call)) => reads.push(call)?,
+        Some(Fault::Write(call)) => writes.push(call)?,
+        None => (),
     }
+    let input = Vec::from_slice(alloc, input)?;
+    Ok(Outside {
+        files,
+        source: MemSource::new(input, sizes.read, reads),
+        sink: MemSink::new(alloc, sizes.room, sizes.write, writes)?,
+        notes: MemSink::new(alloc, 1000, 1000, Vec::new(alloc))?,
+    })
+}
 
-    /// Runs the program on words with spaces between them, where `-` says none. What it wrote is in what was outside.
-    pub fn run(&self, alloc: Global, words: &str) -> Result<(Status, Outside)> {
-        let mut all = Vec::new(alloc);
-        for word in words.split(' ') {
-            if word != "-" {
-                all.push(String::from_str(alloc, word)?)?;
-            }
+/// Runs the program on words with spaces between them, where `-` says none. What it wrote is in what was outside.
+pub fn run(
+    alloc: Global,
+    words: &str,
+    held: &[u8],
+    input: &[u8],
+    sizes: Sizes,
+    fault: Option<Fault>,
+) -> Result<(Status, Outside)> {
+    let mut all = Vec::new(alloc);
+    for word in words.split(' ') {
+        if word != "-" {
+            all.push(String::from_str(alloc, word)?)?;
         }
-        let mut outside = self.outside(alloc).ok().context("no memory")?;
-        let status = run_words(
-            alloc,
-            &all,
-            &mut outside.files,
-            &mut outside.source,
-            &mut outside.sink,
-            &mut outside.notes,
-        );
-        Ok((status, outside))
     }
+    let outside = outside_of(alloc, held, input, sizes, fault);
+    let mut outside = outside.ok().context("no memory")?;
+    let status = run_words(
+        alloc,
+        &all,
+        &mut outside.files,
+        &mut outside.source,
+        &mut outside.sink,
+        &mut outside.notes,
+    );
+    Ok((status, outside))
 }
 
 /// The tree file of a name.

@@ -1,6 +1,6 @@
-//! What a file says once for many times: `<COUNT*PIECE>` stands for so many PIECEs, one behind another. In a PIECE `{N}` stands for the number N
-//! in the first, N + 1 in the second, and so on; `{low N}` for the four bytes of that number, the low one first, and `{digits N}` for the bytes
-//! of its decimal digits, both in hexadecimal digits. A line that is said many times has its end in the PIECE.
+//! What a file says once for many times: `<COUNT*PIECE>` stands for so many PIECEs one behind another, or for so many lines where it is a line.
+//! In a PIECE `{N}` stands for the number N in the first, N + 1 in the second, and so on; `{low N}` for the four bytes of that number, the low
+//! one first, and `{digits N}` for the bytes of its decimal digits, both in hexadecimal digits.
 
 use anyhow::Result;
 use std::alloc::Global;
@@ -11,7 +11,11 @@ pub fn written_out(alloc: Global, text: &str) -> Result<String> {
     for (place, part) in text.split('<').enumerate() {
         match repeat_in(part) {
             Some((count, piece, behind)) if place > 0 => {
+                let is_line = all.ends_with('\n') && behind.starts_with('\n');
                 for round in 0..count {
+                    if is_line && round > 0 {
+                        all.push('\n')?;
+                    }
                     put_piece(alloc, &mut all, piece, round)?;
                 }
                 all.push_str(behind)?;

@@ -5,7 +5,7 @@
 //! Bytes are hexadecimal digits, `-` for none, `'` and a text in which `;` ends a line, or `tree NAME`. `FROM..TO of` in front of an input says
 //! that there are runs for each of its beginnings that has at least FROM bytes and fewer than TO.
 
-use crate::outside::{Fault, Setting, tree};
+use crate::outside::{Fault, Sizes, run, tree};
 use crate::tally::Tally;
 use anyhow::{Context, Result};
 use std::alloc::Global;
@@ -72,18 +72,16 @@ impl Row<'_> {
     }
 
     /// What comes of a run over an input, by such pieces.
-    fn run(&self, rt: &HostRuntime, input: &[u8], read_size: usize) -> Result<String> {
+    fn run(&self, rt: &HostRuntime, input: &[u8], read: usize) -> Result<String> {
         let held = bytes(rt, self.held)?;
-        let (room, write_size) = self.room.split_once(',').context("a row has no room")?;
-        let setting = Setting {
-            files: [("held", &held), ("input", input)],
-            input,
-            read_size,
+        let (room, write) = self.room.split_once(',').context("a row has no room")?;
+        let sizes = Sizes {
+            read,
             room: room.parse::<usize>()?,
-            write_size: write_size.parse::<usize>()?,
-            fault: fault_in(self.failing)?,
+            write: write.parse::<usize>()?,
         };
-        let (status, outside) = setting.run(rt.alloc(), self.words)?;
+        let fault = fault_in(self.failing)?;
+        let (status, outside) = run(rt.alloc(), self.words, &held, input, sizes, fault)?;
         let output = self.spelled(rt.alloc(), outside.sink.written())?;
         let note = match str::from_utf8(outside.notes.written())?.trim() {
             "" => "-",
