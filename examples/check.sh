@@ -85,6 +85,9 @@ an input that ends in a frame   | file examples/hello               | read front
 a file of the largest size      | file @full                        | nothing     | nothing      | 0 |
 a file that is too large        | file @over                        | read        | nothing      | 5 | file too large
 a file that isn't there         | file @none                        | read        | nothing      | 5 | file failed
+a directory in place of a file  | file .                            | read        | nothing      | 5 | file failed
+a file without a byte           | file /dev/null                    | nothing     | nothing      | 0 |
+a file without an end           | file /dev/zero                    | read        | nothing      | 5 | file too large
 frames as lines                 | show                              | refusal four closed | lines | 0 |
 frames and a bad kind           | show                              | refusal four closed kind | lines | 6 | bad frame at 44: kind
 an Open over a tree             | serve examples/trees/small.toml auto | open     | missing      | 0 |
