@@ -1,19 +1,19 @@
 use crate::words;
-use fidl_names::Handle;
 use std::alloc::{AllocError, Global};
 use std::fmt::Debug;
+use std::test::Fail;
 
 /// A line of a text: its cells, with `|` between them. The first cell is the row's name.
-#[derive(Clone, Copy, Debug)]
+#[derive(Clone, Copy)]
 pub struct Row<'a> {
     line: &'a str,
 }
 
-/// Why a row has no such value: the cell at a place isn't there or doesn't say it, or memory is wanting.
+/// A row has no such value: the cell at a place isn't there or doesn't say it, or memory is wanting.
 #[derive(Clone, Copy, Debug)]
-pub enum BadCell<'a> {
-    Cell { row: &'a str, at: usize },
-    NoMemory { row: &'a str },
+pub struct BadCell<'a> {
+    pub row: &'a str,
+    pub at: usize,
 }
 
 /// The rows of a text: its lines, without those that are empty or begin with `#`.
@@ -26,6 +26,21 @@ pub fn rows(alloc: Global, text: &str) -> Result<Vec<Row<'_>>, AllocError> {
         }
     }
     Ok(all)
+}
+
+/// A table that can tell of each of its rows whether what it says holds.
+pub trait Table {
+    fn holds<'a>(&mut self, alloc: Global, row: &Row<'a>) -> Result<bool, BadCell<'a>>;
+}
+
+/// Tries the rows of a text in order. It fails with the name of the first that doesn't hold, or the first bad cell.
+pub fn all_hold<T: Table>(alloc: Global, text: &str, table: &mut T) -> Result<(), Fail> {
+    for row in &rows(alloc, text)? {
+        if !table.holds(alloc, row)? {
+            return Err(Fail::new(row.name()));
+        }
+    }
+    Ok(())
 }
 
 impl<'a> Row<'a> {
@@ -54,33 +69,27 @@ impl<'a> Row<'a> {
 
     /// The value that stands beside the cell's word.
     pub fn named<T: Copy>(&self, at: usize, words: &[(&str, T)]) -> Result<T, BadCell<'a>> {
-        match words::named(words, self.cell(at)?) {
-            Some(value) => Ok(value),
-            None => Err(self.bad(at)),
+        let cell = self.cell(at)?;
+        for (word, value) in words {
+            if *word == cell {
+                return Ok(*value);
+            }
         }
+        Err(self.bad(at))
     }
 
+    /// The numbers between the commas of a cell; `-` says none.
     pub fn numbers(&self, alloc: Global, at: usize) -> Result<Vec<u64>, BadCell<'a>> {
         match words::numbers(alloc, self.cell(at)?) {
-            Ok(Some(numbers)) => Ok(numbers),
-            Ok(None) => Err(self.bad(at)),
-            Err(AllocError) => Err(BadCell::NoMemory { row: self.name() }),
-        }
-    }
-
-    pub fn handles(&self, alloc: Global, at: usize) -> Result<Vec<Handle>, BadCell<'a>> {
-        match words::handles(alloc, self.cell(at)?) {
-            Ok(Some(handles)) => Ok(handles),
-            Ok(None) => Err(self.bad(at)),
-            Err(AllocError) => Err(BadCell::NoMemory { row: self.name() }),
+            Some(numbers) => Ok(numbers),
+            None => Err(self.bad(at)),
         }
     }
 
     pub fn bytes(&self, alloc: Global, at: usize) -> Result<Vec<u8>, BadCell<'a>> {
         match words::bytes(alloc, self.cell(at)?) {
             Ok(Some(bytes)) => Ok(bytes),
-            Ok(None) => Err(self.bad(at)),
-            Err(AllocError) => Err(BadCell::NoMemory { row: self.name() }),
+            _ => Err(self.bad(at)),
         }
     }
 
@@ -105,7 +114,7 @@ impl<'a> Row<'a> {
 
     /// The fault of the cell at a place, for a test that reads it in its own way.
     pub fn bad(&self, at: usize) -> BadCell<'a> {
-        BadCell::Cell {
+        BadCell {
             row: self.name(),
             at,
         }

@@ -2,9 +2,7 @@
 #![tactic(auto)]
 
 mod cells;
-mod tables;
 mod words;
 
-pub use cells::{BadCell, Row, rows};
-pub use tables::{Table, all_hold, first_wrong};
-pub use words::{bytes, handles, named, number, numbers, with_lists};
+pub use cells::{BadCell, Row, Table, all_hold, rows};
+pub use words::{bytes, number};

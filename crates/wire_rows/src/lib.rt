@@ -1,17 +1,13 @@
-//! Outside values of the wire format, of the methods' messages, of the link, of reads, writes and files, and of the cells of rows, and
-//! the tests that read them.
+//! Outside values of the wire format, of the methods' messages, of the link, of reads and writes, and of the cells of rows, and the tests
+//! that read them.
 //! They stand in a crate of their own, since a crate with tests is proved a second time with them.
 #![tactic(auto)]
 
 #[cfg(test)]
 mod cells;
 #[cfg(test)]
-mod files;
-#[cfg(test)]
 mod link;
 #[cfg(test)]
 mod messages;
 #[cfg(test)]
 mod streams;
-#[cfg(test)]
-mod wire;

@@ -1,5 +1,6 @@
-//! Outside values of the methods' messages, read row by row, and written again where the row says so.
+//! Outside values of headers, epitaphs, ordinals and messages, read row by row, and written again where the row says so.
 ghost use Rattle.std.specs.Prelude.{◌≡◌, IsTrue, true};
+ghost use Rattle.std.specs.Str.{IsUtf8};
 ghost use Rattle.io_messages.specs.Asked.{asked, method_of};
 ghost use Rattle.io_messages.specs.Replies.{answered};
 ghost use Rattle.io_messages.specs.ReplyWriting.{CanCarry, CanFail, HasReply, PayloadFits};
@@ -7,15 +8,15 @@ ghost use Rattle.io_messages.specs.Requests.{has_txid};
 ghost use Rattle.io_messages.specs.Shapes.{is_one_way, shape_of};
 ghost use Rattle.io_messages.specs.Writing.{HasTexts};
 
-mod event_rows;
+mod head_rows;
 mod reply_rows;
 mod request_rows;
 
 use fidl_names::{Handle, Method, Status};
-use fidl_wire::{Ordinals, Out};
+use fidl_wire::{Body, Header, Ordinals, Out, WireFault, ordinal, read_epitaph};
 use io_messages::{
-    Protocol, Reply, Request, Shape, TooLong, is_one_way, read_request, shape_of, write_event,
-    write_reply, write_request,
+    Protocol, Reply, Request, Shape, is_one_way, read_request, shape_of, write_event, write_reply,
+    write_request,
 };
 use io_replies::{read_event, read_reply};
 use std::alloc::Global;
@@ -30,20 +31,131 @@ const PROTOCOLS: [(&str, Protocol); 5] = [
     ("Watcher", Protocol::Watcher),
 ];
 
+/// What messages are read and written by.
+#[derive(Drop)]
+struct Messages {
+    ordinals: Ordinals,
+    out: Out,
+}
+
+impl Table for Messages {
+    fn holds<'a>(&mut self, alloc: Global, row: &Row<'a>) -> Result<bool, BadCell<'a>> {
+        let bytes = row.bytes(alloc, 2)?;
+        match row.cell(1)? {
+            "header" => Ok(row.says(alloc, 3, &Header::read(&bytes))),
+            "epitaph" => Ok(row.says(alloc, 3, &read_epitaph(&bytes))),
+            "status" => Ok(row.says(alloc, 3, &read_status(&bytes))),
+            "ordinal" => Ok(
+                bytes.as_slice() == ordinal(row.name().as_bytes()).to_be_bytes().as_slice(),
+            ),
+            _ => self.is_message(alloc, row, &bytes),
+        }
+    }
+}
+
+/// The one field of a message behind its header, a number of four bytes with a sign.
+fn read_status(bytes: &[u8]) -> Result<i32, WireFault> {
+    Body::new(bytes, &[], 4)?.get_i32()
+}
+
+/// The handles of a row, by their numbers.
+fn handles<'a>(alloc: Global, row: &Row<'a>) -> Result<Vec<Handle>, BadCell<'a>> {
+    let mut all = Vec::new(alloc);
+    for number in &row.numbers(alloc, 3)? {
+        match u32::try_from(*number) {
+            Ok(number) if all.push(Handle::with_number(number)).is_ok() => {}
+            _ => return Err(row.bad(3)),
+        }
+    }
+    Ok(all)
+}
+
+impl Messages {
+    /// Whether a message is read as its row says, and gives the same bytes and handles again, or other ones, where that says so.
+    fn is_message<'a>(
+        &mut self,
+        alloc: Global,
+        row: &Row<'a>,
+        bytes: &[u8],
+    ) -> Result<bool, BadCell<'a>> {
+        let handles = handles(alloc, row)?;
+        let said = match row.cell(1)? {
+            "event" => self.is_event(alloc, row, bytes),
+            "reply" => self.is_reply(alloc, row, bytes, &handles),
+            _ => self.is_request(alloc, row, row.named(1, &PROTOCOLS)?, bytes, &handles),
+        };
+        let (written, held) = (self.out.as_bytes(), self.out.handles());
+        let same = written == bytes && held == handles.as_slice();
+        let again = match row.cell(5)? {
+            "same" => same,
+            "other" => !same && !written.is_empty(),
+            _ => written.is_empty(),
+        };
+        Ok(said && again)
+    }
+
+    /// Whether an event is read as its row says. It is written again.
+    fn is_event(&mut self, alloc: Global, row: &Row<'_>, bytes: &[u8]) -> bool {
+        self.out.clear();
+        let read = read_event(&self.ordinals, bytes);
+        if let Ok(kind) = read
+            && kind != Protocol::Watcher
+        {
+            write_event(&self.ordinals, kind, &mut self.out);
+        }
+        row.says(alloc, 4, &read)
+    }
+
+    /// Whether a reply is read as its row says. It is written again.
+    fn is_reply(&mut self, alloc: Global, row: &Row<'_>, bytes: &[u8], handles: &[Handle]) -> bool {
+        self.out.clear();
+        let read = read_reply(&self.ordinals, bytes, handles);
+        if let Ok((txid, reply)) = read
+            && txid > 0
+            && may_be_written(&reply)
+        {
+            write_reply(&self.ordinals, txid, reply, &mut self.out);
+        }
+        row.says(alloc, 4, &read)
+    }
+
+    /// Whether a request is read as its row says. It is written again.
+    fn is_request(
+        &mut self,
+        alloc: Global,
+        row: &Row<'_>,
+        protocol: Protocol,
+        bytes: &[u8],
+        handles: &[Handle],
+    ) -> bool {
+        self.out.clear();
+        let read = read_request(&self.ordinals, protocol, bytes, handles);
+        let said = row.says(alloc, 4, &read);
+        match read {
+            Ok((txid, request)) if has_texts(&request) && has_txid(txid, &request) => {
+                said && write_request(&self.ordinals, txid, request, &mut self.out).is_ok()
+            }
+            _ => said,
+        }
+    }
+}
+
+fn is_utf8(bytes: &[u8]) -> bool
+    ensures { IsTrue result → IsUtf8 bytes.now }
+{
+    str::from_utf8(bytes).is_ok()
+}
+
 /// The texts of a request are UTF-8.
 fn has_texts(request: &Request<'_>) -> bool
     ensures { IsTrue result → HasTexts (asked request.now) }
 {
     match request {
-        Request::OpenPath { path, .. } => str::from_utf8(path).is_ok(),
-        Request::Rename { src, dst, .. } => {
-            str::from_utf8(src).is_ok() && str::from_utf8(dst).is_ok()
-        }
-        Request::Link { src, dst, .. } => {
-            str::from_utf8(src).is_ok() && str::from_utf8(dst).is_ok()
-        }
-        Request::Unlink { name, .. } => str::from_utf8(name).is_ok(),
-        Request::EchoString { value } => str::from_utf8(value).is_ok(),
+        Request::OpenPath { path, .. } => is_utf8(path),
+        Request::Rename { src, dst, .. } => is_utf8(src) && is_utf8(dst),
+        Request::Link { src, dst, .. } => is_utf8(src) && is_utf8(dst),
+        Request::Unlink { name, .. } => is_utf8(name),
+        Request::EchoString { value } => is_utf8(value),
         _ => true,
     }
 }
@@ -53,74 +165,6 @@ fn has_txid(txid: u32, request: &Request<'_>) -> bool
     ensures { IsTrue result → has_txid (is_one_way (method_of (asked request.now))) txid ≡ true }
 {
     (txid == 0) == is_one_way(request.method())
-}
-
-/// Whether what is written for a request is these bytes and handles.
-fn is_written(
-    ordinals: &Ordinals,
-    out: &mut Out,
-    txid: u32,
-    request: Request<'_>,
-    bytes: &[u8],
-    handles: &[Handle],
-) -> bool {
-    out.clear();
-    has_texts(&request)
-        && has_txid(txid, &request)
-        && write_request(ordinals, txid, request, out).is_ok()
-        && out.as_bytes() == bytes
-        && out.handles() == handles
-}
-
-/// Whether writing gives what the word says: the `same` bytes and handles, `other` ones, or `-` where there is nothing to write.
-fn is_said(word: &str, written: Option<bool>) -> bool {
-    match written {
-        Some(same) => same == (word == "same"),
-        None => word == "-",
-    }
-}
-
-/// Requests are read, and written again.
-#[derive(Drop)]
-struct Requests {
-    ordinals: Ordinals,
-    out: Out,
-}
-
-impl Table for Requests {
-    fn holds<'a>(&mut self, alloc: Global, row: &Row<'a>) -> Result<bool, BadCell<'a>> {
-        let protocol = row.named(1, &PROTOCOLS)?;
-        let again = row.cell(5)?;
-        let bytes = row.bytes(alloc, 2)?;
-        let handles = row.handles(alloc, 3)?;
-        let read = read_request(&self.ordinals, protocol, &bytes, &handles);
-        let said = row.says(alloc, 4, &read);
-        let written = match read {
-            Ok((txid, request)) => {
-                Some(is_written(
-                    &self.ordinals,
-                    &mut self.out,
-                    txid,
-                    request,
-                    &bytes,
-                    &handles,
-                ))
-            }
-            Err(_) => None,
-        };
-        Ok(said && is_said(again, written))
-    }
-}
-
-#[test]
-fn requests_are_read_and_written(rt: HostRuntime) -> Result<(), Fail> {
-    let ordinals = Ordinals::new()?;
-    let out = Out::new(rt.alloc())?;
-    all_hold(
-        rt.alloc(),
-        request_rows::REQUESTS,
-        &mut Requests { ordinals, out },
-    )
 }
 
 fn may_fail(method: Method) -> bool
@@ -134,137 +178,34 @@ fn may_carry(method: Method, bytes: &[u8]) -> bool
 {
     match shape_of(method) {
         Some(Shape::Bytes | Shape::Vector | Shape::Listing) => true,
-        Some(Shape::Text) => str::from_utf8(bytes).is_ok(),
+        Some(Shape::Text) => is_utf8(bytes),
         _ => false,
     }
 }
 
-/// The reply is one that its method has.
-fn has_reply(reply: &Reply<'_>) -> bool
-    ensures { IsTrue result → HasReply (answered reply.now) }
+/// The reply is one that its method has, and its payload has room. Beside that stand at most 48 bytes, and behind it at most 7 of padding.
+#[tactic(auto, unfolding(fidl_wire::specs::Numbers::padding_after))]
+fn may_be_written(reply: &Reply<'_>) -> bool
+    ensures has { IsTrue result → HasReply (answered reply.now) }
+    ensures fits { IsTrue result → PayloadFits (answered reply.now) }
 {
     match reply {
         Reply::Done(method) => shape_of(*method) == Some(Shape::Done),
         Reply::Fails(method, status) => may_fail(*method) && *status != Status::Ok,
         Reply::Number(method, _) => shape_of(*method) == Some(Shape::Number),
-        Reply::Payload(method, bytes) => may_carry(*method, bytes),
+        Reply::Payload(method, bytes) => bytes.len() <= 65_480 && may_carry(*method, bytes),
         Reply::Settled(method) => shape_of(*method) == Some(Shape::Settled),
         Reply::Token(_) | Reply::Attributes(_) | Reply::Unknown(_) => true,
     }
 }
 
-/// What stands beside a payload has at most 48 bytes, and its padding at most 7.
-#[tactic(auto, unfolding(fidl_wire::specs::Numbers::padding_after))]
-fn fits(reply: &Reply<'_>) -> bool
-    ensures { IsTrue result → PayloadFits (answered reply.now) }
-{
-    match reply {
-        Reply::Payload(_, bytes) => bytes.len() <= 65_480,
-        _ => true,
-    }
-}
-
-/// Whether what is written for a reply is these bytes and handles.
-fn is_reply_written(
-    ordinals: &Ordinals,
-    out: &mut Out,
-    txid: u32,
-    reply: Reply<'_>,
-    bytes: &[u8],
-    handles: &[Handle],
-) -> bool {
-    out.clear();
-    if txid == 0 || !has_reply(&reply) || !fits(&reply) {
-        return false;
-    }
-    write_reply(ordinals, txid, reply, out);
-    out.as_bytes() == bytes && out.handles() == handles
-}
-
-/// Replies are read, and written again.
-#[derive(Drop)]
-struct Replies {
-    ordinals: Ordinals,
-    out: Out,
-}
-
-impl Table for Replies {
-    fn holds<'a>(&mut self, alloc: Global, row: &Row<'a>) -> Result<bool, BadCell<'a>> {
-        let again = row.cell(4)?;
-        let bytes = row.bytes(alloc, 1)?;
-        let handles = row.handles(alloc, 2)?;
-        let read = read_reply(&self.ordinals, &bytes, &handles);
-        let said = row.says(alloc, 3, &read);
-        let written = match read {
-            Ok((txid, reply)) => {
-                Some(is_reply_written(&self.ordinals, &mut self.out, txid, reply, &bytes, &handles))
-            }
-            Err(_) => None,
-        };
-        Ok(said && is_said(again, written))
-    }
-}
-
+/// Where two names had equal ordinals there would be none.
 #[test]
-fn replies_are_read_and_written(rt: HostRuntime) -> Result<(), Fail> {
+fn messages_are_read_and_written(rt: HostRuntime) -> Result<(), Fail> {
     let ordinals = Ordinals::new()?;
     let out = Out::new(rt.alloc())?;
-    all_hold(
-        rt.alloc(),
-        reply_rows::REPLIES,
-        &mut Replies { ordinals, out },
-    )
-}
-
-/// Events are read, and written again.
-#[derive(Drop)]
-struct Events {
-    ordinals: Ordinals,
-    out: Out,
-}
-
-/// Whether what is written for the event is these bytes.
-fn is_event_written(ordinals: &Ordinals, out: &mut Out, kind: Protocol, bytes: &[u8]) -> bool {
-    out.clear();
-    if kind == Protocol::Watcher {
-        return false;
-    }
-    write_event(ordinals, kind, out);
-    out.as_bytes() == bytes
-}
-
-impl Table for Events {
-    fn holds<'a>(&mut self, alloc: Global, row: &Row<'a>) -> Result<bool, BadCell<'a>> {
-        let again = row.cell(3)?;
-        let bytes = row.bytes(alloc, 1)?;
-        let read = read_event(&self.ordinals, &bytes);
-        let said = row.says(alloc, 2, &read);
-        let written = match read {
-            Ok(kind) => Some(is_event_written(&self.ordinals, &mut self.out, kind, &bytes)),
-            Err(_) => None,
-        };
-        Ok(said && is_said(again, written))
-    }
-}
-
-#[test]
-fn events_are_read_and_written(rt: HostRuntime) -> Result<(), Fail> {
-    let ordinals = Ordinals::new()?;
-    let out = Out::new(rt.alloc())?;
-    all_hold(
-        rt.alloc(),
-        event_rows::EVENTS,
-        &mut Events { ordinals, out },
-    )
-}
-
-#[test]
-fn a_request_of_one_byte_more_is_too_long(rt: HostRuntime) -> Result<(), Fail> {
-    let mut out = Out::new(rt.alloc())?;
-    let bytes = [0x61; 65_505];
-    let longer = Request::Write { bytes: &bytes };
-    let written = write_request(&Ordinals::new()?, 1, longer, &mut out);
-    assert!(rt; written == Err(TooLong));
-    assert!(rt; out.as_bytes().is_empty());
-    Ok(())
+    let mut messages = Messages { ordinals, out };
+    all_hold(rt.alloc(), head_rows::HEADS, &mut messages)?;
+    all_hold(rt.alloc(), request_rows::REQUESTS, &mut messages)?;
+    all_hold(rt.alloc(), reply_rows::REPLIES, &mut messages)
 }

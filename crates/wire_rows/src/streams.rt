@@ -1,13 +1,16 @@
-//! What reads and writes of pieces answer, in memory and over the system's streams.
+//! What reads and writes of pieces and reads of files answer in memory, and which calls of the system's streams are tried again.
 ghost use Rattle.std.specs.Prelude.{◌≡◌, ◌++◌, OnOk};
 
-use host_io::{Failed, MemSink, MemSource, Sink, Source, StdSink, StdSource, write_whole};
+use host_io::{
+    Failed, FileFault, Files, MemFiles, MemSink, MemSource, Sink, Source, StdSink, StdSource,
+    write_whole,
+};
+use std::alloc::Global;
 use std::io;
 use std::io::{ErrorKind, Read, Write};
-use std::process::Abort;
 use std::test::Fail;
 
-/// The answers of reads into four bytes, from "hello".
+/// A source of "hello" by its pieces, the read that fails, and what reads into four bytes answer.
 const READS: [(usize, u64, [Result<&[u8], Failed>; 4]); 4] = [
     (9, 9, [Ok(b"hell"), Ok(b"o"), Ok(b""), Ok(b"")]),
     (2, 1, [Ok(b"he"), Err(Failed), Ok(b"ll"), Ok(b"o")]),
@@ -15,12 +18,15 @@ const READS: [(usize, u64, [Result<&[u8], Failed>; 4]); 4] = [
     (0, 0, [Err(Failed), Ok(b"h"), Ok(b"e"), Ok(b"l")]),
 ];
 
-fn check_reads(rt: &impl Abort, source: &mut MemSource, answers: &[Result<&[u8], Failed>]) {
+fn gives(source: &mut MemSource, answers: &[Result<&[u8], Failed>]) -> bool {
     for answer in answers {
         let mut buffer = [0; 4];
         let got = source.read(&mut buffer);
-        assert!(rt; got.map(|n| &buffer[..n]) == *answer);
+        if got.map(|n| &buffer[..n]) != *answer {
+            return false;
+        }
     }
+    true
 }
 
 #[test]
@@ -28,13 +34,16 @@ fn a_source_gives_pieces_and_fails_where_listed(rt: HostRuntime) -> Result<(), F
     for (piece, failing, answers) in &READS {
         let bytes = b"hello".to_vec(rt.alloc())?;
         let failing = [*failing].to_vec(rt.alloc())?;
-        check_reads(&rt, &mut MemSource::new(bytes, *piece, failing), answers);
+        assert!(rt;
+            gives(&mut MemSource::new(bytes, *piece, failing), answers),
+            "pieces of {piece}"
+        );
     }
     Ok(())
 }
 
-/// The answers of a write of "hello", of a flush, and of two more writes of "hello"; and what was
-/// written.
+/// A sink by its room, its pieces and the write that fails; what a write of "hello", a flush, and two more writes of "hello" answer; and what
+/// is written then.
 const WRITES: [(usize, usize, u64, [Result<usize, Failed>; 4], &[u8]); 4] = [
     (15, 9, 9, [Ok(5), Ok(0), Ok(5), Ok(5)], b"hellohellohello"),
     (15, 2, 1, [Ok(2), Err(Failed), Ok(2), Ok(2)], b"hehehe"),
@@ -42,24 +51,11 @@ const WRITES: [(usize, usize, u64, [Result<usize, Failed>; 4], &[u8]); 4] = [
     (1, 0, 9, [Ok(1), Ok(0), Err(Failed), Err(Failed)], b"h"),
 ];
 
-fn has_answers(sink: &mut MemSink, answers: &[Result<usize, Failed>; 4]) -> bool {
+fn takes(sink: &mut MemSink, answers: &[Result<usize, Failed>; 4]) -> bool {
     sink.write(b"hello") == answers[0]
         && sink.flush().map(|_| 0) == answers[1]
         && sink.write(b"hello") == answers[2]
         && sink.write(b"hello") == answers[3]
-}
-
-#[test]
-fn a_sink_takes_pieces_while_it_has_room_and_fails_where_listed(
-    rt: HostRuntime,
-) -> Result<(), Fail> {
-    for (room, piece, failing, answers, written) in &WRITES {
-        let failing = [*failing].to_vec(rt.alloc())?;
-        let mut sink = MemSink::new(rt.alloc(), *room, *piece, failing)?;
-        assert!(rt; has_answers(&mut sink, answers), "pieces of {piece}");
-        assert!(rt; sink.written() == *written, "pieces of {piece}");
-    }
-    Ok(())
 }
 
 // What a generic call says of the sink's bytes, the sink itself tells.
@@ -70,26 +66,60 @@ fn append(sink: &mut MemSink, bytes: &[u8]) -> Result<(), Failed>
 }
 
 #[test]
-fn a_whole_is_written_in_pieces(rt: HostRuntime) -> Result<(), Fail> {
+fn a_sink_takes_pieces_while_it_has_room_and_fails_where_listed(
+    rt: HostRuntime,
+) -> Result<(), Fail> {
+    for (room, piece, failing, answers, written) in &WRITES {
+        let failing = [*failing].to_vec(rt.alloc())?;
+        let mut sink = MemSink::new(rt.alloc(), *room, *piece, failing)?;
+        assert!(rt;
+            takes(&mut sink, answers) && sink.written() == *written,
+            "pieces of {piece}"
+        );
+    }
     let mut sink = MemSink::new(rt.alloc(), 8, 3, Vec::new(rt.alloc()))?;
-    assert!(rt; append(&mut sink, b"hello").is_ok());
-    assert!(rt; sink.written() == b"hello".as_slice());
-    assert!(rt; append(&mut sink, b"hello").is_err());
+    assert!(rt; append(&mut sink, b"hello").is_ok() && append(&mut sink, b"hello").is_err());
     assert!(rt; sink.written() == b"hellohel".as_slice());
     Ok(())
 }
 
-/// Whether a sink takes all of these bytes.
-fn takes<S: Sink>(sink: &mut S, bytes: &[u8]) -> bool {
-    write_whole(sink, bytes).is_ok() && sink.flush().is_ok()
+/// Reads of files, of which `a` holds "hello", `b` nothing, and the read of number 3 fails: a name, the most bytes, and the answer.
+const FILES: [(&str, usize, Result<&[u8], FileFault>); 6] = [
+    ("a", 5, Ok(b"hello")),
+    ("a", 4, Err(FileFault::TooLarge)),
+    ("b", 0, Ok(b"")),
+    ("b", 5, Err(FileFault::Failed)),
+    ("c", 5, Err(FileFault::Failed)),
+    ("a", 9, Ok(b"hello")),
+];
+
+fn holds(
+    alloc: Global,
+    files: &mut MemFiles,
+    name: &str,
+    limit: usize,
+    answer: Result<&[u8], FileFault>,
+) -> bool {
+    match files.read_all(alloc, name, limit) {
+        Ok(bytes) => answer == Ok(bytes.as_slice()),
+        Err(fault) => answer == Err(fault),
+    }
 }
 
 #[test]
-fn the_streams_of_the_system_are_read_and_written(rt: HostRuntime) {
-    let mut buffer = [0; 4];
-    assert!(rt; StdSource::new(rt.stdin()).read(&mut buffer) == Ok(0));
-    assert!(rt; takes(&mut StdSink::new(rt.stdout()), b"to standard output\n"));
-    assert!(rt; takes(&mut StdSink::new(rt.stderr()), b"to standard error\n"));
+fn files_in_memory_are_read_by_name(rt: HostRuntime) -> Result<(), Fail> {
+    let mut files = MemFiles::new(rt.alloc());
+    files.put("a", b"in place of this")?;
+    files.put("b", b"")?;
+    files.put("a", b"hello")?;
+    files.fail_at(3)?;
+    for (name, limit, answer) in &FILES {
+        assert!(rt;
+            holds(rt.alloc(), &mut files, *name, *limit, *answer),
+            "{name}"
+        );
+    }
+    Ok(())
 }
 
 // A stream whose calls answer these in turn, the last first, and then fail.
@@ -126,22 +156,14 @@ impl Write for Answers {
 }
 
 #[test]
-fn an_interrupted_read_is_tried_again(rt: HostRuntime) -> Result<(), Fail> {
+fn interrupted_calls_are_tried_again(rt: HostRuntime) -> Result<(), Fail> {
+    let mut buffer = [0; 4];
     let answers = [Some(3), None, None].to_vec(rt.alloc())?;
     let mut source = StdSource::new(Answers(answers));
-    let mut buffer = [0; 4];
-    assert!(rt; source.read(&mut buffer) == Ok(3));
-    assert!(rt; source.read(&mut buffer) == Err(Failed));
-    Ok(())
-}
-
-#[test]
-fn an_interrupted_write_is_tried_again(rt: HostRuntime) -> Result<(), Fail> {
+    assert!(rt; source.read(&mut buffer) == Ok(3) && source.read(&mut buffer) == Err(Failed));
     let answers = [Some(1), None, Some(0), Some(2), None].to_vec(rt.alloc())?;
     let mut sink = StdSink::new(Answers(answers));
-    assert!(rt; sink.write(b"hello") == Ok(2));
-    assert!(rt; sink.write(b"hello") == Err(Failed));
-    assert!(rt; sink.flush() == Ok(()));
-    assert!(rt; sink.flush() == Err(Failed));
+    assert!(rt; sink.write(b"hello") == Ok(2) && sink.write(b"hello") == Err(Failed));
+    assert!(rt; sink.flush() == Ok(()) && sink.flush() == Err(Failed));
     Ok(())
 }
