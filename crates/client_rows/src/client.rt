@@ -7,16 +7,59 @@ ghost use Rattle.io_messages.specs.Writing.{HasTexts};
 
 mod rows;
 
-use crate::client::rows::{EXCHANGE_SENT, EXCHANGE_TAKEN, FILE_SENT, TAKEN};
+use crate::client::rows::{EXCHANGE, FILE, TAKEN};
 use endpoint_link::{FrameKind, Outbox, Reading, Side, frame_at};
 use fidl_names::Method;
 use fidl_wire::Ordinals;
-use io_client::{Client, ClientFault, Taken};
+use io_client::{Client, Taken};
 use io_messages::{Reply, Request, is_one_way};
 use std::alloc::Global;
-use std::process::Abort;
 use std::test::Fail;
-use test_rows::{BadCell, Row, Table, all_hold, rows};
+use test_rows::{BadCell, Row, Table, all_hold};
+
+/// The requests of rows. The file is to be read, and to tell what it is; an Open makes endpoint 2.
+const REQUESTS: [(&str, Request<'static>); 8] = [
+    (
+        "open d/f",
+        Request::OpenPath {
+            path: b"d/f",
+            flags: 0x1_0000_0000_0012,
+            attributes: None,
+            object: 2,
+        },
+    ),
+    (
+        "open d",
+        Request::OpenPath {
+            path: b"d",
+            flags: 0x1c0,
+            attributes: None,
+            object: 2,
+        },
+    ),
+    ("attributes", Request::GetAttributes { query: 0x37 }),
+    ("read", Request::Read { count: 100 }),
+    ("query", Request::Query),
+    ("close", Request::Close),
+    ("sync", Request::Sync),
+    (
+        "watch",
+        Request::Watch {
+            mask: 31,
+            options: 0,
+            watcher: 3,
+        },
+    ),
+];
+
+const METHODS: [(&str, Method); 6] = [
+    ("GetAttributes", Method::GetAttributes),
+    ("Read", Method::Read),
+    ("Query", Method::Query),
+    ("Close", Method::Close),
+    ("Sync", Method::Sync),
+    ("Watch", Method::Watch),
+];
 
 /// A client, and the frames that it sent.
 #[derive(Drop)]
@@ -47,13 +90,26 @@ fn has_txid(txid: u32, request: &Request<'_>) -> bool
     (txid == 0) == is_one_way(request.method())
 }
 
-/// The frames of a text's rows, one behind the other.
-fn frames(alloc: Global, text: &str) -> Result<Vec<u8>, Fail> {
-    let mut all = Vec::new(alloc);
-    for row in &rows(alloc, text)? {
-        all.extend_from_slice(&row.bytes(alloc, 1)?)?;
+/// A number of 32 bits.
+fn number<'a>(row: &Row<'a>, at: usize) -> Result<u32, BadCell<'a>> {
+    let number = row.number(at)?;
+    if number > u64::from(u32::MAX) {
+        return Err(row.bad(at));
     }
-    Ok(all)
+    Ok(number as u32)
+}
+
+/// What a frame is to the client, if it is one that servers send.
+fn taken<'a>(ordinals: &Ordinals, client: &mut Client, bytes: &'a [u8]) -> Option<Taken<'a>> {
+    match frame_at(Side::Any, bytes) {
+        Reading::Whole { frame, .. } => match frame.kind {
+            FrameKind::Message | FrameKind::Close | FrameKind::Refused => {
+                Some(client.take(ordinals, frame))
+            }
+            FrameKind::Turn | FrameKind::Pick => None,
+        },
+        _ => None,
+    }
 }
 
 impl Caller {
@@ -68,257 +124,115 @@ impl Caller {
         })
     }
 
-    /// What sending a request answers, if it is one that may be sent.
-    fn send(
+    /// Whether sending a request writes its row's frame, or is refused as that says.
+    fn sends<'a>(
         &mut self,
-        endpoint: u32,
-        txid: u32,
+        alloc: Global,
+        row: &Row<'a>,
         request: Request<'_>,
-    ) -> Option<Result<(), ClientFault>> {
+    ) -> Result<bool, BadCell<'a>> {
+        let (endpoint, txid) = (number(row, 2)?, number(row, 3)?);
         if !has_texts(&request) || !has_txid(txid, &request) {
-            return None;
+            return Err(row.bad(4));
         }
-        Some(
-            self.client
-                .send(&self.ordinals, endpoint, txid, request, &mut self.outbox),
-        )
+        match self
+            .client
+            .send(&self.ordinals, endpoint, txid, request, &mut self.outbox)
+        {
+            Ok(()) => self.has_sent(alloc, row, 5),
+            Err(fault) => Ok(row.says(alloc, 5, &fault)),
+        }
     }
 
-    /// What noting a call answers, if it is one that may be noted.
-    fn note(
+    /// Whether what was sent since the last time is the frame of a cell.
+    fn has_sent<'a>(
         &mut self,
-        endpoint: u32,
-        txid: u32,
-        method: Method,
-        watcher: Option<u32>,
-    ) -> Option<Result<(), ClientFault>> {
+        alloc: Global,
+        row: &Row<'a>,
+        at: usize,
+    ) -> Result<bool, BadCell<'a>> {
+        let frame = row.bytes(alloc, at)?;
+        let same = self.outbox.as_bytes() == frame.as_slice();
+        self.outbox.clear();
+        Ok(same)
+    }
+
+    /// Whether noting a call answers what its row says.
+    fn notes<'a>(&mut self, alloc: Global, row: &Row<'a>) -> Result<bool, BadCell<'a>> {
+        let (endpoint, txid, method) = (number(row, 2)?, number(row, 3)?, row.named(4, &METHODS)?);
+        let watcher = number(row, 5).ok();
         if txid == 0 || is_one_way(method) {
-            return None;
+            return Err(row.bad(3));
         }
-        Some(self.client.note(endpoint, txid, method, watcher))
-    }
-
-    /// What a frame is to the client, if it is one that servers send.
-    fn take<'a>(&mut self, bytes: &'a [u8]) -> Option<Taken<'a>> {
-        match frame_at(Side::Any, bytes) {
-            Reading::Whole { frame, .. } => match frame.kind {
-                FrameKind::Message | FrameKind::Close | FrameKind::Refused => {
-                    Some(self.client.take(&self.ordinals, frame))
-                }
-                FrameKind::Turn | FrameKind::Pick => None,
-            },
-            _ => None,
-        }
-    }
-
-    /// Where a row has a number at its end, a Sync with it waits on 2.
-    fn waits_for<'a>(&mut self, row: &Row<'a>) -> Result<bool, BadCell<'a>> {
-        if row.cell(3).is_err() {
-            return Ok(true);
-        }
-        match u32::try_from(row.number(3)?) {
-            Ok(txid) => Ok(self.note(2, txid, Method::Sync, None) == Some(Ok(()))),
-            Err(_) => Ok(false),
-        }
+        let noted = self.client.note(endpoint, txid, method, watcher);
+        Ok(row.says(alloc, 6, &noted))
     }
 }
 
-/// The frames of the rows are taken in order.
 impl Table for Caller {
     fn holds<'a>(&mut self, alloc: Global, row: &Row<'a>) -> Result<bool, BadCell<'a>> {
-        let waits = self.waits_for(row)?;
-        let bytes = row.bytes(alloc, 1)?;
-        match self.take(&bytes) {
-            Some(taken) => Ok(waits && row.says(alloc, 2, &taken)),
-            None => Ok(false),
+        match row.cell(1)? {
+            "send" => self.sends(alloc, row, row.named(4, &REQUESTS)?),
+            "write" => {
+                let bytes = row.bytes(alloc, 4)?;
+                self.sends(alloc, row, Request::Write { bytes: &bytes })
+            }
+            "note" => self.notes(alloc, row),
+            "waiting" => Ok(self.client.waiting() as u64 == row.number(2)?),
+            "hang up" => {
+                let hung_up = self.client.hang_up(number(row, 2)?, &mut self.outbox);
+                Ok(hung_up.is_ok() && self.has_sent(alloc, row, 3)?)
+            }
+            _ => {
+                let bytes = row.bytes(alloc, 2)?;
+                let taken = taken(&self.ordinals, &mut self.client, &bytes);
+                Ok(row.says(alloc, 3, &taken.ok_or(row.bad(2))?))
+            }
         }
     }
 }
 
-/// An Open, by which endpoint 2 is made.
-fn open(path: &[u8], flags: u64) -> Request<'_> {
-    Request::OpenPath {
-        path,
-        flags,
-        attributes: None,
-        object: 2,
-    }
-}
-
-/// A file, to read, and to tell what it is.
-const TOLD_FILE: u64 = 0x1_0000_0000_0012;
-
-/// An endpoint, the txid and the request that is sent on it, and what sending answers.
-type Sent<'a> = (u32, u32, Request<'a>, Result<(), ClientFault>);
-
-/// The txid of the first request that is answered otherwise.
-fn first_other(caller: &mut Caller, requests: &[Sent<'_>]) -> Option<u32> {
-    for (endpoint, txid, request, answer) in requests {
-        if caller.send(*endpoint, *txid, *request) != Some(*answer) {
-            return Some(*txid);
-        }
-    }
-    None
-}
-
-/// Whether the client sent the frames of a text's rows, and nothing else.
-fn has_sent(alloc: Global, caller: &Caller, text: &str) -> Result<bool, Fail> {
-    let wanted = frames(alloc, text)?;
-    Ok(caller.outbox.as_bytes() == wanted.as_slice())
-}
-
 #[test]
-fn requests_are_written_once_and_within_their_limit(rt: HostRuntime) -> Result<(), Fail> {
-    let mut caller = Caller::new(rt.alloc())?;
-    let bytes = [0x61; 65_505];
-    let requests = [
-        (1, 0, open(b"d/f", TOLD_FILE), Ok(())),
-        (2, 3, Request::GetAttributes { query: 0x37 }, Ok(())),
-        (2, 4, Request::Read { count: 100 }, Ok(())),
-        (2, 5, Request::Query, Ok(())),
-        (2, 6, Request::Close, Ok(())),
-        (2, 6, Request::Sync, Err(ClientFault::Busy)),
-        (
-            2,
-            6,
-            Request::Write { bytes: &bytes },
-            Err(ClientFault::TooLong),
-        ),
-        (1, 0, open(b"d", 0x1c0), Ok(())),
-    ];
-    assert_eq!(rt; first_other(&mut caller, &requests), None);
-    assert!(rt; caller.client.waiting() == 4);
-    assert!(rt; has_sent(rt.alloc(), &caller, FILE_SENT)?);
-    Ok(())
-}
-
-#[test]
-fn the_longest_write_fills_a_message(rt: HostRuntime) -> Result<(), Fail> {
-    let mut caller = Caller::new(rt.alloc())?;
-    let bytes = [0x61; 65_504];
-    let longest = Request::Write { bytes: &bytes };
-    assert!(rt; caller.send(2, 7, longest) == Some(Ok(())));
-    assert!(rt; caller.outbox.len() == 12 + 65_536);
-    Ok(())
-}
-
-// The reply to a Sync, with its transaction id put in.
-fn synced(txid: u32) -> [u8; 44] {
-    let mut frame =
-        *b"\x01\x00\x00\x00\x01\x00\x00\x00\x20\x00\x00\x00\x00\x00\x00\x00\x02\x00\x00\x01\
-        \x49\xdc\xb5\x0a\xca\x27\x5c\x2c\x01\x00\x00\x00\x00\x00\x00\x00\x00\x00\x00\x00\x00\x00\x01\x00";
-    frame[12..16].copy_from_slice(&txid.to_le_bytes());
-    frame
-}
-
-fn is_synced(taken: Option<Taken<'_>>, txid: u32) -> bool {
-    match taken {
-        Some(Taken::Reply(found, reply)) => found == txid && reply == Reply::Done(Method::Sync),
-        _ => false,
+fn exchanges_go_as_their_rows_say(rt: HostRuntime) -> Result<(), Fail> {
+    for text in [FILE, EXCHANGE, TAKEN] {
+        all_hold(rt.alloc(), text, &mut Caller::new(rt.alloc())?)?;
     }
+    Ok(())
 }
 
 /// How many calls are made at a time.
 const MANY: u32 = 10_000;
 
-fn note_many(rt: &impl Abort, caller: &mut Caller) {
+/// Whether the client waits for a call behind each other one.
+fn notes_many(client: &mut Client) -> bool {
     for txid in 1..MANY + 1 {
-        let noted = caller.note(1, txid, Method::Sync, None);
-        assert!(rt; noted == Some(Ok(())), "{txid}");
+        if client.note(1, txid, Method::Sync, None).is_err() {
+            return false;
+        }
     }
+    client.waiting() == MANY as usize
 }
 
-fn take_many(rt: &impl Abort, caller: &mut Caller) {
+/// Whether the reply to a Sync, with each transaction id put in, the last call's first, answers the call.
+fn takes_many(ordinals: &Ordinals, client: &mut Client) -> bool {
+    let mut frame =
+        *b"\x01\x00\x00\x00\x01\x00\x00\x00\x20\x00\x00\x00\x00\x00\x00\x00\x02\x00\x00\x01\
+        \x49\xdc\xb5\x0a\xca\x27\x5c\x2c\x01\x00\x00\x00\x00\x00\x00\x00\x00\x00\x00\x00\x00\x00\x01\x00";
     for place in 0..MANY {
         let txid = MANY - place;
-        assert!(rt; is_synced(caller.take(&synced(txid)), txid), "{txid}");
+        frame[12..16].copy_from_slice(&txid.to_le_bytes());
+        match taken(ordinals, client, &frame) {
+            Some(Taken::Reply(found, Reply::Done(Method::Sync))) if found == txid => {}
+            _ => return false,
+        }
     }
+    client.waiting() == 0
 }
 
 #[test]
 fn many_calls_are_answered_the_other_way_round(rt: HostRuntime) -> Result<(), Fail> {
-    let mut caller = Caller::new(rt.alloc())?;
-    note_many(&rt, &mut caller);
-    assert!(rt; caller.client.waiting() == MANY as usize);
-    take_many(&rt, &mut caller);
-    assert!(rt; caller.client.waiting() == 0);
-    Ok(())
-}
-
-/// Three requests, with two replies to come.
-fn ask_three(rt: &impl Abort, caller: &mut Caller) {
-    let watch = Request::Watch {
-        mask: 31,
-        options: 0,
-        watcher: 3,
-    };
-    let requests = [
-        (1, 0, open(b"d/f", TOLD_FILE), Ok(())),
-        (2, 4, Request::Read { count: 100 }, Ok(())),
-        (1, 3, watch, Ok(())),
-    ];
-    assert_eq!(rt; first_other(caller, &requests), None);
-    assert!(rt; caller.client.waiting() == 2);
-}
-
-#[test]
-fn the_exchange_of_the_document_goes_byte_by_byte(rt: HostRuntime) -> Result<(), Fail> {
-    let mut caller = Caller::new(rt.alloc())?;
-    ask_three(&rt, &mut caller);
-    all_hold(rt.alloc(), EXCHANGE_TAKEN, &mut caller)?;
-    assert!(rt; caller.client.waiting() == 0);
-    caller.client.hang_up(2, &mut caller.outbox)?;
-    assert!(rt; has_sent(rt.alloc(), &caller, EXCHANGE_SENT)?);
-    Ok(())
-}
-
-/// Whether a frame is to the client a message to a watcher, of this one event.
-fn is_event(caller: &mut Caller, frame: &[u8], event: u8, name: &[u8]) -> bool {
-    let Some(Taken::Watch(mut events)) = caller.take(frame) else {
-        return false;
-    };
-    match events.next() {
-        Some(seen) => seen.event == event && seen.name == name && events.whole(),
-        None => false,
-    }
-}
-
-/// What a watcher is told is read from the frame.
-#[test]
-fn events_are_lent(rt: HostRuntime) -> Result<(), Fail> {
-    let mut caller = Caller::new(rt.alloc())?;
-    assert!(rt; caller.note(2, 3, Method::Watch, Some(3)) == Some(Ok(())));
-    let message = b"\x03\x00\x00\x00\x01\x00\x00\x00\x03\x00\x00\x00\x01\x01b";
-    assert!(rt; is_event(&mut caller, message, 1, b"b"));
-    Ok(())
-}
-
-/// Calls, with the watcher that they bring, and what noting them answers.
-const CALLS: &[(u32, u32, Method, Option<u32>, Result<(), ClientFault>)] = &[
-    (2, 3, Method::GetAttributes, None, Ok(())),
-    (2, 4, Method::Read, None, Ok(())),
-    (2, 5, Method::Query, None, Ok(())),
-    (2, 6, Method::Close, None, Ok(())),
-    (2, 7, Method::Sync, None, Ok(())),
-    (2, 8, Method::Sync, None, Ok(())),
-    (2, 9, Method::Sync, None, Ok(())),
-    (2, 10, Method::Sync, None, Ok(())),
-    (3, 3, Method::Watch, Some(9), Ok(())),
-    (3, 3, Method::Sync, None, Err(ClientFault::Busy)),
-];
-
-fn note_calls(rt: &impl Abort, caller: &mut Caller) {
-    for (endpoint, txid, method, watcher, answer) in CALLS {
-        let noted = caller.note(*endpoint, *txid, *method, *watcher);
-        assert!(rt; noted == Some(*answer), "{txid} on {endpoint}");
-    }
-}
-
-#[test]
-fn frames_are_what_their_rows_say(rt: HostRuntime) -> Result<(), Fail> {
-    let mut caller = Caller::new(rt.alloc())?;
-    note_calls(&rt, &mut caller);
-    all_hold(rt.alloc(), TAKEN, &mut caller)?;
-    assert!(rt; caller.client.waiting() == 0);
+    let mut client = Client::new(rt.alloc())?;
+    assert!(rt; notes_many(&mut client));
+    assert!(rt; takes_many(&Ordinals::new()?, &mut client));
     Ok(())
 }

@@ -1,5 +1,4 @@
-//! Outside values of the client, of messages to watchers, of the lines of scripts and of frames, and of generated scripts, and the tests
-//! that read them.
+//! Outside values of the client, of messages to watchers, of the frames of scripts, and of generated scripts, and the tests that read them.
 //! They stand in a crate of their own, since a crate with tests is proved a second time with them.
 #![tactic(auto)]
 
@@ -9,5 +8,3 @@ mod client;
 mod events;
 #[cfg(test)]
 mod scripts;
-#[cfg(test)]
-mod workloads;
