@@ -43,6 +43,7 @@ use Rattle.vfs_session.specs.Running.{IsRunning}
 use Rattle.vfs_session.specs.Servings.{IsDrain, ServesOne}
 use Rattle.vfs_session.specs.Steps.{Answers}
 use Rattle.vfs_session.specs.World.{LeadsTo, StandsFor, World}
+use Rattle.vfs_session.proofs.Carried.{quiet_stays}
 use Rattle.vfs_session.proofs.Halves.{goes_on, one_served}
 use Rattle.vfs_session.proofs.Quiet.{settles_quietly}
 use Rattle.vfs_session.proofs.Taken.{takes_head}
@@ -192,7 +193,7 @@ module _ (old : World) (run : IsRunning (2 ^ 61 - 4098) old) (frame : Frame) (is
   head = takes_head (waits_in now frame) taken answered frame.endpoint at sent fates.Stays out servers before after takes serves (refl, refl) refl known_then refl
 
   settles : SettlesHead answered sent fates.Stays out (record answered { places = answered.places + 1 }) after after
-  settles = settles_quietly answered sent out after bare (can.none ∙ sym (none_counted (2 ^ 61 - 4098) old run can.none))
+  settles = settles_quietly answered sent fates.Stays out after (quiet_stays sent bare) (can.none ∙ sym (none_counted (2 ^ 61 - 4098) old run can.none))
 
   runs : IsRunning (2 ^ 61) (waits_in now frame)
   runs = sent_lasts (2 ^ 61 - 4098) old now (waits_in now frame) frame run is sends admitted (waits_last now frame)
