@@ -1,14 +1,15 @@
-//! Outside values of trees (their names, their nodes and files) and of tree files, as rows, and the tests that read them.
-//! They stand in a crate of their own, since a crate with tests is proved a second time with them.
+//! Outside values that no session shows: what becomes of names and nodes in a graph, the faults of flags, paths and names, the texts of
+//! rights, and what an Open is granted; and the tests that read them. They stand in a crate of their own, since a crate with tests is
+//! proved a second time with them.
 #![tactic(auto)]
 
 #[cfg(test)]
-mod lent;
+mod flags;
 #[cfg(test)]
-mod limits;
+mod mounts;
 #[cfg(test)]
 mod names;
 #[cfg(test)]
 mod nodes;
 #[cfg(test)]
-mod starts;
+mod texts;
