@@ -1,6 +1,6 @@
 //! The connections of a server, by their endpoints.
 
-ghost use Rattle.std.specs.Prelude.{◌≡◌, ◌≤◌, ◌<◌, ◌^◌, ℕ, IfOk, IfSome, OnErr, OnOk, Ok, Option, Some, None, length};
+ghost use Rattle.std.specs.Prelude.{◌≡◌, ◌≤◌, ◌<◌, ◌^◌, ℕ, IfOk, IfSome, IsSome, OnErr, OnOk, Ok, Option, Some, None, length};
 ghost use Rattle.fidl_names.specs.declared.limits.TheConstants as limit;
 ghost use Rattle.std.specs.FinMap as finite;
 ghost use Rattle.conn_rules.specs.Births as births;
@@ -146,6 +146,7 @@ impl Connections {
             × IfSome result (λ read. old.birth.protocol ≡ Protocol.File)
             × ((server : ℕ) (asking : asking.Asking) (moment : Moment) → asking.endpoint ≡ endpoint → IsAskedAt server asking graph.old old moment →
             IfSome result (λ read. OnOk read (Answers moment (outcome_of_read moment (Ok (txid, asks.read count))) stays out.new new graph.old graph.new outbox.old outbox.new))) }
+        ensures reads { (old : births.Connection) → finite.get self.old endpoint ≡ Some old → old.birth.protocol ≡ Protocol.File → IsSome result }
         ensures there { finite.get self.old endpoint ≡ None → result ≡ None }
         ensures unchanged { result ≡ None → (self.new ≡ self.old) × (graph.new ≡ graph.old) × (outbox.new ≡ outbox.old) }
         ensures tree { HasTree graph.new }

@@ -1,13 +1,14 @@
-ghost use Rattle.std.specs.Prelude.{◌≡◌, ◌≤◌, ◌<◌, ◌+◌, ◌^◌, ℕ, IfOk, IfSome, IsSome, List, None, Ok, OnErr, OnOk, Option, [], length};
+ghost use Rattle.std.specs.Prelude.{◌≡◌, ◌≤◌, ◌<◌, ◌+◌, ◌^◌, ℕ, IfOk, IfSome, IsSome, List, None, Ok, OnErr, OnOk, Option, Some, [], length};
 ghost use Rattle.fidl_names.specs.declared.limits.TheConstants as limit;
 ghost use Rattle.std.specs.FinMap as finite;
 ghost use Rattle.io_messages.specs.Asked as asks;
 ghost use Rattle.io_messages.specs.Requests.{request_of};
 ghost use Rattle.node_graph.specs.Graph.{holds_at, number_of};
+ghost use Rattle.conn_rules.specs.Births.{Position};
 ghost use Rattle.vfs_journal.specs.Entries.{message};
 ghost use Rattle.vfs_journal.specs.Handles.{AreByNumber, numbers_of};
 ghost use Rattle.vfs_journal.specs.Serving.{Moment, outcome_of_sending};
-ghost use Rattle.vfs_journal.specs.Starts.{start_of};
+ghost use Rattle.vfs_journal.specs.Starts.{Bound, start_of};
 ghost use Rattle.vfs_journal.specs.View.{View, view_of};
 ghost use Rattle.vfs_server.specs.Binding.{Binds, CanWatch, Forgets, HasPlace, IsDirectory, NamesBy, Unbinds};
 ghost use Rattle.vfs_server.specs.Holding.{HoldsAt};
@@ -172,6 +173,7 @@ impl Server {
         ensures serves { (bytes : List ℕ) (token : Option ℕ) (moment : Moment) → request_of Protocol.File bytes [] ≡ Ok (txid, asks.read count) → IsMomentOf self.old endpoint token [] moment →
             IfSome result (λ read. OnOk read (Serves moment (outcome_of_sending moment (message bytes [])) Fate.Stays out.new self.old self.new outbox.old outbox.new)) }
         ensures bound { IfSome result (λ read. IsSome (seen self.old endpoint)) }
+        ensures reads { (bound : Bound) (position : Position) → seen self.old endpoint ≡ Some (bound, position) → bound.birth.protocol ≡ Protocol.File → IsSome result }
         ensures unchanged { result ≡ None → (self.new ≡ self.old) × (outbox.new ≡ outbox.old) }
         ensures no_memory { IfSome result (λ read. OnErr read (outbox.new ≡ outbox.old)) }
     {

@@ -30,6 +30,12 @@ returns-clause-read c old is =
           same c.read.ensures.answers,
     )
 
+pub returns-clause-reads : goal.returns-clause-reads
+returns-clause-reads c old is =
+    subst (λ (was : Connection). was.birth.protocol ≡ protocol.File → IsSome c.read.result)
+    (is_found c.self.inside.kept.entries c.args.self.now c.args.endpoint c.in_ok-connection.connection.now old c.self.view_is c.in_ok-connection.ensures.value is)
+    c.read.ensures.reads
+
 pub returns-clause-there : goal.returns-clause-there
 returns-clause-there c none = absurd (not_none c.args.self.now c.args.endpoint c.in_ok-connection.connection.now (looked_up c.self.inside.kept.entries c.args.self.now c.args.endpoint (Some c.in_ok-connection.connection.now) c.self.view_is c.in_ok-connection.ensures.value) none)
 
@@ -44,4 +50,8 @@ returns-clause-unchanged c none =
 
 pub returns-in_err-connection-clause-read : goal.returns-in_err-connection-clause-read
 returns-in_err-connection-clause-read c old is =
+    absurd (not_none c.args.self.now c.args.endpoint old is (looked_up c.self.inside.kept.entries c.args.self.now c.args.endpoint None c.self.view_is c.in_err-connection.ensures.value))
+
+pub returns-in_err-connection-clause-reads : goal.returns-in_err-connection-clause-reads
+returns-in_err-connection-clause-reads c old is file =
     absurd (not_none c.args.self.now c.args.endpoint old is (looked_up c.self.inside.kept.entries c.args.self.now c.args.endpoint None c.self.view_is c.in_err-connection.ensures.value))

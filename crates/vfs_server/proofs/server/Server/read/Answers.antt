@@ -1,4 +1,6 @@
-use Rattle.std.proofs.Common.{◌≡◌, ◌∙◌, ◌+◌, ℕ, IfSome, List, [], Ok, Option, Some, length, ap, append-nil, refl, subst, sym}
+use Rattle.std.proofs.Common.{◌≡◌, ◌∙◌, ◌+◌, ℕ, IfSome, List, [], None, Ok, Option, Some, length, ap, append-nil, refl, rules, subst, sym}
+use Rattle.std.specs.Option.{option_map}
+use Rattle.std.proofs.lemmas.Option.{same_Some}
 use Rattle.std.specs.Prelude.{IsSome, OnOk}
 use Rattle.std.specs.FinMap as finite
 use Rattle.io_messages.specs.Asked as asks
@@ -6,19 +8,22 @@ use Rattle.io_messages.specs.Requests.{request_of}
 use Rattle.io_messages.specs.declared.protocols.Protocol.{Protocol}
 use Rattle.io_messages.specs.declared.protocols.Protocol.TheVariants as protocol
 use Rattle.node_graph.specs.Graph.{Kept}
-use Rattle.conn_rules.specs.Births.{Connection}
+use Rattle.conn_rules.specs.Births.{Connection, Position}
 use Rattle.vfs_journal.specs.Entries.{message}
 use Rattle.vfs_journal.specs.Serving.{Moment, outcome_of_read, outcome_of_sending}
+use Rattle.vfs_journal.specs.Starts.{Bound}
 use Rattle.vfs_server.specs.declared.asking.Asking.{Asking}
 use Rattle.vfs_server.specs.declared.fate.Fate.TheVariants as fates
 use Rattle.vfs_server.specs.Kept.{Connections, IsSound}
-use Rattle.vfs_server.specs.Servers.{Server, seen, seen_as}
+use Rattle.vfs_server.specs.declared.watching.Seat.{Seat}
+use Rattle.vfs_server.specs.Servers.{Server, connected, seen, seen_as}
 use Rattle.vfs_server.specs.Serving.{IsMomentOf, Serves}
 use Rattle.vfs_server.specs.Steps.{Answers, stays}
-use Rattle.vfs_server.specs.Watched.{bounds_at}
+use Rattle.vfs_server.specs.Watched.{Seats, bounds_at, seat_at}
 use Rattle.vfs_server.proofs.Answering.{on_ok, some_both, some_none}
-use Rattle.vfs_server.proofs.Binding.{either_way, server_of}
+use Rattle.vfs_server.proofs.Binding.{either_way, seen_watching, server_of}
 use Rattle.vfs_server.proofs.Maps.{get_put}
+use Rattle.vfs_server.proofs.Seats.{seated}
 use Rattle.vfs_server.proofs.Servings.{is_asked, serves_message}
 use Rattle.vfs_server.proofs.Sound.{sound_served}
 use Rattle.vfs_server.proofs.server.Server.read.Goals as goal
@@ -95,6 +100,28 @@ returns-clause-bound c =
     (λ read file same. subst (λ (o : Option Connection). IsSome (seen_as c.self.inside.index (bounds_at c.self.inside.index c.self.inside.watching) c.args.endpoint o)) (sym there) refl)
     (c.read.ensures.read old there).3 (c.read.ensures.read old there).3)
     (λ none. some_none _ c.read.result (c.read.ensures.there none)))
+
+-- what is bound without a connection watches, and is no file
+watches : (index endpoint : ℕ) (seats : Seats) (o : Option Connection) (bound : Bound) (position : Position) → o ≡ None → seen_as index (bounds_at index seats) endpoint o ≡ Some (bound, position) → bound.birth.protocol ≡ protocol.Watcher
+watches index endpoint seats o bound position none is = seated_one (seat_at seats endpoint) (sym (seen_watching index endpoint seats o none) ∙ is) where
+  seated_one : (found : Option Seat) → option_map (seated index endpoint) found ≡ Some (bound, position) → bound.birth.protocol ≡ protocol.Watcher
+  seated_one (Some seat) here = sym (ap (λ (pair : Bound × Position). pair.0.birth.protocol) (same_Some (seated index endpoint seat) (bound, position) here))
+  seated_one None here = absurd (cc)
+
+-- and what is bound with one is bound as that was
+connects : (index endpoint : ℕ) (watchers : List Bound) (o : Option Connection) (old : Connection) (bound : Bound) (position : Position) → o ≡ Some old → seen_as index watchers endpoint o ≡ Some (bound, position) →
+    old.birth.protocol ≡ bound.birth.protocol
+connects index endpoint watchers o old bound position there is =
+    ap (λ (pair : Bound × Position). pair.0.birth.protocol) (same_Some (connected index endpoint old) (bound, position) (sym (ap (seen_as index watchers endpoint) there) ∙ is))
+
+pub returns-clause-reads : goal.returns-clause-reads
+returns-clause-reads c bound position is file =
+    let here = subst (λ (server : Server). seen server c.args.endpoint ≡ Some (bound, position)) (sym c.self.view_is) is in
+    either_way _ (finite.get c.self.inside.connections c.args.endpoint)
+    (λ old there. c.read.ensures.reads old there (connects c.self.inside.index c.args.endpoint (bounds_at c.self.inside.index c.self.inside.watching) (finite.get c.self.inside.connections c.args.endpoint) old bound position there here ∙ file))
+    (λ none. absurd (no_file (sym (watches c.self.inside.index c.args.endpoint c.self.inside.watching (finite.get c.self.inside.connections c.args.endpoint) bound position none here) ∙ file))) where
+      no_file : protocol.Watcher ≡ protocol.File → ⊥
+      no_file wrong = search rules
 
 pub returns-clause-unchanged : goal.returns-clause-unchanged
 returns-clause-unchanged c none =
