@@ -66,7 +66,7 @@ impl Table for Texts {
             match bytes(alloc, digits) {
                 Ok(Some(text)) if row.says(alloc, 1, &fault_of(row.name(), &text)) => {}
                 Ok(_) => return Ok(false),
-                Err(AllocError) => return Err(BadCell::NoMemory { row: row.name() }),
+                Err(AllocError) => return Err(row.bad(2)),
             }
         }
         Ok(true)
