@@ -53,7 +53,7 @@ returns-in-Close-clause-running c =
 pub returns-in_ok-turn-in-Turn-clause-arrived : goal.returns-in_ok-turn-in-Turn-clause-arrived
 returns-in_ok-turn-in-Turn-clause-arrived c =
     λ start journal before stands admitted.
-    turn_on c.requires.heard.running.apart start journal before (whole c.args.session.now) (whole c.turn.new.self) (frame_of c.args.frame) c.number_in.result _ c.args.outbox.now c.turn.new.outbox stands c.in-Turn.is admitted c.number_in.ensures
+    turn_on c.requires.heard.running.apart start journal before (whole c.args.session.now) (whole c.turn.new.self) (frame_of c.args.frame) c.word_in.result _ c.args.outbox.now c.turn.new.outbox stands c.in-Turn.is admitted c.word_in.ensures
     c.in_ok-turn-in-Turn.ensures.turned
 
 pub returns-in_ok-turn-in-Turn-clause-running : goal.returns-in_ok-turn-in-Turn-clause-running
