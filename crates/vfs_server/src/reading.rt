@@ -8,7 +8,7 @@ use fidl_names::{Handle, Method};
 use fidl_wire::{Body, Header, Ordinals};
 use io_messages::Protocol;
 
-/// The transaction id and the count of a message that asks a file for a Read; `None` for any other.
+/// The transaction id and the count of a message, where it was found to ask a file for a Read.
 pub fn read_in(ordinals: &Ordinals, bytes: &[u8], handles: &[Handle]) -> Option<(u32, u64)>
     ensures read { IfSome result (λ asked. request_of Protocol.File bytes.now handles.now ≡ Ok (asked.0, read asked.1)) }
     ensures txid { IfSome result (λ asked. 0 < asked.0) }
