@@ -53,6 +53,7 @@ impl Heads {
         Ok(heads)
     }
 
+    #[inline(always)]
     pub(crate) fn put(&mut self, place: u64, endpoint: u32) -> Result<(), NoMemory>
         ensures put { OnOk result (self.new ≡ finite.insert self.old place endpoint) }
         ensures err { OnErr result (self.new ≡ self.old) }
@@ -64,6 +65,7 @@ impl Heads {
         put_among(&mut self.line, &mut self.others, place, endpoint)
     }
 
+    #[inline(always)]
     pub(crate) fn remove(&mut self, place: u64)
         ensures { self.new ≡ finite.remove self.old place }
     {
