@@ -2,6 +2,8 @@
 use Rattle.std.specs.Prelude.{ℕ, List, [], ◌++◌, codes, decimal}
 use Rattle.endpoint_link.specs.declared.kinds.FrameReason.{FrameReason}
 use Rattle.endpoint_link.specs.declared.kinds.FrameReason.TheVariants as reason
+use Rattle.run_status.specs.declared.notes.Note.{Note}
+use Rattle.run_status.specs.declared.notes.Note.TheVariants as note
 use Rattle.run_status.specs.declared.statuses.Status.{Status}
 use Rattle.run_status.specs.declared.statuses.Status.TheVariants as status
 
@@ -43,3 +45,10 @@ note_of (status.Collision first second) = codes "ordinals collide: " ++ decimal 
 note_of status.NoMemory = codes "no memory\n"
 note_of (status.BadFrame at why) = codes "bad frame at " ++ decimal at ++ codes ": " ++ word_of why ++ codes "\n"
 note_of (status.Truncated at) = codes "input ends inside the frame at " ++ decimal at ++ codes "\n"
+
+-- the line that a form of notes has
+abbrev pub line_of : Note → List ℕ
+line_of (note.Line text) = text.now
+line_of (note.Number text number) = text.now ++ decimal number ++ codes "\n"
+line_of (note.TwoNumbers text number between second) = text.now ++ decimal number ++ between.now ++ decimal second ++ codes "\n"
+line_of (note.Reason at reason) = codes "bad frame at " ++ decimal at ++ codes ": " ++ word_of reason ++ codes "\n"

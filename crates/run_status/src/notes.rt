@@ -2,7 +2,7 @@ ghost use Rattle.std.specs.Prelude.{◌≡◌, ◌++◌, OnOk, OnErr, codes, dec
 ghost use Rattle.std.specs.List.{flat_map};
 ghost use Rattle.host_io.specs.Causes.{HasCause};
 ghost use Rattle.host_io.specs.Streams.{AppendsPart};
-ghost use Rattle.run_status.specs.Notes.{note_of, word_of};
+ghost use Rattle.run_status.specs.Notes.{line_of, note_of, word_of};
 ghost use Rattle.run_status.specs.Outside.{sink_told};
 ghost use Rattle.run_status.specs.Texts.{GotAll, Tells};
 
@@ -11,11 +11,49 @@ use endpoint_link::FrameReason;
 use host_io::{Failed, Sink, write_whole};
 use itoa::Buffer;
 
+/// A note by its form: a line that is a text alone or also has one number or two, or the line of a bad frame.
+enum Note {
+    Line(&'static str),
+    Number(&'static str, u64),
+    TwoNumbers(&'static str, u64, &'static str, u64),
+    Reason(u64, FrameReason),
+}
+
 /// Tells the note of a status, and passes it on. Where that fails nothing else changes.
 pub fn tell<N: Sink>(notes: &mut N, status: Status)
     ensures { Tells (note_of status) (sink_told N.written N.flushed N.faults notes.old) (sink_told N.written N.flushed N.faults notes.new) }
 {
     let _ = write_note(notes, status);
+}
+
+/// What is told of a status.
+fn note_of(status: Status) -> Note
+    ensures { line_of result ≡ note_of status }
+{
+    match status {
+        Status::Done => Note::Line(""),
+        Status::Usage => Note::Line(USAGE),
+        Status::TreeRefused { rule, item } => {
+            Note::TwoNumbers("tree refused: rule ", u64::from(rule), " item ", item)
+        }
+        Status::ScriptRefused { line } => Note::Number("script refused: line ", line),
+        Status::ReadFault => Note::Line("read failed\n"),
+        Status::WriteFault => Note::Line("write failed\n"),
+        Status::FileFault => Note::Line("file failed\n"),
+        Status::FileTooLarge => Note::Line("file too large\n"),
+        Status::InputTooLong => Note::Line("input too long\n"),
+        Status::Collision { first, second } => {
+            Note::TwoNumbers(
+                "ordinals collide: ",
+                u64::from(first),
+                " ",
+                u64::from(second),
+            )
+        }
+        Status::NoMemory => Note::Line("no memory\n"),
+        Status::BadFrame { at, reason } => Note::Reason(at, reason),
+        Status::Truncated { at } => Note::Number("input ends inside the frame at ", at),
+    }
 }
 
 fn write_note<N: Sink>(notes: &mut N, status: Status) -> Result<(), Failed>
@@ -24,36 +62,13 @@ fn write_note<N: Sink>(notes: &mut N, status: Status) -> Result<(), Failed>
     ensures part { OnErr result (AppendsPart (N.written notes.old) (N.written notes.new) (note_of status)) }
     ensures cause { HasCause (N.faults notes.old) (N.faults notes.new) result }
 {
-    match status {
-        Status::Done => write_line(notes, ""),
-        Status::Usage => write_line(notes, USAGE),
-        Status::TreeRefused { rule, item } => {
-            write_two_numbers(
-                notes,
-                "tree refused: rule ",
-                u64::from(rule),
-                " item ",
-                item,
-            )
+    match note_of(status) {
+        Note::Line(text) => write_line(notes, text),
+        Note::Number(text, number) => write_number(notes, text, number),
+        Note::TwoNumbers(text, number, between, second) => {
+            write_two_numbers(notes, text, number, between, second)
         }
-        Status::ScriptRefused { line } => write_number(notes, "script refused: line ", line),
-        Status::ReadFault => write_line(notes, "read failed\n"),
-        Status::WriteFault => write_line(notes, "write failed\n"),
-        Status::FileFault => write_line(notes, "file failed\n"),
-        Status::FileTooLarge => write_line(notes, "file too large\n"),
-        Status::InputTooLong => write_line(notes, "input too long\n"),
-        Status::Collision { first, second } => {
-            write_two_numbers(
-                notes,
-                "ordinals collide: ",
-                u64::from(first),
-                " ",
-                u64::from(second),
-            )
-        }
-        Status::NoMemory => write_line(notes, "no memory\n"),
-        Status::BadFrame { at, reason } => write_reason(notes, at, reason),
-        Status::Truncated { at } => write_number(notes, "input ends inside the frame at ", at),
+        Note::Reason(at, reason) => write_reason(notes, at, reason),
     }
 }
 
