@@ -24,11 +24,13 @@ fn directory_of(alloc: Global, server: u32) -> Result<Node, NoMemory>
 fn mount_of_second(alloc: Global) -> Result<Mount, NoMemory>
     ensures { IfOk result (λ mount. mount ≡ mount_of_second) }
 {
+    let path = Bytes::copy(alloc, b"m")?;
+    let at = Bytes::copy(alloc, b".")?;
     Ok(Mount {
         server: 0,
-        path: Bytes::copy(alloc, b"m")?,
+        path,
         target: 1,
-        at: Bytes::copy(alloc, b".")?,
+        at,
         rights: Rights::all(),
     })
 }

@@ -5,13 +5,13 @@ ghost use Rattle.toml.specs.Data.{as_str};
 ghost use Rattle.toml.specs.View.{view};
 ghost use Rattle.path_walk.specs.Parts.{is_dot};
 ghost use Rattle.tree_file.specs.Texts.{only, kind_of, is_digit, hex_of};
-ghost use Rattle.tree_file.specs.Reading.{index_of, server_at, path_at, place_at, rights_at, is_new_name, server_of, kind_at, is_file, bytes_at, is_new_endpoint, endpoint_at, node_of, mount_of, client_of};
+ghost use Rattle.tree_file.specs.Reading.{index_of, server_at, path_at, place_at, rights_at, is_new_name, server_of, kind_at, is_file, bytes_at, is_new_endpoint, endpoint_at, endpoint_from, node_of, mount_of, client_of};
 ghost use Rattle.tree_file.specs.Items.{ClientItem};
 ghost use Rattle.tree_file.specs.Kept.{HasEndpoints};
 
 use crate::fields::{has_only, text_at};
 use crate::items::{Bytes, Client, Mount, Node};
-use fidl_names::{FIRST_MOUNT_END, MAX_SERVERS, NoMemory};
+use fidl_names::{MAX_SERVERS, NoMemory, is_client};
 use hex::FromHexError;
 use io_rights::{Rights, read_rights};
 use node_graph::NodeKind;
@@ -57,7 +57,7 @@ fn path_at<'a>(key: &str, value: &'a Value) -> Option<&'a [u8]>
 pub fn is_dot(path: &[u8]) -> bool
     ensures { result ≡ is_dot path.now }
 {
-    path == b".".as_slice()
+    matches!(path, [b'.'])
 }
 
 // The path at a key that isn't `.`.
@@ -82,14 +82,14 @@ fn rights_at(value: &Value) -> Option<Rights>
 
 // What a kind's word stands for.
 #[tactic(auto, unfolding(crate::specs::Texts::kind_of))]
-fn kind_of(word: &[u8]) -> Option<NodeKind>
+fn kind_of(word: &str) -> Option<NodeKind>
     ensures { result ≡ kind_of word.now }
 {
-    if word == b"dir".as_slice() {
+    if word == "dir" {
         Some(NodeKind::Directory)
-    } else if word == b"file".as_slice() {
+    } else if word == "file" {
         Some(NodeKind::File)
-    } else if word == b"service".as_slice() {
+    } else if word == "service" {
         Some(NodeKind::Service)
     } else {
         None
@@ -101,7 +101,7 @@ fn kind_at(value: &Value) -> Option<NodeKind>
     ensures { result ≡ kind_at (view value.now) }
 {
     let word = text_at(value, "kind")?;
-    kind_of(word.as_bytes())
+    kind_of(word)
 }
 
 // The number of an endpoint of a client.
@@ -110,8 +110,16 @@ fn endpoint_at(value: &Value) -> Option<u32>
     ensures { result ≡ endpoint_at (view value.now) }
 {
     let number = value.get("endpoint")?.as_integer()?;
-    if number >= 1 && number < FIRST_MOUNT_END as i64 {
-        Some(number as u32)
+    endpoint_from(number)
+}
+
+// The endpoint of a number, where it is a client's.
+fn endpoint_from(number: i64) -> Option<u32>
+    ensures { result ≡ endpoint_from number }
+{
+    let endpoint = u32::try_from(number).ok()?;
+    if is_client(endpoint) {
+        Some(endpoint)
     } else {
         None
     }
