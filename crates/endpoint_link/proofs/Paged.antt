@@ -1,19 +1,20 @@
 -- Numbers that are kept by pages.
-use Rattle.std.proofs.Common.{◌≡◌, ◌<◌, ◌^◌, ◌/◌, ◌%◌, ℕ, zero, suc, Bool, true, false, cond, eqb, ltb, List, refl, sym, ap, ◌∙◌, ⊎_elim, subst, arith, zero-le, unwrap_or}
-use Rattle.std.specs.Prelude.{◌⊎◌, Option, Some, None, IsSome}
+use Rattle.std.proofs.Common.{◌≡◌, ◌≤◌, ◌<◌, ◌^◌, ◌/◌, ◌%◌, ◌++◌, ◌∷◌, [], ℕ, zero, suc, Bool, true, false, cond, eqb, ltb, List, length, refl, sym, ap, ◌∙◌, ⊎_elim, subst, arith, zero-le, unwrap_or}
+use Rattle.std.specs.Prelude.{◌⊎◌, Option, Some, None, IsSome, replicate, slice_get, slice_set, take}
 use Rattle.std.specs.Ordering.{nat_cmp}
 use Rattle.std.specs.FinMap as map
 use Rattle.std.specs.FinMap.{get-empty, get-insert}
 use Rattle.std.specs.HashMap.{HashMap}
-use Rattle.std.specs.Map.{lookup}
-use Rattle.std.proofs.lemmas.Bool.{cases_order, cases_eq, cond-true, cond-false, lt-ltb, le-ltb, eq-eqb, ne_eqb, eqb-true, false≢true}
+use Rattle.std.proofs.lemmas.Bool.{cases_order, cases_eq, cases_lt, cond-true, cond-false, lt-ltb, le-ltb, eq-eqb, ne_eqb, eqb-true, false≢true}
 use Rattle.std.proofs.lemmas.Nat.{div-add-mod'}
 use Rattle.std.proofs.lemmas.Cmp.{nat_cmp_total}
+use Rattle.std.proofs.lemmas.List.{take_all}
+use Rattle.std.proofs.lemmas.Option.{slice_get_past}
 use Rattle.endpoint_link.specs.declared.kinds.Standing.{Standing}
 use Rattle.endpoint_link.specs.declared.kinds.Standing.TheVariants as standing
 use Rattle.endpoint_link.specs.declared.pages.Page.{Page}
 use Rattle.endpoint_link.specs.Tables.{Table, value_at, ChangesAt}
-use Rattle.endpoint_link.specs.Pages.{in_page, in_kept, in_pages, noted, put_noted, noted_below}
+use Rattle.endpoint_link.specs.Pages.{Gives, in_far, in_kept, in_near, in_page, in_pages, noted, noted_below, put_noted}
 use Rattle.endpoint_link.proofs.Tabled.{same_number}
 
 at_put : (o : Option Standing) (n : ℕ) (t : Table Standing) → value_at t n ≡ None → value_at (put_noted o n t) n ≡ o
@@ -56,41 +57,39 @@ pub said_if : (b : Bool) (s : Standing) (o : Option Standing) → unwrap_or (con
 said_if true s o = said s
 said_if false s o = refl
 
--- what is noted of a number is how it stands on its page
-at_number : (ps : List (ℕ × Page)) (k n : ℕ) (o : Option Page) → n < 2 ^ 32 → k ≡ n / 32 → o ≡ lookup (eqb k) ps → value_at (noted_below (in_pages ps) (2 ^ 32)) n ≡ noted (in_kept o n)
-at_number ps k n o small page is =
-    get-noted_below (in_pages ps) (2 ^ 32) n
-    ∙ (cond-true (ltb n (2 ^ 32)) (noted (in_pages ps n)) None (lt-ltb n (2 ^ 32) small)
-    ∙ (ap (λ (k : ℕ). noted (in_kept (lookup (eqb k) ps) n)) (sym page) ∙ ap (λ (o : Option Page). noted (in_kept o n)) (sym is)))
+-- what is noted of a number is how it stands
+pub at_number : (f : ℕ → Standing) (n : ℕ) → n < 2 ^ 32 → value_at (noted_below f (2 ^ 32)) n ≡ noted (f n)
+at_number f n small = get-noted_below f (2 ^ 32) n ∙ cond-true (ltb n (2 ^ 32)) (noted (f n)) None (lt-ltb n (2 ^ 32) small)
 
--- a number stands as on its page
-pub on_page : (ps : List (ℕ × Page)) (k n : ℕ) (o : Option Page) → n < 2 ^ 32 → k ≡ n / 32 → o ≡ lookup (eqb k) ps → unwrap_or (value_at (noted_below (in_pages ps) (2 ^ 32)) n) standing.Unused ≡ in_kept o n
-on_page ps k n o small page is =
-    ap (λ (o : Option Standing). unwrap_or o standing.Unused) (at_number ps k n o small page is) ∙ said (in_kept o n)
+-- and it says that
+pub stands : (f : ℕ → Standing) (n : ℕ) → n < 2 ^ 32 → unwrap_or (value_at (noted_below f (2 ^ 32)) n) standing.Unused ≡ f n
+stands f n small = ap (λ (o : Option Standing). unwrap_or o standing.Unused) (at_number f n small) ∙ said (f n)
 
 noted_if : (is below : Bool) (s t : Standing) → (is ≡ true → below ≡ true) → cond below (noted (cond is s t)) None ≡ cond is (noted s) (cond below (noted t) None)
 noted_if true true s t h = refl
 noted_if false b s t h = refl
 noted_if true false s t h = absurd (false≢true (h refl))
 
-numbers_change : (old new : List (ℕ × Page)) (n : ℕ) (s : Standing) → n < 2 ^ 32 → ((q : ℕ) → in_pages new q ≡ cond (eqb q n) s (in_pages old q)) → ChangesAt n (noted s) (noted_below (in_pages old) (2 ^ 32)) (noted_below (in_pages new) (2 ^ 32))
-numbers_change old new n s small each q =
-    get-noted_below (in_pages new) (2 ^ 32) q
-    ∙ (ap (λ (t : Standing). cond (ltb q (2 ^ 32)) (noted t) None) (each q)
-    ∙ (noted_if (eqb q n) (ltb q (2 ^ 32)) s (in_pages old q) (λ e. lt-ltb q (2 ^ 32) (omega (arith, small, eqb-true q n e)))
-    ∙ ap (cond (eqb q n) (noted s)) (sym (get-noted_below (in_pages old) (2 ^ 32) q))))
+-- where one number is given a standing, it alone is noted anew
+pub changes : (f g : ℕ → Standing) (n : ℕ) (s : Standing) → n < 2 ^ 32 → Gives n s f g → ChangesAt n (noted s) (noted_below f (2 ^ 32)) (noted_below g (2 ^ 32))
+changes f g n s small gives q =
+    get-noted_below g (2 ^ 32) q
+    ∙ (ap (λ (t : Standing). cond (ltb q (2 ^ 32)) (noted t) None) (gives q)
+    ∙ (noted_if (eqb q n) (ltb q (2 ^ 32)) s (f q) (λ e. lt-ltb q (2 ^ 32) (omega (arith, small, eqb-true q n e)))
+    ∙ ap (cond (eqb q n) (noted s)) (sym (get-noted_below f (2 ^ 32) q))))
 
-page_changes : (old new : List (ℕ × Page)) (k n : ℕ) (s : Standing) (p : Page) → k ≡ n / 32 → ((r : ℕ) → lookup (eqb r) new ≡ cond (eqb k r) (Some p) (lookup (eqb r) old)) → ((q : ℕ) → in_page p q ≡ cond (eqb (q % 32) (n % 32)) s (in_kept (lookup (eqb k) old) q)) → (q : ℕ) → in_pages new q ≡ cond (eqb q n) s (in_pages old q)
-page_changes old new k n s p page updates is q =
+-- a page that is put where that of a number was, with another standing of this number alone, gives it alone that
+pub puts_page : (old new : ℕ → Option Page) (k n : ℕ) (s : Standing) (p : Page) → k ≡ n / 32 → ((r : ℕ) → new r ≡ cond (eqb k r) (Some p) (old r)) → ((q : ℕ) → in_page p q ≡ cond (eqb (q % 32) (n % 32)) s (in_kept (old k) q)) → Gives n s (λ q. in_kept (old (q / 32)) q) (λ q. in_kept (new (q / 32)) q)
+puts_page old new k n s p page updates is q =
     ⊎_elim
     (λ (here : k ≡ q / 32).
-    ap (λ (o : Option Page). in_kept o q) (updates (q / 32) ∙ cond-true (eqb k (q / 32)) (Some p) (lookup (eqb (q / 32)) old) (eq-eqb k (q / 32) here))
+    ap (λ (o : Option Page). in_kept o q) (updates (q / 32) ∙ cond-true (eqb k (q / 32)) (Some p) (old (q / 32)) (eq-eqb k (q / 32) here))
     ∙ (is q
-    ∙ (ap (λ (r : ℕ). cond (eqb (q % 32) (n % 32)) s (in_kept (lookup (eqb r) old) q)) here
-    ∙ ap (λ (b : Bool). cond b s (in_pages old q)) (same_place q n (sym page ∙ here)))))
+    ∙ (ap (λ (r : ℕ). cond (eqb (q % 32) (n % 32)) s (in_kept (old r) q)) here
+    ∙ ap (λ (b : Bool). cond b s (in_kept (old (q / 32)) q)) (same_place q n (sym page ∙ here)))))
     (λ (there : k ≡ q / 32 → ⊥).
-    ap (λ (o : Option Page). in_kept o q) (updates (q / 32) ∙ cond-false (eqb k (q / 32)) (Some p) (lookup (eqb (q / 32)) old) (ne_eqb k (q / 32) there))
-    ∙ sym (cond-false (eqb q n) s (in_pages old q) (ne_eqb q n (λ e. there (page ∙ ap (λ (m : ℕ). m / 32) (sym e))))))
+    ap (λ (o : Option Page). in_kept o q) (updates (q / 32) ∙ cond-false (eqb k (q / 32)) (Some p) (old (q / 32)) (ne_eqb k (q / 32) there))
+    ∙ sym (cond-false (eqb q n) s (in_kept (old (q / 32)) q) (ne_eqb q n (λ e. there (page ∙ ap (λ (m : ℕ). m / 32) (sym e))))))
     (cases_eq k (q / 32)) where
       same_place : (q n : ℕ) → n / 32 ≡ q / 32 → eqb (q % 32) (n % 32) ≡ eqb q n
       same_place q n here =
@@ -101,35 +100,113 @@ page_changes old new k n s p page updates is q =
           ∙ sym (ne_eqb q n other))
           (cases_eq q n)
 
--- a page that is put where that of a number was, with another standing of this number alone, changes it alone
-pub put_page : (old new : List (ℕ × Page)) (k n : ℕ) (s : Standing) (o : Option Page) (p : Page) → n < 2 ^ 32 → k ≡ n / 32 → o ≡ lookup (eqb k) old → ((r : ℕ) → lookup (eqb r) new ≡ cond (eqb k r) (Some p) (lookup (eqb r) old)) → ((q : ℕ) → in_page p q ≡ cond (eqb (q % 32) (n % 32)) s (in_kept o q)) → ChangesAt n (noted s) (noted_below (in_pages old) (2 ^ 32)) (noted_below (in_pages new) (2 ^ 32))
-put_page old new k n s o p small page was updates is =
-    numbers_change old new n s small
-    (page_changes old new k n s p page updates
-    (λ q. is q ∙ ap (λ (o : Option Page). cond (eqb (q % 32) (n % 32)) s (in_kept o q)) was))
-
--- where its page is missing a number is known only to be forgotten
-pub forgotten : (ps : List (ℕ × Page)) (k n : ℕ) (s : Standing) → n < 2 ^ 32 → k ≡ n / 32 → None ≡ lookup (eqb k) ps → IsSome (value_at (noted_below (in_pages ps) (2 ^ 32)) n) ⊎ (s ≡ standing.Unused) → s ≡ standing.Unused
-forgotten ps k n s small page is known =
+-- to forget a number that stands nowhere changes nothing
+pub forgets : (f : ℕ → Standing) (n : ℕ) (s : Standing) → f n ≡ standing.Unused → IsSome (noted (f n)) ⊎ (s ≡ standing.Unused) → Gives n s f f
+forgets f n s missing known q =
     ⊎_elim
-    (λ (there : IsSome (value_at (noted_below (in_pages ps) (2 ^ 32)) n)). absurd (none (subst IsSome (at_number ps k n None small page is) there)))
-    (λ (unused : s ≡ standing.Unused). unused)
-    known where
+    (λ (same : q ≡ n). ap f same ∙ (missing ∙ (sym unused ∙ sym (cond-true (eqb q n) s (f q) (eq-eqb q n same)))))
+    (λ (other : q ≡ n → ⊥). sym (cond-false (eqb q n) s (f q) (ne_eqb q n other)))
+    (cases_eq q n) where
       none : IsSome (noted standing.Unused) → ⊥
       none h = cc
 
--- and to forget it changes nothing
-pub stays_forgotten : (ps : List (ℕ × Page)) (k n : ℕ) (s : Standing) → n < 2 ^ 32 → k ≡ n / 32 → None ≡ lookup (eqb k) ps → s ≡ standing.Unused → ChangesAt n (noted s) (noted_below (in_pages ps) (2 ^ 32)) (noted_below (in_pages ps) (2 ^ 32))
-stays_forgotten ps k n s small page is unused =
-    numbers_change ps ps n s small
-    (λ q. ⊎_elim
-    (λ (same : q ≡ n).
-    ap (in_pages ps) same
-    ∙ (ap (λ (k : ℕ). in_kept (lookup (eqb k) ps) n) (sym page)
-    ∙ (ap (λ (o : Option Page). in_kept o n) (sym is)
-    ∙ (sym unused ∙ sym (cond-true (eqb q n) s (in_pages ps q) (eq-eqb q n same))))))
-    (λ (other : q ≡ n → ⊥). sym (cond-false (eqb q n) s (in_pages ps q) (ne_eqb q n other)))
-    (cases_eq q n))
+      unused : s ≡ standing.Unused
+      unused =
+          ⊎_elim
+          (λ (there : IsSome (noted (f n))). absurd (none (subst (λ (t : Standing). IsSome (noted t)) missing there)))
+          (λ (is : s ≡ standing.Unused). is)
+          known
+
+set_same : (ps : List Page) (k : ℕ) (p : Page) → k < length ps → slice_get (slice_set ps k p) k ≡ Some p
+set_same [] k p within = absurd (omega (arith, within))
+set_same (x ∷ ps) zero p within = refl
+set_same (x ∷ ps) (suc k) p within = set_same ps k p (omega (arith, within))
+
+set_other : (ps : List Page) (k r : ℕ) (p : Page) → (r ≡ k → ⊥) → slice_get (slice_set ps k p) r ≡ slice_get ps r
+set_other [] k r p apart = refl
+set_other (x ∷ ps) zero zero p apart = absurd (apart refl)
+set_other (x ∷ ps) zero (suc r) p apart = refl
+set_other (x ∷ ps) (suc k) zero p apart = refl
+set_other (x ∷ ps) (suc k) (suc r) p apart = set_other ps k r p (λ same. apart (ap suc same))
+
+-- a row with one page written anew
+pub get-set : (ps : List Page) (k r : ℕ) (p : Page) → k < length ps → slice_get (slice_set ps k p) r ≡ cond (eqb k r) (Some p) (slice_get ps r)
+get-set ps k r p within =
+    ⊎_elim
+    (λ (same : k ≡ r).
+    ap (λ (m : ℕ). slice_get (slice_set ps k p) m) (sym same)
+    ∙ (set_same ps k p within ∙ sym (cond-true (eqb k r) (Some p) (slice_get ps r) (eq-eqb k r same))))
+    (λ (other : k ≡ r → ⊥).
+    set_other ps k r p (λ e. other (sym e)) ∙ sym (cond-false (eqb k r) (Some p) (slice_get ps r) (ne_eqb k r other)))
+    (cases_eq k r)
+
+-- a row with unused pages behind it
+pub get-more : (ps : List Page) (m : ℕ) (p : Page) (k n : ℕ) → ((q : ℕ) → in_page p q ≡ standing.Unused) → in_kept (slice_get (ps ++ replicate m p) k) n ≡ in_kept (slice_get ps k) n
+get-more [] zero p k n unused = refl
+get-more [] (suc m) p zero n unused = unused n
+get-more [] (suc m) p (suc k) n unused = get-more [] m p k n unused
+get-more (x ∷ ps) m p zero n unused = refl
+get-more (x ∷ ps) m p (suc k) n unused = get-more ps m p k n unused
+
+-- a near number that was used has a page
+pub has_page : (near : List Page) (n : ℕ) → IsSome (noted (in_near near n)) → n / 32 < length near
+has_page near n some =
+    ⊎_elim
+    (λ (within : n / 32 < length near). within)
+    (λ (past : length near ≤ n / 32).
+    absurd (none (subst (λ (o : Option Page). IsSome (noted (in_kept o n))) (slice_get_past near (n / 32) past) some)))
+    (cases_lt (n / 32) (length near)) where
+      none : IsSome (noted standing.Unused) → ⊥
+      none h = cc
+
+-- a row that was filled up with unused pages
+pub same_more : (near : List Page) (k m : ℕ) (p : Page) → length near ≤ k → ((q : ℕ) → in_page p q ≡ standing.Unused) → (q : ℕ) → in_near (take k near ++ replicate m p) q ≡ in_near near q
+same_more near k m p few unused q =
+    ap (λ (ps : List Page). in_near (ps ++ replicate m p) q) (take_all k near few) ∙ get-more near m p (q / 32) q unused
+
+-- how a near number stands, and a far one
+pub near_stands : (near : List Page) (far : List (ℕ × Page)) (n : ℕ) → n < 131072 → in_pages near far n ≡ in_near near n
+near_stands near far n small = cond-true (ltb n 131072) (in_near near n) (in_far far n) (lt-ltb n 131072 small)
+
+pub far_stands : (near : List Page) (far : List (ℕ × Page)) (n : ℕ) → 131072 ≤ n → in_pages near far n ≡ in_far far n
+far_stands near far n large = cond-false (ltb n 131072) (in_near near n) (in_far far n) (le-ltb n 131072 large)
+
+-- where there is no page no number is used
+pub nowhere : (near : List Page) (far : List (ℕ × Page)) (n : ℕ) → near ≡ [] → far ≡ [] → in_pages near far n ≡ standing.Unused
+nowhere near far n no_near no_far =
+    ap (λ (ps : List Page). in_pages ps far n) no_near ∙ (ap (λ (ps : List (ℕ × Page)). in_pages [] ps n) no_far ∙ both (ltb n 131072)) where
+      both : (b : Bool) → cond b standing.Unused standing.Unused ≡ standing.Unused
+      both true = refl
+      both false = refl
+
+-- what is given to a near number, and to a far one
+pub gives_near : (near new : List Page) (far : List (ℕ × Page)) (n : ℕ) (s : Standing) → n < 131072 → Gives n s (in_near near) (in_near new) → Gives n s (in_pages near far) (in_pages new far)
+gives_near near new far n s small gives q =
+    ⊎_elim
+    (λ (low : q < 131072). by (ltb q 131072) (lt-ltb q 131072 low))
+    (λ (high : 131072 ≤ q). beside (ltb q 131072) (le-ltb q 131072 high) (ne_eqb q n (λ e. omega (arith, e, small, high))))
+    (cases_lt q 131072) where
+      by : (b : Bool) → b ≡ true → cond b (in_near new q) (in_far far q) ≡ cond (eqb q n) s (cond b (in_near near q) (in_far far q))
+      by true e = gives q
+      by false e = absurd (false≢true e)
+
+      beside : (b : Bool) → b ≡ false → eqb q n ≡ false → cond b (in_near new q) (in_far far q) ≡ cond (eqb q n) s (cond b (in_near near q) (in_far far q))
+      beside true e other = absurd (false≢true (sym e))
+      beside false e other = sym (cond-false (eqb q n) s (in_far far q) other)
+
+pub gives_far : (near : List Page) (far new : List (ℕ × Page)) (n : ℕ) (s : Standing) → 131072 ≤ n → Gives n s (in_far far) (in_far new) → Gives n s (in_pages near far) (in_pages near new)
+gives_far near far new n s large gives q =
+    ⊎_elim
+    (λ (low : q < 131072). beside (ltb q 131072) (lt-ltb q 131072 low) (ne_eqb q n (λ e. omega (arith, e, large, low))))
+    (λ (high : 131072 ≤ q). by (ltb q 131072) (le-ltb q 131072 high))
+    (cases_lt q 131072) where
+      by : (b : Bool) → b ≡ false → cond b (in_near near q) (in_far new q) ≡ cond (eqb q n) s (cond b (in_near near q) (in_far far q))
+      by true e = absurd (false≢true (sym e))
+      by false e = gives q
+
+      beside : (b : Bool) → b ≡ true → eqb q n ≡ false → cond b (in_near near q) (in_far new q) ≡ cond (eqb q n) s (cond b (in_near near q) (in_far far q))
+      beside true e other = sym (cond-false (eqb q n) s (in_near near q) other)
+      beside false e other = absurd (false≢true e)
 
 -- one map of pages has one list of entries
 pub same_entries : {S : Type 0} (m n : HashMap ℕ Page S) → m ≡ n → m.entries ≡ n.entries

@@ -1,5 +1,5 @@
 -- The standings of all numbers, kept by pages of numbers that follow one another.
-use Rattle.std.specs.Prelude.{◌+◌, ◌^◌, ◌/◌, ◌%◌, ℕ, zero, suc, List, Option, Some, None, nat_eq, ◌==◌, unwrap_or}
+use Rattle.std.specs.Prelude.{◌≡◌, ◌+◌, ◌^◌, ◌/◌, ◌%◌, ℕ, zero, suc, List, Option, Some, None, nat_eq, nat_lt, ◌==◌, if◌then◌else◌, slice_get, unwrap_or}
 use Rattle.std.specs.FinMap as map
 use Rattle.std.specs.Map.{lookup}
 use Rattle.std.specs.Int.{bit_at}
@@ -19,9 +19,21 @@ abbrev pub in_kept : Option Page → ℕ → Standing
 in_kept None n = standing.Unused
 in_kept (Some p) n = in_page p n
 
--- how a number stands in pages
-abbrev pub in_pages : List (ℕ × Page) → ℕ → Standing
-in_pages ps n = in_kept (lookup (nat_eq (n / size.PAGE_LEN)) ps) n
+-- how a number stands in pages of which the first stands first
+abbrev pub in_near : List Page → ℕ → Standing
+in_near ps n = in_kept (slice_get ps (n / size.PAGE_LEN)) n
+
+-- and in pages by their indexes
+abbrev pub in_far : List (ℕ × Page) → ℕ → Standing
+in_far ps n = in_kept (lookup (nat_eq (n / size.PAGE_LEN)) ps) n
+
+-- a near number stands in the former, any other in the latter
+abbrev pub in_pages : List Page → List (ℕ × Page) → ℕ → Standing
+in_pages near far n = if nat_lt n size.NEAR then in_near near n else in_far far n
+
+-- one number stands so, and all others as before
+abbrev pub Gives : ℕ → Standing → (ℕ → Standing) → (ℕ → Standing) → Type 0
+Gives n s before behind = (q : ℕ) → behind q ≡ (if q == n then s else before q)
 
 -- what is known of a number that stands so: nothing of one that was never used
 abbrev pub noted : Standing → Option Standing

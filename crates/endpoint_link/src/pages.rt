@@ -1,10 +1,11 @@
-// How all numbers of endpoints stand, kept by pages of numbers that follow one another.
+// How all numbers of endpoints stand, kept by pages of numbers that follow one another. The pages of low numbers, which
+// clients mostly pick, stand in a row, and none of them is looked up.
 
-ghost use Rattle.std.specs.Prelude.{◌≡◌, ◌/◌, ◌%◌, ◌<◌, ◌==◌, ◌≢◌, ◌⊎◌, ℕ, None, IsSome, OnOk, OnErr, if◌then◌else◌, unwrap_or};
+ghost use Rattle.std.specs.Prelude.{◌≡◌, ◌/◌, ◌%◌, ◌<◌, ◌==◌, ◌≢◌, ◌⊎◌, ℕ, None, IsSome, OnOk, OnErr, if◌then◌else◌, length, unwrap_or};
 ghost use Rattle.std.specs.Int.{bit_at};
 ghost use Rattle.endpoint_link.specs.Standings.{standing_bits, standing_from};
 ghost use Rattle.endpoint_link.specs.Tables.{value_at, ChangesAt};
-ghost use Rattle.endpoint_link.specs.Pages.{in_page, noted};
+ghost use Rattle.endpoint_link.specs.Pages.{Gives, in_far, in_near, in_page, noted};
 
 use crate::kinds::Standing;
 use fidl_names::NoMemory;
@@ -14,6 +15,9 @@ use std::marker::Model;
 
 /// How many numbers a page has.
 const PAGE_LEN: u32 = 32;
+
+/// Numbers below this one are near. Their pages take at most 64 KiB.
+const NEAR: u32 = 131_072;
 
 /// How the numbers of a page stand, by two bits each: whether it is live, and whether it is closed.
 #[derive(Clone, Copy)]
@@ -108,10 +112,88 @@ impl Page {
     }
 }
 
+/// How a near number stands.
+fn at_near(near: &Vec<Page>, number: u32) -> Standing
+    ensures { result ≡ in_near near.now.items number }
+{
+    match near.get(page_of(number) as usize) {
+        Some(page) => page.at(number),
+        None => Standing::Unused,
+    }
+}
+
+/// How a far number stands.
+fn at_far(far: &HashMap<u32, Page>, number: u32) -> Standing
+    ensures { result ≡ in_far far.now.entries number }
+{
+    match far.get(&page_of(number)) {
+        Some(page) => page.at(number),
+        None => Standing::Unused,
+    }
+}
+
+/// Gives a near number a standing.
+fn put_near(near: &mut Vec<Page>, number: u32, standing: Standing) -> Result<(), NoMemory>
+    ensures put { OnOk result (Gives number standing (in_near near.old.items) (in_near near.new.items)) }
+    ensures err { OnErr result (near.new.items ≡ near.old.items) }
+{
+    let index = page_of(number) as usize;
+    if index >= near.len() {
+        near.resize(index + 1, Page::new())?;
+    }
+    replace_near(near, number, standing);
+    Ok(())
+}
+
+/// Gives a far number a standing.
+fn put_far(far: &mut HashMap<u32, Page>, number: u32, standing: Standing) -> Result<(), NoMemory>
+    ensures put { OnOk result (Gives number standing (in_far far.old.entries) (in_far far.new.entries)) }
+    ensures err { OnErr result (far.new.entries ≡ far.old.entries) }
+{
+    let key = page_of(number);
+    if let Some(page) = far.get_mut(&key) {
+        page.replace(number, standing);
+        return Ok(());
+    }
+    let mut page = Page::new();
+    page.replace(number, standing);
+    far.insert(key, page)?;
+    Ok(())
+}
+
+/// Gives a near number that has a page another standing, or forgets any, and gives back how it stood.
+fn replace_near(near: &mut Vec<Page>, number: u32, standing: Standing) -> Standing
+    requires known { (number / PAGE_LEN < length near.old.items) ⊎ (standing ≡ Standing.Unused) }
+    ensures was { result ≡ in_near near.old.items number }
+    ensures is { Gives number standing (in_near near.old.items) (in_near near.new.items) }
+{
+    let index = page_of(number) as usize;
+    if index >= near.len() {
+        return Standing::Unused;
+    }
+    let mut page = near[index];
+    let was = page.replace(number, standing);
+    near[index] = page;
+    was
+}
+
+/// Gives a far number that was used another standing, or forgets any, and gives back how it stood.
+fn replace_far(far: &mut HashMap<u32, Page>, number: u32, standing: Standing) -> Standing
+    requires known { IsSome (noted (in_far far.old.entries number)) ⊎ (standing ≡ Standing.Unused) }
+    ensures was { result ≡ in_far far.old.entries number }
+    ensures is { Gives number standing (in_far far.old.entries) (in_far far.new.entries) }
+{
+    match far.get_mut(&page_of(number)) {
+        Some(page) => page.replace(number, standing),
+        None => Standing::Unused,
+    }
+}
+
 /// The standings of all numbers that were used.
 #[derive(Drop)]
 pub(crate) struct Pages {
-    pages: HashMap<u32, Page>,
+    near: Vec<Page>,
+    far: HashMap<u32, Page>,
 }
 
 impl Model for Pages {
@@ -127,7 +209,7 @@ impl Model for Pages {
 
     ghost coded = { map.code coded_ℕ standing_code };
 
-    ghost view = { λ p. noted_below (in_pages p.pages.entries) (2 ^ 32) };
+    ghost view = { λ p. noted_below (in_pages p.near.items p.far.entries) (2 ^ 32) };
 }
 
 impl Pages {
@@ -135,7 +217,8 @@ impl Pages {
         ensures { (q : ℕ) → value_at result q ≡ None }
     {
         Pages {
-            pages: HashMap::new(alloc),
+            near: Vec::new(alloc),
+            far: HashMap::new(alloc),
         }
     }
 
@@ -143,10 +226,10 @@ impl Pages {
     pub(crate) fn at(&self, number: u32) -> Standing
         ensures { result ≡ unwrap_or (value_at self.now number) Standing.Unused }
     {
-        match self.pages.get(&page_of(number)) {
-            Some(page) => page.at(number),
-            None => Standing::Unused,
+        if number < NEAR {
+            return at_near(&self.near, number);
         }
+        at_far(&self.far, number)
     }
 
     /// Gives any number a standing.
@@ -154,15 +237,10 @@ impl Pages {
         ensures put { OnOk result (ChangesAt number (noted standing) self.old self.new) }
         ensures err { OnErr result (self.new ≡ self.old) }
     {
-        let key = page_of(number);
-        if let Some(page) = self.pages.get_mut(&key) {
-            page.replace(number, standing);
-            return Ok(());
+        if number < NEAR {
+            return put_near(&mut self.near, number, standing);
         }
-        let mut page = Page::new();
-        page.replace(number, standing);
-        self.pages.insert(key, page)?;
-        Ok(())
+        put_far(&mut self.far, number, standing)
     }
 
     /// Gives a number that was used another standing, or forgets any number, and gives back how it stood.
@@ -171,9 +249,9 @@ impl Pages {
         ensures was { result ≡ unwrap_or (value_at self.old number) Standing.Unused }
         ensures is { ChangesAt number (noted standing) self.old self.new }
     {
-        match self.pages.get_mut(&page_of(number)) {
-            Some(page) => page.replace(number, standing),
-            None => Standing::Unused,
+        if number < NEAR {
+            return replace_near(&mut self.near, number, standing);
         }
+        replace_far(&mut self.far, number, standing)
     }
 }

@@ -1,12 +1,14 @@
-use Rattle.std.proofs.Common.{◌^◌, ℕ, List, cond, ltb, ap, ◌∙◌}
+use Rattle.std.proofs.Common.{◌^◌, cond, ltb, ap, ◌∙◌}
 use Rattle.std.specs.Prelude.{None}
-use Rattle.endpoint_link.specs.declared.pages.Page.{Page}
+use Rattle.endpoint_link.specs.declared.kinds.Standing.{Standing}
 use Rattle.endpoint_link.specs.Pages.{in_pages, noted}
-use Rattle.endpoint_link.proofs.Paged.{get-noted_below, nothing}
+use Rattle.endpoint_link.proofs.Paged.{get-noted_below, nothing, nowhere}
 use Rattle.endpoint_link.proofs.pages.Pages.new.Goals as goal
 
 pub returns : goal.returns
 returns c = λ q.
-    get-noted_below (in_pages c.new.result.entries) (2 ^ 32) q
-    ∙ (ap (λ (ps : List (ℕ × Page)). cond (ltb q (2 ^ 32)) (noted (in_pages ps q)) None) c.new.ensures.empty
+    let near = c.new.result.items in
+    let far = c.new-2.result.entries in
+    get-noted_below (in_pages near far) (2 ^ 32) q
+    ∙ (ap (λ (s : Standing). cond (ltb q (2 ^ 32)) (noted s) None) (nowhere near far q c.new.ensures.items c.new-2.ensures.empty)
     ∙ nothing (ltb q (2 ^ 32)))

@@ -1,48 +1,70 @@
-use Rattle.std.proofs.Common.{◌≡◌, ◌^◌, ◌⊎◌, ℕ, List, eqb, sym, ap, ◌∙◌, subst, refl}
-use Rattle.std.specs.Prelude.{Some, None, IsSome, unwrap_or}
-use Rattle.std.specs.Map.{lookup}
+use Rattle.std.proofs.Common.{◌≡◌, ◌^◌, ◌⊎◌, ap, ◌∙◌, arith, inl, inr, subst, sym, ⊎_elim}
+use Rattle.std.specs.Prelude.{IsSome, Option, unwrap_or}
 use Rattle.endpoint_link.specs.declared.kinds.Standing.{Standing}
 use Rattle.endpoint_link.specs.declared.kinds.Standing.TheVariants as standing
-use Rattle.endpoint_link.specs.declared.pages.Page.{Page}
-use Rattle.endpoint_link.specs.declared.pages.Pages.TheInside.{Inside}
 use Rattle.endpoint_link.specs.Tables.{Table, ChangesAt, value_at}
-use Rattle.endpoint_link.specs.Pages.{noted, noted_below, in_pages}
-use Rattle.endpoint_link.proofs.Paged.{on_page, put_page, same_entries, forgotten, stays_forgotten}
+use Rattle.endpoint_link.specs.Pages.{in_pages, noted, noted_below}
+use Rattle.endpoint_link.proofs.Paged.{at_number, changes, far_stands, gives_far, gives_near, has_page, near_stands, stands}
 use Rattle.endpoint_link.proofs.pages.Pages.replace.Goals as goal
-use Rattle.endpoint_link.proofs.pages.Pages.replace.Goals.{in-Some, in-None}
+
+pub replace_near-requires : goal.replace_near-requires
+replace_near-requires c =
+    let n = c.args.number in
+    let near = c.self.inside.near.items in
+    let far = c.self.inside.far.entries in
+    let s = c.args.standing in
+    let known = subst (λ (t : Table Standing). IsSome (value_at t n) ⊎ (s ≡ standing.Unused)) (sym c.self.view_is) c.requires.known in
+    let noted_is = at_number (in_pages near far) n c.ranges.number.fits ∙ ap noted (near_stands near far n (omega (arith, c.if-number-lt-NEAR.true))) in
+    record {
+      known =
+          ⊎_elim
+          (λ (some : IsSome (value_at (noted_below (in_pages near far) (2 ^ 32)) n)). inl (has_page near n (subst (λ (o : Option Standing). IsSome o) noted_is some)))
+          (λ (unused : s ≡ standing.Unused). inr unused)
+          known;
+    }
+
+pub returns-then-number-lt-NEAR-clause-was : goal.returns-then-number-lt-NEAR-clause-was
+returns-then-number-lt-NEAR-clause-was c =
+    let n = c.args.number in
+    let near = c.self.inside.near.items in
+    let far = c.self.inside.far.entries in
+    subst (λ (t : Table Standing). c.replace_near.result ≡ unwrap_or (value_at t n) standing.Unused) c.self.view_is
+    (c.replace_near.ensures.was ∙ (sym (near_stands near far n (omega (arith, c.if-number-lt-NEAR.true))) ∙ sym (stands (in_pages near far) n c.ranges.number.fits)))
+
+pub returns-then-number-lt-NEAR-clause-is : goal.returns-then-number-lt-NEAR-clause-is
+returns-then-number-lt-NEAR-clause-is c =
+    let n = c.args.number in
+    let near = c.self.inside.near.items in
+    let far = c.self.inside.far.entries in
+    let new = c.replace_near.new.near.items in
+    subst (λ (t : Table Standing). ChangesAt n (noted c.args.standing) t (noted_below (in_pages new far) (2 ^ 32))) c.self.view_is
+    (changes (in_pages near far) (in_pages new far) n c.args.standing c.ranges.number.fits
+    (gives_near near new far n c.args.standing (omega (arith, c.if-number-lt-NEAR.true)) c.replace_near.ensures.is))
+
+pub replace_far-requires : goal.replace_far-requires
+replace_far-requires c =
+    let n = c.args.number in
+    let near = c.self.inside.near.items in
+    let far = c.self.inside.far.entries in
+    let s = c.args.standing in
+    let known = subst (λ (t : Table Standing). IsSome (value_at t n) ⊎ (s ≡ standing.Unused)) (sym c.self.view_is) c.requires.known in
+    let noted_is = at_number (in_pages near far) n c.ranges.number.fits ∙ ap noted (far_stands near far n (omega (arith, c.if-number-lt-NEAR.false))) in
+    record { known = subst (λ (o : Option Standing). IsSome o ⊎ (s ≡ standing.Unused)) noted_is known }
 
 pub returns-clause-was : goal.returns-clause-was
 returns-clause-was c =
-    let ps = c.self.inside.pages.entries in
     let n = c.args.number in
-    let k = c.page_of.result in
-    let small = c.ranges.number.fits in
-    subst (λ (t : Table Standing). c.match-get_mut.result ≡ unwrap_or (value_at t n) standing.Unused) c.self.view_is
-    (elim c.match-get_mut.branch [
-      | in-Some w ↦ w.result-is ∙ (w.replace.ensures.was ∙ sym (on_page ps k n (Some w.in-Some.page.now) small c.page_of.ensures w.in-Some.ensures.value))
-      | in-None w ↦ w.result-is ∙ sym (on_page ps k n None small c.page_of.ensures w.in-None.ensures.value)
-    ])
+    let near = c.self.inside.near.items in
+    let far = c.self.inside.far.entries in
+    subst (λ (t : Table Standing). c.replace_far.result ≡ unwrap_or (value_at t n) standing.Unused) c.self.view_is
+    (c.replace_far.ensures.was ∙ (sym (far_stands near far n (omega (arith, c.if-number-lt-NEAR.false))) ∙ sym (stands (in_pages near far) n c.ranges.number.fits)))
 
 pub returns-clause-is : goal.returns-clause-is
 returns-clause-is c =
-    let ps = c.self.inside.pages.entries in
     let n = c.args.number in
-    let s = c.args.standing in
-    let k = c.page_of.result in
-    let small = c.ranges.number.fits in
-    let table = λ (i : Inside). noted_below (in_pages i.pages.entries) (2 ^ 32) in
-    subst (λ (t : Table Standing). ChangesAt n (noted s) t (table c.match-get_mut.self-inside)) c.self.view_is
-    (elim c.match-get_mut.branch [
-      | in-Some w ↦
-          let there : IsSome (lookup (eqb k) ps) = subst IsSome w.in-Some.ensures.value refl in
-          let new = c.get_mut.follows.lender w.replace.new.self in
-          let updates = ((c.get_mut.follows.holds w.replace.new.self).3 there).0 in
-          subst (λ (i : Inside). ChangesAt n (noted s) (table c.self.inside) (table i)) (sym w.self-inside-is)
-          (put_page ps new.entries k n s (Some w.in-Some.page.now) w.replace.new.self small c.page_of.ensures w.in-Some.ensures.value updates w.replace.ensures.is)
-      | in-None w ↦
-          let missing = w.in-None.ensures.value in
-          let known = subst (λ (t : Table Standing). IsSome (value_at t n) ⊎ (s ≡ standing.Unused)) (sym c.self.view_is) c.requires.known in
-          let same = ap (λ (i : Inside). i.pages.entries) w.self-inside-is ∙ same_entries _ _ c.get_mut.follows.holds-at-none in
-          subst (λ (qs : List (ℕ × Page)). ChangesAt n (noted s) (table c.self.inside) (noted_below (in_pages qs) (2 ^ 32))) (sym same)
-          (stays_forgotten ps k n s small c.page_of.ensures missing (forgotten ps k n s small c.page_of.ensures missing known))
-    ])
+    let near = c.self.inside.near.items in
+    let far = c.self.inside.far.entries in
+    let new = c.replace_far.new.far.entries in
+    subst (λ (t : Table Standing). ChangesAt n (noted c.args.standing) t (noted_below (in_pages near new) (2 ^ 32))) c.self.view_is
+    (changes (in_pages near far) (in_pages near new) n c.args.standing c.ranges.number.fits
+    (gives_far near far new n c.args.standing (omega (arith, c.if-number-lt-NEAR.false)) c.replace_far.ensures.is))
