@@ -165,6 +165,7 @@ fn may_travel<L: LookUp>(look_ups: &L, handle: u32) -> bool
 }
 
 /// Whether each handle may travel, and none stands twice.
+#[inline(always)]
 fn all_may_travel<L: LookUp>(look_ups: &L, handles: HandleBytes<'_>) -> bool
     ensures { result ≡ all_may_travel (L.tells look_ups.now) (handle_numbers handles.entry) }
 {

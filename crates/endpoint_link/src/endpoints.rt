@@ -114,6 +114,7 @@ impl Endpoints {
     }
 
     /// Lets a message with these handles wait.
+    #[inline(always)]
     fn take_message(&mut self, handles: HandleBytes<'_>) -> Result<(), AdmitFault>
         requires travel { all_may_travel (look_ups self.old) (handle_numbers handles) ≡ true }
         requires few { self.old.live + count_by is_client (handle_numbers handles) ≤ MAX_LIVE }
