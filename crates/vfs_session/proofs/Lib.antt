@@ -33,3 +33,4 @@ pub mod Alone
 pub mod Taken
 pub mod Halves
 pub mod OneMore
+pub mod ReadTaken

@@ -1,6 +1,6 @@
 //! The serving of the first entry of an endpoint.
 
-ghost use Rattle.std.specs.Prelude.{◌≡◌, ◌^◌, ◌∷◌, [], ℕ, true, false, All, IfOk, List, OnOk};
+ghost use Rattle.std.specs.Prelude.{◌≡◌, ◌^◌, ◌∷◌, [], ℕ, true, false, All, IfOk, IfSome, List, None, OnOk};
 ghost use Rattle.endpoint_link.specs.Standings.{is_live, standing_of};
 ghost use Rattle.message_queues.specs.Dying.{AreDeaths};
 ghost use Rattle.message_queues.specs.Queues.{IsReady, count};
@@ -21,7 +21,7 @@ use endpoint_link::Outbox;
 use fidl_names::{MAX_WAITING, NoMemory};
 use message_queues::{Lent, Sent};
 use std::mem;
-use vfs_server::Fate;
+use vfs_server::{Fate, read_in};
 
 /// The most bytes of a small room, as most messages need.
 const SMALL_ROOM: usize = 256;
@@ -36,9 +36,60 @@ impl Session {
         ensures begins { Begins outbox.old outbox.new }
     {
         let (server, sent) = self.queues.take(endpoint)?;
-        self.serve_taken(endpoint, server, &sent.lend(), outbox)?;
+        self.serve_sent(endpoint, server, &sent.lend(), outbox)?;
         self.keep_room(sent);
         Ok(())
+    }
+
+    /// Serves what was taken from an endpoint, as `serve_taken` does. Most of it are Reads of files, and have a way
+    /// of their own.
+    #[inline(always)]
+    fn serve_sent(
+        &mut self,
+        endpoint: u32,
+        server: u32,
+        sent: &Lent<'_>,
+        outbox: &mut Outbox,
+    ) -> Result<(), NoMemory>
+        requires taken { (before : World) × (IsRunning (2 ^ 61) before × Takes before endpoint server sent.now (whole self.old)) }
+        ensures served { (before : World) → IsRunning (2 ^ 61) before → Takes before endpoint server sent.now (whole self.old) →
+            OnOk result (ServesOne (λ one. one ≡ endpoint) before (whole self.new) outbox.old outbox.new) }
+        ensures running { (most : ℕ) (before : World) → IsRunning (2 ^ 61) before → IsRunning most before → Takes before endpoint server sent.now (whole self.old) →
+            OnOk result (IsRunning most (whole self.new)) }
+        ensures begins { Begins outbox.old outbox.new }
+    {
+        match self.serve_read(endpoint, server, sent, outbox) {
+            Some(read) => read,
+            None => self.serve_taken(endpoint, server, sent, outbox),
+        }
+    }
+
+    /// Serves a Read of a file that was taken from an endpoint at this server. Nothing becomes of anybody by it, so
+    /// that nothing is settled. For anything else `None`, and nothing is done.
+    #[inline(always)]
+    fn serve_read(
+        &mut self,
+        endpoint: u32,
+        server: u32,
+        sent: &Lent<'_>,
+        outbox: &mut Outbox,
+    ) -> Option<Result<(), NoMemory>>
+        requires taken { (before : World) × (IsRunning (2 ^ 61) before × Takes before endpoint server sent.now (whole self.old)) }
+        ensures served { (before : World) → IsRunning (2 ^ 61) before → Takes before endpoint server sent.now (whole self.old) →
+            IfSome result (λ read. OnOk read (ServesOne (λ one. one ≡ endpoint) before (whole self.new) outbox.old outbox.new)) }
+        ensures unchanged { result ≡ None → (whole self.new ≡ whole self.old) × (outbox.new ≡ outbox.old) }
+        ensures begins { Begins outbox.old outbox.new }
+    {
+        let (bytes, handles) = sent.message()?;
+        if !handles.is_empty() {
+            return None;
+        }
+        let (txid, count) = read_in(&self.ordinals, bytes, &[])?;
+        let one = &mut self.servers[server as usize];
+        let read = one.read(&self.ordinals, endpoint, txid, count, &mut self.out, outbox)?;
+        self.endpoints.served();
+        self.places += 1;
+        Some(read)
     }
 
     /// Serves what was taken from an endpoint that is bound at this server, and was the first that waited
