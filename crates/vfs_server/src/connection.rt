@@ -21,7 +21,6 @@ use crate::answers::{answer, answer_fault, put_bare_reply};
 use crate::asking::Asking;
 use crate::conn::Conn;
 use crate::fate::Fate;
-use crate::reading::read_in;
 use crate::tokens::Tokens;
 use conn_rules::{Birth, Changes, Room, Served};
 use endpoint_link::Outbox;
@@ -150,61 +149,6 @@ impl Connection {
         match conn.serve(ordinals, graph, room, txid, &Request::Read { count }, out) {
             Served::Reply => Some(put_bare_reply(endpoint, out, outbox)),
             _ => unreachable!(),
-        }
-    }
-
-    /// The transaction id and the count of a message that asks a file for a Read; `None` for any other, and
-    /// where it is a connection to something else.
-    pub fn read_in(
-        &self,
-        ordinals: &Ordinals,
-        bytes: &[u8],
-        handles: &[Handle],
-    ) -> Option<(u32, u64)>
-        ensures file { IfSome result (λ asked. self.now.birth.protocol ≡ Protocol.File) }
-        ensures read { IfSome result (λ asked. request_of self.now.birth.protocol bytes.now handles.now ≡ Ok (asked.0, read asked.1)) }
-        ensures txid { IfSome result (λ asked. 0 < asked.0) }
-    {
-        match &self.conn {
-            Conn::File(_) => read_in(ordinals, bytes, handles),
-            Conn::Directory(_) | Conn::Node(_) | Conn::Echo(_) => None,
-        }
-    }
-
-    /// Serves a Read of a file, as any message is served.
-    #[inline(always)]
-    pub fn serve_read(
-        &mut self,
-        asking: &Asking<'_>,
-        graph: &mut Graph,
-        txid: u32,
-        count: u64,
-        out: &mut Out,
-        outbox: &mut Outbox,
-    ) -> Result<Fate, NoMemory>
-        requires tree { HasTree graph.old }
-        requires node { CanBeBound graph.old self.old.birth }
-        requires protocol { self.old.birth.protocol ≡ Protocol.File }
-        requires txid { 0 < txid }
-        ensures answers { (server : ℕ) (moment : Moment) → IsAskedAt server asking.now graph.old self.old moment →
-            IfOk result (λ fate. Answers moment (outcome_of_read moment (Ok (txid, read count))) (record { fate = fate; told = nothing_told }) out.new self.new graph.old graph.new outbox.old outbox.new) }
-        ensures tells { IfOk result (λ fate. CanTell (record { fate = fate; told = nothing_told }) self.new outbox.old outbox.new) }
-        ensures holds { KeepsHolds self.old self.new graph.old graph.new }
-        ensures tree { HasTree graph.new }
-        ensures no_memory { OnErr result (outbox.new ≡ outbox.old) }
-    {
-        match self.read(
-            asking.ordinals,
-            asking.endpoint,
-            graph,
-            txid,
-            count,
-            out,
-            outbox,
-        ) {
-            Some(Ok(())) => Ok(Fate::Stays),
-            Some(Err(_)) => Err(NoMemory),
-            None => unreachable!(),
         }
     }
 

@@ -117,12 +117,7 @@ impl Connections {
         let Some(connection) = self.kept.get_mut(&asking.endpoint) else {
             return Ok(Fate::Stays);
         };
-        // Most messages are Reads of files, and are served by code of their own.
-        if let Some((txid, count)) = connection.read_in(asking.ordinals, bytes, handles) {
-            return connection.serve_read(asking, graph, txid, count, out, outbox);
-        }
-        let asking = *asking;
-        connection.serve(&asking, graph, tokens, bytes, handles, out, outbox, changes)
+        connection.serve(asking, graph, tokens, bytes, handles, out, outbox, changes)
     }
 
     /// Serves a Read of so many bytes on the one of an endpoint, where that is to a file. No other changes. Where

@@ -16,10 +16,6 @@ pub serve-requires-clause-node : goal.serve-requires-clause-node
 serve-requires-clause-node c =
     c.requires.node c.in-Some.connection.now (looked_up c.self.inside.kept.entries c.args.self.now c.args.asking.now.endpoint (Some c.in-Some.connection.now) c.self.view_is c.in-Some.ensures.value)
 
-pub serve_read-requires-clause-node : goal.serve_read-requires-clause-node
-serve_read-requires-clause-node c =
-    c.requires.node c.in-Some.connection.now (looked_up c.self.inside.kept.entries c.args.self.now c.args.asking.now.endpoint (Some c.in-Some.connection.now) c.self.view_is c.in-Some.ensures.value)
-
 pub returns-clause-served : goal.returns-clause-served
 returns-clause-served c old is =
     let endpoint = c.args.asking.now.endpoint in
@@ -38,46 +34,12 @@ returns-clause-served c old is =
           same c.serve.ensures.answers,
     )
 
-pub returns-in-Some-read_in-clause-served : goal.returns-in-Some-read_in-clause-served
-returns-in-Some-read_in-clause-served c old is =
-    let endpoint = c.args.asking.now.endpoint in
-    let entries = c.self.inside.kept.entries in
-    let new = c.serve_read.new.self in
-    let same = is_found entries c.args.self.now endpoint c.in-Some.connection.now old c.self.view_is c.in-Some.ensures.value is in
-    let there : IsSome (lookup (eqb endpoint) entries) = subst IsSome c.in-Some.ensures.value refl in (
-      new,
-      subst (λ (was : Connection). KeepsHolds was new c.args.graph.now c.serve_read.new.graph) same c.serve_read.ensures.holds,
-      put_back entries (c.get_mut.follows.lender new).entries c.args.self.now endpoint new c.self.view_is ((c.get_mut.follows.holds new).3 there).0,
-      subst (λ (told : List Happening). IfOk c.serve_read.result (λ fate. CanTell (record { fate = fate; told = told }) new c.args.outbox.now c.serve_read.new.outbox))
-          (sym c.requires.none) c.serve_read.ensures.tells,
-      subst
-          (λ (was : Connection). (server : ℕ) (moment : Moment) → IsAskedAt server c.args.asking.now c.args.graph.now was moment →
-          AreNamed c.args.tokens.now (numbers_of c.args.handles.now) moment.directory →
-          IfOk c.serve_read.result (λ fate. Answers moment (outcome_of_read moment (request_of was.birth.protocol c.args.bytes.now c.args.handles.now)) (done_with fate c.args.changes.now) c.serve_read.new.out new c.args.graph.now c.serve_read.new.graph c.args.outbox.now c.serve_read.new.outbox))
-          same
-          (λ server moment asks named.
-          subst
-          (λ read. IfOk c.serve_read.result (λ fate. Answers moment (outcome_of_read moment read) (done_with fate c.args.changes.now) c.serve_read.new.out new c.args.graph.now c.serve_read.new.graph c.args.outbox.now c.serve_read.new.outbox))
-          (sym c.in-Some-read_in.ensures.read)
-          (subst
-          (λ (told : List Happening). IfOk c.serve_read.result (λ fate. Answers moment (outcome_of_read moment (Ok (c.in-Some-read_in.txid, read c.in-Some-read_in.count))) (record { fate = fate; told = told }) c.serve_read.new.out new c.args.graph.now c.serve_read.new.graph c.args.outbox.now c.serve_read.new.outbox))
-          (sym c.requires.none) (c.serve_read.ensures.answers server moment asks))),
-    )
-
 pub returns-clause-passed_over : goal.returns-clause-passed_over
 returns-clause-passed_over c none =
     absurd (not_none c.args.self.now c.args.asking.now.endpoint c.in-Some.connection.now (looked_up c.self.inside.kept.entries c.args.self.now c.args.asking.now.endpoint (Some c.in-Some.connection.now) c.self.view_is c.in-Some.ensures.value) none)
 
 pub returns-clause-unchanged : goal.returns-clause-unchanged
 returns-clause-unchanged c none =
-    absurd (not_none c.args.self.now c.args.asking.now.endpoint c.in-Some.connection.now (looked_up c.self.inside.kept.entries c.args.self.now c.args.asking.now.endpoint (Some c.in-Some.connection.now) c.self.view_is c.in-Some.ensures.value) none)
-
-pub returns-in-Some-read_in-clause-passed_over : goal.returns-in-Some-read_in-clause-passed_over
-returns-in-Some-read_in-clause-passed_over c none =
-    absurd (not_none c.args.self.now c.args.asking.now.endpoint c.in-Some.connection.now (looked_up c.self.inside.kept.entries c.args.self.now c.args.asking.now.endpoint (Some c.in-Some.connection.now) c.self.view_is c.in-Some.ensures.value) none)
-
-pub returns-in-Some-read_in-clause-unchanged : goal.returns-in-Some-read_in-clause-unchanged
-returns-in-Some-read_in-clause-unchanged c none =
     absurd (not_none c.args.self.now c.args.asking.now.endpoint c.in-Some.connection.now (looked_up c.self.inside.kept.entries c.args.self.now c.args.asking.now.endpoint (Some c.in-Some.connection.now) c.self.view_is c.in-Some.ensures.value) none)
 
 pub returns-in_default-clause-served : goal.returns-in_default-clause-served
