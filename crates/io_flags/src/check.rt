@@ -30,6 +30,7 @@ impl Model for OpenFlags {
 
 impl OpenFlags {
     /// Tests a word; the first fault that holds, in the order of `FlagFault`.
+    #[inline(always)]
     pub fn check(word: u64) -> Result<OpenFlags, FlagFault>
         ensures fault { result_err result ≡ flag_fault word }
         ensures word { IfOk result (λ flags. flags ≡ word) }
@@ -88,6 +89,7 @@ impl OpenFlags {
 
 // What is wrong with a word: the first that holds.
 #[tactic(auto, unfolding(crate::specs::Faults::flag_fault))]
+#[inline(always)]
 fn first_fault(word: u64) -> Option<FlagFault>
     ensures { result ≡ flag_fault word }
 {

@@ -118,6 +118,8 @@ fn is_plain(text: &[u8]) -> bool
     true
 }
 
+// The rules, tried one by one. Few paths come here, so that where most are told stays small.
+#[inline(never)]
 fn check_whole(text: &[u8]) -> Result<(), PathFault>
     ensures { result_err result ≡ path_fault text.now }
 {
