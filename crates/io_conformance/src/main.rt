@@ -4,17 +4,20 @@
 //! - `.sessions`: behind `== ` a name; then a script, a line `--`, and its whole transcript, over the tree file that the last line `tree NAME`
 //!   names (`trees/NAME.toml`), or each of several;
 //! - `.trees`: behind `== ` a name; then a tree file, a line `--`, and what `check` says of it;
-//! - `.runs`: a row for each run, as `rows` says.
+//! - `.runs`: a row for each run, as `rows` says;
+//! - `.worlds`: a row for each call of a world, as `worlds` says: what no frame that comes back shows.
 //!
 //! Before they are read `repeats` writes out what they say once for many times. Empty lines, and those that begin with `#`, are skipped, but in
 //! a script or a tree file. It ends with status 1 where a case doesn't hold, or a file isn't of its form or has no case.
 #![tactic(auto)]
 
 mod cases;
+mod numbers;
 mod outside;
 mod repeats;
 mod rows;
 mod tally;
+mod worlds;
 
 use anyhow::{Context, Result, bail, ensure};
 use repeats::written_out;
@@ -49,6 +52,7 @@ fn play_file(rt: &HostRuntime, name: &str) -> Result<Tally> {
         Some((_, "sessions")) => cases::play_sessions(rt, &text),
         Some((_, "trees")) => cases::play_trees(rt, &text),
         Some((_, "runs")) => rows::play_rows(rt, &text),
+        Some((_, "worlds")) => worlds::play_worlds(rt, &text),
         _ => bail!("no kind of file"),
     }
 }

@@ -2,6 +2,7 @@
 //! In a PIECE `{N}` stands for the number N in the first, N + 1 in the second, and so on; `{low N}` for the four bytes of that number, the low
 //! one first, and `{digits N}` for the bytes of its decimal digits, both in hexadecimal digits.
 
+use crate::numbers::number;
 use anyhow::Result;
 use std::alloc::Global;
 
@@ -30,7 +31,7 @@ pub fn written_out(alloc: Global, text: &str) -> Result<String> {
 fn repeat_in(part: &str) -> Option<(u32, &str, &str)> {
     let (count, rest) = part.split_once('*')?;
     let (piece, behind) = rest.split_once('>')?;
-    Some((count.parse::<u32>().ok()?, piece, behind))
+    Some((number(count).ok()?, piece, behind))
 }
 
 /// Puts a piece with its numbers of a round.
@@ -50,10 +51,10 @@ fn put_piece(alloc: Global, all: &mut String, piece: &str, round: u32) -> Result
 /// Puts the number of a round in the form that is said.
 fn put_number(alloc: Global, all: &mut String, said: &str, round: u32) -> Result<()> {
     let (form, first) = said.split_once(' ').unwrap_or(("", said));
-    let number = first.parse::<u32>()?.wrapping_add(round);
-    let digits = format!(in alloc; "{number}")?;
+    let counted = number(first)?.wrapping_add(round);
+    let digits = format!(in alloc; "{counted}")?;
     let text = match form {
-        "low" => hex::encode(alloc, number.to_le_bytes())?,
+        "low" => hex::encode(alloc, counted.to_le_bytes())?,
         "digits" => hex::encode(alloc, &digits)?,
         _ => digits,
     };

@@ -5,6 +5,7 @@
 //! Bytes are hexadecimal digits, `-` for none, `'` and a text in which `;` ends a line, or `tree NAME`. `FROM..TO of` in front of an input says
 //! that there are runs for each of its beginnings that has at least FROM bytes and fewer than TO.
 
+use crate::numbers::{number, size};
 use crate::outside::{Fault, Sizes, run, tree};
 use crate::tally::Tally;
 use anyhow::{Context, Result};
@@ -58,13 +59,13 @@ impl Row<'_> {
         let (beginnings, input) = self.input.split_once(" of ").unwrap_or(("", self.input));
         let input = bytes(rt, input)?;
         let (from, to) = match beginnings.split_once("..") {
-            Some((from, to)) => (from.parse::<usize>()?, to.parse::<usize>()?),
+            Some((from, to)) => (size(from)?, size(to)?),
             None => (input.len(), input.len().saturating_add(1)),
         };
-        for size in from..to {
-            let beginning = input.get(..size).context("an input is too short")?;
+        for len in from..to {
+            let beginning = input.get(..len).context("an input is too short")?;
             for piece in self.pieces.split(',') {
-                let came = self.run(rt, beginning, piece.parse::<usize>()?)?;
+                let came = self.run(rt, beginning, size(piece)?)?;
                 tally.count(rt, self.name, self.wanted, &came)?;
             }
         }
@@ -77,8 +78,8 @@ impl Row<'_> {
         let (room, write) = self.room.split_once(',').context("a row has no room")?;
         let sizes = Sizes {
             read,
-            room: room.parse::<usize>()?,
-            write: write.parse::<usize>()?,
+            room: size(room)?,
+            write: size(write)?,
         };
         let fault = fault_in(self.failing)?;
         let (status, outside) = run(rt.alloc(), self.words, &held, input, sizes, fault)?;
@@ -115,21 +116,24 @@ impl Row<'_> {
 
 /// The call of a cell that fails.
 fn fault_in(cell: &str) -> Result<Option<Fault>> {
-    Ok(match cell.split_once(' ') {
-        Some(("file", call)) => Some(Fault::File(call.parse::<u64>()?)),
-        Some(("read", call)) => Some(Fault::Read(call.parse::<u64>()?)),
-        Some(("write", call)) => Some(Fault::Write(call.parse::<u64>()?)),
-        _ => None,
+    let Some((kind, call)) = cell.split_once(' ') else {
+        return Ok(None);
+    };
+    let call = u64::from(number(call)?);
+    Ok(match kind {
+        "file" => Some(Fault::File(call)),
+        "read" => Some(Fault::Read(call)),
+        _ => Some(Fault::Write(call)),
     })
 }
 
 /// The bytes that a cell says.
-fn bytes(rt: &HostRuntime, cell: &str) -> Result<Vec<u8>> {
+pub fn bytes(rt: &HostRuntime, cell: &str) -> Result<Vec<u8>> {
     let alloc = rt.alloc();
     if let Some(text) = cell.strip_prefix("'") {
         let mut all = Vec::new(alloc);
-        for byte in text.bytes() {
-            all.push(if byte == b';' { b'\n' } else { byte })?;
+        for byte in text.as_bytes() {
+            all.push(if *byte == b';' { b'\n' } else { *byte })?;
         }
         Ok(all)
     } else if let Some(name) = cell.strip_prefix("tree ") {

@@ -1,0 +1,97 @@
+//! Rows of worlds, with `|` between their cells: a name; what is done; what that answers; how many frames wait behind it; and how many nodes
+//! the first server keeps. A world begins anew over each tree file that a line `tree NAME` names. What is done is
+//!
+//! - `send FRAMES`: they wait; or `drain FRAMES`: behind each all that waits is served. Both answer `-`;
+//! - `turn SERVER`, of one frame, or `pick ENDPOINT`: it is `served`, or the server or endpoint is `idle`.
+
+use crate::numbers::number;
+use crate::outside::tree;
+use crate::rows::bytes;
+use crate::tally::Tally;
+use anyhow::{Context, Result, bail, ensure};
+use endpoint_link::{Outbox, Reading, Side, frame_at};
+use fidl_wire::Ordinals;
+use tree_file::start_of;
+use vfs_world::{Picked, World};
+
+/// Plays the rows of a text.
+pub fn play_worlds(rt: &HostRuntime, text: &str) -> Result<Tally> {
+    let mut tally = Tally::new();
+    for part in text.split("\ntree ").skip(1) {
+        let (name, rows) = part.split_once('\n').context("a world has no rows")?;
+        let mut world = begin(rt, name)?;
+        for line in rows.lines() {
+            if !line.is_empty() && !line.starts_with('#') {
+                let mut cells = line.splitn(3, " | ");
+                let (Some(name), Some(deed), Some(wanted)) = (
+                    cells.next(),
+                    cells.next(),
+                    cells.next(),
+                ) else {
+                    bail!("a row has too few cells");
+                };
+                tally.count(rt, name, wanted, &came(rt, &mut world, deed)?)?;
+            }
+        }
+    }
+    Ok(tally)
+}
+
+/// The world over the tree file of a name.
+fn begin(rt: &HostRuntime, name: &str) -> Result<World> {
+    let text = tree(rt, name)?;
+    let start = start_of(rt.alloc(), text.as_bytes());
+    let start = start.ok().context("a tree is refused")?;
+    let ordinals = Ordinals::new().ok().context("ordinals collide")?;
+    let world = World::new(rt.alloc(), ordinals, &start);
+    world.ok().context("no memory")
+}
+
+/// What comes of a deed, in the way in which rows say it.
+fn came(rt: &HostRuntime, world: &mut World, deed: &str) -> Result<String> {
+    let answer = answer(rt, world, deed)?;
+    ensure!(world.servers() > 0, "no server");
+    let (waiting, kept) = (world.waiting(), world.kept(0));
+    Ok(format!(in rt.alloc(); "{answer} | {waiting} | {kept}")?)
+}
+
+/// Does what a row says.
+fn answer(rt: &HostRuntime, world: &mut World, deed: &str) -> Result<&'static str> {
+    let (verb, said) = deed.split_once(' ').context("a deed says nothing")?;
+    let mut outbox = Outbox::new(rt.alloc());
+    let is_served = match verb {
+        "turn" => {
+            let served = world.turn(number(said)?, 1, &mut outbox);
+            served.ok().context("no memory")? == 1
+        }
+        "pick" => {
+            let picked = world.pick(number(said)?, &mut outbox);
+            picked.ok().context("no memory")? == Picked::Served
+        }
+        _ => {
+            take(world, &bytes(rt, said)?, verb == "drain", &mut outbox)?;
+            return Ok("-");
+        }
+    };
+    Ok(if is_served { "served" } else { "idle" })
+}
+
+/// The world takes frames, and is drained behind each, if it is to be.
+fn take(world: &mut World, frames: &[u8], drains: bool, outbox: &mut Outbox) -> Result<()> {
+    let mut rest = frames;
+    for _ in 0..frames.len() {
+        if rest.is_empty() {
+            break;
+        }
+        let Reading::Whole { frame, size } = frame_at(Side::ToServers, rest) else {
+            bail!("no frame");
+        };
+        ensure!(world.frames() < 1 << 48, "too many frames");
+        world.accept(frame, outbox).ok().context("no memory")?;
+        if drains {
+            world.drain(outbox).ok().context("no memory")?;
+        }
+        rest = &rest[size..];
+    }
+    Ok(())
+}
