@@ -130,6 +130,7 @@ impl<'a, 'h> Body<'a, 'h> {
 
     /// Passes `size` bytes between two fields; `Padding` at the first that is not zero.
     #[tactic(auto, unfolding(crate::specs::Reading::cell_at))]
+    #[inline(always)]
     pub fn pad(&mut self, size: usize) -> Result<(), WireFault>
         ensures value { OnOk result (cell_at (pad size) self.old ≡ Ok (blank, self.new)) }
         ensures fault { IfErr result (λ e. cell_at (pad size) self.old ≡ Err e) }
@@ -408,6 +409,7 @@ impl<'a, 'h> Body<'a, 'h> {
     /// envelope counts; then `Padding` behind the object; then `Trailing` and `Handles` where bytes
     /// or handles are left over.
     #[tactic(auto, unfolding(crate::specs::Reading::finish_of))]
+    #[inline(always)]
     pub fn finish(self) -> Result<(), WireFault>
         ensures { result ≡ finish_of self.entry }
     {

@@ -1,14 +1,12 @@
-use Rattle.std.proofs.Common.{ℕ, IfOk, List, None, Ok, Some, eqb, refl, subst, sym}
+use Rattle.std.proofs.Common.{ℕ, IfOk, None, Some, eqb, refl, subst}
 use Rattle.std.specs.Prelude.{IsSome}
 use Rattle.std.specs.Map.{lookup}
-use Rattle.conn_rules.specs.Answers.{Happening}
 use Rattle.conn_rules.specs.Births.{Connection}
 use Rattle.conn_rules.specs.Served.{KeepsHolds}
-use Rattle.io_messages.specs.Asked.{read}
 use Rattle.io_messages.specs.Requests.{request_of}
 use Rattle.vfs_journal.specs.Handles.{numbers_of}
 use Rattle.vfs_journal.specs.Serving.{Moment, outcome_of_read}
-use Rattle.vfs_server.specs.Steps.{Answers, AreNamed, CanTell, IsAskedAt, done_with}
+use Rattle.vfs_server.specs.Steps.{Answers, AreNamed, IsAskedAt, done_with}
 use Rattle.vfs_server.proofs.Found.{is_found, looked_up, not_none, put_back}
 use Rattle.vfs_server.proofs.connections.Connections.serve.Goals as goal
 
