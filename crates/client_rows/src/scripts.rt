@@ -19,8 +19,9 @@ struct Scripts {
 /// The lines of a cell, where each `;` stands for a line's end.
 fn lines<'a>(alloc: Global, row: &Row<'a>, at: usize) -> Result<Vec<u8>, BadCell<'a>> {
     let mut text = Vec::new(alloc);
-    for byte in row.cell(at)?.bytes() {
-        if text.push(if byte == b';' { b'\n' } else { byte }).is_err() {
+    for byte in row.cell(at)?.as_bytes() {
+        let byte = if *byte == b';' { b'\n' } else { *byte };
+        if text.push(byte).is_err() {
             return Err(row.bad(at));
         }
     }

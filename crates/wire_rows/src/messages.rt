@@ -62,9 +62,8 @@ fn read_status(bytes: &[u8]) -> Result<i32, WireFault> {
 fn handles<'a>(alloc: Global, row: &Row<'a>) -> Result<Vec<Handle>, BadCell<'a>> {
     let mut all = Vec::new(alloc);
     for number in &row.numbers(alloc, 3)? {
-        match u32::try_from(*number) {
-            Ok(number) if all.push(Handle::with_number(number)).is_ok() => {}
-            _ => return Err(row.bad(3)),
+        if *number > 0xffff_ffff || all.push(Handle::with_number(*number as u32)).is_err() {
+            return Err(row.bad(3));
         }
     }
     Ok(all)

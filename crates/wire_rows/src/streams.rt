@@ -21,8 +21,12 @@ const READS: [(usize, u64, [Result<&[u8], Failed>; 4]); 4] = [
 fn gives(source: &mut MemSource, answers: &[Result<&[u8], Failed>]) -> bool {
     for answer in answers {
         let mut buffer = [0; 4];
-        let got = source.read(&mut buffer);
-        if got.map(|n| &buffer[..n]) != *answer {
+        let same = match (source.read(&mut buffer), answer) {
+            (Ok(n), Ok(bytes)) => &buffer[..n] == *bytes,
+            (Err(Failed), Err(Failed)) => true,
+            _ => false,
+        };
+        if !same {
             return false;
         }
     }
@@ -42,8 +46,8 @@ fn a_source_gives_pieces_and_fails_where_listed(rt: HostRuntime) -> Result<(), F
     Ok(())
 }
 
-/// A sink by its room, its pieces and the write that fails; what a write of "hello", a flush, and two more writes of "hello" answer; and what
-/// is written then.
+/// A sink by its room, its pieces and the write that fails; what a write of "hello", a flush (`Ok(0)` says that it is done), and two more
+/// writes of "hello" answer; and what is written then.
 const WRITES: [(usize, usize, u64, [Result<usize, Failed>; 4], &[u8]); 4] = [
     (15, 9, 9, [Ok(5), Ok(0), Ok(5), Ok(5)], b"hellohellohello"),
     (15, 2, 1, [Ok(2), Err(Failed), Ok(2), Ok(2)], b"hehehe"),
@@ -53,7 +57,7 @@ const WRITES: [(usize, usize, u64, [Result<usize, Failed>; 4], &[u8]); 4] = [
 
 fn takes(sink: &mut MemSink, answers: &[Result<usize, Failed>; 4]) -> bool {
     sink.write(b"hello") == answers[0]
-        && sink.flush().map(|_| 0) == answers[1]
+        && sink.flush().is_ok() == answers[1].is_ok()
         && sink.write(b"hello") == answers[2]
         && sink.write(b"hello") == answers[3]
 }
@@ -100,9 +104,10 @@ fn holds(
     limit: usize,
     answer: Result<&[u8], FileFault>,
 ) -> bool {
-    match files.read_all(alloc, name, limit) {
-        Ok(bytes) => answer == Ok(bytes.as_slice()),
-        Err(fault) => answer == Err(fault),
+    match (files.read_all(alloc, name, limit), answer) {
+        (Ok(bytes), Ok(wanted)) => bytes.as_slice() == wanted,
+        (Err(fault), Err(wanted)) => fault == wanted,
+        _ => false,
     }
 }
 
