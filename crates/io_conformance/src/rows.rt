@@ -8,7 +8,7 @@
 use crate::numbers::{number, size};
 use crate::outside::{Fault, Sizes, run, tree};
 use crate::tally::Tally;
-use anyhow::{Context, Result};
+use anyhow::{Context, Result, bail};
 use std::alloc::Global;
 
 const USAGE: &str =
@@ -123,7 +123,8 @@ fn fault_in(cell: &str) -> Result<Option<Fault>> {
     Ok(match kind {
         "file" => Some(Fault::File(call)),
         "read" => Some(Fault::Read(call)),
-        _ => Some(Fault::Write(call)),
+        "write" => Some(Fault::Write(call)),
+        _ => bail!("no such call"),
     })
 }
 

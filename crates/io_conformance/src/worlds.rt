@@ -68,10 +68,11 @@ fn answer(rt: &HostRuntime, world: &mut World, deed: &str) -> Result<&'static st
             let picked = world.pick(number(said)?, &mut outbox);
             picked.ok().context("no memory")? == Picked::Served
         }
-        _ => {
+        "send" | "drain" => {
             take(world, &bytes(rt, said)?, verb == "drain", &mut outbox)?;
             return Ok("-");
         }
+        _ => bail!("no such deed"),
     };
     Ok(if is_served { "served" } else { "idle" })
 }
