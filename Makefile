@@ -1,7 +1,6 @@
 # The toolchain is a Rattle kit, whose command `rt` proves, builds and tests.
 
 PROGRAM := build/vfs
-BENCH := build/bench
 TREE := examples/trees/small.toml
 SCRIPT := examples/scripts/reading.script
 
@@ -56,9 +55,8 @@ test:
 check: build
 	@examples/check.sh $(PROGRAM)
 
-bench:
-	@tools/build.sh vfs bench
-	@tools/bench.sh $(PROGRAM) $(BENCH)
+bench: build
+	@tools/bench.sh $(PROGRAM)
 
 clean:
 	rm -rf build crates/*/out

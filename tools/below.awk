@@ -1,4 +1,4 @@
-# The lines of crates.txt that `programs` stand on, their own among them: each crate's uses before its own.
+# The lines of crates.txt that `program` stands on, its own among them: each crate's uses before its own.
 
 { sub(/#.*/, "") }
 
@@ -9,10 +9,7 @@ index($0, ":") {
     uses[name] = substr($0, index($0, ":") + 1)
 }
 
-END {
-    n = split(programs, names, " ")
-    for (i = 1; i <= n; i++) visit(names[i])
-}
+END { visit(program) }
 
 function visit(name,    parts, n, i) {
     if (!(name in uses) || name in seen) return
