@@ -11,7 +11,6 @@ mod fate;
 mod firsts;
 mod frames;
 mod given;
-mod making;
 mod reading;
 mod server;
 mod telling;

@@ -17,8 +17,9 @@ use Rattle.path_walk.specs.Parts.{is_dot, parent_of}
 use Rattle.tree_file.proofs.Numbers.{at_path, number_push, number_kept}
 use Rattle.tree_file.proofs.Standing.{kept_in}
 use Rattle.tree_file.proofs.Trees.{IsPlaced, Fits, Grows, more, placed, tree_push}
-use Rattle.vfs_server.specs.Growing.{path_cmp, IsNumbering, Stands, Makes, key_in}
-use Rattle.vfs_server.proofs.Made.{named_kind, named_some}
+use Rattle.start_graph.specs.Growing.{Makes, key_in}
+use Rattle.start_graph.specs.Places.{path_cmp, IsNumbering, Stands}
+use Rattle.start_graph.proofs.NamedNodes.{named_kind, named_some}
 
 -- ---- what stands
 

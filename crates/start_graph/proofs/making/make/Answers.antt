@@ -2,10 +2,10 @@ use Rattle.std.proofs.Common.{◌≡◌, ℕ, List, subst, ap}
 use Rattle.node_graph.specs.Graph.{Leads, number_of}
 use Rattle.node_graph.specs.Tree.{EdgeKey, make, new_row}
 use Rattle.path_walk.specs.Parts.{last_name}
-use Rattle.vfs_server.specs.Growing.{key_in}
-use Rattle.vfs_server.proofs.Made.{makes_full}
+use Rattle.start_graph.specs.Growing.{key_in}
+use Rattle.start_graph.proofs.Made.{makes_full}
 use Rattle.path_walk.proofs.PartLemmas.{name_short}
-use Rattle.vfs_server.proofs.making.make.Goals as goal
+use Rattle.start_graph.proofs.making.make.Goals as goal
 
 pub create-requires-clause-some : goal.create-requires-clause-some
 create-requires-clause-some c = rw c.last_name-name.ensures (name_short (last_name c.args.node.now.path.now) c.requires.valid).0

@@ -1,9 +1,10 @@
 use Rattle.std.proofs.Common.{List, OnOk, subst, sym}
 use Rattle.tree_file.specs.Lent.{node_item}
 use Rattle.tree_file.specs.Numbering.{Named}
-use Rattle.vfs_server.specs.Growing.{Stands, nodes_among}
-use Rattle.vfs_server.proofs.Nexts.{node_next, nodes_more, nodes_same}
-use Rattle.vfs_server.proofs.making.add_node.Goals as goal
+use Rattle.start_graph.specs.Growing.{nodes_among}
+use Rattle.start_graph.specs.Places.{Stands}
+use Rattle.start_graph.proofs.Nexts.{node_next, nodes_more, nodes_same}
+use Rattle.start_graph.proofs.making.add_node.Goals as goal
 
 pub returns-then-node-server : goal.returns-then-node-server
 returns-then-node-server c =

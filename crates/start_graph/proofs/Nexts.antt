@@ -20,8 +20,9 @@ use Rattle.tree_file.proofs.Rising.{IsFilled}
 use Rattle.tree_file.proofs.Soundness.{named_count}
 use Rattle.tree_file.proofs.Standing.{grows_at}
 use Rattle.tree_file.proofs.Trees.{Fits, Grows}
-use Rattle.vfs_server.specs.Growing.{IsNext, Stands, mounts_among, named_with, nodes_among}
-use Rattle.vfs_server.proofs.Chosen.{chosen_more, chosen_same, chosen_split, enumerated, get_behind, get_or_behind, take_front, within_behind}
+use Rattle.start_graph.specs.Growing.{IsNext, mounts_among, named_with, nodes_among}
+use Rattle.start_graph.specs.Places.{Stands}
+use Rattle.start_graph.proofs.Chosen.{chosen_more, chosen_same, chosen_split, enumerated, get_behind, get_or_behind, take_front, within_behind}
 
 -- only files have bytes, and not too many
 short_nodes : (lists : Lists) → AreAccepted lists → All (λ node. length node.bytes ≤ limit.MAX_FILE) lists.nodes

@@ -1,7 +1,6 @@
 //! The nodes of a server, made one by one.
 
-ghost use Rattle.std.specs.Prelude.{◌≡◌, ◌⊎◌, ◌<◌, ◌≤◌, ◌+◌, ◌^◌, ◌++◌, ◌∷◌, ℕ, false, List, [], IfOk, IsSome, OnOk, Some, None, length};
-ghost use Rattle.std.specs.BTreeMap.{get};
+ghost use Rattle.std.specs.Prelude.{◌≡◌, ◌⊎◌, ◌<◌, ◌≤◌, ◌+◌, ◌^◌, ◌++◌, ◌∷◌, ℕ, false, List, [], IfOk, OnOk, Some, None, length};
 ghost use Rattle.node_graph.specs.declared.nodes.NodeKind.TheVariants.{Directory, File};
 ghost use Rattle.node_graph.specs.Graph.{KeepsNames, Leads, Names, SameHolds, StandsFor, bytes_at, create_refusal, kind_at, number_of, write_change};
 ghost use Rattle.node_graph.specs.Tree.{Tree, make, new_row};
@@ -11,28 +10,15 @@ ghost use Rattle.tree_file.specs.Accepted.{AreAccepted};
 ghost use Rattle.tree_file.specs.Items.{Lists};
 ghost use Rattle.tree_file.specs.Lent.{node_item};
 ghost use Rattle.tree_file.specs.Numbering.{Named, named_of, node_named};
-ghost use Rattle.vfs_server.specs.Growing.{IsNext, Makes, Stands, key_in, named_with, nodes_among, path_cmp};
+ghost use Rattle.start_graph.specs.Growing.{IsNext, Makes, key_in, named_with, nodes_among};
+ghost use Rattle.start_graph.specs.Places.{Stands};
 
+use crate::places::{Places, node_at};
 use fidl_names::{MAX_FILE, MAX_NAME, NoMemory};
 use io_rights::Rights;
 use node_graph::{Graph, GraphFault, NodeKind, NodeRef};
 use path_walk::{last_name, parent_of};
-use std::collections::BTreeMap;
 use tree_file::{Start, StartNode};
-
-/// The node to which each path leads.
-pub(crate) type Places<'a> = BTreeMap<&'a [u8], NodeRef>;
-
-/// The node to which a path leads.
-pub(crate) fn node_at<'a>(places: &Places<'a>, path: &'a [u8]) -> NodeRef
-    requires { IsSome (get path_cmp places.now path) }
-    ensures { get path_cmp places.now path.entry ≡ Some result }
-{
-    match places.get(&path) {
-        Some(node) => *node,
-        None => unreachable!(),
-    }
-}
 
 // Makes a node with a name in a directory, where nothing refuses it.
 fn create(

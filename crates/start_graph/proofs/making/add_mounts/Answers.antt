@@ -1,8 +1,9 @@
 use Rattle.std.proofs.Common.{◌≡◌, ◌∙◌, ℕ, List, ap, arith, length, subst}
 use Rattle.tree_file.specs.Numbering.{Named}
-use Rattle.vfs_server.specs.Growing.{Stands, named_with}
-use Rattle.vfs_server.proofs.Nexts.{named_whole}
-use Rattle.vfs_server.proofs.making.add_mounts.Goals as goal
+use Rattle.start_graph.specs.Growing.{named_with}
+use Rattle.start_graph.specs.Places.{Stands}
+use Rattle.start_graph.proofs.Nexts.{named_whole}
+use Rattle.start_graph.proofs.making.add_mounts.Goals as goal
 
 pub returns : goal.returns
 returns c =

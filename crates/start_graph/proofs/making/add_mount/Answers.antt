@@ -1,9 +1,10 @@
 use Rattle.std.proofs.Common.{List, OnOk, subst, sym}
 use Rattle.tree_file.specs.Lent.{mount_item}
 use Rattle.tree_file.specs.Numbering.{Named}
-use Rattle.vfs_server.specs.Growing.{Stands, named_with}
-use Rattle.vfs_server.proofs.Nexts.{mount_next, mounts_more, mounts_same}
-use Rattle.vfs_server.proofs.making.add_mount.Goals as goal
+use Rattle.start_graph.specs.Growing.{named_with}
+use Rattle.start_graph.specs.Places.{Stands}
+use Rattle.start_graph.proofs.Nexts.{mount_next, mounts_more, mounts_same}
+use Rattle.start_graph.proofs.making.add_mount.Goals as goal
 
 pub returns-then-mount-server : goal.returns-then-mount-server
 returns-then-mount-server c =

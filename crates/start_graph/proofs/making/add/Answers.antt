@@ -8,10 +8,10 @@ use Rattle.path_walk.specs.Parts.{parent_of}
 use Rattle.path_walk.proofs.PartLemmas.{last_valid}
 use Rattle.tree_file.proofs.Standing.{free_in}
 use Rattle.tree_file.proofs.Trees.{parent_there}
-use Rattle.vfs_server.specs.Growing.{key_in}
-use Rattle.vfs_server.proofs.Nexts.{few, filled, grown}
-use Rattle.vfs_server.proofs.Standing.{place_there, leads_to, kind_there, stands_more}
-use Rattle.vfs_server.proofs.making.add.Goals as goal
+use Rattle.start_graph.specs.Growing.{key_in}
+use Rattle.start_graph.proofs.Nexts.{few, filled, grown}
+use Rattle.start_graph.proofs.Standing.{place_there, leads_to, kind_there, stands_more}
+use Rattle.start_graph.proofs.making.add.Goals as goal
 
 pub node_at-dir-requires : goal.node_at-dir-requires
 node_at-dir-requires c =
