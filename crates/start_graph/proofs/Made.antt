@@ -1,7 +1,5 @@
 -- What a graph has after a node was made and its bytes were written.
-use Rattle.std.proofs.Common.{◌≡◌, ℕ, zero, suc, ◌+◌, ◌≤◌, ◌==◌, ◌||◌, true, cond, List, [], ◌∷◌, ◌++◌, length, drop, Option, Some, None, refl, sym, ap, ◌∙◌, subst, arith, nat_lt, append-nil}
-use Rattle.std.specs.Prelude.{unwrap_or}
-use Rattle.std.specs.Option.{option_map, option_map_or}
+use Rattle.std.proofs.Common.{◌≡◌, ℕ, zero, suc, ◌+◌, ◌==◌, ◌||◌, true, cond, List, [], ◌∷◌, ◌++◌, length, drop, Some, refl, sym, ap, ◌∙◌, subst, nat_lt, append-nil}
 use Rattle.std.specs.Ordering.{is_eq}
 use Rattle.std.specs.FinMap as finite
 use Rattle.std.proofs.Math.Bool.{or-true}
@@ -9,8 +7,8 @@ use Rattle.std.proofs.lemmas.Cmp.{tied_itself}
 use Rattle.io_rights.specs.Operations.{OperationSet}
 use Rattle.node_graph.specs.declared.nodes.NodeKind.{NodeKind}
 use Rattle.node_graph.specs.declared.nodes.NodeRef.{NodeRef}
-use Rattle.node_graph.specs.Graph.{Seat, Kept, seat_of, Names, number_of, kind_at, bytes_at, holds_at, is_kept, StandsFor, Leads, SameHolds, KeepsNames, write_change, overwritten}
-use Rattle.node_graph.specs.Tree.{NodeRow, EdgeKey, EdgeTo, Edges, Tree, Change, make, new_row, filled, row_of, kind_of, is_linked, after}
+use Rattle.node_graph.specs.Graph.{Kept, Names, number_of, bytes_at, holds_at, is_kept, StandsFor, Leads, SameHolds, KeepsNames, write_change, overwritten}
+use Rattle.node_graph.specs.Tree.{EdgeKey, EdgeTo, Edges, Tree, Change, make, new_row, filled, row_of, is_linked, after}
 use Rattle.tree_file.specs.Numbering.{with_node}
 use Rattle.tree_file.proofs.Rising.{filled_last, row_last}
 use Rattle.tree_file.proofs.Standing.{linked_by}
@@ -57,18 +55,9 @@ names_on old mid new edges holds first second node names kept =
     let b = second node a.0 kept in
     (b.0, b.1 ∙ a.1)
 
--- what `create` leaves, where no bytes are written
+-- what `create` and then `write` leave
 module _ (old mid : Kept) (tree : Tree) (key : EdgeKey) (kind : NodeKind) (mask : OperationSet) (made : NodeRef) (stood : StandsFor old tree)
     (leads : Leads old mid (make key (new_row kind) mask)) (number : number_of made ≡ old.made + 1) (named : Names mid made) (holds : SameHolds old mid) (names : KeepsNames old mid) where
-  pub makes_bare : (bytes : List ℕ) → bytes ≡ [] → Makes old mid tree key kind mask bytes made
-  makes_bare bytes none = record {
-    grown = subst (λ bs. StandsFor mid (with_node tree key kind mask bs)) (sym none) (leads tree stood);
-    number = number;
-    named = named;
-    holds = holds;
-    names = names;
-  }
-
   count_is : number_of made ≡ length tree.nodes + 1
   count_is = number ∙ ap (λ (n : ℕ). n + 1) stood.made
 
@@ -77,7 +66,6 @@ module _ (old mid : Kept) (tree : Tree) (key : EdgeKey) (kind : NodeKind) (mask 
       named_bytes mid (after tree (make key (new_row kind) mask)) made (record { kind = kind; bytes = [] }) (leads tree stood) named
       (ap (row_of (tree.nodes ++ record { kind = kind; bytes = [] } ∷ [])) count_is ∙ row_last tree.nodes (record { kind = kind; bytes = [] }))
 
-  -- and where they are
   module _ (new : Kept) (bytes : List ℕ) (written : Leads mid new (write_change (number_of made) (bytes_at mid (number_of made)) 0 bytes)) (still : SameHolds mid new) (keeps : KeepsNames mid new) where
     grown : StandsFor new (with_node tree key kind mask bytes)
     grown =

@@ -1,5 +1,5 @@
 -- The next node of a server of an accepted file.
-use Rattle.std.proofs.Common.{◌≡◌, inr, ℕ, suc, ◌+◌, ◌<◌, ◌≤◌, ◌==◌, List, [], ◌∷◌, ◌++◌, length, map, filter, take, drop, get_or, Bor, Some, All, refl, sym, ap, ◌∙◌, subst, arith, append_assoc, append-nil}
+use Rattle.std.proofs.Common.{◌≡◌, inr, ℕ, suc, ◌+◌, ◌<◌, ◌≤◌, ◌==◌, List, [], ◌∷◌, ◌++◌, length, map, filter, take, drop, get_or, Bor, Some, All, refl, sym, ap, ◌∙◌, subst, arith, append_assoc}
 use Rattle.std.specs.Prelude.{slice_get}
 use Rattle.std.specs.BTreeMap.{BTreeMap}
 use Rattle.std.specs.List.{enumerate_from}
@@ -122,9 +122,6 @@ module _ (lists : Lists) (server item : ℕ) (mount : MountItem) (there : slice_
         ∙ sym (append_assoc (nodes_among lists server (length lists.nodes)) (mounts_among lists server item) (mount_named (item, mount) ∷ map mount_named (filter (λ one. one.1.server == server) (drop (suc item) (enumerate_from 0 lists.mounts)))));
     stands = stands;
   }
-
-pub named_none : (lists : Lists) (server : ℕ) → named_with lists server 0 ≡ nodes_among lists server (length lists.nodes)
-named_none lists server = append-nil (nodes_among lists server (length lists.nodes))
 
 pub named_whole : (lists : Lists) (server : ℕ) → named_with lists server (length lists.mounts) ≡ named_of lists server
 named_whole lists server =

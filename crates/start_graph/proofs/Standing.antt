@@ -60,13 +60,6 @@ kept_by graph named edges all path some =
     either false true c h = refl
     either false false c h = absurd (cc)
 
--- what a path leads to has to be kept
-pub kept_there : (named : List Named) (graph : Kept) (places : BTreeMap (Bor (List ℕ)) NodeRef) → Stands named graph places → Grows named → (path : Bor (List ℕ)) (node : NodeRef) → get path_cmp places path ≡ Some node → is_kept graph (number_of node) ≡ true
-kept_there named graph places stands grows path node at =
-    let tree = stands.tree in
-    ap (is_kept graph) (leads_to named graph places stands path node at)
-    ∙ kept_by graph named tree.edges (placed named grows) path.now (some_there named graph places stands path node at)
-
 -- ---- one more
 
 at_is : (path q : Bor (List ℕ)) (one : Named) → path.now ≡ one.path → is_at (path_cmp path) q ≡ at_path q.now one

@@ -15,7 +15,6 @@ mod reading;
 mod server;
 mod telling;
 mod tokens;
-mod watching;
 
 pub use fate::Fate;
 pub use reading::read_in;

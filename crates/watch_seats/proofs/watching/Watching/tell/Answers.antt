@@ -5,8 +5,9 @@ use Rattle.std.proofs.lemmas.List.Elements.{All-head, All-tail}
 use Rattle.conn_rules.specs.declared.changes.At.{At}
 use Rattle.conn_rules.specs.Answers as news
 use Rattle.conn_rules.specs.Served.{key_at, told_by}
-use Rattle.vfs_server.specs.Watched.{HasNameLength, IsShort}
-use Rattle.vfs_server.proofs.watching.Watching.tell.Goals as goal
+use Rattle.node_graph.specs.Tree.{HasNameLength}
+use Rattle.watch_seats.specs.Telling.{IsShort}
+use Rattle.watch_seats.proofs.watching.Watching.tell.Goals as goal
 
 -- where all that is told is short, the name that is new is
 new_short : (taken new : Option At) (deleted : Option ℕ) → All IsShort (told_by (record { removed = taken; added = new; deleted = deleted })) → (one : At) → new ≡ Some one → HasNameLength one.name.now

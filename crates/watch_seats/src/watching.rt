@@ -7,9 +7,11 @@ ghost use Rattle.fidl_names.specs.declared.limits.TheConstants as limit;
 ghost use Rattle.node_graph.specs.Graph.{Names, number_of};
 ghost use Rattle.conn_rules.specs.Served.{told_by};
 ghost use Rattle.watch_events.specs.Messages as messages;
-ghost use Rattle.vfs_server.specs.declared.watching.Seat.{Seat};
-ghost use Rattle.vfs_server.specs.Watched.{HasNameLength, IsShort, gone_told, is_at, name_told, seat_at, told_of, without};
+ghost use Rattle.node_graph.specs.Tree.{HasNameLength};
 ghost use Rattle.vfs_journal.specs.Output.{Begins};
+ghost use Rattle.watch_seats.specs.declared.watching.Seat.{Seat};
+ghost use Rattle.watch_seats.specs.Seats.{is_at, seat_at, without};
+ghost use Rattle.watch_seats.specs.Telling.{IsShort, gone_told, name_told, told_of};
 
 use conn_rules::{At, Changes};
 use endpoint_link::Outbox;
@@ -22,22 +24,22 @@ use watch_events::{WatchEvent, Watchers};
 
 /// What an endpoint watches, and the bits of the events that it asks for.
 #[derive(Clone, Copy)]
-pub(crate) struct Seat {
-    directory: NodeRef,
-    mask: u32,
+pub struct Seat {
+    pub directory: NodeRef,
+    pub mask: u32,
 }
 
 /// The endpoints that watch, in order of their births. They stand a second time by their directories, where
 /// they are told of changes.
 #[derive(Drop)]
-pub(crate) struct Watching {
+pub struct Watching {
     seats: IndexMap<u32, Seat>,
     watchers: Watchers,
 }
 
 impl Model for Watching {
-    ghost use Rattle.vfs_server.specs.Codes.{seats_code};
-    ghost use Rattle.vfs_server.specs.Watched.{AreByDirectory, Seats};
+    ghost use Rattle.watch_seats.specs.Codes.{seats_code};
+    ghost use Rattle.watch_seats.specs.Seats.{AreByDirectory, Seats};
 
     ghost Value = { Seats };
 

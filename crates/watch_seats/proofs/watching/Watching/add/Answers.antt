@@ -2,9 +2,9 @@ use Rattle.std.proofs.Common.{◌≡◌, ◌∙◌, ◌++◌, ◌∷◌, [], tru
 use Rattle.std.specs.Result.{is_err}
 use Rattle.indexmap.proofs.CallerLemmas.{insert_entry-new}
 use Rattle.watch_events.specs.Watching.{Adds}
-use Rattle.vfs_server.specs.Watched.{AreByDirectory, Seats, seat_at}
-use Rattle.vfs_server.proofs.Seats.{by_directory_more, new_there}
-use Rattle.vfs_server.proofs.watching.Watching.add.Goals as goal
+use Rattle.watch_seats.specs.Seats.{AreByDirectory, Seats, seat_at}
+use Rattle.watch_seats.proofs.Seats.{by_directory_more, new_there}
+use Rattle.watch_seats.proofs.watching.Watching.add.Goals as goal
 
 pub add-requires-clause-new : goal.add-requires-clause-new
 add-requires-clause-new c =
