@@ -47,7 +47,8 @@ use Rattle.conn_rules.specs.Refusals.{as_status, unless}
 use Rattle.conn_rules.specs.Shared.{CanBeBound, is_spoken_at}
 use Rattle.conn_rules.specs.Walks.{Walk, arrives, missing, crosses, stops, walk, limit_of}
 use Rattle.vfs_server.specs.Serving.{HasMount}
-use Rattle.vfs_server.specs.Watched.{HasNameLength, IsShort}
+use Rattle.node_graph.specs.Tree.{HasNameLength}
+use Rattle.watch_seats.specs.Telling.{IsShort}
 use Rattle.vfs_server.proofs.Walking.{IsNoMount, LeadsWell, walk_none}
 
 -- ---- acts

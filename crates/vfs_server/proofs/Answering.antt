@@ -34,8 +34,8 @@ use Rattle.vfs_server.specs.Effects.{Effects, effects_told, no_effects}
 use Rattle.vfs_server.specs.Kept.{HasTree, Tokens}
 use Rattle.vfs_server.specs.Servers.{bound_with}
 use Rattle.vfs_server.specs.Steps.{Acts, Answers, Done, BindsConnection, CanTell, DoesFault, DoesGiven, IsAskedAt, IsGiven, IsOnDirectory, MayWatch, NamesAsThere, asker_with, effects_by, effects_given, frames_given, names_in, room_for, token_given}
-use Rattle.vfs_server.specs.Watched.{IsShort}
-use Rattle.vfs_server.proofs.Made.{named_kind}
+use Rattle.watch_seats.specs.Telling.{IsShort}
+use Rattle.start_graph.proofs.NamedNodes.{named_kind}
 use Rattle.vfs_server.proofs.Carried.{looked_up}
 use Rattle.vfs_server.proofs.Handed.{token_is}
 use Rattle.vfs_server.proofs.Acting.{CanAct, conn_acts}

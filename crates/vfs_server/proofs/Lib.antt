@@ -19,9 +19,5 @@ pub mod Told
 pub mod Binding
 pub mod Naming
 pub mod Servings
-pub mod Made
-pub mod Standing
-pub mod Chosen
-pub mod Nexts
 pub mod Begins
 pub mod Begun

@@ -34,14 +34,16 @@ use Rattle.vfs_journal.specs.Watching.{first_frames, told_frames}
 use Rattle.vfs_server.specs.declared.asking.Asking.{Asking}
 use Rattle.vfs_server.specs.declared.fate.Fate.{Fate}
 use Rattle.vfs_server.specs.declared.fate.Fate.TheVariants as fates
-use Rattle.vfs_server.specs.declared.watching.Seat.{Seat}
+use Rattle.watch_seats.specs.declared.watching.Seat.{Seat}
 use Rattle.vfs_server.specs.Binding.{IsDirectory}
 use Rattle.vfs_server.specs.Effects.{effects_told}
 use Rattle.vfs_server.specs.Kept.{Connections, HasTree, IsSound, Tokens}
 use Rattle.vfs_server.specs.Servers.{bound_with, connected, in_use, seen_as}
 use Rattle.vfs_server.specs.Serving.{IsMomentOf, Serves, frames_here, room_at}
 use Rattle.vfs_server.specs.Steps.{Answers, AreNamed, CanBeTold, CanTell, Done, IsAskedAt, IsPassedOver, room_for}
-use Rattle.vfs_server.specs.Watched.{IsShort, Seats, bound_at, bounds_at, first_of, is_at, seat_at, told_of}
+use Rattle.watch_seats.specs.Seats.{Seats, is_at, seat_at}
+use Rattle.watch_seats.specs.Telling.{IsShort, told_of}
+use Rattle.vfs_server.specs.Watched.{bound_at, bounds_at, first_of}
 use Rattle.vfs_server.proofs.Answering.{no_watcher, ok_map}
 use Rattle.vfs_server.proofs.Binding.{in_use_is, seen_watching, server_of}
 use Rattle.vfs_server.proofs.Maps.{standing, same, other, get_put, get_put_other, as_long}

@@ -1,11 +1,9 @@
 -- What a server tells its watchers is what the journal says.
-use Rattle.std.proofs.Common.{◌≡◌, ◌∙◌, ℕ, ◌==◌, Bool, true, false, ◌&&◌, cond, List, [], ◌∷◌, ◌++◌, length, map, filter, take, Option, Some, None, refl, sym, ap, append_assoc, append-nil}
+use Rattle.std.proofs.Common.{◌≡◌, ◌∙◌, ℕ, ◌==◌, Bool, true, false, ◌&&◌, cond, List, [], ◌∷◌, ◌++◌, map, filter, Option, None, refl, sym, ap, append_assoc}
 use Rattle.std.specs.FinMap as finite
-use Rattle.std.specs.Option.{option_map_or, option_to_list, option_map}
+use Rattle.std.specs.Option.{option_map_or}
 use Rattle.std.proofs.lemmas.Bool.{eq-eqb}
-use Rattle.std.proofs.lemmas.Grind.{flat_map-append}
 use Rattle.std.proofs.lemmas.List.Elements.{filter_agree}
-use Rattle.std.proofs.Math.Seq.{take-append_seam}
 use Rattle.fidl_wire.specs.Written.{Written}
 use Rattle.endpoint_link.specs.Frames.{Frame, spellings}
 use Rattle.endpoint_link.proofs.Runs.{spellings-append}
@@ -13,22 +11,21 @@ use Rattle.node_graph.specs.declared.nodes.NodeRef.{NodeRef}
 use Rattle.node_graph.specs.Graph.{Kept, Listed, StandsFor, listed_after, number_of}
 use Rattle.node_graph.specs.Tree.{Change, EdgeKey, EdgeTo, Edges, Tree, after, names_in, stay}
 use Rattle.path_walk.specs.Names.{dot}
-use Rattle.conn_rules.specs.declared.changes.At.{At}
-use Rattle.conn_rules.specs.declared.changes.Changes.{Changes}
 use Rattle.conn_rules.specs.Answers.{Happening}
 use Rattle.conn_rules.specs.Answers as news
-use Rattle.conn_rules.specs.Served.{key_at, told_by}
+use Rattle.conn_rules.specs.Served.{told_by}
 use Rattle.watch_events.specs.Messages.{Watcher, added, deleted, removed, told}
 use Rattle.watch_events.specs.Messages as messages
 use Rattle.vfs_journal.specs.History.{watches_node}
-use Rattle.vfs_journal.specs.Output.{Begins}
 use Rattle.vfs_journal.specs.Starts.{Bound}
 use Rattle.vfs_journal.specs.Watching.{first_frames, told_frames}
 use Rattle.vfs_journal.specs.Watching as journal
 use Rattle.vfs_server.specs.declared.fate.Fate.{Fate}
 use Rattle.vfs_server.specs.declared.fate.Fate.TheVariants as fates
 use Rattle.vfs_server.specs.Effects.{effects_told}
-use Rattle.vfs_server.specs.Watched.{Seats, bound_at, bounds_at, first_of, gone_told, is_at, name_told, told_of, told_to, watcher_of, watchers_at}
+use Rattle.watch_seats.specs.Seats.{Seats, is_at, watcher_of, watchers_at}
+use Rattle.watch_seats.specs.Telling.{told_of, told_to}
+use Rattle.vfs_server.specs.Watched.{bound_at, bounds_at, first_of}
 
 -- ---- changes
 
@@ -54,35 +51,6 @@ told_is index seats (happening ∷ later) = λ i. one happening i ++ told_is ind
   one (news.removed name) = ap (λ (ws : List Watcher). told ws removed name.name) (watching_there index name.directory seats)
   one (news.added name) = ap (λ (ws : List Watcher). told ws added name.name) (watching_there index name.directory seats)
   one (news.deleted directory) = ap (λ (ws : List Watcher). told ws deleted dot) (watching_there index directory seats)
-
--- change by change
-pub told_apart : (seats : Seats) (changes : Changes) →
-    told_of seats (told_by changes) ≡ name_told seats removed changes.removed ++ name_told seats added changes.added ++ gone_told seats changes.deleted
-told_apart seats changes =
-    flat_map-append (told_to seats) (gone_names ++ new_names) gone_directories
-    ∙ ap (λ (fs : List Frame). fs ++ told_of seats gone_directories) (flat_map-append (told_to seats) gone_names new_names)
-    ∙ (λ i. first changes.removed i ++ second changes.added i ++ third changes.deleted i)
-  where
-    gone_names : List Happening
-    gone_names = option_to_list (option_map (λ at. news.removed (key_at at)) changes.removed)
-
-    new_names : List Happening
-    new_names = option_to_list (option_map (λ at. news.added (key_at at)) changes.added)
-
-    gone_directories : List Happening
-    gone_directories = option_to_list (option_map news.deleted changes.deleted)
-
-    first : (o : Option At) → told_of seats (option_to_list (option_map (λ at. news.removed (key_at at)) o)) ≡ name_told seats removed o
-    first None = refl
-    first (Some at) = append-nil _
-
-    second : (o : Option At) → told_of seats (option_to_list (option_map (λ at. news.added (key_at at)) o)) ≡ name_told seats added o
-    second None = refl
-    second (Some at) = append-nil _
-
-    third : (o : Option ℕ) → told_of seats (option_to_list (option_map news.deleted o)) ≡ gone_told seats o
-    third None = refl
-    third (Some directory) = append-nil _
 
 -- ---- a new watcher
 
@@ -124,10 +92,3 @@ first_is tree changed change endpoint server (fates.Gives token directory) out b
 pub one_behind : (before between behind : List ℕ) (one other : List Frame) → between ≡ before ++ spellings one → behind ≡ between ++ spellings other → behind ≡ before ++ spellings (one ++ other)
 one_behind before between behind one other first second =
     second ∙ ap (λ (bs : List ℕ). bs ++ spellings other) first ∙ append_assoc before (spellings one) (spellings other) ∙ ap (λ (bs : List ℕ). before ++ bs) (sym (spellings-append one other))
-
-pub extends_on : (before between behind : List ℕ) → Begins before between → Begins between behind → Begins before behind
-extends_on before between behind one other =
-    (one.0 ++ other.0, other.1 ∙ ap (λ (bs : List ℕ). bs ++ other.0) one.1 ∙ append_assoc before one.0 other.0)
-
-pub cut_back : (before behind : List ℕ) → Begins before behind → take (length before) behind ≡ before
-cut_back before behind more = ap (take (length before)) more.1 ∙ take-append_seam before more.0

@@ -11,9 +11,7 @@ use Rattle.node_graph.specs.Graph.{Kept}
 use Rattle.conn_rules.specs.Births.{Birth, Connection}
 use Rattle.conn_rules.specs.Codes.{connection_code, protocol_code}
 use Rattle.vfs_journal.specs.Starts.{Bound}
-use Rattle.vfs_server.specs.declared.watching.Seat.{Seat}
 use Rattle.vfs_server.specs.Servers.{Server}
-use Rattle.vfs_server.specs.Watched.{Seats}
 
 abbrev pub born_code : Coded Birth
 born_code =
@@ -30,12 +28,6 @@ connections_code = finite.code coded_ℕ connection_code
 
 abbrev pub tokens_code : Coded (finite.FinMap nat_cmp NodeRef)
 tokens_code = finite.code coded_ℕ node_code
-
-abbrev pub seat_code : Coded Seat
-seat_code = code_by (NodeRef × ℕ) (coded× node_code coded_ℕ) (λ s. (s.directory, s.mask)) (λ p. record { directory = p.0; mask = p.1 }) (λ _. refl)
-
-abbrev pub seats_code : Coded Seats
-seats_code = coded_list (coded× coded_ℕ seat_code)
 
 abbrev pub server_code : Coded Server
 server_code =

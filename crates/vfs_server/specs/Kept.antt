@@ -9,7 +9,7 @@ use Rattle.node_graph.specs.Tree.{Tree}
 use Rattle.conn_rules.specs.Births.{Connection}
 use Rattle.conn_rules.specs.Shared.{CanBeBound}
 use Rattle.vfs_server.specs.Binding.{IsDirectory}
-use Rattle.vfs_server.specs.Watched.{Seats, is_at, seat_at}
+use Rattle.watch_seats.specs.Seats.{Seats, seat_at, watched_by}
 
 abbrev pub Connections : Type 0
 Connections = finite.FinMap nat_cmp Connection
@@ -32,10 +32,6 @@ HasTree graph = (tree : Tree) × StandsFor graph tree
 -- each token names a directory that the graph keeps
 abbrev pub NameDirectories : Kept → Tokens → Type 0
 NameDirectories graph tokens = (token : ℕ) (directory : NodeRef) → finite.get tokens token ≡ Some directory → IsDirectory graph directory
-
--- how many watch a node
-abbrev pub watched_by : ℕ → Seats → ℕ
-watched_by number seats = count_by (is_at number) seats
 
 -- each watcher is at a directory that the graph keeps
 abbrev pub WatchDirectories : Kept → Seats → Type 0

@@ -8,4 +8,4 @@ pub mod Watched
 pub mod Codes
 pub mod Kept
 pub mod Steps
-pub mod Growing
+pub mod Beginning

@@ -55,7 +55,9 @@ use Rattle.vfs_server.specs.Effects.{Effects, effects_of, effects_told, no_effec
 use Rattle.vfs_server.specs.Kept.{Tokens}
 use Rattle.vfs_server.specs.Servers.{bound_with, watcher_with}
 use Rattle.vfs_server.specs.Serving.{HasMount}
-use Rattle.vfs_server.specs.Watched.{IsShort, Seats, first_of, is_at, told_of}
+use Rattle.watch_seats.specs.Seats.{Seats, is_at}
+use Rattle.watch_seats.specs.Telling.{IsShort, told_of}
+use Rattle.vfs_server.specs.Watched.{first_of}
 
 -- ---- connections
 

@@ -6,16 +6,11 @@ ghost use Rattle.vfs_journal.specs.View.{view_of};
 ghost use Rattle.vfs_server.specs.Holding.{HoldsAt};
 
 use crate::firsts::{bind_clients, bind_ends};
-use crate::making::{Places, add_mounts, add_nodes};
 use crate::server::Server;
 use fidl_names::NoMemory;
-use node_graph::Graph;
+use start_graph::{Grown, grow};
 use std::alloc::Global;
-use std::collections::BTreeMap;
 use tree_file::Start;
-
-// The path of the root.
-const ROOT: &[u8] = b".";
 
 /// Makes the server of an accepted start with this index.
 pub(crate) fn begin(alloc: Global, start: &Start, index: u32) -> Result<Server, NoMemory>
@@ -23,11 +18,7 @@ pub(crate) fn begin(alloc: Global, start: &Start, index: u32) -> Result<Server, 
     ensures holds { IfOk result (HoldsAt (view_of (start_of start.now) [])) }
     ensures index { IfOk result (λ server. server.index ≡ index) }
 {
-    let mut graph = Graph::new(alloc)?;
-    let mut places: Places<'_> = BTreeMap::new(alloc);
-    places.insert(ROOT, graph.root())?;
-    add_nodes(start, index, &mut graph, &mut places)?;
-    add_mounts(start, index, &mut graph, &mut places)?;
+    let Grown { graph, places } = grow(alloc, start, index)?;
     let mut server = Server::new(alloc, index, graph);
     bind_clients(start, index, &places, &mut server)?;
     bind_ends(start, index, &places, &mut server)?;

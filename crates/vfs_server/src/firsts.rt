@@ -4,14 +4,14 @@ ghost use Rattle.std.specs.Prelude.{◌≡◌, ◌<◌, ◌+◌, ◌++◌, ◌�
 ghost use Rattle.tree_file.specs.Accepted.{AreAccepted};
 ghost use Rattle.tree_file.specs.Items.{Lists};
 ghost use Rattle.vfs_journal.specs.Starts.{Bound};
-ghost use Rattle.vfs_server.specs.Growing.{HoldsJust, IsNextBound, begins_with, begun, bound_among, clients_among};
+ghost use Rattle.vfs_server.specs.Beginning.{HoldsJust, IsNextBound, begins_with, begun, bound_among, clients_among};
 
-use crate::making::{Places, node_at};
 use crate::server::Server;
 use conn_rules::Birth;
 use fidl_names::{FIRST_MOUNT_END, NoMemory};
 use io_messages::Protocol;
 use io_rights::Rights;
+use start_graph::{Places, node_at};
 use tree_file::Start;
 
 // Binds an endpoint as the next one that a server begins with: at the directory of a path.

@@ -11,12 +11,10 @@ mod fate;
 mod firsts;
 mod frames;
 mod given;
-mod making;
 mod reading;
 mod server;
 mod telling;
 mod tokens;
-mod watching;
 
 pub use fate::Fate;
 pub use reading::read_in;

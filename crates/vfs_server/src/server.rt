@@ -24,7 +24,6 @@ use crate::connections::Connections;
 use crate::fate::Fate;
 use crate::telling::tell;
 use crate::tokens::Tokens;
-use crate::watching::Watching;
 use conn_rules::{Birth, Changes};
 use endpoint_link::Outbox;
 use fidl_names::{Handle, NoMemory};
@@ -34,6 +33,7 @@ use node_graph::{Graph, NodeRef};
 use std::alloc::Global;
 use std::marker::Model;
 use tree_file::Start;
+use watch_seats::Watching;
 
 /// One server: its tree, what is connected to it, who watches, and the tokens that name directories of it.
 /// Each connection holds its node, and each watcher and each token its directory.

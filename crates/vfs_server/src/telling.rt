@@ -12,12 +12,12 @@ ghost use Rattle.vfs_server.specs.Watched.{first_of};
 ghost use Rattle.vfs_journal.specs.Output.{Begins};
 
 use crate::fate::Fate;
-use crate::watching::Watching;
 use conn_rules::Changes;
 use endpoint_link::Outbox;
 use fidl_names::NoMemory;
 use node_graph::{Graph, NodeRef};
 use watch_events::snapshot;
+use watch_seats::Watching;
 
 /// Tells watchers of what was done, and what becomes of endpoints. For want of memory, then or before, the
 /// outbox is cut back to a length. Most requests tell nothing, and their fate need not lie in memory: a copy of it is lent.

@@ -1,7 +1,7 @@
 use Rattle.std.proofs.Common.{◌∙◌, ◌++◌, ◌∷◌, [], List, OnOk, ap, subst, sym}
 use Rattle.tree_file.specs.Lent.{client_item}
 use Rattle.vfs_journal.specs.Starts.{Bound}
-use Rattle.vfs_server.specs.Growing.{HoldsJust, clients_among}
+use Rattle.vfs_server.specs.Beginning.{HoldsJust, clients_among}
 use Rattle.vfs_server.proofs.Begins.{clients_more, clients_same}
 use Rattle.vfs_server.proofs.Begun.{client_is, client_next}
 use Rattle.vfs_server.proofs.firsts.bind_client.Goals as goal

@@ -2,7 +2,7 @@ use Rattle.std.proofs.Common.{◌∙◌, ◌++◌, ◌∷◌, [], List, OnOk, ap
 use Rattle.tree_file.specs.Lent.{mount_item}
 use Rattle.tree_file.proofs.Accepted.{few_of}
 use Rattle.vfs_journal.specs.Starts.{Bound}
-use Rattle.vfs_server.specs.Growing.{HoldsJust, bound_among}
+use Rattle.vfs_server.specs.Beginning.{HoldsJust, bound_among}
 use Rattle.vfs_server.proofs.Begins.{ends_more, ends_same}
 use Rattle.vfs_server.proofs.Begun.{end_is, end_next}
 use Rattle.vfs_server.proofs.firsts.bind_end.Goals as goal

@@ -1,6 +1,6 @@
 use Rattle.std.proofs.Common.{◌≡◌, ◌∙◌, ℕ, List, ap, arith, length, subst}
 use Rattle.vfs_journal.specs.Starts.{Bound}
-use Rattle.vfs_server.specs.Growing.{HoldsJust, bound_among}
+use Rattle.vfs_server.specs.Beginning.{HoldsJust, bound_among}
 use Rattle.vfs_server.proofs.Begins.{bound_whole}
 use Rattle.vfs_server.proofs.firsts.bind_ends.Goals as goal
 

@@ -1,4 +1,4 @@
-use Rattle.vfs_server.specs.Growing.{HoldsJust, bound_among}
+use Rattle.vfs_server.specs.Beginning.{HoldsJust, bound_among}
 use Rattle.vfs_server.proofs.firsts.bind_ends.Given as goal
 
 abbrev pub invariant-loop-item : goal.invariant-loop-item

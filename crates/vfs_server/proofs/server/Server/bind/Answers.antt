@@ -6,7 +6,7 @@ use Rattle.node_graph.specs.Tree.{stay}
 use Rattle.vfs_server.specs.Binding.{Binds, HasPlace}
 use Rattle.vfs_server.specs.Kept.{Connections, IsSound}
 use Rattle.vfs_server.specs.Servers.{Server, bound_with, seen}
-use Rattle.vfs_server.specs.Watched.{seat_at}
+use Rattle.watch_seats.specs.Seats.{seat_at}
 use Rattle.vfs_server.proofs.Answering.{no_watcher}
 use Rattle.vfs_server.proofs.Binding.{binds_one, both_free, in_use_is, server_of}
 use Rattle.vfs_server.proofs.Giving.{leads_on}

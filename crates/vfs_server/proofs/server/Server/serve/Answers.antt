@@ -14,7 +14,8 @@ use Rattle.vfs_server.specs.Kept.{Connections, IsSound}
 use Rattle.vfs_server.specs.Servers.{Server, in_use, seen}
 use Rattle.vfs_server.specs.Serving.{IsMomentOf, Serves}
 use Rattle.vfs_server.specs.Steps.{done_with}
-use Rattle.vfs_server.specs.Watched.{first_of, told_of}
+use Rattle.watch_seats.specs.Telling.{told_of}
+use Rattle.vfs_server.specs.Watched.{first_of}
 use Rattle.vfs_server.proofs.Answering.{ok_both, ok_map}
 use Rattle.vfs_server.proofs.Binding.{either_way, in_use_is, server_of, watches_there}
 use Rattle.vfs_server.proofs.Maps.{get_put}

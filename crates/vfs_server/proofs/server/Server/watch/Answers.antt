@@ -6,7 +6,7 @@ use Rattle.node_graph.specs.Tree.{stay}
 use Rattle.vfs_server.specs.Binding.{Binds, CanWatch}
 use Rattle.vfs_server.specs.Kept.{IsSound}
 use Rattle.vfs_server.specs.Servers.{Server, seen, watcher_with}
-use Rattle.vfs_server.specs.Watched.{Seats, seat_at}
+use Rattle.watch_seats.specs.Seats.{Seats, seat_at}
 use Rattle.vfs_server.proofs.Binding.{both_free, in_use_is, server_of, watches_one}
 use Rattle.vfs_server.proofs.Giving.{leads_on}
 use Rattle.vfs_server.proofs.Held.{few_held}
