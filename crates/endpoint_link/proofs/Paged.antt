@@ -61,10 +61,6 @@ said_if false s o = refl
 pub at_number : (f : ℕ → Standing) (n : ℕ) → n < 2 ^ 32 → value_at (noted_below f (2 ^ 32)) n ≡ noted (f n)
 at_number f n small = get-noted_below f (2 ^ 32) n ∙ cond-true (ltb n (2 ^ 32)) (noted (f n)) None (lt-ltb n (2 ^ 32) small)
 
--- and it says that
-pub stands : (f : ℕ → Standing) (n : ℕ) → n < 2 ^ 32 → unwrap_or (value_at (noted_below f (2 ^ 32)) n) standing.Unused ≡ f n
-stands f n small = ap (λ (o : Option Standing). unwrap_or o standing.Unused) (at_number f n small) ∙ said (f n)
-
 noted_if : (is below : Bool) (s t : Standing) → (is ≡ true → below ≡ true) → cond below (noted (cond is s t)) None ≡ cond is (noted s) (cond below (noted t) None)
 noted_if true true s t h = refl
 noted_if false b s t h = refl
@@ -179,34 +175,46 @@ nowhere near far n no_near no_far =
       both true = refl
       both false = refl
 
--- what is given to a near number, and to a far one
-pub gives_near : (near new : List Page) (far : List (ℕ × Page)) (n : ℕ) (s : Standing) → n < 131072 → Gives n s (in_near near) (in_near new) → Gives n s (in_pages near far) (in_pages new far)
-gives_near near new far n s small gives q =
+-- what is given to a near number of near pages, or to a far one of far pages, is given to it
+gives_pages : (near new : List Page) (far other : List (ℕ × Page)) (n : ℕ) (s : Standing) → ((q : ℕ) → q < 131072 → in_near new q ≡ cond (eqb q n) s (in_near near q))
+    → ((q : ℕ) → 131072 ≤ q → in_far other q ≡ cond (eqb q n) s (in_far far q)) → Gives n s (in_pages near far) (in_pages new other)
+gives_pages near new far other n s low high q =
     ⊎_elim
-    (λ (low : q < 131072). by (ltb q 131072) (lt-ltb q 131072 low))
-    (λ (high : 131072 ≤ q). beside (ltb q 131072) (le-ltb q 131072 high) (ne_eqb q n (λ e. omega (arith, e, small, high))))
-    (cases_lt q 131072) where
-      by : (b : Bool) → b ≡ true → cond b (in_near new q) (in_far far q) ≡ cond (eqb q n) s (cond b (in_near near q) (in_far far q))
-      by true e = gives q
-      by false e = absurd (false≢true e)
+    (λ (below : q < 131072). near_stands new other q below ∙ (low q below ∙ ap (cond (eqb q n) s) (sym (near_stands near far q below))))
+    (λ (above : 131072 ≤ q). far_stands new other q above ∙ (high q above ∙ ap (cond (eqb q n) s) (sym (far_stands near far q above))))
+    (cases_lt q 131072)
 
-      beside : (b : Bool) → b ≡ false → eqb q n ≡ false → cond b (in_near new q) (in_far far q) ≡ cond (eqb q n) s (cond b (in_near near q) (in_far far q))
-      beside true e other = absurd (false≢true (sym e))
-      beside false e other = sym (cond-false (eqb q n) s (in_far far q) other)
+-- a number stands in a table as it does in one part of its pages, and what it is given there changes the table there
+pub record StandsIn (n : ℕ) (t after : Table Standing) (part new : ℕ → Standing) : Type 0 where
+  pub known : value_at t n ≡ noted (part n)
+  pub changes : (s : Standing) → Gives n s part new → ChangesAt n (noted s) t after
 
-pub gives_far : (near : List Page) (far new : List (ℕ × Page)) (n : ℕ) (s : Standing) → 131072 ≤ n → Gives n s (in_far far) (in_far new) → Gives n s (in_pages near far) (in_pages near new)
-gives_far near far new n s large gives q =
-    ⊎_elim
-    (λ (low : q < 131072). beside (ltb q 131072) (lt-ltb q 131072 low) (ne_eqb q n (λ e. omega (arith, e, large, low))))
-    (λ (high : 131072 ≤ q). by (ltb q 131072) (le-ltb q 131072 high))
-    (cases_lt q 131072) where
-      by : (b : Bool) → b ≡ false → cond b (in_near near q) (in_far new q) ≡ cond (eqb q n) s (cond b (in_near near q) (in_far far q))
-      by true e = absurd (false≢true (sym e))
-      by false e = gives q
+pub stands : {n : ℕ} {t after : Table Standing} {part new : ℕ → Standing} → StandsIn n t after part new → part n ≡ unwrap_or (value_at t n) standing.Unused
+stands {n = n} {part = part} h = sym (ap (λ (o : Option Standing). unwrap_or o standing.Unused) h.known ∙ said (part n))
 
-      beside : (b : Bool) → b ≡ true → eqb q n ≡ false → cond b (in_near near q) (in_far new q) ≡ cond (eqb q n) s (cond b (in_near near q) (in_far far q))
-      beside true e other = sym (cond-false (eqb q n) s (in_near near q) other)
-      beside false e other = absurd (false≢true e)
+in_table : (f g part new : ℕ → Standing) (n : ℕ) (t : Table Standing) → noted_below f (2 ^ 32) ≡ t → n < 2 ^ 32 → f n ≡ part n
+    → ((s : Standing) → Gives n s part new → Gives n s f g) → StandsIn n t (noted_below g (2 ^ 32)) part new
+in_table f g part new n t made fits same gives = record {
+  known = ap (λ (t : Table Standing). value_at t n) (sym made) ∙ (at_number f n fits ∙ ap noted same);
+  changes = λ s given. subst (λ (t : Table Standing). ChangesAt n (noted s) t (noted_below g (2 ^ 32))) made (changes f g n s fits (gives s given));
+}
+
+-- a near number stands so in the near pages, and a far one in the far pages
+pub near_in_table : (near new : List Page) (far : List (ℕ × Page)) (n : ℕ) (t : Table Standing) → noted_below (in_pages near far) (2 ^ 32) ≡ t → n < 2 ^ 32 → n < 131072
+    → StandsIn n t (noted_below (in_pages new far) (2 ^ 32)) (in_near near) (in_near new)
+near_in_table near new far n t made fits small =
+    in_table (in_pages near far) (in_pages new far) (in_near near) (in_near new) n t made fits (near_stands near far n small)
+    (λ s given.
+    gives_pages near new far far n s (λ q low. given q)
+    (λ q high. sym (cond-false (eqb q n) s (in_far far q) (ne_eqb q n (λ e. omega (arith, e, small, high))))))
+
+pub far_in_table : (near : List Page) (far new : List (ℕ × Page)) (n : ℕ) (t : Table Standing) → noted_below (in_pages near far) (2 ^ 32) ≡ t → n < 2 ^ 32 → 131072 ≤ n
+    → StandsIn n t (noted_below (in_pages near new) (2 ^ 32)) (in_far far) (in_far new)
+far_in_table near far new n t made fits large =
+    in_table (in_pages near far) (in_pages near new) (in_far far) (in_far new) n t made fits (far_stands near far n large)
+    (λ s given.
+    gives_pages near near far new n s (λ q low. sym (cond-false (eqb q n) s (in_near near q) (ne_eqb q n (λ e. omega (arith, e, large, low)))))
+    (λ q high. given q))
 
 -- one map of pages has one list of entries
 pub same_entries : {S : Type 0} (m n : HashMap ℕ Page S) → m ≡ n → m.entries ≡ n.entries

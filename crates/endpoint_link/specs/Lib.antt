@@ -1,5 +1,6 @@
 pub mod Numbers
 pub mod Frames
+pub mod Fronts
 pub mod Views
 pub mod Laws
 pub mod Deframing

@@ -8,12 +8,13 @@ use Rattle.fidl_names.specs.declared.limits.TheConstants as limit
 use Rattle.std.proofs.KnownBytes.{Appends-trans, Appends-nil, Consumes-trans, Consumes-nil}
 use Rattle.host_io.specs.Streams.{AppendsPart, AreFlushed, IsFlushed}
 use Rattle.endpoint_link.specs.Frames.{Frame, Frames, IsFrame, spelling, spellings, IsPartial}
+use Rattle.endpoint_link.specs.Fronts.{Begins}
 use Rattle.endpoint_link.specs.declared.kinds.Side.{Side}
 use Rattle.endpoint_link.proofs.Streams.{frames_stay}
 use Rattle.run_status.specs.Outside.{Streams}
 use Rattle.link_session.specs.Pieces.{TakesPiece}
 use Rattle.link_session.specs.Serving.{IsGrowing, Passes, Heard, HeardPart}
-use Rattle.link_session.specs.Session.{Course, KeepsUp, IsCutOff, IsFront, IsPartSoFar, IsPartByEnd}
+use Rattle.link_session.specs.Session.{Course, KeepsUp, IsCutOff, IsPartSoFar, IsPartByEnd}
 
 -- frames behind a rest that they complete
 pub split-more : (bytes piece kept kept' rest : List ℕ) (frames more : List Frame) → bytes ≡ spellings frames ++ kept → kept' ≡ kept ++ piece
@@ -45,7 +46,7 @@ flushed_since (Some old) None bytes count later a f l = absurd a
 flushed_since (Some old) (Some now) bytes count later a f l = omega (arith, ap length a, length-append old bytes, f, l)
 
 -- a front of what is flushed is flushed
-flushed_front : (old : Option (List ℕ)) (front whole : List ℕ) (count : ℕ) → IsFront front whole → AreFlushed old whole count → AreFlushed old front count
+flushed_front : (old : Option (List ℕ)) (front whole : List ℕ) (count : ℕ) → Begins front whole → AreFlushed old whole count → AreFlushed old front count
 flushed_front None front whole count f all = tt
 flushed_front (Some old) front whole count f all = omega (arith, ap length f.1, length-append front f.0, all)
 

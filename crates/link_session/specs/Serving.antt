@@ -4,19 +4,20 @@ use Rattle.std.specs.Io.KnownBytes.{Appends}
 use Rattle.host_io.specs.Causes.{Rose}
 use Rattle.host_io.specs.Streams.{AppendsPart}
 use Rattle.endpoint_link.specs.Frames.{Frame, IsFrame, spellings, IsPartial, IsBadFront}
+use Rattle.endpoint_link.specs.Fronts.{Begins}
 use Rattle.endpoint_link.specs.declared.kinds.Side.{Side}
 use Rattle.run_status.specs.declared.statuses.Status.{Status}
 use Rattle.run_status.specs.declared.statuses.Status.TheVariants as status
 use Rattle.run_status.specs.Texts.{PassedOn}
 use Rattle.link_session.specs.declared.sessions.Served.{Served}
 use Rattle.link_session.specs.declared.sessions.Served.TheVariants as served
-use Rattle.link_session.specs.Session.{IsFront, Course}
+use Rattle.link_session.specs.Session.{Course}
 
 -- what is written never shrinks: more frames add to it, and so does the end
 pub record IsGrowing (course : Course) : Type 0 where
   pub none : course.so_far [] ≡ []
-  pub more : (frames later : List Frame) → IsFront (course.so_far frames) (course.so_far (frames ++ later))
-  pub last : (frames : List Frame) → IsFront (course.so_far frames) (course.by_end frames)
+  pub more : (frames later : List Frame) → Begins (course.so_far frames) (course.so_far (frames ++ later))
+  pub last : (frames : List Frame) → Begins (course.so_far frames) (course.by_end frames)
 
 -- what was held back is written in front, and the rest is still held
 abbrev pub Passes : Option (List ℕ) → Option (List ℕ) → List ℕ → List ℕ → Type 0
@@ -51,9 +52,9 @@ pub record Heard (side : Side) (course : Course) (Stands : List Frame → Type 0
 pub record HeardPart (side : Side) (course : Course) (before : List Frame) (bytes : List ℕ) (written written' : Option (List ℕ)) : Type 0 where
   pub frames : List Frame
   pub each : All (IsFrame side) frames
-  pub begins : IsFront (spellings frames) bytes
+  pub begins : Begins (spellings frames) bytes
   pub part : List ℕ
-  pub lawful : IsFront (course.so_far before ++ part) (course.so_far (before ++ frames))
+  pub lawful : Begins (course.so_far before ++ part) (course.so_far (before ++ frames))
   pub got : Appends written written' part
 
 abbrev pub IsServing : Side → Course → (List Frame → Type 0) → List Frame → List ℕ → Option (List ℕ) → Option (List ℕ) → List ℕ → Served → Type 0

@@ -5,6 +5,7 @@ use Rattle.fidl_names.specs.declared.limits.TheConstants as limit
 use Rattle.host_io.specs.Causes.{Rose}
 use Rattle.host_io.specs.Streams.{AreFlushed, IsFlushed}
 use Rattle.endpoint_link.specs.Frames.{Frame, Frames, Bad}
+use Rattle.endpoint_link.specs.Fronts.{Begins}
 use Rattle.endpoint_link.specs.declared.fixed.TheConstants as fixed
 use Rattle.endpoint_link.specs.declared.kinds.FrameReason.{FrameReason}
 use Rattle.endpoint_link.specs.declared.kinds.Side.{Side}
@@ -36,10 +37,6 @@ WroteAll before after bytes = GotAll (sink_of before) (sink_of after) bytes
 pub record MetNoFault (before after : Streams) : Type 0 where
   pub source : after.read_faults ≡ before.read_faults
   pub sink : after.write_faults ≡ before.write_faults
-
--- these bytes stand at the front of the whole
-abbrev pub IsFront : List ℕ → List ℕ → Type 0
-IsFront front whole = (more : List ℕ) × (whole ≡ front ++ more)
 
 -- the input was read to its end, and is whole frames
 pub record IsDone (side : Side) (course : Course) (before after : Streams) : Type 0 where
@@ -106,9 +103,9 @@ pub record IsReadFault (side : Side) (course : Course) (before after : Streams) 
 pub record IsPartSoFar (side : Side) (course : Course) (taken part : List ℕ) : Type 0 where
   pub front : List ℕ
   pub frames : List Frame
-  pub begins : IsFront front taken
+  pub begins : Begins front taken
   pub read : Frames side front frames []
-  pub lawful : IsFront part (course.so_far frames)
+  pub lawful : Begins part (course.so_far frames)
 
 -- these are the whole frames of an input that ended, or has as many bytes as one session takes, or is bad behind them
 abbrev pub EndsBehind : Side → List ℕ → Type 0 → List Frame → Type 0
@@ -120,7 +117,7 @@ EndsBehind side taken at_end frames =
 pub record IsPartByEnd (side : Side) (course : Course) (taken : List ℕ) (at_end : Type 0) (part : List ℕ) : Type 0 where
   pub frames : List Frame
   pub ends : EndsBehind side taken at_end frames
-  pub lawful : IsFront part (course.by_end frames)
+  pub lawful : Begins part (course.by_end frames)
 
 -- the output for the frames that were whole before the last read is in the part, and flushed; before the first read none were. The last
 -- read is what it gave, and no more than 65,536 bytes of it
@@ -128,7 +125,7 @@ abbrev pub KeepsUp : Side → Course → Streams → Streams → List ℕ → Li
 KeepsUp side course before after taken part =
     (early last : List ℕ) (frames : List Frame) (rest : List ℕ) → taken ≡ early ++ last → min after.last limit.MAX_PIECE ≤ length last → early ≢ []
     → Frames side early frames rest
-    → IsFront (course.so_far frames) part × AreFlushed before.written (course.so_far frames) after.flushed
+    → Begins (course.so_far frames) part × AreFlushed before.written (course.so_far frames) after.flushed
 
 -- a part of the output is written, and no read failed
 pub record IsCutOff (side : Side) (course : Course) (before after : Streams) : Type 0 where

@@ -9,6 +9,7 @@ use Rattle.std.proofs.lemmas.List.{map-append}
 use Rattle.std.proofs.lemmas.List.Elements.{All-head, All-tail, All-take, filter-append}
 use Rattle.node_graph.specs.declared.nodes.NodeKind.{NodeKind}
 use Rattle.node_graph.specs.declared.nodes.NodeKind.TheVariants.{Directory, File, Service, Mount}
+use Rattle.node_graph.specs.Refusals as graph
 use Rattle.node_graph.specs.Tree.{kind_of}
 use Rattle.path_walk.specs.Names.{IsName}
 use Rattle.path_walk.specs.Parts.{is_dot, parent_of}
@@ -17,7 +18,7 @@ use Rattle.path_walk.proofs.PathLemmas.{path_sound}
 use Rattle.tree_file.specs.Accepted.{AreAccepted, IsAt, IsNode, IsMount}
 use Rattle.tree_file.specs.Items.{NodeItem, MountItem, Lists}
 use Rattle.tree_file.specs.Numbering.{Named, node_named, mount_named, named_of, number_at, tree_from}
-use Rattle.tree_file.specs.Rules.{Place, node_place, mount_place, found_among, is_directory, is_directory_kind, fits_in, node_fits, mount_fits, first_failing}
+use Rattle.tree_file.specs.Rules.{Place, node_place, mount_place, found_among, is_directory, fits_in, node_fits, mount_fits, first_failing}
 use Rattle.tree_file.proofs.Accepted.{passing, rules_kept}
 use Rattle.tree_file.proofs.Found.{find_push, enumerate_push, position_none}
 use Rattle.tree_file.proofs.Numbers.{at_path}
@@ -28,23 +29,23 @@ use Rattle.tree_file.proofs.Trees.{Fits, Grows, bare, more}
 -- ---- the places of all servers, and the list of one
 
 abbrev directory_found : List Named → List ℕ → Option Bool
-directory_found named path = option_map (λ one. is_directory_kind one.kind) (find (at_path path) named)
+directory_found named path = option_map (λ one. graph.is_directory one.kind) (find (at_path path) named)
 
 -- a server has at each path what its own list has there, and that list grows
 pub record Keeps (server : ℕ) (places : List Place) (named : List Named) : Type 0 where
   pub agree : (path : List ℕ) → found_among places server path ≡ directory_found named path
   pub grows : Grows named
 
-or_of : (o : Option Named) (b : Bool) (one : Named) → option_map (λ (x : Named). is_directory_kind x.kind) (option_or o (cond b (Some one) None)) ≡ option_or (option_map (λ (x : Named). is_directory_kind x.kind) o) (cond b (Some (is_directory_kind one.kind)) None)
+or_of : (o : Option Named) (b : Bool) (one : Named) → option_map (λ (x : Named). graph.is_directory x.kind) (option_or o (cond b (Some one) None)) ≡ option_or (option_map (λ (x : Named). graph.is_directory x.kind) o) (cond b (Some (graph.is_directory one.kind)) None)
 or_of None true one = refl
 or_of None false one = refl
 or_of (Some x) b one = refl
 
-directory_push : (named : List Named) (one : Named) (path : List ℕ) → directory_found (named ++ one ∷ []) path ≡ option_or (directory_found named path) (cond (at_path path one) (Some (is_directory_kind one.kind)) None)
+directory_push : (named : List Named) (one : Named) (path : List ℕ) → directory_found (named ++ one ∷ []) path ≡ option_or (directory_found named path) (cond (at_path path one) (Some (graph.is_directory one.kind)) None)
 directory_push named one path =
-    ap (option_map (λ (x : Named). is_directory_kind x.kind)) (find_push (at_path path) named one) ∙ or_of (find (at_path path) named) (at_path path one) one
+    ap (option_map (λ (x : Named). graph.is_directory x.kind)) (find_push (at_path path) named one) ∙ or_of (find (at_path path) named) (at_path path one) one
 
-agree_on : (server : ℕ) (places : List Place) (named : List Named) (place : Place) (one : Named) → ((path : List ℕ) → found_among places server path ≡ directory_found named path) → (place.server == server) ≡ true → place.path ≡ one.path → place.directory ≡ is_directory_kind one.kind →
+agree_on : (server : ℕ) (places : List Place) (named : List Named) (place : Place) (one : Named) → ((path : List ℕ) → found_among places server path ≡ directory_found named path) → (place.server == server) ≡ true → place.path ≡ one.path → place.directory ≡ graph.is_directory one.kind →
     (path : List ℕ) → found_among (places ++ place ∷ []) server path ≡ directory_found (named ++ one ∷ []) path
 agree_on server places named place one agree on same kind path =
     found_push places place server path
@@ -63,13 +64,13 @@ agree_off server places named place agree off path =
 
 -- ---- what is found there
 
-by_kind : (k : NodeKind) → is_directory_kind k ≡ true → k ≡ Directory
+by_kind : (k : NodeKind) → graph.is_directory k ≡ true → k ≡ Directory
 by_kind Directory h = refl
 by_kind File h = absurd (cc)
 by_kind Service h = absurd (cc)
 by_kind (Mount index) h = absurd (cc)
 
-directory_alone : (o : Option Named) → unwrap_or (option_map (λ (one : Named). is_directory_kind one.kind) o) false ≡ true → option_map (λ (one : Named). one.kind) o ≡ Some Directory
+directory_alone : (o : Option Named) → unwrap_or (option_map (λ (one : Named). graph.is_directory one.kind) o) false ≡ true → option_map (λ (one : Named). one.kind) o ≡ Some Directory
 directory_alone None h = absurd (cc)
 directory_alone (Some one) h = ap Some (by_kind one.kind h)
 
@@ -80,7 +81,7 @@ directory_there server places named keeps path h = by_dot (is_dot path) refl h w
   by_dot true is h = kind_root named path is
   by_dot false is h = kind_below named path is ∙ directory_alone (find (at_path path) named) (ap (λ (o : Option Bool). unwrap_or o false) (sym (keeps.agree path)) ∙ h)
 
-none_mapped : (o : Option Named) → is_none (option_map (λ (one : Named). is_directory_kind one.kind) o) ≡ true → o ≡ None
+none_mapped : (o : Option Named) → is_none (option_map (λ (one : Named). graph.is_directory one.kind) o) ≡ true → o ≡ None
 none_mapped None h = refl
 none_mapped (Some one) h = absurd (cc)
 
@@ -97,7 +98,7 @@ fits_there server places named keeps one h below valid =
       parent = directory_there server places named keeps (parent_of one.path) parts.0;
     }
 
-keep_push : (server : ℕ) (places : List Place) (named : List Named) → Keeps server places named → (place : Place) (one : Named) → place.path ≡ one.path → place.directory ≡ is_directory_kind one.kind →
+keep_push : (server : ℕ) (places : List Place) (named : List Named) → Keeps server places named → (place : Place) (one : Named) → place.path ≡ one.path → place.directory ≡ graph.is_directory one.kind →
     fits_in places place.server one.path ≡ true → is_dot one.path ≡ false → All IsName (names_of one.path) → (b : Bool) → (place.server == server) ≡ b → Keeps server (places ++ place ∷ []) (named ++ cond b (one ∷ []) [])
 keep_push server places named keeps place one same kind fits below valid true on =
     let here : fits_in places server one.path ≡ true = ap (λ (s : ℕ). fits_in places s one.path) (sym (eqb-true place.server server on)) ∙ fits in

@@ -8,8 +8,7 @@ use Rattle.fidl_names.specs.First.{first_of}
 use Rattle.fidl_names.specs.declared.limits.TheConstants as limit
 use Rattle.toml.specs.Data.{Data, table, get, as_array, as_integer}
 use Rattle.toml.specs.Parse.{parse_document}
-use Rattle.node_graph.specs.declared.nodes.NodeKind.{NodeKind}
-use Rattle.node_graph.specs.declared.nodes.NodeKind.TheVariants.{Directory}
+use Rattle.node_graph.specs.Refusals as graph
 use Rattle.path_walk.specs.Parts.{is_dot, parent_of}
 use Rattle.tree_file.specs.Fields.{has_only, list_of, is_table}
 use Rattle.tree_file.specs.Items.{NodeItem, MountItem, ClientItem, Lists}
@@ -103,10 +102,6 @@ unfoldable pub first_failing : {X : Type 0} → (List X → X → Bool) → List
 first_failing passes earlier [] = None
 first_failing passes earlier (x ∷ xs) = if passes earlier x then first_failing passes (earlier ++ x ∷ []) xs else Some (length earlier)
 
-abbrev pub is_directory_kind : NodeKind → Bool
-is_directory_kind Directory = true
-is_directory_kind _ = false
-
 -- the place of a node or a mount: a path of a server, and whether a directory stands there
 pub record Place : Type 0 where
   pub server : ℕ
@@ -114,7 +109,7 @@ pub record Place : Type 0 where
   pub directory : Bool
 
 abbrev pub node_place : NodeItem → Place
-node_place node = record { server = node.server; path = node.path; directory = is_directory_kind node.kind }
+node_place node = record { server = node.server; path = node.path; directory = graph.is_directory node.kind }
 
 -- a mount is no directory
 abbrev pub mount_place : MountItem → Place

@@ -1,7 +1,7 @@
 ghost use Rattle.std.specs.Prelude.{◌≡◌, ◌++◌, ◌&&◌, [], ◌∷◌, None, List, map, length, nat_le, All, OnOk, IfErr, ◌≤◌};
 ghost use Rattle.fidl_names.specs.Numbers.{AreBytes};
 ghost use Rattle.tree_file.specs.Items.{NodeItem};
-ghost use Rattle.tree_file.specs.Rules.{Place, found_among, is_directory, is_directory_kind, fits_in, node_place, mount_place, first_failing, node_fits, mount_fits, client_fits, bytes_fit, names_held, connections_held, names_fit, connections_fit};
+ghost use Rattle.tree_file.specs.Rules.{Place, found_among, is_directory, fits_in, node_place, mount_place, first_failing, node_fits, mount_fits, client_fits, bytes_fit, names_held, connections_held, names_fit, connections_fit};
 ghost use Rattle.tree_file.specs.Kept.{Stands};
 ghost use Rattle.tree_file.specs.Faults.{Breaks};
 
@@ -32,15 +32,6 @@ fn is_directory<'a>(places: &Places<'a>, server: u32, path: &'a [u8]) -> bool
         return true;
     }
     found_among(places, server, path).unwrap_or(false)
-}
-
-fn is_directory_kind(kind: NodeKind) -> bool
-    ensures { result ≡ is_directory_kind kind }
-{
-    match kind {
-        NodeKind::Directory => true,
-        _ => false,
-    }
 }
 
 // Whether the path is free and its parent is a directory.
@@ -80,7 +71,8 @@ fn add_node<'a>(places: &mut Places<'a>, node: &'a Node) -> Result<(), NoMemory>
         → Stands places.new (listed ++ node_place node.now ∷ [])) }
 {
     let path = node.path.as_slice();
-    add(places, node.server, path, is_directory_kind(node.kind))
+    let directory = matches!(node.kind, NodeKind::Directory);
+    add(places, node.server, path, directory)
 }
 
 /// Puts all nodes, each in a directory before it.

@@ -2,18 +2,18 @@
 use Rattle.std.proofs.Common.{◌≡◌, ◌∙◌, List, [], ap}
 use Rattle.std.proofs.lemmas.List.Concat.{flat_map-append}
 use Rattle.endpoint_link.specs.Frames.{Frame, spelling, spellings}
+use Rattle.endpoint_link.specs.Fronts.{Begins}
 use Rattle.endpoint_link.specs.declared.kinds.Mode.{Mode}
 use Rattle.vfs_journal.specs.Entries.{Journal}
 use Rattle.vfs_journal.specs.Output.{frames_of, output_of}
 use Rattle.vfs_journal.specs.Past.{history_of}
 use Rattle.vfs_journal.specs.Session.{session}
 use Rattle.vfs_journal.specs.Starts.{Start}
-use Rattle.vfs_world.proofs.Growth.{Begins, begins_all, begins_drained, nothing, session-append}
-use Rattle.link_session.specs.Session.{IsFront}
+use Rattle.vfs_world.proofs.Growth.{Begins as FramesBegin, begins_all, begins_drained, nothing, session-append}
 use Rattle.link_session.specs.Serving.{IsGrowing}
 use Rattle.tree_session.specs.TreeSession.{tree_course}
 
-spelled : (start : Start) (journal later : Journal) → Begins start journal later → IsFront (output_of start journal) (output_of start later)
+spelled : (start : Start) (journal later : Journal) → FramesBegin start journal later → Begins (output_of start journal) (output_of start later)
 spelled start journal later begins = (spellings begins.0, ap spellings begins.1 ∙ flat_map-append spelling (frames_of start (history_of start journal)) begins.0)
 
 pub tree_grows : (start : Start) (by : Mode) → IsGrowing (tree_course start by)

@@ -15,6 +15,7 @@ use Rattle.tree_file.specs.Rules.{document_of, failure_of, first_broken, first_f
 use Rattle.tree_file.proofs.Accepted.{accepted_of}
 use Rattle.tree_file.proofs.GeneratedRules.{generated_accepted}
 use Rattle.endpoint_link.specs.Frames.{Frame, Frames, IsFrame, spellings}
+use Rattle.endpoint_link.specs.Fronts.{Begins}
 use Rattle.endpoint_link.specs.declared.kinds.Mode.{Mode}
 use Rattle.endpoint_link.specs.declared.kinds.Mode.TheVariants.{Auto}
 use Rattle.endpoint_link.specs.declared.kinds.Side.TheVariants.{ToServers}
@@ -36,7 +37,7 @@ use Rattle.run_status.specs.declared.statuses.Status.TheVariants as status
 use Rattle.run_status.specs.Causes.{After, Collides}
 use Rattle.run_status.specs.Outside.{Outside, SinkTold, Streams, sink_of}
 use Rattle.run_status.specs.Texts.{WritesPieces, WritesText}
-use Rattle.link_session.specs.Session.{EndsBehind, IsCutOff, IsFront, IsPartByEnd, IsPartSoFar, SessionAnswers, Took, Wrote}
+use Rattle.link_session.specs.Session.{EndsBehind, IsCutOff, IsPartByEnd, IsPartSoFar, SessionAnswers, Took, Wrote}
 use Rattle.named_files.specs.FileCauses.{AfterTree, HasNoStart}
 use Rattle.named_files.specs.Trees.{IsTree, Stands}
 use Rattle.tree_session.specs.TreeSession.{tree_course}
@@ -89,14 +90,14 @@ generated_of_bytes =
 
 -- ---- fronts of the output
 
-front_whole : (bytes : List ℕ) → IsFront bytes bytes
+front_whole : (bytes : List ℕ) → Begins bytes bytes
 front_whole bytes = ([], sym (append-nil bytes))
 
 -- whole frames in front of what was taken
-frames_in_front : (taken front more : List ℕ) (frames : List Frame) → taken ≡ front ++ more → Frames ToServers front frames [] → IsFront (spellings frames) taken
+frames_in_front : (taken front more : List ℕ) (frames : List Frame) → taken ≡ front ++ more → Frames ToServers front frames [] → Begins (spellings frames) taken
 frames_in_front taken front more frames e read = (more, e ∙ ap (λ l. l ++ more) (read.split ∙ append-nil (spellings frames)))
 
-ends_begin : (taken : List ℕ) (at_end : Type 0) (frames : List Frame) → EndsBehind ToServers taken at_end frames → IsFront (spellings frames) taken
+ends_begin : (taken : List ℕ) (at_end : Type 0) (frames : List Frame) → EndsBehind ToServers taken at_end frames → Begins (spellings frames) taken
 ends_begin taken at_end frames (inl h) = (h.0, h.1.split)
 ends_begin taken at_end frames (inr h) = frames_in_front taken (take h.0 taken) (drop h.0 taken) frames (sym (take-append-drop h.0 taken)) h.3
 
@@ -110,8 +111,8 @@ module _ (apart : AreDistinct) (told : Told) (lists : Lists) (is : IsTree told l
   over : (journal : Journal) → Lawful (start_of lists) journal → IsLawfulOver lists journal
   over journal h = lawful_over apart lists journal (stands_accepted told lists is.stands) h
 
-  so_far_lawful : (taken part : List ℕ) (frames : List Frame) → Took before after taken → IsFront (spellings frames) taken → All (IsFrame ToServers) frames
-      → Wrote before after part → IsFront part ((tree_course (start_of lists) by).so_far frames) → IsLawfulServing told by before after
+  so_far_lawful : (taken part : List ℕ) (frames : List Frame) → Took before after taken → Begins (spellings frames) taken → All (IsFrame ToServers) frames
+      → Wrote before after part → Begins part ((tree_course (start_of lists) by).so_far frames) → IsLawfulServing told by before after
   unfolding tree_course
   so_far_lawful taken part frames took begins each wrote front =
       let journal = session (start_of lists) by frames in
@@ -131,7 +132,7 @@ module _ (apart : AreDistinct) (told : Told) (lists : Lists) (is : IsTree told l
       }
 
   by_end_lawful : (taken part : List ℕ) (frames : List Frame) → Took before after taken → EndsBehind ToServers taken (IsAtEnd after.left) frames
-      → Wrote before after part → IsFront part ((tree_course (start_of lists) by).by_end frames) → IsLawfulServing told by before after
+      → Wrote before after part → Begins part ((tree_course (start_of lists) by).by_end frames) → IsLawfulServing told by before after
   unfolding tree_course
   by_end_lawful taken part frames took ends wrote front =
       let journal = ended (start_of lists) by frames in

@@ -3,6 +3,7 @@ use Rattle.std.specs.Prelude.{◌≡◌, ◌⊎◌, ℕ, All, List, ◌++◌}
 use Rattle.std.specs.Io.KnownBytes.{IsAtEnd}
 use Rattle.host_io.specs.Told.{Told}
 use Rattle.endpoint_link.specs.Frames.{Frame, IsFrame, spellings}
+use Rattle.endpoint_link.specs.Fronts.{Begins}
 use Rattle.endpoint_link.specs.declared.kinds.Mode.{Mode}
 use Rattle.endpoint_link.specs.declared.kinds.Mode.TheVariants.{Auto}
 use Rattle.endpoint_link.specs.declared.kinds.Side.TheVariants.{ToServers}
@@ -20,7 +21,7 @@ use Rattle.frame_laws.specs.Bytes.{BeginsWithBytes}
 use Rattle.session_laws.specs.Laws.{IsLawfulOutput, IsLawfulOver}
 use Rattle.workload.specs.Workload.{workload}
 use Rattle.run_status.specs.Outside.{Outside, Streams}
-use Rattle.link_session.specs.Session.{EndsBehind, IsFront, Took, Wrote}
+use Rattle.link_session.specs.Session.{EndsBehind, Took, Wrote}
 use Rattle.named_files.specs.Trees.{Stands}
 use Rattle.frame_printer.specs.Shown.{lines_of}
 use Rattle.script_session.specs.Scripts.{Said, Says}
@@ -48,7 +49,7 @@ pub record IsLawfulServing (told : Told) (by : Mode) (before after : Streams) : 
   pub took : Took before after taken
   pub frames : List Frame
   pub each : All (IsFrame ToServers) frames
-  pub begins : IsFront (spellings frames) taken
+  pub begins : Begins (spellings frames) taken
   -- what was written is lawful
   pub bytes : List ℕ
   pub wrote : Wrote before after bytes
@@ -75,7 +76,7 @@ pub record IsLawfulPlaying (tree script : Told) (before after : Streams) : Type 
   pub over : IsLawfulOver lists journal
   pub bytes : List ℕ
   pub wrote : Wrote before after bytes
-  pub front : IsFront bytes (lines_of (frames_behind (start_of lists) journal) ++ counts_of (start_of lists) said)
+  pub front : Begins bytes (lines_of (frames_behind (start_of lists) journal) ++ counts_of (start_of lists) said)
 
 -- and where a workload was played: a front of the report of what went in, and of all frames that such a journal over the generated start
 -- stands for; and that journal is that of the session which the workload's frames end, in mode auto
@@ -86,7 +87,7 @@ pub record IsLawfulMaking (rounds : ℕ) (before after : Streams) : Type 0 where
   pub over : IsLawfulOver generated_lists journal
   pub bytes : List ℕ
   pub wrote : Wrote before after bytes
-  pub front : IsFront bytes (report_for (frames_of (workload rounds)) (frames_behind (start_of generated_lists) journal))
+  pub front : Begins bytes (report_for (frames_of (workload rounds)) (frames_behind (start_of generated_lists) journal))
 
 -- a session over a tree wrote nothing, or what is lawful over that tree; the other commands have no such session
 abbrev pub IsLawfulRun : Asks → Outside → Outside → Type 0

@@ -1,24 +1,13 @@
-use Rattle.std.proofs.Common.{◌≡◌, ◌∙◌, arith, subst, sym}
-use Rattle.std.specs.Prelude.{unwrap_or}
-use Rattle.endpoint_link.specs.declared.kinds.Standing.{Standing}
-use Rattle.endpoint_link.specs.declared.kinds.Standing.TheVariants as standing
-use Rattle.endpoint_link.specs.Tables.{Table, value_at}
-use Rattle.endpoint_link.specs.Pages.{in_pages}
-use Rattle.endpoint_link.proofs.Paged.{far_stands, near_stands, stands}
+use Rattle.std.proofs.Common.{◌∙◌, arith}
+use Rattle.endpoint_link.proofs.Paged.{near_in_table, far_in_table, stands}
 use Rattle.endpoint_link.proofs.pages.Pages.at.Goals as goal
 
 pub returns-then-number-lt-NEAR : goal.returns-then-number-lt-NEAR
 returns-then-number-lt-NEAR c =
-    let n = c.args.number in
     let near = c.self.inside.near.items in
-    let far = c.self.inside.far.entries in
-    subst (λ (t : Table Standing). c.at_near.result ≡ unwrap_or (value_at t n) standing.Unused) c.self.view_is
-    (c.at_near.ensures ∙ (sym (near_stands near far n (omega (arith, c.if-number-lt-NEAR.true))) ∙ sym (stands (in_pages near far) n c.ranges.number.fits)))
+    c.at_near.ensures ∙ stands (near_in_table near near c.self.inside.far.entries c.args.number _ c.self.view_is c.ranges.number.fits (omega (arith, c.if-number-lt-NEAR.true)))
 
 pub returns : goal.returns
 returns c =
-    let n = c.args.number in
-    let near = c.self.inside.near.items in
     let far = c.self.inside.far.entries in
-    subst (λ (t : Table Standing). c.at_far.result ≡ unwrap_or (value_at t n) standing.Unused) c.self.view_is
-    (c.at_far.ensures ∙ (sym (far_stands near far n (omega (arith, c.if-number-lt-NEAR.false))) ∙ sym (stands (in_pages near far) n c.ranges.number.fits)))
+    c.at_far.ensures ∙ stands (far_in_table c.self.inside.near.items far far c.args.number _ c.self.view_is c.ranges.number.fits (omega (arith, c.if-number-lt-NEAR.false)))
