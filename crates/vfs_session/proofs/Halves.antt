@@ -12,7 +12,7 @@ use Rattle.message_queues.specs.Dying.{Buries}
 use Rattle.message_queues.specs.Queues.{IsAbove, Queues, count, queue_of}
 use Rattle.vfs_server.specs.declared.fate.Fate.{Fate}
 use Rattle.vfs_server.specs.declared.fate.Fate.TheVariants as fates
-use Rattle.vfs_session.specs.Heads.{SettlesHead, TakesHead}
+use Rattle.vfs_session.specs.Heads.{ServesTaken, SettlesHead, Takes, TakesHead}
 use Rattle.vfs_session.specs.Running.{IsRunning}
 use Rattle.vfs_session.specs.Servings.{ServesHead, ServesOne}
 use Rattle.vfs_session.specs.Steps.{SendsOn, closed_for, end_told, is_sent_on, known_told, spent_told}
@@ -114,3 +114,11 @@ goes_on most old new run endpoint before after one =
     lasts_served most old new run one.sent
     (ready_in (view_behind run.start run.journal) old.queues one.endpoint one.server one.sent run.stands.holds.queues one.bound one.waits).first
     (head_served run.apart run.start run.journal old new one.endpoint one.server one.sent before after run.stands one.bound one.waits one.served).stands
+
+-- so that what is served, whatever it was taken from, runs on as that did
+pub serves_taken : (endpoint server : ℕ) (sent : Sent) (old new : World) (before after : List ℕ) →
+    ((from : World) → IsRunning (2 ^ 61) from → Takes from endpoint server sent old → ServesOne (λ one. one ≡ endpoint) from new before after) → ServesTaken endpoint server sent old new before after
+serves_taken endpoint server sent old new before after serves = record {
+  served = serves;
+  running = λ most from run few takes. goes_on most from new few endpoint before after (serves from run takes);
+}

@@ -17,13 +17,13 @@ use Rattle.message_queues.specs.Queues.{count}
 use Rattle.vfs_server.specs.declared.fate.Fate.TheVariants as fates
 use Rattle.vfs_server.specs.Servers.{Server}
 use Rattle.vfs_server.specs.Serving.{IsMomentOf, Serves}
-use Rattle.vfs_session.specs.Heads.{SettlesHead, Takes, TakesHead}
+use Rattle.vfs_session.specs.Heads.{ServesTaken, SettlesHead, Takes, TakesHead}
 use Rattle.vfs_session.specs.Running.{IsRunning}
 use Rattle.vfs_session.specs.Servings.{ServesOne}
 use Rattle.vfs_session.specs.Steps.{Answers}
 use Rattle.vfs_session.specs.World.{World}
 use Rattle.vfs_session.proofs.Carried.{quiet_stays}
-use Rattle.vfs_session.proofs.Halves.{one_served}
+use Rattle.vfs_session.proofs.Halves.{one_served, serves_taken}
 use Rattle.vfs_session.proofs.Quiet.{settles_quietly}
 use Rattle.vfs_session.proofs.Taken.{can_answer, takes_head}
 
@@ -66,14 +66,15 @@ module _ (first old : World) (run : IsRunning (2 ^ 61) first) (endpoint server :
   read_served able = one_served first answered (behind old server now) (behind old server now) run endpoint server sent fates.Stays out before after after head settles refl able
 
 -- where memory sufficed
-pub read_taken : (first old : World) (run : IsRunning (2 ^ 61) first) (endpoint server : ℕ) (sent : Sent) → Takes first endpoint server sent old → (bytes : List ℕ) → sent.sending ≡ message bytes [] → (txid wanted : ℕ) →
+pub read_taken : (old : World) (endpoint server : ℕ) (sent : Sent) (bytes : List ℕ) → sent.sending ≡ message bytes [] → (txid wanted : ℕ) →
     request_of protocol.File bytes [] ≡ Ok (txid, read wanted) → (one now : Server) → slice_get old.servers server ≡ Some one → (out : Written) (before after : List ℕ) (r : Result (Unit {0}) NoMemory) →
     ((bytes : List ℕ) (token : Option ℕ) (moment : Moment) → request_of protocol.File bytes [] ≡ Ok (txid, read wanted) → IsMomentOf one endpoint token [] moment →
     OnOk r (Serves moment (outcome_of_sending moment (message bytes [])) fates.Stays out one now before after)) →
-    old.spent ≡ false → OnOk r (ServesOne (λ one. one ≡ endpoint) first (behind old server now) before after)
-read_taken first old run endpoint server sent takes bytes sending txid wanted asks one now there out before after (Ok x) serves able =
-    read_served first old run endpoint server sent takes bytes sending txid wanted asks one now there out before after serves able
-read_taken first old run endpoint server sent takes bytes sending txid wanted asks one now there out before after (Err e) serves able = tt
+    old.spent ≡ false → OnOk r (ServesTaken endpoint server sent old (behind old server now) before after)
+read_taken old endpoint server sent bytes sending txid wanted asks one now there out before after (Ok x) serves able =
+    serves_taken endpoint server sent old (behind old server now) before after
+    (λ from run takes. read_served from old run endpoint server sent takes bytes sending txid wanted asks one now there out before after serves able)
+read_taken old endpoint server sent bytes sending txid wanted asks one now there out before after (Err e) serves able = tt
 
 -- and whether it did or not, what was written stays in front
 pub read_begins : (first old : World) (run : IsRunning (2 ^ 61) first) (endpoint server : ℕ) (sent : Sent) → Takes first endpoint server sent old → (bytes : List ℕ) → sent.sending ≡ message bytes [] → (txid wanted : ℕ) →

@@ -10,7 +10,6 @@ use Rattle.endpoint_link.specs.Standings.{Known, is_live, next_token_of, standin
 use Rattle.node_graph.specs.declared.nodes.NodeRef.{NodeRef}
 use Rattle.node_graph.specs.Graph.{number_of}
 use Rattle.tree_file.specs.Numbering.{end_of_mount}
-use Rattle.conn_rules.specs.declared.births.Birth as code
 use Rattle.conn_rules.specs.Births.{Position}
 use Rattle.vfs_journal.specs.Entries.{Sent, handles_of}
 use Rattle.vfs_journal.specs.Fit.{IsFit}
@@ -43,7 +42,7 @@ use Rattle.vfs_server.specs.Servers.{Server, bound_with, seen, watcher_with}
 use Rattle.vfs_server.specs.Serving.{IsMomentOf}
 use Rattle.vfs_session.specs.Heads.{CanSettle, TakesHead}
 use Rattle.vfs_session.specs.Running.{IsRunning}
-use Rattle.vfs_session.specs.Steps.{Answers, CanGo, CanName, first_told, spent_told}
+use Rattle.vfs_session.specs.Steps.{Answers, CanBind, CanGo, CanName, first_told, spent_told}
 use Rattle.vfs_session.specs.World.{World}
 use Rattle.vfs_session.proofs.Between.{answered_in, given_told}
 use Rattle.vfs_session.proofs.EachServer.{by_length, numbered}
@@ -59,18 +58,6 @@ use Rattle.vfs_session.proofs.Spending.{are_spent, can_go, can_go_alike, spent_a
 use Rattle.vfs_session.proofs.Telling.{bound_told, first_are_told, forward_told}
 use Rattle.vfs_session.proofs.Then.{Begun, Told, binds_one, handles_are_out, new_free, told}
 
--- what the binding of a fate counts on, at servers behind an answer
-pub record CanBind (queues : Queues) (server : ℕ) (servers : List Server) (fate : Fate) : Type 0 where
-  pub within : server < length servers
-  pub one_of : server < queues.servers
-  pub free : (object : ℕ) (birth : code.Birth) (one : Server) → fate ≡ fates.Binds object birth → slice_get servers server ≡ Some one → seen one object ≡ None
-  pub place : (object : ℕ) (birth : code.Birth) (one : Server) → fate ≡ fates.Binds object birth → slice_get servers server ≡ Some one → HasPlace one birth
-  pub unbound : (object : ℕ) (birth : code.Birth) → fate ≡ fates.Binds object birth → server_of queues object ≡ None
-  pub unwatched : (object mask : ℕ) (directory : NodeRef) (one : Server) → fate ≡ fates.Watches object directory mask → slice_get servers server ≡ Some one → seen one object ≡ None
-  pub watches : (object mask : ℕ) (directory : NodeRef) (one : Server) → fate ≡ fates.Watches object directory mask → slice_get servers server ≡ Some one → CanWatch one directory
-  pub silent : (object mask : ℕ) (directory : NodeRef) → fate ≡ fates.Watches object directory mask → server_of queues object ≡ None
-  pub names : (token : ℕ) (node : NodeRef) (one : Server) → fate ≡ fates.Gives token node → slice_get servers server ≡ Some one → CanName one token node
-
 -- what the answer, the taking and the binding count on
 pub record CanTake (world : World) (endpoint server : ℕ) (sent : Sent) : Type 0 where
   pub one : Server
@@ -80,7 +67,7 @@ pub record CanTake (world : World) (endpoint server : ℕ) (sent : Sent) : Type 
   pub made : one.graph.made < 2 ^ 63
   pub counted : count world.queues ≡ world.known.waiting
   pub binds : (fate : Fate) (out : Written) (new : List Server) (before after : List ℕ) → Answers world.servers server endpoint (next_token_of world.known) sent fate out new before after →
-      CanBind world.queues server new fate
+      CanBind server fate new world.queues
 
 later_all : (P : Sent → Type 0) (ones : List Sent) → All P ones → All P (later_of ones)
 later_all P [] all = all
@@ -170,7 +157,7 @@ module _ (old : World) (run : IsRunning (2 ^ 61) old) (sent : Sent) (pair : Boun
       }
 
   binds_at : (fate : Fate) (out : Written) (new : List Server) (before after : List ℕ) → Told (view_behind run.start run.journal) sent pair old.servers there.0 fate out new before after →
-      CanBind old.queues pair.0.server new fate
+      CanBind pair.0.server fate new old.queues
   binds_at fate out new before after t =
       record {
         within = slice_get_within new pair.0.server t.now t.there;
@@ -265,7 +252,7 @@ can_take old run endpoint server sent bound waits =
 -- the taking leaves it so
 pub can_bind : (old : World) (left : Queues) (run : IsRunning (2 ^ 61) old) (endpoint server : ℕ) (sent : Sent) (queue : List Sent) (fate : Fate) (out : Written) (new : List Server) (before after : List ℕ) →
     server_of old.queues endpoint ≡ Some server → head_of old.queues endpoint ≡ Some sent → Answers old.servers server endpoint (next_token_of old.known) sent fate out new before after → Requeues old.queues endpoint queue left →
-    CanBind left server new fate
+    CanBind server fate new left
 can_bind old left run endpoint server sent queue fate out new before after bound waits answers taken =
     let can = (can_take old run endpoint server sent bound waits).binds fate out new before after answers in
     record {

@@ -11,9 +11,9 @@ use Rattle.vfs_server.specs.Servers.{Server}
 use Rattle.vfs_server.specs.Serving.{IsMomentOf}
 use Rattle.vfs_session.specs.Heads.{Takes, TakesHead}
 use Rattle.vfs_session.specs.Running.{IsRunning}
-use Rattle.vfs_session.specs.Steps.{Answers, BindsTold}
+use Rattle.vfs_session.specs.Steps.{Answers, BindsTold, CanBind}
 use Rattle.vfs_session.specs.World.{World}
-use Rattle.vfs_session.proofs.Ready.{CanBind, can_bind, can_take}
+use Rattle.vfs_session.proofs.Ready.{can_bind, can_take}
 
 -- what the answer and the binding count on, where the entry was taken
 pub record CanAnswer (world : World) (endpoint server : ℕ) (sent : Sent) : Type 0 where
@@ -24,7 +24,7 @@ pub record CanAnswer (world : World) (endpoint server : ℕ) (sent : Sent) : Typ
   pub made : one.graph.made < 2 ^ 63
   pub counted : count world.queues + 1 ≡ world.known.waiting
   pub binds : (fate : Fate) (out : Written) (new : List Server) (before after : List ℕ) → Answers world.servers server endpoint (next_token_of world.known) sent fate out new before after →
-      CanBind world.queues server new fate
+      CanBind server fate new world.queues
 
 pub can_answer : (old now : World) (endpoint server : ℕ) (sent : Sent) → IsRunning (2 ^ 61) old → Takes old endpoint server sent now → CanAnswer now endpoint server sent
 can_answer old now endpoint server sent run t =

@@ -1,4 +1,4 @@
--- The two parts of a serving: what comes before the deaths, and what comes with them. Of these a public clause needs Takes alone.
+-- The two parts of a serving: what comes before the deaths, and what comes with them. Of these a public clause needs WasTaken and ServesTaken.
 use Rattle.std.specs.Prelude.{◌≡◌, ◌≤◌, ◌<◌, ◌+◌, ◌-◌, ◌^◌, ◌++◌, ◌∷◌, [], ℕ, All, List, drop, fold, Some, true}
 use Rattle.fidl_names.specs.declared.limits.TheConstants as limit
 use Rattle.fidl_wire.specs.Written.{Written}
@@ -12,6 +12,8 @@ use Rattle.vfs_server.specs.declared.fate.Fate.{Fate}
 use Rattle.vfs_server.specs.declared.fate.Fate.TheVariants as fates
 use Rattle.vfs_server.specs.Servers.{Server}
 use Rattle.vfs_session.specs.Holding.{HoldsEach}
+use Rattle.vfs_session.specs.Running.{IsRunning}
+use Rattle.vfs_session.specs.Servings.{ServesOne}
 use Rattle.vfs_session.specs.Steps.{Answers, AreApart, BindsTold, CanGo, ForgetsAll, SendsOn, closed_for, end_told, first_told, is_sent_on, known_told, spent_told, without_in}
 use Rattle.vfs_session.specs.World.{World}
 
@@ -22,6 +24,15 @@ pub record Takes (old : World) (endpoint server : ℕ) (sent : Sent) (new : Worl
   pub taken : Requeues old.queues endpoint (drop 1 (queue_of old.queues endpoint)) new.queues
   pub count : count new.queues + 1 ≡ count old.queues
   pub same : new ≡ record old { queues = new.queues }
+
+-- it was taken so from a world that runs
+abbrev pub WasTaken : ℕ → ℕ → Sent → World → Type 0
+WasTaken endpoint server sent world = (from : World) × (IsRunning (2 ^ 61) from × Takes from endpoint server sent world)
+
+-- what was taken is served: behind whatever world that runs it was taken from, that one's first entry is served, and it runs on
+pub record ServesTaken (endpoint server : ℕ) (sent : Sent) (old new : World) (before after : List ℕ) : Type 0 where
+  pub served : (from : World) → IsRunning (2 ^ 61) from → Takes from endpoint server sent old → ServesOne (λ one. one ≡ endpoint) from new before after
+  pub running : (most : ℕ) (from : World) → IsRunning (2 ^ 61) from → IsRunning most from → Takes from endpoint server sent old → IsRunning most new
 
 -- the first entry of an endpoint is answered at its server and taken, and what its fate binds is bound
 pub record TakesHead (old : World) (endpoint server : ℕ) (sent : Sent) (fate : Fate) (out : Written) (new : World) (before after : List ℕ) : Type 0 where

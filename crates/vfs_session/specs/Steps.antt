@@ -10,6 +10,7 @@ use Rattle.endpoint_link.specs.Numbering.{among}
 use Rattle.endpoint_link.specs.Standings.{Known, given, gone}
 use Rattle.tree_file.specs.Numbering.{end_of_mount}
 use Rattle.conn_rules.specs.Births.{Position}
+use Rattle.conn_rules.specs.declared.births.Birth.{Birth}
 use Rattle.node_graph.specs.declared.nodes.NodeRef.{NodeRef}
 use Rattle.node_graph.specs.Graph.{number_of}
 use Rattle.vfs_journal.specs.Entries.{Sent, endpoints_in, handles_of, message, tokens_in}
@@ -19,12 +20,12 @@ use Rattle.vfs_journal.specs.Serving.{Moment, outcome_of_sending}
 use Rattle.vfs_journal.specs.Starts.{Bound}
 use Rattle.vfs_journal.specs.View.{View}
 use Rattle.message_queues.specs.Dying.{tokens_on}
-use Rattle.message_queues.specs.Queues.{Queues, Requeues, queue_of}
+use Rattle.message_queues.specs.Queues.{Queues, Requeues, queue_of, server_of}
 use Rattle.message_queues.specs.Queues.{Binds as QueuesBind}
-use Rattle.vfs_server.specs.Binding.{Binds as ServerBinds, Forgets, IsDirectory, NamesBy}
+use Rattle.vfs_server.specs.Binding.{Binds as ServerBinds, CanWatch, Forgets, HasPlace, IsDirectory, NamesBy}
 use Rattle.vfs_server.specs.declared.fate.Fate.{Fate}
 use Rattle.vfs_server.specs.declared.fate.Fate.TheVariants as fates
-use Rattle.vfs_server.specs.Servers.{Server, bound_with, named, watcher_with}
+use Rattle.vfs_server.specs.Servers.{Server, bound_with, named, seen, watcher_with}
 use Rattle.vfs_server.specs.Serving.{IsMomentOf, Serves}
 
 -- these live no more
@@ -42,6 +43,19 @@ pub record CanName (server : Server) (token : ℕ) (node : NodeRef) : Type 0 whe
   pub free : named server token ≡ None
   pub directory : IsDirectory server.graph node
   pub room : finite.len server.tokens < limit.MAX_TOKENS
+
+-- what a fate binds can be bound, at this one of the servers behind an answer: nothing is bound there yet, neither at the server nor for what
+-- waits, and the server has a place for it; and the token that it gives can name its directory there
+pub record CanBind (server : ℕ) (fate : Fate) (servers : List Server) (queues : Queues) : Type 0 where
+  pub within : server < length servers
+  pub one_of : server < queues.servers
+  pub free : (object : ℕ) (birth : Birth) (one : Server) → fate ≡ fates.Binds object birth → slice_get servers server ≡ Some one → seen one object ≡ None
+  pub place : (object : ℕ) (birth : Birth) (one : Server) → fate ≡ fates.Binds object birth → slice_get servers server ≡ Some one → HasPlace one birth
+  pub unbound : (object : ℕ) (birth : Birth) → fate ≡ fates.Binds object birth → server_of queues object ≡ None
+  pub unwatched : (object mask : ℕ) (directory : NodeRef) (one : Server) → fate ≡ fates.Watches object directory mask → slice_get servers server ≡ Some one → seen one object ≡ None
+  pub watches : (object mask : ℕ) (directory : NodeRef) (one : Server) → fate ≡ fates.Watches object directory mask → slice_get servers server ≡ Some one → CanWatch one directory
+  pub silent : (object mask : ℕ) (directory : NodeRef) → fate ≡ fates.Watches object directory mask → server_of queues object ≡ None
+  pub names : (token : ℕ) (directory : NodeRef) (one : Server) → fate ≡ fates.Gives token directory → slice_get servers server ≡ Some one → CanName one token directory
 
 -- ---- what each step of a serving says, of the server at which the endpoint is bound
 

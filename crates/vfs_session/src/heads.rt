@@ -5,7 +5,7 @@ ghost use Rattle.endpoint_link.specs.Standings.{is_live, standing_of};
 ghost use Rattle.message_queues.specs.Dying.{AreDeaths};
 ghost use Rattle.message_queues.specs.Queues.{IsReady, count};
 ghost use Rattle.vfs_journal.specs.Output.{Begins};
-ghost use Rattle.vfs_session.specs.Heads.{CanSettle, DiesAlone, LetsDie, SettlesHead, Takes, TakesHead};
+ghost use Rattle.vfs_session.specs.Heads.{CanSettle, DiesAlone, LetsDie, ServesTaken, SettlesHead, Takes, TakesHead, WasTaken};
 ghost use Rattle.vfs_session.specs.Running.{IsRunning, whole};
 ghost use Rattle.vfs_session.specs.Servings.{ServesOne};
 ghost use Rattle.vfs_session.specs.Steps.{first_told};
@@ -51,11 +51,8 @@ impl Session {
         sent: &Lent<'_>,
         outbox: &mut Outbox,
     ) -> Result<(), NoMemory>
-        requires taken { (before : World) × (IsRunning (2 ^ 61) before × Takes before endpoint server sent.now (whole self.old)) }
-        ensures served { (before : World) → IsRunning (2 ^ 61) before → Takes before endpoint server sent.now (whole self.old) →
-            OnOk result (ServesOne (λ one. one ≡ endpoint) before (whole self.new) outbox.old outbox.new) }
-        ensures running { (most : ℕ) (before : World) → IsRunning (2 ^ 61) before → IsRunning most before → Takes before endpoint server sent.now (whole self.old) →
-            OnOk result (IsRunning most (whole self.new)) }
+        requires taken { WasTaken endpoint server sent.now (whole self.old) }
+        ensures served { OnOk result (ServesTaken endpoint server sent.now (whole self.old) (whole self.new) outbox.old outbox.new) }
         ensures begins { Begins outbox.old outbox.new }
     {
         match self.serve_read(endpoint, server, sent, outbox) {
@@ -74,9 +71,8 @@ impl Session {
         sent: &Lent<'_>,
         outbox: &mut Outbox,
     ) -> Option<Result<(), NoMemory>>
-        requires taken { (before : World) × (IsRunning (2 ^ 61) before × Takes before endpoint server sent.now (whole self.old)) }
-        ensures served { (before : World) → IsRunning (2 ^ 61) before → Takes before endpoint server sent.now (whole self.old) →
-            IfSome result (λ read. OnOk read (ServesOne (λ one. one ≡ endpoint) before (whole self.new) outbox.old outbox.new)) }
+        requires taken { WasTaken endpoint server sent.now (whole self.old) }
+        ensures served { IfSome result (λ read. OnOk read (ServesTaken endpoint server sent.now (whole self.old) (whole self.new) outbox.old outbox.new)) }
         ensures unchanged { result ≡ None → (whole self.new ≡ whole self.old) × (outbox.new ≡ outbox.old) }
         ensures begins { Begins outbox.old outbox.new }
     {
@@ -102,11 +98,8 @@ impl Session {
         sent: &Lent<'_>,
         outbox: &mut Outbox,
     ) -> Result<(), NoMemory>
-        requires taken { (before : World) × (IsRunning (2 ^ 61) before × Takes before endpoint server sent.now (whole self.old)) }
-        ensures served { (before : World) → IsRunning (2 ^ 61) before → Takes before endpoint server sent.now (whole self.old) →
-            OnOk result (ServesOne (λ one. one ≡ endpoint) before (whole self.new) outbox.old outbox.new) }
-        ensures running { (most : ℕ) (before : World) → IsRunning (2 ^ 61) before → IsRunning most before → Takes before endpoint server sent.now (whole self.old) →
-            OnOk result (IsRunning most (whole self.new)) }
+        requires taken { WasTaken endpoint server sent.now (whole self.old) }
+        ensures served { OnOk result (ServesTaken endpoint server sent.now (whole self.old) (whole self.new) outbox.old outbox.new) }
         ensures begins { Begins outbox.old outbox.new }
     {
         let fate = self.answer_taken(endpoint, server, sent, outbox)?;
@@ -123,7 +116,7 @@ impl Session {
         sent: &Lent<'_>,
         outbox: &mut Outbox,
     ) -> Result<Fate, NoMemory>
-        requires taken { (before : World) × (IsRunning (2 ^ 61) before × Takes before endpoint server sent.now (whole self.old)) }
+        requires taken { WasTaken endpoint server sent.now (whole self.old) }
         ensures taken { (before : World) → Takes before endpoint server sent.now (whole self.old) →
             IfOk result (λ fate. TakesHead before endpoint server sent.now fate self.new.out (whole self.new) outbox.old outbox.new) }
         ensures begins { Begins outbox.old outbox.new }

@@ -1,18 +1,14 @@
 //! What becomes of endpoints: they are bound, sent on with an Open, or die.
 
-ghost use Rattle.std.specs.Prelude.{◌≡◌, ◌≢◌, ◌≤◌, ◌<◌, ◌+◌, ◌-◌, ◌^◌, ℕ, true, All, AllPairs, List, None, OnOk, Some, fold, length, slice_get, IfOk};
+ghost use Rattle.std.specs.Prelude.{◌≡◌, ◌≢◌, ◌≤◌, ◌<◌, ◌+◌, ◌-◌, ◌^◌, ℕ, true, All, AllPairs, List, OnOk, Some, fold, IfOk};
 ghost use Rattle.fidl_names.specs.declared.limits.TheConstants as limit;
 ghost use Rattle.endpoint_link.specs.Standings.{ended, is_live, standing_of};
-ghost use Rattle.node_graph.specs.declared.nodes.NodeRef as nodes;
-ghost use Rattle.conn_rules.specs.declared.births.Birth as code;
 ghost use Rattle.vfs_journal.specs.View.{View};
 ghost use Rattle.message_queues.specs.Dying.{AreDeaths, Buries, tokens_on};
-ghost use Rattle.message_queues.specs.Queues.{IsAbove, count, server_of};
-ghost use Rattle.vfs_server.specs.Binding.{CanWatch, HasPlace};
+ghost use Rattle.message_queues.specs.Queues.{IsAbove, count};
 ghost use Rattle.vfs_server.specs.Holding.{HoldsAt};
-ghost use Rattle.vfs_server.specs.Servers.{Server, seen};
 ghost use Rattle.vfs_session.specs.Holding.{HoldsEach};
-ghost use Rattle.vfs_session.specs.Steps.{AreApart, BindsTold, CanName, SendsOn, is_sent_on, without_in};
+ghost use Rattle.vfs_session.specs.Steps.{AreApart, BindsTold, CanBind, SendsOn, is_sent_on, without_in};
 
 use endpoint_link::Endpoints;
 use fidl_names::{FIRST_MOUNT_END, MAX_WAITING, NoMemory};
@@ -30,15 +26,7 @@ pub(crate) fn bind(
     server: u32,
     fate: &Fate,
 ) -> Result<(), NoMemory>
-    requires within { server < length servers.old.items }
-    requires one_of { server < queues.old.servers }
-    requires free { (object : ℕ) (birth : code.Birth) (one : Server) → fate.now ≡ Fate.Binds object birth → slice_get servers.old.items server ≡ Some one → seen one object ≡ None }
-    requires place { (object : ℕ) (birth : code.Birth) (one : Server) → fate.now ≡ Fate.Binds object birth → slice_get servers.old.items server ≡ Some one → HasPlace one birth }
-    requires unwatched { (object mask : ℕ) (directory : nodes.NodeRef) (one : Server) → fate.now ≡ Fate.Watches object directory mask → slice_get servers.old.items server ≡ Some one → seen one object ≡ None }
-    requires watches { (object mask : ℕ) (directory : nodes.NodeRef) (one : Server) → fate.now ≡ Fate.Watches object directory mask → slice_get servers.old.items server ≡ Some one → CanWatch one directory }
-    requires silent { (object mask : ℕ) (directory : nodes.NodeRef) → fate.now ≡ Fate.Watches object directory mask → server_of queues.old object ≡ None }
-    requires unbound { (object : ℕ) (birth : code.Birth) → fate.now ≡ Fate.Binds object birth → server_of queues.old object ≡ None }
-    requires names { (token : ℕ) (directory : nodes.NodeRef) (one : Server) → fate.now ≡ Fate.Gives token directory → slice_get servers.old.items server ≡ Some one → CanName one token directory }
+    requires can { CanBind server fate.now servers.old.items queues.old }
     ensures bound { OnOk result (BindsTold server fate.now servers.old.items queues.old servers.new.items queues.new) }
     ensures count { OnOk result (count queues.new ≡ count queues.old) }
 {

@@ -10,19 +10,19 @@ use Rattle.vfs_session.proofs.Answered.{if_ok}
 use Rattle.vfs_session.proofs.settling.bind.Goals as goal
 
 pub bind-requires-clause-place : goal.bind-requires-clause-place
-bind-requires-clause-place c = c.requires.place _ _ _ c.in-Binds.is (slice_get_read _ _ _ _ refl c.requires.within c.index_mut-one.ensures.value)
+bind-requires-clause-place c = c.requires.can.place _ _ _ c.in-Binds.is (slice_get_read _ _ _ _ refl c.requires.can.within c.index_mut-one.ensures.value)
 
 pub watch-requires-clause-directory : goal.watch-requires-clause-directory
-watch-requires-clause-directory c = c.requires.watches _ _ _ _ c.in-Watches.is (slice_get_read _ _ _ _ refl c.requires.within c.index_mut-one-in-Watches.ensures.value)
+watch-requires-clause-directory c = c.requires.can.watches _ _ _ _ c.in-Watches.is (slice_get_read _ _ _ _ refl c.requires.can.within c.index_mut-one-in-Watches.ensures.value)
 
 pub give-requires-clause-free : goal.give-requires-clause-free
-give-requires-clause-free c = (c.requires.names _ _ _ c.in-Gives.is (slice_get_read _ _ _ _ refl c.requires.within c.index_mut-one-in-Gives.ensures.value)).free
+give-requires-clause-free c = (c.requires.can.names _ _ _ c.in-Gives.is (slice_get_read _ _ _ _ refl c.requires.can.within c.index_mut-one-in-Gives.ensures.value)).free
 
 pub give-requires-clause-directory : goal.give-requires-clause-directory
-give-requires-clause-directory c = (c.requires.names _ _ _ c.in-Gives.is (slice_get_read _ _ _ _ refl c.requires.within c.index_mut-one-in-Gives.ensures.value)).directory
+give-requires-clause-directory c = (c.requires.can.names _ _ _ c.in-Gives.is (slice_get_read _ _ _ _ refl c.requires.can.within c.index_mut-one-in-Gives.ensures.value)).directory
 
 pub give-requires-clause-room : goal.give-requires-clause-room
-give-requires-clause-room c = (c.requires.names _ _ _ c.in-Gives.is (slice_get_read _ _ _ _ refl c.requires.within c.index_mut-one-in-Gives.ensures.value)).room
+give-requires-clause-room c = (c.requires.can.names _ _ _ c.in-Gives.is (slice_get_read _ _ _ _ refl c.requires.can.within c.index_mut-one-in-Gives.ensures.value)).room
 
 pub returns-in_ok-bind-in-Binds-clause-bound : goal.returns-in_ok-bind-in-Binds-clause-bound
 returns-in_ok-bind-in-Binds-clause-bound c =
@@ -33,7 +33,7 @@ returns-in_ok-bind-in-Binds-clause-bound c =
         c.bind.new.self,
         refl,
         subst (λ (s : Server). Binds s (bound_with s.index c.in-Binds.object c.in-Binds.birth) c.bind.new.self)
-            (same_Some _ one (sym (slice_get_read c.args.servers.now.items _ c.args.server c.index_mut-one.result.now refl c.requires.within c.index_mut-one.ensures.value) ∙ there)) c.in_ok-bind-in-Binds.ensures.bound,
+            (same_Some _ one (sym (slice_get_read c.args.servers.now.items _ c.args.server c.index_mut-one.result.now refl c.requires.can.within c.index_mut-one.ensures.value) ∙ there)) c.in_ok-bind-in-Binds.ensures.bound,
       )),
       waits,
     )) c.bind-in-Binds.ensures.bound
@@ -47,7 +47,7 @@ returns-in_ok-watch-in-Watches-clause-bound c =
         c.watch.new.self,
         refl,
         subst (λ (s : Server). Binds s (watcher_with s.index c.in-Watches.object (number_of c.in-Watches.directory) c.in-Watches.mask) c.watch.new.self)
-            (same_Some _ one (sym (slice_get_read c.args.servers.now.items _ c.args.server c.index_mut-one-in-Watches.result.now refl c.requires.within c.index_mut-one-in-Watches.ensures.value) ∙ there)) c.in_ok-watch-in-Watches.ensures.watches,
+            (same_Some _ one (sym (slice_get_read c.args.servers.now.items _ c.args.server c.index_mut-one-in-Watches.result.now refl c.requires.can.within c.index_mut-one-in-Watches.ensures.value) ∙ there)) c.in_ok-watch-in-Watches.ensures.watches,
       )),
       waits,
     )) c.bind-in-Watches.ensures.bound
@@ -61,7 +61,7 @@ returns-in-Gives-clause-bound c =
         c.give.new.self,
         refl,
         subst (λ (s : Server). NamesBy s c.in-Gives.token c.in-Gives.directory c.give.new.self)
-            (same_Some _ one (sym (slice_get_read c.args.servers.now.items _ c.args.server c.index_mut-one-in-Gives.result.now refl c.requires.within c.index_mut-one-in-Gives.ensures.value) ∙ there)) names,
+            (same_Some _ one (sym (slice_get_read c.args.servers.now.items _ c.args.server c.index_mut-one-in-Gives.result.now refl c.requires.can.within c.index_mut-one-in-Gives.ensures.value) ∙ there)) names,
       )),
       refl,
     )) c.give.ensures.named

@@ -37,18 +37,19 @@ returns-clause-reached c =
     λ start journal before stands admitted.
     let now : World = whole c.args.session.now in
     let heard = c.requires.heard in
-    on_ok c.serve_taken.result
-    (reached_at_once heard.running.apart start journal before now (whole c.serve_taken.new.self) (frame_of c.args.frame) c.args.outbox.now c.serve_taken.new.outbox stands c.requires.frame admitted c.args.server c.requires.free
-    (none_waits heard.before now (2 ^ 61 - 4098) heard.running heard.admitted.same c.requires.free.none))
-    (c.serve_taken.ensures.served (waits_in now (frame_of c.args.frame))
+    on_ok c.serve_taken.result (λ served.
+    reached_at_once heard.running.apart start journal before now (whole c.serve_taken.new.self) (frame_of c.args.frame) c.args.outbox.now c.serve_taken.new.outbox stands c.requires.frame admitted c.args.server c.requires.free
+    (none_waits heard.before now (2 ^ 61 - 4098) heard.running heard.admitted.same c.requires.free.none)
+    (served.served (waits_in now (frame_of c.args.frame))
     (runs now (frame_of c.args.frame) c.args.server heard c.requires.frame c.requires.free)
-    (takes now (frame_of c.args.frame) c.args.server c.of_frame-sent.result heard c.requires.free c.of_frame-sent.ensures))
+    (takes now (frame_of c.args.frame) c.args.server c.of_frame-sent.result heard c.requires.free c.of_frame-sent.ensures))) c.serve_taken.ensures.served
 
 pub returns-clause-running : goal.returns-clause-running
 returns-clause-running c =
     λ most before run admitted.
     let now : World = whole c.args.session.now in
-    c.serve_taken.ensures.running (most + 4098) (waits_in now (frame_of c.args.frame))
+    on_ok c.serve_taken.result (λ served.
+    served.running (most + 4098) (waits_in now (frame_of c.args.frame))
     (runs now (frame_of c.args.frame) c.args.server c.requires.heard c.requires.frame c.requires.free)
     (sent_lasts most before now (waits_in now (frame_of c.args.frame)) (frame_of c.args.frame) run c.requires.frame c.requires.free.sends admitted (waits_last now (frame_of c.args.frame)))
-    (takes now (frame_of c.args.frame) c.args.server c.of_frame-sent.result c.requires.heard c.requires.free c.of_frame-sent.ensures)
+    (takes now (frame_of c.args.frame) c.args.server c.of_frame-sent.result c.requires.heard c.requires.free c.of_frame-sent.ensures)) c.serve_taken.ensures.served

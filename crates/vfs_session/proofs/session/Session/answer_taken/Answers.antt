@@ -4,15 +4,15 @@ use Rattle.endpoint_link.specs.Standings.{next_token_of}
 use Rattle.vfs_journal.specs.Entries.{Sent, handles_of}
 use Rattle.vfs_server.specs.Servers.{Server}
 use Rattle.vfs_server.specs.Serving.{IsMomentOf}
-use Rattle.vfs_session.specs.Heads.{Takes}
-use Rattle.vfs_session.specs.Running.{IsRunning, whole}
+use Rattle.vfs_session.specs.Heads.{WasTaken}
+use Rattle.vfs_session.specs.Running.{whole}
 use Rattle.vfs_session.specs.Steps.{Answers}
 use Rattle.vfs_session.specs.World.{World}
 use Rattle.vfs_session.proofs.Taken.{CanAnswer, can_answer, takes_head}
 use Rattle.vfs_session.proofs.session.Session.answer_taken.Goals as goal
 
 -- what it counts on
-can_in : (now : World) (endpoint server : ℕ) (sent : Sent) → (before : World) × (IsRunning (2 ^ 61) before × Takes before endpoint server sent now) → CanAnswer now endpoint server sent
+can_in : (now : World) (endpoint server : ℕ) (sent : Sent) → WasTaken endpoint server sent now → CanAnswer now endpoint server sent
 can_in now endpoint server sent taken = can_answer taken.0 now endpoint server sent taken.1.0 taken.1.1
 
 pub answer-requires-clause-within : goal.answer-requires-clause-within
@@ -45,18 +45,7 @@ bind-requires c =
     let answers =
     subst (λ (token : Option ℕ). Answers c.args.self.now.servers.items c.args.server c.args.endpoint token c.args.sent.now c.in_ok-fate.fate c.answer.new.out c.answer.new.servers.items c.args.outbox.now c.answer.new.outbox) c.next_token-token.ensures
     c.in_ok-fate.ensures.answers in
-    let can = (can_in (whole c.args.self.now) c.args.endpoint c.args.server c.args.sent.now c.requires.taken).binds c.in_ok-fate.fate _ _ _ _ answers in
-    record {
-      within = can.within;
-      one_of = can.one_of;
-      free = can.free;
-      place = can.place;
-      unwatched = can.unwatched;
-      watches = can.watches;
-      silent = can.silent;
-      unbound = can.unbound;
-      names = can.names;
-    }
+    record { can = (can_in (whole c.args.self.now) c.args.endpoint c.args.server c.args.sent.now c.requires.taken).binds c.in_ok-fate.fate _ _ _ _ answers }
 
 pub returns-clause-taken : goal.returns-clause-taken
 returns-clause-taken c =

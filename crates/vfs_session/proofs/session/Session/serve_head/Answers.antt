@@ -15,12 +15,12 @@ serve_sent-requires c = record {
 pub returns-clause-served : goal.returns-clause-served
 returns-clause-served c =
     subst (λ (new : World). ServesOne (λ one. one ≡ c.args.endpoint) (whole c.args.self.now) new c.args.outbox.now c.serve_sent.new.outbox) (sym c.keep_room.ensures)
-    (c.in_ok-serve_sent.ensures.served (whole c.args.self.now) c.requires.running
+    (c.in_ok-serve_sent.ensures.served.served (whole c.args.self.now) c.requires.running
     (record { bound = c.in_ok-server.ensures.bound; first = c.in_ok-server.ensures.first ∙ ap Some (sym c.lend.ensures); taken = c.in_ok-server.ensures.later; count = c.in_ok-server.ensures.len; same = refl }))
 
 pub returns-clause-running : goal.returns-clause-running
 returns-clause-running c =
     λ most run.
     subst (IsRunning most) (sym c.keep_room.ensures)
-    (c.in_ok-serve_sent.ensures.running most (whole c.args.self.now) c.requires.running run
+    (c.in_ok-serve_sent.ensures.served.running most (whole c.args.self.now) c.requires.running run
     (record { bound = c.in_ok-server.ensures.bound; first = c.in_ok-server.ensures.first ∙ ap Some (sym c.lend.ensures); taken = c.in_ok-server.ensures.later; count = c.in_ok-server.ensures.len; same = refl }))

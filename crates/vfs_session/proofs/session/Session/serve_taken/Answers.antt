@@ -1,6 +1,6 @@
 use Rattle.std.proofs.Common.{refl}
 use Rattle.vfs_session.specs.Running.{whole}
-use Rattle.vfs_session.proofs.Halves.{begins_on, goes_on, one_served}
+use Rattle.vfs_session.proofs.Halves.{begins_on, one_served, serves_taken}
 use Rattle.vfs_session.proofs.Ready.{can_settle}
 use Rattle.vfs_session.proofs.session.Session.serve_taken.Goals as goal
 
@@ -14,15 +14,8 @@ returns-in_err-settle_head-clause-begins c = begins_on c.args.outbox.now c.answe
 
 pub returns-clause-served : goal.returns-clause-served
 returns-clause-served c =
-    λ before run takes.
-    one_served before (whole c.answer_taken.new.self) (whole c.settle_head.new.self) (whole c.settle_head.new.self) run _ _ _ _ _ _ _ _ (c.in_ok-fate.ensures.taken before takes)
-    c.in_ok-settle_head.ensures.settled refl refl
-
-pub returns-clause-running : goal.returns-clause-running
-returns-clause-running c =
-    λ most before run few takes.
-    goes_on most before (whole c.settle_head.new.self) few c.args.endpoint _ _
-    (one_served before (whole c.answer_taken.new.self) (whole c.settle_head.new.self) (whole c.settle_head.new.self) run _ _ _ _ _ _ _ _ (c.in_ok-fate.ensures.taken before takes)
+    serves_taken c.args.endpoint c.args.server c.args.sent.now (whole c.args.self.now) (whole c.settle_head.new.self) c.args.outbox.now c.settle_head.new.outbox (λ from run takes.
+    one_served from (whole c.answer_taken.new.self) (whole c.settle_head.new.self) (whole c.settle_head.new.self) run _ _ _ _ _ _ _ _ (c.in_ok-fate.ensures.taken from takes)
     c.in_ok-settle_head.ensures.settled refl refl)
 
 pub returns-clause-begins : goal.returns-clause-begins
