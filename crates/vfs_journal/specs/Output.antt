@@ -1,5 +1,5 @@
 -- The frames that a journal stands for.
-use Rattle.std.specs.Prelude.{◌≡◌, ℕ, Bool, true, false, not, List, [], ◌∷◌, ◌++◌, map, filter}
+use Rattle.std.specs.Prelude.{ℕ, Bool, true, false, not, List, [], ◌∷◌, ◌++◌, map, filter}
 use Rattle.std.specs.FinMap as finite
 use Rattle.std.specs.Int.{w32, cast_unsigned}
 use Rattle.std.specs.Option.{option_map_or}
@@ -7,6 +7,7 @@ use Rattle.std.specs.Ordering.{nat_cmp}
 use Rattle.fidl_names.specs.StatusNumber.{number_of}
 use Rattle.fidl_names.specs.Numbers.{number_bytes}
 use Rattle.endpoint_link.specs.Frames.{Frame, frame_with, spellings}
+pub use Rattle.endpoint_link.specs.Fronts.{Begins}
 use Rattle.endpoint_link.specs.declared.kinds.FrameKind.{FrameKind}
 use Rattle.endpoint_link.specs.declared.kinds.FrameKind.TheVariants as kind
 use Rattle.endpoint_link.specs.declared.kinds.Refusal.{Refusal}
@@ -65,7 +66,3 @@ frames_behind start journal = frames_of start (history_of start journal)
 -- the bytes of a journal's output
 abbrev pub output_of : Start → Journal → List ℕ
 output_of start journal = spellings (frames_behind start journal)
-
--- more bytes stand behind those that stood there before
-abbrev pub Begins : List ℕ → List ℕ → Type 0
-Begins before after = (more : List ℕ) × (after ≡ before ++ more)
