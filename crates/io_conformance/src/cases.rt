@@ -1,4 +1,4 @@
-use crate::outside::{Sizes, run, tree};
+use crate::outside::{Failing, Sizes, run, tree};
 use crate::tally::Tally;
 use anyhow::{Context, Result, ensure};
 use std::alloc::Global;
@@ -23,18 +23,23 @@ fn case_in(part: &str) -> Option<Case<'_>> {
 }
 
 impl Case<'_> {
-    /// What comes of the case: of a script over a tree, or of a tree that is checked.
+    /// The words and the files of the case: a script over a tree, or a tree that is checked.
+    fn asked<'a>(&'a self, tree: Option<&'a str>) -> (&'static str, &'a [u8], &'a [u8]) {
+        match tree {
+            Some(tree) => ("run held input", tree.as_bytes(), self.given.as_bytes()),
+            None => ("check held", self.given.as_bytes(), &[]),
+        }
+    }
+
+    /// What comes of the case.
     fn play(&self, alloc: Global, tree: Option<&str>) -> Result<String> {
         let sizes = Sizes {
             read: 1000,
             room: 10_000_000,
             write: 1000,
         };
-        let given = self.given.as_bytes();
-        let (_status, outside) = match tree {
-            Some(tree) => run(alloc, "run held input", tree.as_bytes(), given, sizes, None)?,
-            None => run(alloc, "check held", given, &[], sizes, None)?,
-        };
+        let (words, held, input) = self.asked(tree);
+        let (_status, outside) = run(alloc, words, held, input, sizes, Failing::none())?;
         let mut came = String::from_utf8_lossy(alloc, outside.sink.written())?;
         came.push_str(str::from_utf8(outside.notes.written())?)?;
         Ok(came)
@@ -60,14 +65,19 @@ pub fn play_trees(rt: &HostRuntime, text: &str) -> Result<Tally> {
 /// Plays the sessions of a text.
 pub fn play_sessions(rt: &HostRuntime, text: &str) -> Result<Tally> {
     let mut tally = Tally::new();
-    for (place, part) in text.split("\ntree ").enumerate() {
-        if place == 0 {
-            ensure!(part.split_once("\n== ").is_none(), "a session has no tree");
-        } else {
-            for name in part.lines().next().unwrap_or("").split(' ') {
-                play(rt, part, Some(&tree(rt, name)?), &mut tally)?;
-            }
-        }
+    let mut parts = text.split("\ntree ");
+    let front = parts.next().unwrap_or("");
+    ensure!(front.split_once("\n== ").is_none(), "a session has no tree");
+    for part in parts {
+        play_over(rt, part, &mut tally)?;
     }
     Ok(tally)
+}
+
+/// Plays sessions over each of the trees that their first line names.
+fn play_over(rt: &HostRuntime, part: &str, tally: &mut Tally) -> Result<()> {
+    for name in part.lines().next().unwrap_or("").split(' ') {
+        play(rt, part, Some(&tree(rt, name)?), tally)?;
+    }
+    Ok(())
 }

@@ -29,19 +29,24 @@ fn main(rt: HostRuntime) -> Result<()> {
     let _program = names.next();
     let mut all_hold = true;
     for name in names {
-        match play_file(&rt, &name) {
-            Ok(tally) => {
-                println!(rt; "{name}: {tally}")?;
-                all_hold &= tally.is_whole();
-            }
-            Err(error) => {
-                println!(rt; "{name}: {error}")?;
-                all_hold = false;
-            }
-        }
+        all_hold &= holds(&rt, &name)?;
     }
     ensure!(all_hold, "not all hold");
     Ok(())
+}
+
+/// Whether all cases of a file hold, as it then says.
+fn holds(rt: &HostRuntime, name: &str) -> Result<bool> {
+    match play_file(rt, name) {
+        Ok(tally) => {
+            println!(rt; "{name}: {tally}")?;
+            Ok(tally.is_whole())
+        }
+        Err(error) => {
+            println!(rt; "{name}: {error}")?;
+            Ok(false)
+        }
+    }
 }
 
 /// Plays the cases of a file.

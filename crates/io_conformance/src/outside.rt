@@ -6,12 +6,22 @@ use std::alloc::Global;
 use std::fs;
 use vfs_program::run_words;
 
-/// The call that fails, counted from 0.
+/// The call of a file, a read or a write that fails, counted from 0, if one does.
 #[derive(Clone, Copy)]
-pub enum Fault {
-    File(u64),
-    Read(u64),
-    Write(u64),
+pub struct Failing {
+    pub file: Option<u64>,
+    pub read: Option<u64>,
+    pub write: Option<u64>,
+}
+
+impl Failing {
+    pub fn none() -> Failing {
+        Failing {
+            file: None,
+            read: None,
+            write: None,
+        }
+    }
 }
 
 /// The most bytes of a read, how many bytes may be written, and the most of a write.
@@ -31,53 +41,86 @@ pub struct Outside {
     pub notes: MemSink,
 }
 
-/// The outside with the file `held`, and an input that is the file `input` as well.
+/// The file `held`, and an input that is the file `input` as well.
+fn files_of(
+    alloc: Global,
+    held: &[u8],
+    input: &[u8],
+    failing: Option<u64>,
+) -> Result<MemFiles, NoMemory> {
+    let mut files = MemFiles::new(alloc);
+    files.put("held", held)?;
+    files.put("input", input)?;
+    if let Some(call) = failing {
+        files.fail_at(call)?;
+    }
+    Ok(files)
+}
+
+fn source_of(
+    alloc: Global,
+    input: &[u8],
+    size: usize,
+    failing: Option<u64>,
+) -> Result<MemSource, NoMemory> {
+    let failing = list_of(alloc, failing)?;
+    Ok(MemSource::new(Vec::from_slice(alloc, input)?, size, failing))
+}
+
+fn sink_of(alloc: Global, sizes: Sizes, failing: Option<u64>) -> Result<MemSink, NoMemory> {
+    let failing = list_of(alloc, failing)?;
+    Ok(MemSink::new(alloc, sizes.room, sizes.write, failing)?)
+}
+
+fn list_of(alloc: Global, number: Option<u64>) -> Result<Vec<u64>, NoMemory> {
+    let mut list = Vec::new(alloc);
+    if let Some(number) = number {
+        list.push(number)?;
+    }
+    Ok(list)
+}
+
 fn outside_of(
     alloc: Global,
     held: &[u8],
     input: &[u8],
     sizes: Sizes,
-    fault: Option<Fault>,
+    failing: Failing,
 ) -> Result<Outside, NoMemory> {
-    let mut files = MemFiles::new(alloc);
-    files.put("held", held)?;
-    files.put("input", input)?;
-    let (mut reads, mut writes) = (Vec::new(alloc), Vec::new(alloc));
-    match fault {
-        Some(Fault::File(call)) => files.fail_at(call)?,
-        Some(Fault::Read(call)) => reads.push(call)?,
-        Some(Fault::Write(call)) => writes.push(call)?,
-        None => (),
-    }
-    let input = Vec::from_slice(alloc, input)?;
     Ok(Outside {
-        files,
-        source: MemSource::new(input, sizes.read, reads),
-        sink: MemSink::new(alloc, sizes.room, sizes.write, writes)?,
+        files: files_of(alloc, held, input, failing.file)?,
+        source: source_of(alloc, input, sizes.read, failing.read)?,
+        sink: sink_of(alloc, sizes, failing.write)?,
         notes: MemSink::new(alloc, 1000, 1000, Vec::new(alloc))?,
     })
 }
 
-/// Runs the program on words with spaces between them, where `-` says none. What it wrote is in what was outside.
+/// The words of a text with spaces between them, where `-` says none.
+fn words_in(alloc: Global, text: &str) -> Result<Vec<String>> {
+    let mut words = Vec::new(alloc);
+    for word in text.split(' ') {
+        if word != "-" {
+            words.push(String::from_str(alloc, word)?)?;
+        }
+    }
+    Ok(words)
+}
+
+/// Runs the program on words. What it wrote is in what was outside.
 pub fn run(
     alloc: Global,
     words: &str,
     held: &[u8],
     input: &[u8],
     sizes: Sizes,
-    fault: Option<Fault>,
+    failing: Failing,
 ) -> Result<(Status, Outside)> {
-    let mut all = Vec::new(alloc);
-    for word in words.split(' ') {
-        if word != "-" {
-            all.push(String::from_str(alloc, word)?)?;
-        }
-    }
-    let outside = outside_of(alloc, held, input, sizes, fault);
+    let words = words_in(alloc, words)?;
+    let outside = outside_of(alloc, held, input, sizes, failing);
     let mut outside = outside.ok().context("no memory")?;
     let status = run_words(
         alloc,
-        &all,
+        &words,
         &mut outside.files,
         &mut outside.source,
         &mut outside.sink,

@@ -6,7 +6,7 @@
 //! that there are runs for each of its beginnings that has at least FROM bytes and fewer than TO.
 
 use crate::numbers::{number, size};
-use crate::outside::{Fault, Sizes, run, tree};
+use crate::outside::{Failing, Sizes, run, tree};
 use crate::tally::Tally;
 use anyhow::{Context, Result, bail};
 use std::alloc::Global;
@@ -75,21 +75,22 @@ impl Row<'_> {
     /// What comes of a run over an input, by such pieces.
     fn run(&self, rt: &HostRuntime, input: &[u8], read: usize) -> Result<String> {
         let held = bytes(rt, self.held)?;
+        let sizes = self.sizes(read)?;
+        let failing = failing_in(self.failing)?;
+        let (status, outside) = run(rt.alloc(), self.words, &held, input, sizes, failing)?;
+        let output = self.spelled(rt.alloc(), outside.sink.written())?;
+        let note = note_in(outside.notes.written())?;
+        Ok(format!(in rt.alloc(); "{output} | {note} | {}", status.exit_code())?)
+    }
+
+    /// The sizes of the row, by such pieces.
+    fn sizes(&self, read: usize) -> Result<Sizes> {
         let (room, write) = self.room.split_once(',').context("a row has no room")?;
-        let sizes = Sizes {
+        Ok(Sizes {
             read,
             room: size(room)?,
             write: size(write)?,
-        };
-        let fault = fault_in(self.failing)?;
-        let (status, outside) = run(rt.alloc(), self.words, &held, input, sizes, fault)?;
-        let output = self.spelled(rt.alloc(), outside.sink.written())?;
-        let note = match str::from_utf8(outside.notes.written())?.trim() {
-            "" => "-",
-            USAGE => "usage",
-            note => note,
-        };
-        Ok(format!(in rt.alloc(); "{output} | {note} | {}", status.exit_code())?)
+        })
     }
 
     /// An output, in the way in which the row says its own.
@@ -97,15 +98,7 @@ impl Row<'_> {
         if self.wanted.starts_with("? ") {
             Ok(String::from_str(alloc, "?")?)
         } else if self.wanted.starts_with('\'') {
-            let text = str::from_utf8(output)?;
-            let mut all = String::from_str(alloc, "'")?;
-            for (place, part) in text.split('\n').enumerate() {
-                if place > 0 {
-                    all.push(';')?;
-                }
-                all.push_str(part)?;
-            }
-            Ok(all)
+            in_one_line(alloc, str::from_utf8(output)?)
         } else if output.is_empty() {
             Ok(String::from_str(alloc, "-")?)
         } else {
@@ -114,29 +107,38 @@ impl Row<'_> {
     }
 }
 
-/// The call of a cell that fails.
-fn fault_in(cell: &str) -> Result<Option<Fault>> {
-    let Some((kind, call)) = cell.split_once(' ') else {
-        return Ok(None);
-    };
-    let call = u64::from(number(call)?);
-    Ok(match kind {
-        "file" => Some(Fault::File(call)),
-        "read" => Some(Fault::Read(call)),
-        "write" => Some(Fault::Write(call)),
-        _ => bail!("no such call"),
+/// A note, in the way in which rows say it.
+fn note_in(written: &[u8]) -> Result<&str> {
+    Ok(match str::from_utf8(written)?.trim() {
+        "" => "-",
+        USAGE => "usage",
+        note => note,
     })
+}
+
+/// The call of a cell that fails.
+fn failing_in(cell: &str) -> Result<Failing> {
+    let none = Failing::none();
+    let Some((kind, call)) = cell.split_once(' ') else {
+        return Ok(none);
+    };
+    let call = Some(u64::from(number(call)?));
+    match kind {
+        "file" => Ok(Failing { file: call, ..none }),
+        "read" => Ok(Failing { read: call, ..none }),
+        "write" => Ok(Failing {
+            write: call,
+            ..none
+        }),
+        _ => bail!("no such call"),
+    }
 }
 
 /// The bytes that a cell says.
 pub fn bytes(rt: &HostRuntime, cell: &str) -> Result<Vec<u8>> {
     let alloc = rt.alloc();
     if let Some(text) = cell.strip_prefix("'") {
-        let mut all = Vec::new(alloc);
-        for byte in text.as_bytes() {
-            all.push(if *byte == b';' { b'\n' } else { *byte })?;
-        }
-        Ok(all)
+        lines(alloc, text)
     } else if let Some(name) = cell.strip_prefix("tree ") {
         Ok(tree(rt, name)?.into_bytes())
     } else if cell == "-" {
@@ -144,4 +146,25 @@ pub fn bytes(rt: &HostRuntime, cell: &str) -> Result<Vec<u8>> {
     } else {
         Ok(hex::decode(alloc, cell)?)
     }
+}
+
+/// The bytes of a text in which `;` ends a line.
+fn lines(alloc: Global, text: &str) -> Result<Vec<u8>> {
+    let mut all = Vec::new(alloc);
+    for byte in text.as_bytes() {
+        all.push(if *byte == b';' { b'\n' } else { *byte })?;
+    }
+    Ok(all)
+}
+
+/// The same text in one cell.
+fn in_one_line(alloc: Global, text: &str) -> Result<String> {
+    let mut all = String::from_str(alloc, "'")?;
+    for (place, part) in text.split('\n').enumerate() {
+        if place > 0 {
+            all.push(';')?;
+        }
+        all.push_str(part)?;
+    }
+    Ok(all)
 }

@@ -9,7 +9,7 @@ use crate::outside::tree;
 use crate::rows::bytes;
 use crate::tally::Tally;
 use anyhow::{Context, Result, bail, ensure};
-use endpoint_link::{Outbox, Reading, Side, frame_at};
+use endpoint_link::{Mode, Outbox, Reading, Side, frame_at};
 use fidl_wire::Ordinals;
 use tree_file::start_of;
 use vfs_world::{Picked, World};
@@ -19,22 +19,25 @@ pub fn play_worlds(rt: &HostRuntime, text: &str) -> Result<Tally> {
     let mut tally = Tally::new();
     for part in text.split("\ntree ").skip(1) {
         let (name, rows) = part.split_once('\n').context("a world has no rows")?;
-        let mut world = begin(rt, name)?;
-        for line in rows.lines() {
-            if !line.is_empty() && !line.starts_with('#') {
-                let mut cells = line.splitn(3, " | ");
-                let (Some(name), Some(deed), Some(wanted)) = (
-                    cells.next(),
-                    cells.next(),
-                    cells.next(),
-                ) else {
-                    bail!("a row has too few cells");
-                };
-                tally.count(rt, name, wanted, &came(rt, &mut world, deed)?)?;
-            }
-        }
+        play_rows(rt, &mut begin(rt, name)?, rows, &mut tally)?;
     }
     Ok(tally)
+}
+
+/// Plays the rows of a world.
+fn play_rows(rt: &HostRuntime, world: &mut World, rows: &str, tally: &mut Tally) -> Result<()> {
+    for line in rows.lines() {
+        if !line.is_empty() && !line.starts_with('#') {
+            let (name, deed, wanted) = cells_in(line).context("a row has too few cells")?;
+            tally.count(rt, name, wanted, &came(rt, world, deed)?)?;
+        }
+    }
+    Ok(())
+}
+
+fn cells_in(line: &str) -> Option<(&str, &str, &str)> {
+    let mut cells = line.splitn(3, " | ");
+    Some((cells.next()?, cells.next()?, cells.next()?))
 }
 
 /// The world over the tree file of a name.
@@ -59,26 +62,30 @@ fn came(rt: &HostRuntime, world: &mut World, deed: &str) -> Result<String> {
 fn answer(rt: &HostRuntime, world: &mut World, deed: &str) -> Result<&'static str> {
     let (verb, said) = deed.split_once(' ').context("a deed says nothing")?;
     let mut outbox = Outbox::new(rt.alloc());
-    let is_served = match verb {
-        "turn" => {
-            let served = world.turn(number(said)?, 1, &mut outbox);
-            served.ok().context("no memory")? == 1
-        }
-        "pick" => {
-            let picked = world.pick(number(said)?, &mut outbox);
-            picked.ok().context("no memory")? == Picked::Served
-        }
-        "send" | "drain" => {
-            take(world, &bytes(rt, said)?, verb == "drain", &mut outbox)?;
-            return Ok("-");
-        }
+    match verb {
+        "turn" => turn(world, number(said)?, &mut outbox),
+        "pick" => pick(world, number(said)?, &mut outbox),
+        "send" => take(world, &bytes(rt, said)?, Mode::Given, &mut outbox),
+        "drain" => take(world, &bytes(rt, said)?, Mode::Auto, &mut outbox),
         _ => bail!("no such deed"),
-    };
-    Ok(if is_served { "served" } else { "idle" })
+    }
 }
 
-/// The world takes frames, and is drained behind each, if it is to be.
-fn take(world: &mut World, frames: &[u8], drains: bool, outbox: &mut Outbox) -> Result<()> {
+fn turn(world: &mut World, server: u32, outbox: &mut Outbox) -> Result<&'static str> {
+    let served = world.turn(server, 1, outbox).ok().context("no memory")?;
+    Ok(if served == 1 { "served" } else { "idle" })
+}
+
+fn pick(world: &mut World, endpoint: u32, outbox: &mut Outbox) -> Result<&'static str> {
+    let picked = world.pick(endpoint, outbox).ok().context("no memory")?;
+    Ok(match picked {
+        Picked::Served => "served",
+        Picked::Idle => "idle",
+    })
+}
+
+/// The world hears frames: they wait, or behind each all that waits is served.
+fn take(world: &mut World, frames: &[u8], mode: Mode, outbox: &mut Outbox) -> Result<&'static str> {
     let mut rest = frames;
     for _ in 0..frames.len() {
         if rest.is_empty() {
@@ -88,11 +95,8 @@ fn take(world: &mut World, frames: &[u8], drains: bool, outbox: &mut Outbox) -> 
             bail!("no frame");
         };
         ensure!(world.frames() < 1 << 48, "too many frames");
-        world.accept(frame, outbox).ok().context("no memory")?;
-        if drains {
-            world.drain(outbox).ok().context("no memory")?;
-        }
+        world.hear(mode, frame, outbox).ok().context("no memory")?;
         rest = &rest[size..];
     }
-    Ok(())
+    Ok("-")
 }
