@@ -1,44 +1,27 @@
 -- The next node of a server of an accepted file.
-use Rattle.std.proofs.Common.{◌≡◌, inr, ℕ, suc, ◌+◌, ◌<◌, ◌≤◌, ◌==◌, List, [], ◌∷◌, ◌++◌, length, map, filter, take, drop, get_or, Bor, Some, All, refl, sym, ap, ◌∙◌, subst, arith, append_assoc}
+use Rattle.std.proofs.Common.{◌≡◌, ℕ, suc, ◌+◌, ◌<◌, ◌==◌, List, [], ◌∷◌, ◌++◌, length, map, filter, take, drop, Bor, Some, All, sym, ap, ◌∙◌, subst, arith, append_assoc}
 use Rattle.std.specs.Prelude.{slice_get}
 use Rattle.std.specs.BTreeMap.{BTreeMap}
 use Rattle.std.specs.List.{enumerate_from}
-use Rattle.std.proofs.lemmas.Bool.{eq-eqb, leb-true, ne_eqb}
+use Rattle.std.proofs.lemmas.Bool.{eq-eqb, ne_eqb}
 use Rattle.std.proofs.lemmas.List.{take_all}
-use Rattle.std.proofs.lemmas.List.Elements.{All-append, All-filter, All-get_or, All-map}
+use Rattle.std.proofs.lemmas.List.Elements.{All-get_or}
 use Rattle.std.proofs.lemmas.List.FromFn.{length-enumerate_from}
 use Rattle.fidl_names.specs.declared.limits.TheConstants as limit
 use Rattle.node_graph.specs.declared.nodes.NodeRef.{NodeRef}
 use Rattle.node_graph.specs.Graph.{Kept}
-use Rattle.tree_file.specs.Accepted.{AreAccepted, IsNode}
+use Rattle.tree_file.specs.Accepted.{AreAccepted}
 use Rattle.tree_file.specs.Items.{NodeItem, MountItem, Lists}
 use Rattle.tree_file.specs.Numbering.{Named, mount_named, named_of, node_named}
-use Rattle.tree_file.specs.Rules.{bytes_fit}
-use Rattle.tree_file.proofs.Accepted.{each_passes, few_names, rules_kept}
+use Rattle.tree_file.proofs.Accepted.{few_names}
 use Rattle.tree_file.proofs.Placing.{keeps_all}
 use Rattle.tree_file.proofs.Rising.{IsFilled}
-use Rattle.tree_file.proofs.Soundness.{named_count}
+use Rattle.tree_file.proofs.Soundness.{all_filled, named_count}
 use Rattle.tree_file.proofs.Standing.{grows_at}
 use Rattle.tree_file.proofs.Trees.{Fits, Grows}
 use Rattle.start_graph.specs.Growing.{IsNext, mounts_among, named_with, nodes_among}
 use Rattle.start_graph.specs.Places.{Stands}
 use Rattle.start_graph.proofs.Chosen.{chosen_more, chosen_same, chosen_split, enumerated, get_behind, get_or_behind, take_front, within_behind}
-
--- only files have bytes, and not too many
-short_nodes : (lists : Lists) → AreAccepted lists → All (λ node. length node.bytes ≤ limit.MAX_FILE) lists.nodes
-short_nodes lists accepted k d within = leb-true (length (get_or lists.nodes k d).bytes) limit.MAX_FILE (each_passes bytes_fit [] lists.nodes (rules_kept lists accepted).bytes k d within)
-
-node_filled : (count : ℕ) (node : NodeItem) → IsNode count node → length node.bytes ≤ limit.MAX_FILE → IsFilled (node_named node)
-node_filled count node is short = record { bytes = is.bytes; short = short }
-
-all_filled : (lists : Lists) → AreAccepted lists → (server : ℕ) → All IsFilled (named_of lists server)
-all_filled lists accepted server =
-    All-append IsFilled (map node_named (filter (λ node. node.server == server) lists.nodes)) (map mount_named (filter (λ mount. mount.1.server == server) (enumerate_from 0 lists.mounts)))
-    (All-map IsFilled node_named (filter (λ node. node.server == server) lists.nodes)
-    (All-filter (λ (node : NodeItem). node.server == server) (λ (node : NodeItem). IsFilled (node_named node)) lists.nodes
-    (λ k d within. node_filled (length lists.servers) (get_or lists.nodes k d) (accepted.items.nodes k d within) (short_nodes lists accepted k d within))))
-    (All-map IsFilled mount_named (filter (λ mount. mount.1.server == server) (enumerate_from 0 lists.mounts))
-    (λ k d within. record { bytes = inr refl; short = omega arith }))
 
 pub grows_whole : (lists : Lists) → AreAccepted lists → (server : ℕ) → Grows (named_of lists server)
 grows_whole lists accepted server = let keeps = keeps_all lists accepted server in keeps.grows

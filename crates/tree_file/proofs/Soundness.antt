@@ -30,7 +30,7 @@ short_nodes lists accepted k d within = leb-true (length (get_or lists.nodes k d
 node_filled : (count : ℕ) (node : NodeItem) → IsNode count node → length node.bytes ≤ limit.MAX_FILE → IsFilled (node_named node)
 node_filled count node is short = record { bytes = is.bytes; short = short }
 
-all_filled : (lists : Lists) → AreAccepted lists → (server : ℕ) → All IsFilled (named_of lists server)
+pub all_filled : (lists : Lists) → AreAccepted lists → (server : ℕ) → All IsFilled (named_of lists server)
 all_filled lists accepted server =
     All-append IsFilled (nodes_on server lists.nodes) (mounts_on server lists.mounts)
     (All-map IsFilled node_named (filter (λ node. node.server == server) lists.nodes)
