@@ -12,7 +12,7 @@ use Rattle.io_messages.specs.declared.protocols.Protocol.{Protocol}
 use Rattle.io_messages.specs.declared.protocols.Protocol.TheVariants as protocol
 use Rattle.io_messages.specs.declared.requests.RequestFault.{RequestFault}
 use Rattle.io_messages.specs.declared.requests.RequestFault.TheVariants.{Malformed, UnknownStrict, UnknownOneWay, UnknownTwoWay}
-use Rattle.io_messages.proofs.RequestLaws.{what_is_read}
+use Rattle.request_reader.proofs.RequestLaws.{what_is_read}
 use Rattle.conn_rules.specs.Answers.{Act, Answer, binds, closes, ends, forwards, hangs_up, only, refuses, replies, silent, watches}
 use Rattle.vfs_journal.specs.Entries.{Sending, hang_up, message}
 use Rattle.vfs_journal.specs.Outcomes.{Asker, Outcome, close_frame, frames_of, outcome_with, reply_frame}

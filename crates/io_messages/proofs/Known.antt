@@ -3,7 +3,7 @@ use Rattle.std.proofs.Common.{◌≡◌, ℕ, ◌&&◌, ◌⊎◌, inl, inr, Boo
 use Rattle.std.proofs.lemmas.Bool.Decides.{nat_tests}
 use Rattle.fidl_names.specs.declared.methods.Method.{Method}
 use Rattle.fidl_names.specs.declared.methods.Method.TheVariants as method
-use Rattle.fidl_wire.specs.Names.{method_ordinal}
+use Rattle.fidl_wire.specs.Names.{method_ordinal, MethodsHaveTheirOwn}
 use Rattle.io_messages.specs.declared.protocols.Protocol.{Protocol}
 use Rattle.io_messages.specs.Protocols.{has_method, all_methods}
 use Rattle.io_messages.specs.Requests.{method_in}
@@ -141,3 +141,7 @@ method_with-says ordinal m h = test_says ordinal m (found_passes (λ n. nat_eq (
 -- the one method with an ordinal is found
 pub method_with-has : (ordinal : ℕ) (m : Method) → method_ordinal m ≡ ordinal → ((n : Method) → method_ordinal n ≡ ordinal → Some m ≡ Some n) → method_with ordinal ≡ Some m
 method_with-has ordinal m is only = sym (method_with-is (Some m) ordinal is only (λ none. absurd (cc)))
+
+-- where each method has an ordinal of its own, one with an ordinal is the only one
+pub only_method : MethodsHaveTheirOwn → (m : Method) (ordinal : ℕ) → method_ordinal m ≡ ordinal → (n : Method) → method_ordinal n ≡ ordinal → Some m ≡ Some n
+only_method apart m ordinal h n k = ap (λ (v : Method). Some v) (apart m n (h ∙ sym k))

@@ -1,9 +1,2 @@
-pub mod BegunListings
 pub mod Parts
 pub mod Known
-pub mod RequestLaws
-pub mod Lengths
-pub mod Unions
-pub mod WritingLaws
-pub mod Carrying
-pub mod PutAtOnce

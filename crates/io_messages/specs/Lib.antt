@@ -3,7 +3,6 @@ pub mod Asked
 pub mod Shapes
 pub mod Requests
 pub mod Replies
-pub mod Fields
 pub mod Writing
 pub mod ReplyWriting
 pub mod Laws

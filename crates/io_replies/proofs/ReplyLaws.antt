@@ -19,9 +19,8 @@ use Rattle.io_replies.specs.Reading.{answered_from, reply_fields, is_framework_e
 use Rattle.io_messages.specs.Replies as answers
 use Rattle.io_messages.specs.Shapes.{shape_of}
 use Rattle.io_replies.proofs.Framework.{no_framework_error}
-use Rattle.io_messages.proofs.Known.{method_with-has, method_with-says}
+use Rattle.io_messages.proofs.Known.{method_with-has, method_with-says, only_method}
 use Rattle.io_messages.proofs.Parts.{bind_ok}
-use Rattle.io_messages.proofs.RequestLaws.{only_method}
 
 abbrev Told : Type 0
 Told = ℕ × Answered

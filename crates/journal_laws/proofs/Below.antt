@@ -7,7 +7,7 @@ use Rattle.path_walk.specs.Paths.{IsPath, names_of, path_fault}
 use Rattle.fidl_wire.proofs.Bodies.{spelled_read, read_spelled}
 use Rattle.fidl_wire.proofs.ReadHeaders.{header_again}
 use Rattle.fidl_wire.proofs.Spelled.{message_spelled}
-use Rattle.io_messages.proofs.WritingLaws.{written_request}
+use Rattle.message_writer.proofs.WritingLaws.{written_request}
 use Rattle.path_walk.proofs.PathLemmas.{path_sound, path_complete}
 
 pub record Below : Type 0 where

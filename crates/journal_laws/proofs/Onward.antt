@@ -23,7 +23,7 @@ use Rattle.io_messages.specs.declared.protocols.Protocol.TheVariants as protocol
 use Rattle.io_messages.specs.Asked as asks
 use Rattle.io_messages.specs.Requests.{asked_from, request_cells, item, num_in, num_of, request_of}
 use Rattle.io_messages.specs.Writing.{IsRequest}
-use Rattle.io_messages.proofs.RequestLaws.{what_is_read, what_is_spelled}
+use Rattle.request_reader.proofs.RequestLaws.{what_is_read, what_is_spelled}
 use Rattle.io_rights.specs.Operations.{OperationSet}
 use Rattle.path_walk.specs.Names.{slash, dot, IsName}
 use Rattle.path_walk.specs.Paths.{IsPath, text_of}

@@ -25,7 +25,7 @@ use Rattle.io_messages.specs.declared.protocols.Home.TheVariants as homes
 use Rattle.io_messages.specs.declared.protocols.Protocol.{Protocol}
 use Rattle.io_messages.specs.declared.protocols.Protocol.TheVariants as protocol
 use Rattle.io_messages.specs.declared.requests.RequestFault.TheVariants.{Malformed, UnknownStrict, UnknownOneWay, UnknownTwoWay}
-use Rattle.io_messages.proofs.RequestLaws.{what_is_read}
+use Rattle.request_reader.proofs.RequestLaws.{what_is_read}
 use Rattle.io_rights.specs.Operations.{OperationSet, is_within}
 use Rattle.node_graph.specs.Graph.{resize_refusal, write_change}
 use Rattle.node_graph.specs.Refusals.{is_loop, is_same_name, leads_to, link_change, link_refusal, rename_change, rename_refusal, replace_refusal, unlink_refusal}

@@ -15,8 +15,8 @@ use Rattle.io_messages.specs.Asked as asks
 use Rattle.io_messages.specs.Laws.{Carries as CarriesHandle}
 use Rattle.io_messages.specs.Protocols.{has_method}
 use Rattle.io_messages.specs.Requests.{asked_from}
-use Rattle.io_messages.proofs.Carrying.{carries as carries_handle}
-use Rattle.io_messages.proofs.RequestLaws.{what_is_read, what_is_spelled}
+use Rattle.request_reader.proofs.Carrying.{carries as carries_handle}
+use Rattle.request_reader.proofs.RequestLaws.{what_is_read, what_is_spelled}
 use Rattle.endpoint_link.specs.Numbering.{among}
 use Rattle.fidl_names.specs.HandleNumber.{handle_with}
 use Rattle.vfs_journal.specs.Serving.{read_by}

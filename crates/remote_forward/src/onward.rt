@@ -4,7 +4,8 @@ ghost use Rattle.remote_forward.specs.Onward.{onward_bytes};
 
 use fidl_wire::{Ordinals, Out};
 use io_flags::OpenFlags;
-use io_messages::{Request, write_request};
+use io_messages::Request;
+use message_writer::write_request;
 use path_walk::Path;
 
 /// Writes the Open that goes on behind a mount into an empty output: the rest of the path, the flags

@@ -21,7 +21,8 @@ use endpoint_link::{FrameKind, Outbox, write_frame, write_message};
 use fidl_names::{MAX_BYTES, MAX_HANDLES, NoMemory};
 use fidl_wire::{Ordinals, Out};
 use io_client::watcher_of;
-use io_messages::{Request, is_one_way, write_request};
+use io_messages::{Request, is_one_way};
+use message_writer::write_request;
 use std::alloc::Global;
 use std::marker::Model;
 

@@ -17,7 +17,8 @@ use conn_rules::Birth;
 use endpoint_link::{Outbox, write_message};
 use fidl_names::{Handle, NoMemory, Status};
 use fidl_wire::{Ordinals, Out};
-use io_messages::{Protocol, Reply, Request, RequestFault, write_reply};
+use io_messages::{Protocol, Reply, Request, RequestFault};
+use message_writer::write_reply;
 use node_graph::NodeRef;
 use remote_forward::forward;
 

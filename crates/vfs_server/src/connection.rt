@@ -26,8 +26,9 @@ use conn_rules::{Birth, Changes, Room, Served};
 use endpoint_link::Outbox;
 use fidl_names::{Handle, NoMemory};
 use fidl_wire::{Ordinals, Out};
-use io_messages::{Protocol, Request, read_request};
+use io_messages::{Protocol, Request};
 use node_graph::{Graph, NodeRef};
+use request_reader::read_request;
 use std::alloc::Global;
 use std::marker::Model;
 

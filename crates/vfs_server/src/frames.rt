@@ -9,7 +9,8 @@ ghost use Rattle.vfs_server.specs.Steps.{last_frames, message_frame};
 use endpoint_link::{FrameKind, Outbox, write_frame, write_message};
 use fidl_names::{NoMemory, Status};
 use fidl_wire::{Ordinals, Out, epitaph};
-use io_messages::{Protocol, write_event};
+use io_messages::Protocol;
+use message_writer::write_event;
 
 /// Writes the message in an output on an endpoint.
 #[inline(always)]

@@ -14,11 +14,10 @@ mod request_rows;
 
 use fidl_names::{Handle, Method, Status};
 use fidl_wire::{Body, Header, Ordinals, Out, WireFault, ordinal, read_epitaph};
-use io_messages::{
-    Protocol, Reply, Request, Shape, is_one_way, read_request, shape_of, write_event, write_reply,
-    write_request,
-};
+use io_messages::{Protocol, Reply, Request, Shape, is_one_way, shape_of};
 use io_replies::{read_event, read_reply};
+use message_writer::{write_event, write_reply, write_request};
+use request_reader::read_request;
 use std::alloc::Global;
 use std::test::Fail;
 use test_rows::{BadCell, Row, Table, all_hold};

@@ -1,0 +1,5 @@
+pub mod BegunListings
+pub mod Lengths
+pub mod Unions
+pub mod WritingLaws
+pub mod PutAtOnce

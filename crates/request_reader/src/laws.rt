@@ -1,0 +1,26 @@
+//! Laws of requests. They compute nothing: what they say is in their clauses.
+
+ghost use Rattle.fidl_wire.specs.Names.{MethodsHaveTheirOwn};
+ghost use Rattle.io_messages.specs.Laws.{RequestsAreReadOnce, RequestsAreFound, FoundRequestsAreRead, RequestsCarryTheirEndpoints};
+
+use fidl_wire::body_is_read_where_spelled;
+
+/// Bytes and handles are at most one request to a protocol, where each method has an ordinal of its own.
+pub fn request_is_read_once()
+    ensures { MethodsHaveTheirOwn → RequestsAreReadOnce }
+{
+    body_is_read_where_spelled();
+}
+
+/// Reading bytes and handles finds the request that they are, and no other, where each method has an ordinal of its own.
+pub fn requests_are_found()
+    ensures found { MethodsHaveTheirOwn → RequestsAreFound }
+    ensures read { FoundRequestsAreRead }
+{
+    body_is_read_where_spelled();
+}
+
+/// The endpoint that a Clone, an Open or a Watch carries is among the message's handles.
+pub fn carried_endpoint_is_a_handle()
+    ensures { RequestsCarryTheirEndpoints }
+{}

@@ -1,0 +1,9 @@
+//! Requests of `fuchsia.io` are read.
+#![tactic(auto)]
+
+mod fields;
+mod laws;
+mod reader;
+
+pub use laws::{carried_endpoint_is_a_handle, request_is_read_once, requests_are_found};
+pub use reader::read_request;
