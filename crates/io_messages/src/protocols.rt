@@ -16,7 +16,7 @@ pub enum Protocol {
 }
 
 /// Where a method belongs.
-#[derive(Clone, Copy, Debug, PartialEq, Eq)]
+#[derive(Clone, Copy)]
 pub enum Home {
     EveryNode,
     Directories,

@@ -4,7 +4,7 @@ ghost use Rattle.io_messages.specs.Shapes.{shape_of, is_one_way};
 use fidl_names::{Method, Status};
 
 /// The attributes of a node that were asked for and are known.
-#[derive(Clone, Copy, Debug, PartialEq, Eq)]
+#[derive(Clone, Copy, Debug)]
 pub struct Attributes {
     pub protocols: Option<u64>,
     pub abilities: Option<u64>,
@@ -14,7 +14,7 @@ pub struct Attributes {
 }
 
 /// What a server answers, with the bytes that its message lends. A handle is its number.
-#[derive(Clone, Copy, Debug, PartialEq, Eq)]
+#[derive(Clone, Copy, Debug)]
 pub enum Reply<'a> {
     /// The empty success of Close, Sync, Unlink, Rename or Resize.
     Done(Method),

@@ -5,7 +5,7 @@ use fidl_names::Method;
 use fidl_wire::WireFault;
 
 /// What a client asks, with the texts and bytes that its message lends. A handle is its number.
-#[derive(Clone, Copy, Debug, PartialEq, Eq)]
+#[derive(Clone, Copy, Debug)]
 pub enum Request<'a> {
     /// The endpoint is to be bound like the one that the request comes on.
     Clone {
@@ -108,7 +108,7 @@ impl<'a> Request<'a> {
 }
 
 /// Why a message is no request of a protocol.
-#[derive(Clone, Copy, Debug, PartialEq, Eq)]
+#[derive(Clone, Copy, Debug)]
 pub enum RequestFault {
     /// The first fault of its header, its transaction id or its fields.
     Malformed(WireFault),
@@ -132,5 +132,5 @@ impl From<WireFault> for RequestFault {
 }
 
 /// A message would have more than `MAX_BYTES` bytes.
-#[derive(Clone, Copy, Debug, PartialEq, Eq)]
+#[derive(Clone, Copy, Debug)]
 pub struct TooLong;
