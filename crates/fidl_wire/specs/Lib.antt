@@ -9,6 +9,4 @@ pub mod Collisions
 pub mod Faults
 pub mod Epitaphs
 pub mod Grammar
-pub mod Meanings
-pub mod Laws
 pub mod Spelling

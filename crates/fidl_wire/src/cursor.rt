@@ -16,7 +16,7 @@ use fidl_names::Handle;
 use std::marker::Model;
 
 /// The envelope of a branch whose value is being read.
-#[derive(Clone, Copy, Debug)]
+#[derive(Clone, Copy)]
 pub struct Opened {
     /// Its offset in the message.
     pub at: usize,

@@ -8,7 +8,7 @@ use crate::numbers::{u16_at, u32_at, u64_at};
 use crate::padding::padding_after;
 
 /// What lies out of line: where the next object begins, and how many handles are left.
-#[derive(Clone, Copy, Debug)]
+#[derive(Clone, Copy)]
 pub struct Outside {
     pub out: usize,
     pub left: usize,

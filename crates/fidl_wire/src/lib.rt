@@ -8,7 +8,6 @@ mod faults;
 mod hashing;
 mod headers;
 mod kinds;
-mod laws;
 mod numbers;
 mod ordinals;
 mod output;
@@ -23,9 +22,5 @@ pub use fidl_names::{Handle, Method, NoMemory, Status};
 pub use hashing::ordinal;
 pub use headers::Header;
 pub use kinds::HandleKind;
-pub use laws::{
-    body_fault_is_meant, body_is_read_where_spelled, body_is_spelled_once, epitaph_is_read_once,
-    names_have_their_own, spelling_is_read, written_epitaph_is_read, written_header_is_read,
-};
 pub use ordinals::{OrdinalFault, Ordinals};
 pub use output::{Out, long_array, word_array};

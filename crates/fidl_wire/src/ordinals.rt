@@ -24,7 +24,7 @@ pub enum OrdinalFault {
 }
 
 /// The ordinals of the methods and of the event, no two of them equal.
-#[derive(Clone, Copy, Debug)]
+#[derive(Clone, Copy)]
 pub struct Ordinals {
     numbers: [u64; ROWS],
     /// For each low byte a row whose ordinal may have it: the one that is tried before all others.

@@ -16,7 +16,7 @@ use Rattle.io_messages.specs.Replies.{reply_layout, result_of, listing_cells, to
 use Rattle.io_replies.specs.Reading.{are_framework_words, is_framework_error}
 use Rattle.io_messages.specs.Requests.{items_in, num_in}
 use Rattle.io_replies.proofs.ReadObjects.{object_read, result_from, result_read, same_items, same_end}
-use Rattle.io_messages.proofs.Parts.{bind_ok, check_bind, Keeps, handle_keeps}
+use Rattle.wire_laws.proofs.Leaving.{bind_ok, check_bind, Keeps, handle_keeps}
 
 -- ---- each shape of reply
 

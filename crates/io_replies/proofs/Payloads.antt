@@ -10,7 +10,7 @@ use Rattle.fidl_wire.specs.declared.faults.WireFault.{WireFault}
 use Rattle.fidl_wire.specs.Cursor.{Cursor, IsPart, outside_of, start}
 use Rattle.fidl_wire.specs.declared.faults.WireWhat.TheVariants.{Value}
 use Rattle.fidl_wire.specs.Headers.{fault}
-use Rattle.fidl_wire.specs.Laws.{ReadsWhatIsSpelled, SpelledWhereRead}
+use Rattle.wire_laws.specs.Laws.{ReadsWhatIsSpelled, SpelledWhereRead}
 use Rattle.fidl_wire.specs.Layout.{Cell, Item, Content, Variant, struct, branch, pad, text, vector, num, seq, object}
 use Rattle.fidl_names.specs.Numbers.{number_at}
 use Rattle.fidl_wire.specs.Numbers.{padded, padding_after}
@@ -23,7 +23,7 @@ use Rattle.io_replies.specs.Reading.{ReadsReply, IsPayloadOf, answered_from, by_
 use Rattle.io_messages.specs.Replies as answers
 use Rattle.io_messages.specs.Requests.{IsPartAt, item, items_in, num_in, seq_in, seq_of}
 use Rattle.io_messages.specs.Shapes.{shape_of}
-use Rattle.io_messages.proofs.Parts.{bind_ok, check_bind, Passes, blank_keeps, list_size}
+use Rattle.wire_laws.proofs.Leaving.{bind_ok, check_bind, Passes, blank_keeps, list_size}
 use Rattle.io_replies.proofs.ReadObjects.{variants, object_read, result_read, same_items}
 use Rattle.io_replies.proofs.ReplyLaws.{reply_is}
 

@@ -8,7 +8,7 @@ use Rattle.fidl_wire.specs.Numbers.{padded}
 use Rattle.fidl_wire.specs.Reading.{◌>>=◌, Step, known_variant, ordinal_at, body_of, object_items, cells_at, finish_of, closed, all_blank}
 use Rattle.fidl_wire.specs.declared.faults.WireFault.{WireFault}
 use Rattle.io_messages.specs.Replies.{result_of}
-use Rattle.io_messages.proofs.Parts.{bind_ok, check_bind, chosen, fits_if}
+use Rattle.wire_laws.proofs.Leaving.{bind_ok, check_bind, chosen, fits_if}
 
 -- the primary object lies within the message
 pub record Begins (m : List ℕ) (hs : List Handle) (size : ℕ) (c : Cursor) : Type 0 where

@@ -7,7 +7,7 @@ use Rattle.fidl_wire.specs.declared.faults.WireFault.{WireFault}
 use Rattle.fidl_wire.specs.declared.faults.WireWhat.TheVariants.{Txid, Ordinal}
 use Rattle.fidl_wire.specs.declared.headers.Header.{Header}
 use Rattle.fidl_wire.specs.Headers.{header_of, fault}
-use Rattle.fidl_wire.specs.Laws.{ReadsWhatIsSpelled, SpelledWhereRead}
+use Rattle.wire_laws.specs.Laws.{ReadsWhatIsSpelled, SpelledWhereRead}
 use Rattle.fidl_wire.specs.Layout.{Content}
 use Rattle.fidl_wire.specs.Names.{event_ordinal, MethodsHaveTheirOwn}
 use Rattle.fidl_wire.specs.Reading.{◌>>=◌, body_of}
@@ -20,7 +20,7 @@ use Rattle.io_messages.specs.Replies as answers
 use Rattle.io_messages.specs.Shapes.{shape_of}
 use Rattle.io_replies.proofs.Framework.{no_framework_error}
 use Rattle.io_messages.proofs.Known.{method_with-has, method_with-says, only_method}
-use Rattle.io_messages.proofs.Parts.{bind_ok}
+use Rattle.wire_laws.proofs.Leaving.{bind_ok}
 
 abbrev Told : Type 0
 Told = ℕ × Answered

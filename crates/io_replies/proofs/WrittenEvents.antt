@@ -4,7 +4,7 @@ use Rattle.fidl_wire.specs.Headers.{header_bytes}
 use Rattle.fidl_names.specs.declared.methods.Handle.{Handle}
 use Rattle.fidl_wire.specs.Grammar.{IsSpelled, join, nothing}
 use Rattle.fidl_wire.specs.Spelling.{FitsBody, FitsVariant, body_bytes, body_handles, object_bytes, table_part, count_bytes}
-use Rattle.fidl_wire.specs.Laws.{HeadersAreRead, SpellingIsSpelled}
+use Rattle.wire_laws.specs.Laws.{HeadersAreRead, SpellingIsSpelled}
 use Rattle.fidl_wire.specs.Layout.{branch, members}
 use Rattle.fidl_wire.specs.Names.{event_ordinal}
 use Rattle.io_messages.specs.declared.protocols.Protocol.{Protocol}

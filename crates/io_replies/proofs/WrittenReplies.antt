@@ -11,7 +11,7 @@ use Rattle.fidl_names.specs.declared.statuses.Status.TheVariants as status
 use Rattle.fidl_wire.specs.declared.faults.WireFault.{WireFault}
 use Rattle.fidl_wire.specs.Grammar.{join, nothing}
 use Rattle.fidl_wire.specs.Headers.{header_bytes}
-use Rattle.fidl_wire.specs.Laws.{HeadersAreRead, SpellingIsRead, SpellingIsSpelled}
+use Rattle.wire_laws.specs.Laws.{HeadersAreRead, SpellingIsRead, SpellingIsSpelled}
 use Rattle.fidl_wire.specs.Layout.{Content, struct, fields, branch, object, number, vector, num, blank, held, seq, members}
 use Rattle.fidl_wire.specs.Names.{method_ordinal}
 use Rattle.fidl_names.specs.Numbers.{number_bytes}

@@ -3,7 +3,7 @@
 ghost use Rattle.fidl_wire.specs.Names.{MethodsHaveTheirOwn};
 ghost use Rattle.io_replies.specs.Laws.{RepliesAreReadOnce, FrameworkErrorIsNoReply, EventsAreReadOnce, WrittenRepliesAreRead, WrittenEventsAreRead};
 
-use fidl_wire::{body_is_read_where_spelled, spelling_is_read, written_header_is_read};
+use wire_laws::{body_is_read_where_spelled, spelling_is_read, written_header_is_read};
 
 /// Bytes and handles are at most one reply, where each method has an ordinal of its own.
 pub fn reply_is_read_once()

@@ -1,12 +1,12 @@
 -- What the laws of journals stand on: the laws of the layers below, where no two names have equal ordinals.
 use Rattle.std.specs.Prelude.{◌≡◌, ℕ, List, None}
-use Rattle.fidl_wire.specs.Laws.{ReadsWhatIsSpelled, SpelledWhereRead}
+use Rattle.wire_laws.specs.Laws.{ReadsWhatIsSpelled, SpelledWhereRead}
 use Rattle.fidl_wire.specs.Names.{AreDistinct}
 use Rattle.io_messages.specs.Laws.{WrittenRequestsAreRead}
 use Rattle.path_walk.specs.Paths.{IsPath, names_of, path_fault}
-use Rattle.fidl_wire.proofs.Bodies.{spelled_read, read_spelled}
-use Rattle.fidl_wire.proofs.ReadHeaders.{header_again}
-use Rattle.fidl_wire.proofs.Spelled.{message_spelled}
+use Rattle.wire_laws.proofs.Bodies.{spelled_read, read_spelled}
+use Rattle.wire_laws.proofs.ReadHeaders.{header_again}
+use Rattle.wire_laws.proofs.Spelled.{message_spelled}
 use Rattle.message_writer.proofs.WritingLaws.{written_request}
 use Rattle.path_walk.proofs.PathLemmas.{path_sound, path_complete}
 

@@ -8,7 +8,7 @@ use Rattle.fidl_names.specs.declared.methods.Method.TheVariants as method
 use Rattle.fidl_names.specs.declared.statuses.Status.{Status}
 use Rattle.fidl_names.specs.declared.statuses.Status.TheVariants as status
 use Rattle.fidl_names.specs.HandleNumber.{handle_with}
-use Rattle.fidl_wire.specs.Laws.{SpelledWhereRead}
+use Rattle.wire_laws.specs.Laws.{SpelledWhereRead}
 use Rattle.fidl_wire.specs.Layout.{Item}
 use Rattle.io_flags.specs.Grants.{asked_rights, explicit_rights}
 use Rattle.io_flags.specs.Words.{has}

@@ -5,7 +5,7 @@ use Rattle.std.proofs.lemmas.Int.{to_z-of_z}
 use Rattle.std.proofs.lemmas.Bool.Decides.{nat_tests}
 use Rattle.fidl_names.specs.declared.methods.Method.{Method}
 use Rattle.fidl_wire.specs.Headers.{header_bytes}
-use Rattle.fidl_wire.specs.Laws.{HeadersAreRead, SpellingIsSpelled}
+use Rattle.wire_laws.specs.Laws.{HeadersAreRead, SpellingIsSpelled}
 use Rattle.fidl_wire.specs.Layout.{struct, fields}
 use Rattle.fidl_wire.specs.Names.{method_ordinal}
 use Rattle.io_messages.specs.declared.protocols.Protocol.{Protocol}

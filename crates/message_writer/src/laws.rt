@@ -2,7 +2,7 @@
 
 ghost use Rattle.io_messages.specs.Laws.{WrittenRequestsAreRead};
 
-use fidl_wire::{spelling_is_read, written_header_is_read};
+use wire_laws::{spelling_is_read, written_header_is_read};
 
 /// What is written for a request is that request, to each protocol that has its method.
 pub fn written_request_is_read()

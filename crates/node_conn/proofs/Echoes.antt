@@ -10,7 +10,7 @@ use Rattle.fidl_wire.specs.Grammar.{Part, nothing, join, IsList, IsSpelled, Lays
 use Rattle.fidl_wire.specs.Layout.{Item, text, num, blank, held, seq, members, struct, fields}
 use Rattle.fidl_wire.specs.Numbers.{padded, padding_after}
 use Rattle.fidl_wire.specs.Written.{padded_bytes}
-use Rattle.fidl_wire.proofs.Vectors.{length-padded_bytes}
+use Rattle.fidl_wire.proofs.Padded.{length-padded_bytes}
 use Rattle.io_messages.specs.Asked.{Asked}
 use Rattle.io_messages.specs.declared.protocols.Protocol.TheVariants as protocol
 use Rattle.io_messages.specs.Protocols.{has_method}

@@ -6,7 +6,7 @@ use Rattle.fidl_wire.specs.declared.faults.WireFault.{WireFault}
 use Rattle.fidl_wire.specs.declared.headers.Header.{Header}
 use Rattle.fidl_wire.specs.Grammar.{IsSpelled}
 use Rattle.fidl_wire.specs.Headers.{header_of}
-use Rattle.fidl_wire.specs.Laws.{ReadsWhatIsSpelled, SpelledWhereRead}
+use Rattle.wire_laws.specs.Laws.{ReadsWhatIsSpelled, SpelledWhereRead}
 use Rattle.fidl_wire.specs.Layout.{Item, Content, struct, fields, branch}
 use Rattle.fidl_wire.specs.Names.{MethodsHaveTheirOwn}
 use Rattle.fidl_wire.specs.Reading.{◌>>=◌, body_of}
@@ -17,7 +17,7 @@ use Rattle.io_messages.specs.Asked.{Asked, asked}
 use Rattle.io_messages.specs.Requests.{Reads, request_cells, asked_from, items_in, fields_of, has_txid, method_in, with_txid, or_malformed, known_request, behind_header, request_of, told}
 use Rattle.io_messages.specs.Shapes.{is_one_way}
 use Rattle.io_messages.proofs.Known.{method_in-has, method_in-says, only_method}
-use Rattle.io_messages.proofs.Parts.{bind_ok}
+use Rattle.wire_laws.proofs.Leaving.{bind_ok}
 
 -- ---- what is read is spelled
 

@@ -1,16 +1,16 @@
-ghost use Rattle.std.specs.Prelude.{◌≡◌, ◌+◌, [], ◌∷◌, length, Ok, Err, IfOk, IfErr, OnOk};
+ghost use Rattle.std.specs.Prelude.{◌≡◌, ◌+◌, [], ◌∷◌, length, Ok, Err, IfOk, IfErr};
+ghost use Rattle.fidl_wire.specs.Layout.{blank, seq, sizes_of};
 ghost use Rattle.fidl_wire.specs.Numbers.{padded};
-ghost use Rattle.fidl_wire.specs.Layout.{struct, fields, number, blank, num, seq};
-ghost use Rattle.fidl_wire.specs.Reading.{body_of};
+ghost use Rattle.fidl_wire.specs.Reading.{cells_at};
 ghost use Rattle.io_messages.specs.Asked.{asked};
-ghost use Rattle.io_messages.specs.Requests.{two_names, held_token, IsPartAt, fields_of, fields_told, ArePartsOf};
+ghost use Rattle.io_messages.specs.Requests.{request_cells, two_names, held_token, IsPartAt, fields_of, fields_told, ArePartsOf};
+ghost use Rattle.request_reader.specs.Steps.{asked_at, Begins, IsBefore};
 
 use fidl_names::{Handle, Method};
 use fidl_wire::{Body, WireFault};
 use io_messages::Request;
 
 /// The fields of a method's request, or their first fault.
-#[tactic(auto, unfolding(io_messages::specs::Requests::fields_of))]
 pub fn read_fields<'a>(
     method: Method,
     bytes: &'a [u8],
@@ -19,125 +19,121 @@ pub fn read_fields<'a>(
     ensures value { fields_told result ≡ fields_of method bytes.now handles.now }
     ensures parts { IfOk result (λ r. ArePartsOf bytes.now (asked r)) }
 {
+    let mut body = Body::new(bytes, handles, inline_size(method))?;
+    let request = take_fields(method, &mut body)?;
+    body.finish()?;
+    Ok(request)
+}
+
+/// How many bytes the fields of a method's request have, without what stands out of line.
+fn inline_size(method: Method) -> usize
+    ensures { result ≡ sizes_of (request_cells method) }
+{
     match method {
-        Method::Clone => read_clone(bytes, handles),
-        Method::Close => {
-            no_fields(bytes, handles)?;
-            Ok(Request::Close)
-        }
-        Method::Query => {
-            no_fields(bytes, handles)?;
-            Ok(Request::Query)
-        }
-        Method::GetAttributes => {
-            let query = one_number(bytes, handles)?;
-            Ok(Request::GetAttributes { query })
-        }
-        Method::Sync => {
-            no_fields(bytes, handles)?;
-            Ok(Request::Sync)
-        }
-        Method::OpenPath => read_open(bytes, handles),
-        Method::ReadDirents => {
-            let max_bytes = one_number(bytes, handles)?;
-            Ok(Request::ReadDirents { max_bytes })
-        }
-        Method::Rewind => {
-            no_fields(bytes, handles)?;
-            Ok(Request::Rewind)
-        }
-        Method::GetToken => {
-            no_fields(bytes, handles)?;
-            Ok(Request::GetToken)
-        }
-        Method::Rename => {
-            let (src, token, dst) = two_names(bytes, handles)?;
-            Ok(Request::Rename { src, token, dst })
-        }
-        Method::Link => {
-            let (src, token, dst) = two_names(bytes, handles)?;
-            Ok(Request::Link { src, token, dst })
-        }
-        Method::Unlink => read_unlink(bytes, handles),
-        Method::Watch => read_watch(bytes, handles),
-        Method::Read => {
-            let count = one_number(bytes, handles)?;
-            Ok(Request::Read { count })
-        }
-        Method::ReadAt => read_read_at(bytes, handles),
-        Method::Write => read_write(bytes, handles),
-        Method::WriteAt => read_write_at(bytes, handles),
-        Method::Seek => read_seek(bytes, handles),
-        Method::Resize => {
-            let length = one_number(bytes, handles)?;
-            Ok(Request::Resize { length })
-        }
-        Method::EchoString => read_echo_string(bytes, handles),
+        Method::Clone => 4,
+        Method::Close => 0,
+        Method::Query => 0,
+        Method::GetAttributes => 8,
+        Method::Sync => 0,
+        Method::OpenPath => 48,
+        Method::ReadDirents => 8,
+        Method::Rewind => 0,
+        Method::GetToken => 0,
+        Method::Rename => 40,
+        Method::Link => 40,
+        Method::Unlink => 32,
+        Method::Watch => 12,
+        Method::Read => 8,
+        Method::ReadAt => 16,
+        Method::Write => 16,
+        Method::WriteAt => 24,
+        Method::Seek => 16,
+        Method::Resize => 8,
+        Method::EchoString => 16,
     }
 }
 
-/// A request without fields.
-fn no_fields(bytes: &[u8], handles: &[Handle]) -> Result<(), WireFault>
-    ensures value { OnOk result (body_of (struct []) bytes.now handles.now ≡ Ok (fields [])) }
-    ensures fault { IfErr result (λ e. body_of (struct []) bytes.now handles.now ≡ Err e) }
+/// Reads the fields of a method's request, and stands behind them.
+#[tactic(auto, unfolding(crate::specs::Steps::asked_at))]
+fn take_fields<'a>(method: Method, body: &mut Body<'a, '_>) -> Result<Request<'a>, WireFault>
+    requires { IsBefore method body.old }
+    ensures value { IfOk result (λ r. asked_at method body.old ≡ Ok (asked r, body.new)) }
+    ensures fault { IfErr result (λ e. asked_at method body.old ≡ Err e) }
+    ensures parts { IfOk result (λ r. ArePartsOf body.old.message (asked r)) }
 {
-    Body::new(bytes, handles, 0)?.finish()
-}
-
-/// A request whose one field is a number of eight bytes.
-fn one_number(bytes: &[u8], handles: &[Handle]) -> Result<u64, WireFault>
-    ensures value { IfOk result (λ x. body_of (struct (number 8 ∷ [])) bytes.now handles.now ≡ Ok (fields (num x ∷ []))) }
-    ensures fault { IfErr result (λ e. body_of (struct (number 8 ∷ [])) bytes.now handles.now ≡ Err e) }
-{
-    let mut body = Body::new(bytes, handles, 8)?;
-    let number = body.get_u64()?;
-    body.finish()?;
-    Ok(number)
+    match method {
+        Method::Clone => {
+            let request = body.endpoint()?;
+            Ok(Request::Clone { request })
+        }
+        Method::Close => Ok(Request::Close),
+        Method::Query => Ok(Request::Query),
+        Method::GetAttributes => {
+            let query = body.get_u64()?;
+            Ok(Request::GetAttributes { query })
+        }
+        Method::Sync => Ok(Request::Sync),
+        Method::OpenPath => take_open(body),
+        Method::ReadDirents => {
+            let max_bytes = body.get_u64()?;
+            Ok(Request::ReadDirents { max_bytes })
+        }
+        Method::Rewind => Ok(Request::Rewind),
+        Method::GetToken => Ok(Request::GetToken),
+        Method::Rename => {
+            let (src, token, dst) = take_names(body)?;
+            Ok(Request::Rename { src, token, dst })
+        }
+        Method::Link => {
+            let (src, token, dst) = take_names(body)?;
+            Ok(Request::Link { src, token, dst })
+        }
+        Method::Unlink => take_unlink(body),
+        Method::Watch => take_watch(body),
+        Method::Read => {
+            let count = body.get_u64()?;
+            Ok(Request::Read { count })
+        }
+        Method::ReadAt => take_read_at(body),
+        Method::Write => take_write(body),
+        Method::WriteAt => take_write_at(body),
+        Method::Seek => take_seek(body),
+        Method::Resize => {
+            let length = body.get_u64()?;
+            Ok(Request::Resize { length })
+        }
+        Method::EchoString => take_echo_string(body),
+    }
 }
 
 /// Two names, and between them a token's number.
-fn two_names<'a>(
-    bytes: &'a [u8],
-    handles: &[Handle],
-) -> Result<(&'a [u8], u32, &'a [u8]), WireFault>
-    ensures value { IfOk result (λ r. body_of (struct two_names) bytes.now handles.now
-        ≡ Ok (fields (seq r.0.now ∷ held_token r.1 ∷ blank ∷ seq r.2.now ∷ []))) }
-    ensures fault { IfErr result (λ e. body_of (struct two_names) bytes.now handles.now ≡ Err e) }
-    ensures first { IfOk result (λ r. IsPartAt bytes.now 56 r.0.now) }
-    ensures second { IfOk result (λ r. IsPartAt bytes.now (56 + padded (length r.0.now)) r.2.now) }
+fn take_names<'a>(body: &mut Body<'a, '_>) -> Result<(&'a [u8], u32, &'a [u8]), WireFault>
+    requires { Begins 56 body.old }
+    ensures value { IfOk result (λ r. cells_at two_names body.old
+        ≡ Ok (seq r.0.now ∷ held_token r.1 ∷ blank ∷ seq r.2.now ∷ [], body.new)) }
+    ensures fault { IfErr result (λ e. cells_at two_names body.old ≡ Err e) }
+    ensures first { IfOk result (λ r. IsPartAt body.old.message 56 r.0.now) }
+    ensures second { IfOk result (λ r. IsPartAt body.old.message (56 + padded (length r.0.now)) r.2.now) }
 {
-    let mut body = Body::new(bytes, handles, 40)?;
     let src = body.string()?;
     let token = body.token(false)?.unwrap();
     body.pad(4)?;
     let dst = body.string()?;
-    body.finish()?;
     Ok((src, token, dst))
 }
 
-#[tactic(auto, unfolding(io_messages::specs::Requests::fields_of))]
-fn read_clone<'a>(bytes: &'a [u8], handles: &[Handle]) -> Result<Request<'a>, WireFault>
-    ensures value { fields_told result ≡ fields_of Method.Clone bytes.now handles.now }
-    ensures parts { IfOk result (λ r. ArePartsOf bytes.now (asked r)) }
+#[tactic(auto, unfolding(crate::specs::Steps::asked_at))]
+fn take_open<'a>(body: &mut Body<'a, '_>) -> Result<Request<'a>, WireFault>
+    requires { Begins 64 body.old }
+    ensures value { IfOk result (λ r. asked_at Method.OpenPath body.old ≡ Ok (asked r, body.new)) }
+    ensures fault { IfErr result (λ e. asked_at Method.OpenPath body.old ≡ Err e) }
+    ensures parts { IfOk result (λ r. ArePartsOf body.old.message (asked r)) }
 {
-    let mut body = Body::new(bytes, handles, 4)?;
-    let request = body.endpoint()?;
-    body.finish()?;
-    Ok(Request::Clone { request })
-}
-
-#[tactic(auto, unfolding(io_messages::specs::Requests::fields_of))]
-fn read_open<'a>(bytes: &'a [u8], handles: &[Handle]) -> Result<Request<'a>, WireFault>
-    ensures value { fields_told result ≡ fields_of Method.OpenPath bytes.now handles.now }
-    ensures parts { IfOk result (λ r. ArePartsOf bytes.now (asked r)) }
-{
-    let mut body = Body::new(bytes, handles, 48)?;
     let path = body.string()?;
     let flags = body.get_u64()?;
     let attributes = body.table_u64()?;
     let object = body.endpoint()?;
     body.pad(4)?;
-    body.finish()?;
     Ok(Request::OpenPath {
         path,
         flags,
@@ -146,28 +142,27 @@ fn read_open<'a>(bytes: &'a [u8], handles: &[Handle]) -> Result<Request<'a>, Wir
     })
 }
 
-#[tactic(auto, unfolding(io_messages::specs::Requests::fields_of))]
-fn read_unlink<'a>(bytes: &'a [u8], handles: &[Handle]) -> Result<Request<'a>, WireFault>
-    ensures value { fields_told result ≡ fields_of Method.Unlink bytes.now handles.now }
-    ensures parts { IfOk result (λ r. ArePartsOf bytes.now (asked r)) }
+#[tactic(auto, unfolding(crate::specs::Steps::asked_at))]
+fn take_unlink<'a>(body: &mut Body<'a, '_>) -> Result<Request<'a>, WireFault>
+    requires { Begins 48 body.old }
+    ensures value { IfOk result (λ r. asked_at Method.Unlink body.old ≡ Ok (asked r, body.new)) }
+    ensures fault { IfErr result (λ e. asked_at Method.Unlink body.old ≡ Err e) }
+    ensures parts { IfOk result (λ r. ArePartsOf body.old.message (asked r)) }
 {
-    let mut body = Body::new(bytes, handles, 32)?;
     let name = body.string()?;
     let flags = body.table_u64()?.unwrap_or(0);
-    body.finish()?;
     Ok(Request::Unlink { name, flags })
 }
 
-#[tactic(auto, unfolding(io_messages::specs::Requests::fields_of))]
-fn read_watch<'a>(bytes: &'a [u8], handles: &[Handle]) -> Result<Request<'a>, WireFault>
-    ensures value { fields_told result ≡ fields_of Method.Watch bytes.now handles.now }
-    ensures parts { IfOk result (λ r. ArePartsOf bytes.now (asked r)) }
+#[tactic(auto, unfolding(crate::specs::Steps::asked_at))]
+fn take_watch<'a>(body: &mut Body<'_, '_>) -> Result<Request<'a>, WireFault>
+    ensures value { IfOk result (λ r. asked_at Method.Watch body.old ≡ Ok (asked r, body.new)) }
+    ensures fault { IfErr result (λ e. asked_at Method.Watch body.old ≡ Err e) }
+    ensures parts { IfOk result (λ r. ArePartsOf body.old.message (asked r)) }
 {
-    let mut body = Body::new(bytes, handles, 12)?;
     let mask = body.get_u32()?;
     let options = body.get_u32()?;
     let watcher = body.endpoint()?;
-    body.finish()?;
     Ok(Request::Watch {
         mask,
         options,
@@ -175,64 +170,59 @@ fn read_watch<'a>(bytes: &'a [u8], handles: &[Handle]) -> Result<Request<'a>, Wi
     })
 }
 
-#[tactic(auto, unfolding(io_messages::specs::Requests::fields_of))]
-fn read_read_at<'a>(bytes: &'a [u8], handles: &[Handle]) -> Result<Request<'a>, WireFault>
-    ensures value { fields_told result ≡ fields_of Method.ReadAt bytes.now handles.now }
-    ensures parts { IfOk result (λ r. ArePartsOf bytes.now (asked r)) }
+#[tactic(auto, unfolding(crate::specs::Steps::asked_at))]
+fn take_read_at<'a>(body: &mut Body<'_, '_>) -> Result<Request<'a>, WireFault>
+    ensures value { IfOk result (λ r. asked_at Method.ReadAt body.old ≡ Ok (asked r, body.new)) }
+    ensures fault { IfErr result (λ e. asked_at Method.ReadAt body.old ≡ Err e) }
+    ensures parts { IfOk result (λ r. ArePartsOf body.old.message (asked r)) }
 {
-    let mut body = Body::new(bytes, handles, 16)?;
     let count = body.get_u64()?;
     let offset = body.get_u64()?;
-    body.finish()?;
     Ok(Request::ReadAt { count, offset })
 }
 
-#[tactic(auto, unfolding(io_messages::specs::Requests::fields_of))]
-fn read_write<'a>(bytes: &'a [u8], handles: &[Handle]) -> Result<Request<'a>, WireFault>
-    ensures value { fields_told result ≡ fields_of Method.Write bytes.now handles.now }
-    ensures parts { IfOk result (λ r. ArePartsOf bytes.now (asked r)) }
+#[tactic(auto, unfolding(crate::specs::Steps::asked_at))]
+fn take_write<'a>(body: &mut Body<'a, '_>) -> Result<Request<'a>, WireFault>
+    requires { Begins 32 body.old }
+    ensures value { IfOk result (λ r. asked_at Method.Write body.old ≡ Ok (asked r, body.new)) }
+    ensures fault { IfErr result (λ e. asked_at Method.Write body.old ≡ Err e) }
+    ensures parts { IfOk result (λ r. ArePartsOf body.old.message (asked r)) }
 {
-    let mut body = Body::new(bytes, handles, 16)?;
-    let part = body.bytes()?;
-    body.finish()?;
-    Ok(Request::Write { bytes: part })
+    let bytes = body.bytes()?;
+    Ok(Request::Write { bytes })
 }
 
-#[tactic(auto, unfolding(io_messages::specs::Requests::fields_of))]
-fn read_write_at<'a>(bytes: &'a [u8], handles: &[Handle]) -> Result<Request<'a>, WireFault>
-    ensures value { fields_told result ≡ fields_of Method.WriteAt bytes.now handles.now }
-    ensures parts { IfOk result (λ r. ArePartsOf bytes.now (asked r)) }
+#[tactic(auto, unfolding(crate::specs::Steps::asked_at))]
+fn take_write_at<'a>(body: &mut Body<'a, '_>) -> Result<Request<'a>, WireFault>
+    requires { Begins 40 body.old }
+    ensures value { IfOk result (λ r. asked_at Method.WriteAt body.old ≡ Ok (asked r, body.new)) }
+    ensures fault { IfErr result (λ e. asked_at Method.WriteAt body.old ≡ Err e) }
+    ensures parts { IfOk result (λ r. ArePartsOf body.old.message (asked r)) }
 {
-    let mut body = Body::new(bytes, handles, 24)?;
-    let part = body.bytes()?;
+    let bytes = body.bytes()?;
     let offset = body.get_u64()?;
-    body.finish()?;
-    Ok(Request::WriteAt {
-        bytes: part,
-        offset,
-    })
+    Ok(Request::WriteAt { bytes, offset })
 }
 
-#[tactic(auto, unfolding(io_messages::specs::Requests::fields_of))]
-fn read_seek<'a>(bytes: &'a [u8], handles: &[Handle]) -> Result<Request<'a>, WireFault>
-    ensures value { fields_told result ≡ fields_of Method.Seek bytes.now handles.now }
-    ensures parts { IfOk result (λ r. ArePartsOf bytes.now (asked r)) }
+#[tactic(auto, unfolding(crate::specs::Steps::asked_at))]
+fn take_seek<'a>(body: &mut Body<'_, '_>) -> Result<Request<'a>, WireFault>
+    ensures value { IfOk result (λ r. asked_at Method.Seek body.old ≡ Ok (asked r, body.new)) }
+    ensures fault { IfErr result (λ e. asked_at Method.Seek body.old ≡ Err e) }
+    ensures parts { IfOk result (λ r. ArePartsOf body.old.message (asked r)) }
 {
-    let mut body = Body::new(bytes, handles, 16)?;
     let origin = body.get_u32()?;
     body.pad(4)?;
     let offset = body.get_i64()?;
-    body.finish()?;
     Ok(Request::Seek { origin, offset })
 }
 
-#[tactic(auto, unfolding(io_messages::specs::Requests::fields_of))]
-fn read_echo_string<'a>(bytes: &'a [u8], handles: &[Handle]) -> Result<Request<'a>, WireFault>
-    ensures value { fields_told result ≡ fields_of Method.EchoString bytes.now handles.now }
-    ensures parts { IfOk result (λ r. ArePartsOf bytes.now (asked r)) }
+#[tactic(auto, unfolding(crate::specs::Steps::asked_at))]
+fn take_echo_string<'a>(body: &mut Body<'a, '_>) -> Result<Request<'a>, WireFault>
+    requires { Begins 32 body.old }
+    ensures value { IfOk result (λ r. asked_at Method.EchoString body.old ≡ Ok (asked r, body.new)) }
+    ensures fault { IfErr result (λ e. asked_at Method.EchoString body.old ≡ Err e) }
+    ensures parts { IfOk result (λ r. ArePartsOf body.old.message (asked r)) }
 {
-    let mut body = Body::new(bytes, handles, 16)?;
     let value = body.string()?;
-    body.finish()?;
     Ok(Request::EchoString { value })
 }

@@ -3,7 +3,7 @@
 ghost use Rattle.fidl_wire.specs.Names.{MethodsHaveTheirOwn};
 ghost use Rattle.io_messages.specs.Laws.{RequestsAreReadOnce, RequestsAreFound, FoundRequestsAreRead, RequestsCarryTheirEndpoints};
 
-use fidl_wire::body_is_read_where_spelled;
+use wire_laws::body_is_read_where_spelled;
 
 /// Bytes and handles are at most one request to a protocol, where each method has an ordinal of its own.
 pub fn request_is_read_once()

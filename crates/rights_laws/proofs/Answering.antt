@@ -6,7 +6,7 @@ use Rattle.std.proofs.lemmas.List.Elements.{All-weaker}
 use Rattle.fidl_names.specs.First.{cause_if, first_of}
 use Rattle.fidl_names.specs.declared.statuses.Status.{Status}
 use Rattle.fidl_names.specs.declared.statuses.Status.TheVariants as status
-use Rattle.fidl_wire.specs.Laws.{SpelledWhereRead}
+use Rattle.wire_laws.specs.Laws.{SpelledWhereRead}
 use Rattle.io_messages.specs.Asked.{Asked, method_of}
 use Rattle.io_messages.specs.declared.protocols.Home.{Home}
 use Rattle.io_messages.specs.declared.protocols.Home.TheVariants as homes

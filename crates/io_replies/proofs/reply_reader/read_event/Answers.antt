@@ -1,5 +1,5 @@
 use Rattle.std.proofs.Common.{◌∙◌}
-use Rattle.fidl_wire.proofs.Bodies.{read_spelled, spelled_read}
+use Rattle.wire_laws.proofs.Bodies.{read_spelled, spelled_read}
 use Rattle.io_replies.proofs.ReplyLaws.{event_found, event_spelled}
 use Rattle.io_replies.proofs.reply_reader.read_event.Goals as goal
 

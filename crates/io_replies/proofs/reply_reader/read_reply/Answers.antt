@@ -1,5 +1,5 @@
 use Rattle.std.proofs.Common.{◌∙◌}
-use Rattle.fidl_wire.proofs.Bodies.{read_spelled, spelled_read}
+use Rattle.wire_laws.proofs.Bodies.{read_spelled, spelled_read}
 use Rattle.fidl_wire.proofs.Rows.{method_ordinal-injective}
 use Rattle.io_replies.proofs.Payloads.{payload_found}
 use Rattle.io_replies.proofs.ReplyLaws.{reply_found, reply_spelled}

@@ -1,5 +1,5 @@
 use Rattle.std.proofs.Common.{◌∙◌}
-use Rattle.fidl_wire.proofs.Bodies.{read_spelled, spelled_read}
+use Rattle.wire_laws.proofs.Bodies.{read_spelled, spelled_read}
 use Rattle.fidl_wire.proofs.Rows.{method_ordinal-injective}
 use Rattle.request_reader.proofs.RequestLaws.{what_is_spelled, found_by}
 use Rattle.request_reader.proofs.reader.read_request.Goals as goal

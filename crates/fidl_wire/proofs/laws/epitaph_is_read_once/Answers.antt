@@ -1,5 +1,0 @@
-use Rattle.fidl_wire.proofs.ReadEpitaphs.{epitaph_once}
-use Rattle.fidl_wire.proofs.laws.epitaph_is_read_once.Goals as goal
-
-pub returns : goal.returns
-returns c = epitaph_once
