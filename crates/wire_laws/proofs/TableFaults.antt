@@ -1,5 +1,5 @@
 -- The faults of tables: each is what it says.
-use Rattle.std.proofs.Common.{◌≡◌, ℕ, zero, suc, ◌+◌, ◌-◌, ◌*◌, ◌%◌, ◌<◌, ◌≤◌, inl, inr, max, Bool, true, false, not, ◌&&◌, cond, List, [], ◌∷◌, length, drop, replicate, nat_le, ◌==◌, Option, Some, None, Ok, Err, refl, sym, ap, ◌∙◌, subst, length-append, length-drop, add-zero, arith}
+use Rattle.std.proofs.Common.{◌≡◌, ℕ, zero, suc, ◌+◌, ◌-◌, ◌*◌, ◌%◌, ◌<◌, ◌≤◌, inl, inr, max, Bool, true, false, not, ◌&&◌, cond, List, [], ◌∷◌, ◌++◌, length, drop, replicate, nat_le, ◌==◌, Option, Some, None, Ok, Err, refl, sym, ap, ◌∙◌, subst, length-append, length-drop, add-zero, arith}
 use Rattle.std.proofs.Math.Nat.{sub-zero}
 use Rattle.std.proofs.Math.Seq.{drop-nil}
 use Rattle.std.proofs.lemmas.List.{drop-drop}
@@ -16,7 +16,7 @@ use Rattle.fidl_wire.specs.Cursor.{Cursor}
 use Rattle.fidl_wire.specs.Reading.{◌>>=◌, passed, check, bytes_at, handles_at, flags_at, is_absent, is_inlined, is_outside, enough_handles, entered, skipped, number_member, member_at, members_at, count_at, table_at, table_cell, present_list, cell_at}
 use Rattle.fidl_wire.specs.Grammar.{nothing, join}
 use Rattle.wire_laws.specs.Meanings.{Stands, HasForm, IsEntered, EntryFault, KnownFault, UnknownFault, MemberFault, NoneIsMember, MembersFault, TableFault}
-use Rattle.wire_laws.proofs.Slices.{begins-length}
+use Rattle.wire_laws.proofs.Slices.{Begins, begins-length}
 use Rattle.wire_laws.proofs.Steps.{check_bind, both_true, eq_true, true_eq, eq_false, not_true, le_true}
 use Rattle.wire_laws.proofs.Parts.{stands-nothing, stands-join}
 use Rattle.wire_laws.proofs.TableCells.{behind_part, member_read, member_sound, outside_true, enough_says}
@@ -136,6 +136,31 @@ pub drop_later : (n : ℕ) (known : List Bool) → drop n (later known) ≡ drop
 drop_later n [] = drop-nil n
 drop_later n (k ∷ ks) = refl
 
+first_below : (n : ℕ) → 0 < suc n
+first_below n = omega arith
+
+suc_below : (k n : ℕ) → k < n → suc k < suc n
+suc_below k n h = omega arith
+
+-- what a member leaves to those behind it
+rest_places : (at n size : ℕ) → at + 8 * suc n ≤ size → (at + 8 ≤ size) × (at + 8 + 8 * n ≤ size)
+rest_places at n size fits = (omega arith, omega arith)
+
+rest_handles : (k left : ℕ) (hs : List Handle) → length hs ≡ left → length (drop k hs) ≡ left - k
+rest_handles k left hs same = length-drop k hs ∙ ap (λ (n : ℕ). n - k) same
+
+rest_out : (out : ℕ) (m part : List ℕ) → out ≤ length m → Begins (drop out m) part → out + length part ≤ length m
+rest_out out m part within begins = omega (arith, begins-length (drop out m) part begins, length-drop out m)
+
+out_moved : (out : ℕ) (a b : List ℕ) → out + length a + length b ≡ out + length (a ++ b)
+out_moved out a b = omega (arith, length-append a b)
+
+few_left : (a b hs : List Handle) → length (drop (length a) hs) - length b ≡ length hs - length (a ++ b)
+few_left a b hs = omega (arith, length-drop (length a) hs, length-append a b)
+
+place_moved : (place at : ℕ) (a b : List ℕ) → length a ≡ 8 → place ≡ at + 8 + length b → place ≡ at + length (a ++ b)
+place_moved place at a b size is = omega (arith, length-append a b)
+
 pub members_err : (known : List Bool) (n : ℕ) (m : List ℕ) (at : ℕ) (hs : List Handle) (o : Outside) (e : WireFault) → at + 8 * n ≤ length m → length hs ≡ o.left → o.out ≤ length m →
     members_at known at n m o ≡ Err e → MembersFault known n at o.out hs m e.at e.what
 members_err known zero m at hs o e fits left within h = absurd (cc)
@@ -146,7 +171,7 @@ members_err known (suc n) m at hs o e fits left within h =
           let out : o.out ≡ o.out + 0 = sym (add-zero o.out) in
           record {
             before = 0;
-            below = omega arith;
+            below = first_below n;
             values = replicate (length known) None;
             part = nothing;
             members_are = (refl, refl);
@@ -156,31 +181,32 @@ members_err known (suc n) m at hs o e fits left within h =
             none = none_same (is_known known) (is_known known) m at e.at o.out (o.out + 0) hs hs refl (sym b.0) out refl (none_member (is_known known) at m hs o e left within bad);
           }
       | inr (got, ok, others) ↦
-          let s = member_sound (is_known known) m at hs o got (omega arith) left ok in
+          let fit = rest_places at n (length m) fits in
+          let s = member_sound (is_known known) m at hs o got fit.0 left ok in
           let first = s.1 in
           let read = member_read (is_known known) s.0 first m at hs o left within s.2.member s.2.stands in
           let same : got ≡ (s.0, behind_part o first) = cc in
           let rest = last_err (members_at (later known) (at + 8) n m got.1) (λ rest. (with_member known got.0 rest.0, rest.1)) e others in
           let after : members_at (later known) (at + 8) n m (behind_part o first) ≡ Err e = ap (λ (x : Option ℕ × Outside). members_at (later known) (at + 8) n m x.1) (sym same) ∙ rest in
           let hs2 = drop (length first.handles) hs in
-          let rest_left : length hs2 ≡ o.left - length first.handles = omega (arith, length-drop (length first.handles) hs) in
-          let rest_within : o.out + length first.outside ≤ length m = omega (arith, begins-length (drop o.out m) first.outside s.2.stands.outside, length-drop o.out m) in
-          let t = members_err (later known) n m (at + 8) hs2 (behind_part o first) e (omega arith) rest_left rest_within after in
+          let rest_left : length hs2 ≡ o.left - length first.handles = rest_handles (length first.handles) o.left hs left in
+          let rest_within : o.out + length first.outside ≤ length m = rest_out o.out m first.outside within s.2.stands.outside in
+          let t = members_err (later known) n m (at + 8) hs2 (behind_part o first) e fit.1 rest_left rest_within after in
           let moved : Stands m (at + length first.inline) (o.out + length first.outside) hs2 t.part =
           subst (λ (k : ℕ). Stands m (at + k) (o.out + length first.outside) hs2 t.part) (sym s.2.size) t.stands in
           let key : is_known (drop t.before (later known)) ≡ is_known (drop (suc t.before) known) = ap is_known (drop_later t.before known) in
-          let out : o.out + length first.outside + length t.part.outside ≡ o.out + length (join first t.part).outside = omega (arith, length-append first.outside t.part.outside) in
-          let few : length hs2 - length t.part.handles ≡ length hs - length (join first t.part).handles = omega (arith, length-drop (length first.handles) hs, length-append first.handles t.part.handles) in
+          let out : o.out + length first.outside + length t.part.outside ≡ o.out + length (join first t.part).outside = out_moved o.out first.outside t.part.outside in
+          let few : length hs2 - length t.part.handles ≡ length hs - length (join first t.part).handles = few_left first.handles t.part.handles hs in
           let handles : drop (length t.part.handles) hs2 ≡ drop (length (join first t.part).handles) hs =
           drop-drop (length t.part.handles) (length first.handles) hs ∙ ap (λ (k : ℕ). drop k hs) (sym (length-append first.handles t.part.handles)) in
           record {
             before = suc t.before;
-            below = omega (arith, t.below);
+            below = suc_below t.before n t.below;
             values = with_member known s.0 t.values;
             part = join first t.part;
             members_are = (s.0, t.values, first, t.part, refl, s.2.member, t.members_are, refl);
             stands = stands-join m at o.out hs first t.part s.2.stands moved;
-            place = omega (arith, t.place, s.2.size, length-append first.inline t.part.inline);
+            place = place_moved e.at at first.inline t.part.inline s.2.size t.place;
             means = member_same (is_known (drop t.before (later known))) (is_known (drop (suc t.before) known)) e.at e.at _ _ _ _ m e.what key refl out few t.means;
             none = none_same (is_known (drop t.before (later known))) (is_known (drop (suc t.before) known)) m e.at e.at _ _ _ _ key refl out handles t.none;
           }
