@@ -53,8 +53,15 @@ fn lacks_rights(have: Rights, text: &[u8], flags: OpenFlags) -> bool
     ensures lacks { result ≡ ((not (bytes_eq text.now dot) && lacks have (single op.Traverse)) || lacks have (asked_rights flags)) }
     ensures explicit { result ≡ false → IsTrue (is_within (explicit_rights flags) have) }
 {
-    if !matches!(text, [b'.']) && !Rights::of(Operation::Traverse).within(have) {
+    if !is_dot(text) && !Rights::of(Operation::Traverse).within(have) {
         return true;
     }
     !asked(flags).within(have)
+}
+
+/// The path of the directory itself.
+fn is_dot(text: &[u8]) -> bool
+    ensures { result ≡ bytes_eq text.now dot }
+{
+    matches!(text, [b'.'])
 }

@@ -1,9 +1,13 @@
 -- The endpoints that an entry carries, but one.
-use Rattle.std.proofs.Common.{◌≡◌, ℕ, ◌&&◌, Bool, true, false, not, cond, List, [], ◌∷◌, filter, Option, None, Some, refl, sym, ap, ◌∙◌}
-use Rattle.fidl_names.specs.HandleNumber.{is_client}
+use Rattle.std.proofs.Common.{◌≡◌, ℕ, ◌+◌, ◌<◌, ◌&&◌, Bool, true, false, not, cond, List, [], ◌∷◌, ◌++◌, append_assoc, filter, get_or, length, take, Option, None, Some, refl, sym, ap, ◌∙◌}
+use Rattle.fidl_names.specs.HandleNumber.{is_client, number_of_handle}
+use Rattle.fidl_names.specs.declared.methods.Handle.{Handle}
 use Rattle.std.proofs.lemmas.Bool.{eq-eqb}
+use Rattle.std.proofs.lemmas.List.{append-nil, map-append, take_more}
+use Rattle.std.proofs.lemmas.List.Elements.{filter-append}
 use Rattle.conn_rules.specs.declared.births.Birth as code
 use Rattle.node_graph.specs.declared.nodes.NodeRef as nodes
+use Rattle.vfs_journal.specs.Handles.{numbers_of}
 use Rattle.vfs_journal.specs.Entries.{Sent, handles_of, tokens_in}
 use Rattle.vfs_server.specs.declared.fate.Fate.TheVariants as fates
 use Rattle.vfs_session.specs.Steps.{IsLoneEnd, IsQuiet, carried_but, is_it}
@@ -70,3 +74,42 @@ lone_refuses sent object is client = record {
   tokens = no_tokens object sent is client;
   here = refl;
 }
+
+-- ---- with one more handle
+
+carried_next : (but : Option ℕ) (handles : List Handle) (at n : ℕ) (d : Handle) → at < length handles → n ≡ number_of_handle (get_or handles at d) →
+    carried_of but (numbers_of (take (at + 1) handles)) ≡ carried_of but (numbers_of (take at handles)) ++ cond (is_client n && not (is_it but n)) (n ∷ []) []
+carried_next but handles at n d within is =
+    ap (λ (taken : List Handle). carried_of but (numbers_of taken)) (take_more handles at d within)
+    ∙ ap (carried_of but) (map-append number_of_handle (take at handles) (get_or handles at d ∷ []))
+    ∙ filter-append (λ number. is_client number && not (is_it but number)) (numbers_of (take at handles)) (number_of_handle (get_or handles at d) ∷ [])
+    ∙ ap (λ (m : ℕ). carried_of but (numbers_of (take at handles)) ++ cond (is_client m && not (is_it but m)) (m ∷ []) []) (sym is)
+
+pub carried_with : (but : Option ℕ) (handles : List Handle) (at n : ℕ) (d : Handle) (before kept more : List ℕ) → at < length handles → n ≡ number_of_handle (get_or handles at d) →
+    is_client n ≡ true → is_it but n ≡ false → kept ≡ before ++ carried_of but (numbers_of (take at handles)) → more ≡ kept ++ n ∷ [] →
+    more ≡ before ++ carried_of but (numbers_of (take (at + 1) handles))
+carried_with but handles at n d before kept more within is client other so longer =
+    longer ∙ ap (λ (xs : List ℕ). xs ++ n ∷ []) so ∙ append_assoc before (carried_of but (numbers_of (take at handles))) (n ∷ [])
+    ∙ ap (λ (xs : List ℕ). before ++ xs)
+    (sym (carried_next but handles at n d within is
+    ∙ ap (λ (a : Bool). carried_of but (numbers_of (take at handles)) ++ cond (a && not (is_it but n)) (n ∷ []) []) client
+    ∙ ap (λ (b : Bool). carried_of but (numbers_of (take at handles)) ++ cond (not b) (n ∷ []) []) other))
+
+pub carried_without : (but : Option ℕ) (handles : List Handle) (at n : ℕ) (d : Handle) (before kept more : List ℕ) → at < length handles → n ≡ number_of_handle (get_or handles at d) →
+    (is_client n && not (is_it but n)) ≡ false → kept ≡ before ++ carried_of but (numbers_of (take at handles)) → more ≡ kept →
+    more ≡ before ++ carried_of but (numbers_of (take (at + 1) handles))
+carried_without but handles at n d before kept more within is none so same =
+    same ∙ so
+    ∙ ap (λ (xs : List ℕ). before ++ xs)
+    (sym (carried_next but handles at n d within is
+    ∙ ap (λ (b : Bool). carried_of but (numbers_of (take at handles)) ++ cond b (n ∷ []) []) none
+    ∙ append-nil (carried_of but (numbers_of (take at handles)))))
+
+pub not_both : (a b : Bool) → a ≡ true → b ≡ true → (a && not b) ≡ false
+not_both true true p q = refl
+not_both true false p q = cc
+not_both false b p q = refl
+
+pub not_one : (a b : Bool) → a ≡ false → (a && b) ≡ false
+not_one false b p = refl
+not_one true b p = cc

@@ -1,5 +1,5 @@
 -- Numbers that rise, and stand once each.
-use Rattle.std.proofs.Common.{◌≡◌, ℕ, ◌==◌, ◌||◌, Bool, true, false, cond, List, [], ◌∷◌, map, Contains, Option, Some, None, refl, sym, ap, ◌∙◌, subst, arith}
+use Rattle.std.proofs.Common.{◌≡◌, ℕ, ◌+◌, ◌<◌, ◌==◌, ◌||◌, Bool, true, false, cond, List, [], ◌∷◌, ◌++◌, filter, get_or, length, map, take, Contains, Option, Some, None, refl, sym, ap, ◌∙◌, subst, arith}
 use Rattle.std.specs.FinMap as finite
 use Rattle.std.specs.FinMap.{nat_cmp-IsAntisymmetric, find, put, entries-insert, get-from_entries, len-empty, len-entries, same_map}
 use Rattle.std.specs.List.{AllByRecursion, dedup}
@@ -9,7 +9,8 @@ use Rattle.std.specs.declared.cmp.Ordering.TheVariants.{Less}
 use Rattle.std.proofs.lemmas.Bool.{eqb-true, eq-eqb}
 use Rattle.std.proofs.lemmas.Bool.Decides.{nat_tests}
 use Rattle.std.proofs.lemmas.Cmp.{nat_cmp_total}
-use Rattle.std.proofs.lemmas.List.{nil_from_length}
+use Rattle.std.proofs.lemmas.List.{append-nil, nil_from_length}
+use Rattle.std.proofs.lemmas.List.Elements.{filter_more}
 use Rattle.std.proofs.lemmas.List.Folds.{Any-from_list_any, list_any-from_Any}
 use Rattle.std.proofs.lemmas.List.Kept.{Contains-dedup_nat, Contains-from_dedup}
 use Rattle.std.proofs.lemmas.List.Sorted.{Contains-permutation, IsPermutation-sym}
@@ -80,3 +81,17 @@ sorted_once xs ys zs moved sorted once =
     (λ q. same_test (among q xs) (among q (dedup (λ a b. a == b) ys))
     (λ h. is_among q _ (Contains-dedup_nat ys q (Contains-permutation xs ys q moved (member q xs h))))
     (λ h. is_among q xs (Contains-permutation ys xs q (IsPermutation-sym xs ys moved) (Contains-from_dedup (λ a b. a == b) ys q (member q _ h))))))
+
+-- ---- numbers that pass a test, with one more
+
+pub passes_more : (p : ℕ → Bool) (numbers kept more : List ℕ) (at : ℕ) → at < length numbers → p (get_or numbers at 0) ≡ true → kept ≡ filter p (take at numbers) →
+    more ≡ kept ++ get_or numbers at 0 ∷ [] → more ≡ filter p (take (at + 1) numbers)
+passes_more p numbers kept more at within passes so is =
+    is ∙ ap (λ (xs : List ℕ). xs ++ get_or numbers at 0 ∷ []) so
+    ∙ sym (filter_more p numbers at 0 within ∙ ap (λ (b : Bool). filter p (take at numbers) ++ cond b (get_or numbers at 0 ∷ []) []) passes)
+
+pub passes_over : (p : ℕ → Bool) (numbers kept more : List ℕ) (at : ℕ) → at < length numbers → p (get_or numbers at 0) ≡ false → kept ≡ filter p (take at numbers) →
+    more ≡ kept → more ≡ filter p (take (at + 1) numbers)
+passes_over p numbers kept more at within fails so is =
+    is ∙ so
+    ∙ sym (filter_more p numbers at 0 within ∙ ap (λ (b : Bool). filter p (take at numbers) ++ cond b (get_or numbers at 0 ∷ []) []) fails ∙ append-nil (filter p (take at numbers)))
