@@ -1,6 +1,7 @@
--- Endpoints that are made one after another, and taken back.
-use Rattle.std.proofs.Common.{◌≡◌, ◌≤◌, ◌<◌, ◌+◌, ◌==◌, ◌&&◌, ◌||◌, ℕ, Bool, true, false, cond, List, [], ◌∷◌, ◌++◌, length, take, drop, refl, sym, ap, ◌∙◌, arith}
+-- Endpoints that are made one after another, and taken back, and tokens that travel.
+use Rattle.std.proofs.Common.{◌≡◌, ◌≤◌, ◌<◌, ◌+◌, ◌==◌, ◌&&◌, ◌||◌, ℕ, Bool, true, false, cond, eqb, not, List, [], ◌∷◌, ◌++◌, length, take, drop, refl, sym, ap, ◌∙◌, ⊎_elim, arith}
 use Rattle.std.specs.Prelude.{Some, None, count_by, slice_index}
+use Rattle.std.proofs.lemmas.Bool.{cases_eq, eq-eqb, ne_eqb}
 use Rattle.std.proofs.lemmas.List.{take-append-drop, take_more}
 use Rattle.std.proofs.lemmas.List.Folds.{list_any-append}
 use Rattle.std.proofs.lemmas.List.Sums.{sum_by-append}
@@ -8,7 +9,7 @@ use Rattle.endpoint_link.specs.declared.kinds.Standing.{Standing}
 use Rattle.endpoint_link.specs.declared.kinds.Standing.TheVariants as standing
 use Rattle.fidl_names.specs.HandleNumber.{is_client}
 use Rattle.endpoint_link.specs.Numbering.{among}
-use Rattle.endpoint_link.specs.Tables.{Table, value_at, AreNew, Makes, TakesBack}
+use Rattle.endpoint_link.specs.Tables.{Table, value_at, AreNew, ChangesAt, Makes, TakesBack, Travels}
 
 -- what is among the first so many is among all
 pub among-take : (q i : ℕ) (ns : List ℕ) → among q (take i ns) ≡ true → among q ns ≡ true
@@ -46,3 +47,48 @@ undone_by q i ns old mid new fresh makes back false e =
 pub undone : (i : ℕ) (ns : List ℕ) (old mid new : Table Standing) → AreNew old ns → Makes (take i ns) old mid → TakesBack (take i ns) mid new → (q : ℕ) → value_at new q ≡ value_at old q
 undone i ns old mid new fresh makes back q =
     undone_by q i ns old mid new fresh makes back (is_client q && among q (take i ns)) refl
+
+neither : (b : Bool) → b && false ≡ false
+neither true = refl
+neither false = refl
+
+-- whether a number is a token that is this one, by what this one is
+at_token : (n q : ℕ) → is_client n ≡ false → eqb q n ≡ not (is_client q) && among q (n ∷ [])
+at_token n q token =
+    ⊎_elim
+    (λ (same : q ≡ n).
+    eq-eqb q n same
+    ∙ sym (ap (λ (b : Bool). not b && among q (n ∷ [])) (ap is_client same ∙ token) ∙ ap (λ (b : Bool). b || false) (eq-eqb n q (sym same))))
+    (λ (other : q ≡ n → ⊥).
+    ne_eqb q n other ∙ sym (ap (λ (b : Bool). not (is_client q) && (b || false)) (ne_eqb n q (λ e. other (sym e))) ∙ neither (not (is_client q))))
+    (cases_eq q n)
+
+at_client : (n q : ℕ) → is_client n ≡ true → not (is_client q) && among q (n ∷ []) ≡ false
+at_client n q client =
+    ⊎_elim
+    (λ (same : q ≡ n). ap (λ (b : Bool). not b && among q (n ∷ [])) (ap is_client same ∙ client))
+    (λ (other : q ≡ n → ⊥).
+    ap (λ (b : Bool). not (is_client q) && (b || false)) (ne_eqb n q (λ e. other (sym e))) ∙ neither (not (is_client q)))
+    (cases_eq q n)
+
+-- a token that is sent travels, and a client's number doesn't
+pub one_travels : (n : ℕ) (old new : Table Bool) → is_client n ≡ false → ChangesAt n (Some false) old new → Travels (n ∷ []) old new
+one_travels n old new token changes q = changes q ∙ ap (λ (b : Bool). cond b (Some false) (value_at old q)) (at_token n q token)
+
+pub none_travels : (n : ℕ) (old new : Table Bool) → is_client n ≡ true → new ≡ old → Travels (n ∷ []) old new
+none_travels n old new client same q =
+    ap (λ (t : Table Bool). value_at t q) same ∙ sym (ap (λ (b : Bool). cond b (Some false) (value_at old q)) (at_client n q client))
+
+-- one more of a list travels
+pub travels_more : (i : ℕ) (ns : List ℕ) (old mid new : Table Bool) → i < length ns → Travels (take i ns) old mid → Travels (slice_index ns i ∷ []) mid new → Travels (take (i + 1) ns) old new
+travels_more i ns old mid new low before one q =
+    one q
+    ∙ ap (cond (not (is_client q) && among q (slice_index ns i ∷ [])) (Some false)) (before q)
+    ∙ joined (not (is_client q)) (among q (slice_index ns i ∷ [])) (among q (take i ns)) (Some false) (value_at old q)
+    ∙ ap (λ (b : Bool). cond (not (is_client q) && b) (Some false) (value_at old q))
+    (sym (ap (among q) (take_more ns i 0 low) ∙ list_any-append (λ m. m == q) (take i ns) (slice_index ns i ∷ []))) where
+      joined : {X : Type 0} (a b c : Bool) (x y : X) → cond (a && b) x (cond (a && c) x y) ≡ cond (a && (c || b)) x y
+      joined false b c x y = refl
+      joined true b false x y = refl
+      joined true true true x y = refl
+      joined true false true x y = refl

@@ -113,3 +113,28 @@ set_moved heads server place next endpoint was now first second one other is low
     ∙ ap (λ (n : ℕ). drop_turn (put_turn heads (Some (server, second.place)) endpoint) (Some (server, n))) (sym at)
     ∙ ap (λ (o : Option Sent). drop_turn (put_turn heads (turn_by (Some server) o) endpoint) (Some (server, first.place))) (sym behind)
     ∙ ap (λ (o : Option Sent). drop_turn (put_turn heads (turn_by (Some server) other) endpoint) (turn_by (Some server) o)) (sym front)
+
+-- the heads of a server in which one was put, or from which one was taken, or which are as they were
+pub set_put : (heads : List Heads) (server place endpoint : ℕ) (was now : Heads) → was ≡ get_or heads server was → server < length heads → now ≡ finite.insert was place endpoint
+    → set heads server now ≡ put_turn heads (Some (server, place)) endpoint
+set_put heads server place endpoint was now is low put =
+    ap (set heads server) (put ∙ ap (λ m. finite.insert m place endpoint) (heads_there heads server was is low))
+
+pub set_cut : (heads : List Heads) (server place : ℕ) (was now : Heads) → was ≡ get_or heads server was → server < length heads → now ≡ finite.remove was place
+    → set heads server now ≡ drop_turn heads (Some (server, place))
+set_cut heads server place was now is low cut =
+    ap (set heads server) (cut ∙ ap (λ m. finite.remove m place) (heads_there heads server was is low))
+
+pub set_same : (heads : List Heads) (server : ℕ) (was now : Heads) → was ≡ get_or heads server was → now ≡ was → set heads server now ≡ heads
+set_same [] server was now is same = refl
+set_same (first ∷ heads) zero was now is same = ap (λ (m : Heads). m ∷ heads) (same ∙ is)
+set_same (first ∷ heads) (suc server) was now is same = ap (λ (hs : List Heads). first ∷ hs) (set_same heads server was now is same)
+
+-- the last entry of an endpoint was taken out of the order
+pub cut_last : (heads new : List Heads) (server place endpoint : ℕ) (first : Sent) (one other : Option Sent) → one ≡ Some first → other ≡ None → first.place ≡ place → new ≡ drop_turn heads (Some (server, place))
+    → new ≡ drop_turn (put_turn heads (turn_by (Some server) other) endpoint) (turn_by (Some server) one)
+cut_last heads new server place endpoint first one other front behind at cut =
+    cut
+    ∙ ap (λ (n : ℕ). drop_turn heads (Some (server, n))) (sym at)
+    ∙ ap (λ (o : Option Sent). drop_turn (put_turn heads (turn_by (Some server) o) endpoint) (Some (server, first.place))) (sym behind)
+    ∙ ap (λ (o : Option Sent). drop_turn (put_turn heads (turn_by (Some server) other) endpoint) (turn_by (Some server) o)) (sym front)

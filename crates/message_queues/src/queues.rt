@@ -328,7 +328,7 @@ fn bind_waiting(
     ensures empty { slice_get mailbox.old.queue 0 ≡ None → IsOk result }
 {
     if let Some(head) = mailbox.head() {
-        heads[server as usize].put(head.place, endpoint)?;
+        put_turn(heads, server, head.place, endpoint)?;
     }
     mailbox.bind(server);
     Ok(())
@@ -342,7 +342,7 @@ fn push_into(mailbox: &mut Mailbox, heads: &mut Vec<Heads>, sent: Sent) -> Resul
     ensures err { OnErr result ((mailbox.new ≡ mailbox.old) × (heads.new.items ≡ heads.old.items)) }
 {
     if let (Some(server), None) = (mailbox.server(), mailbox.head()) {
-        heads[server as usize].put(sent.place, sent.endpoint)?;
+        put_turn(heads, server, sent.place, sent.endpoint)?;
     }
     mailbox.push(sent)
 }
@@ -391,7 +391,7 @@ fn advance(
     match mailbox.second() {
         Some(second) => heads[server as usize].advance(first.place, second.place, endpoint),
         None => {
-            heads[server as usize].remove(first.place);
+            drop_turn(heads, server, first.place);
             Ok(())
         }
     }
@@ -405,7 +405,26 @@ fn discard(mailbox: Mailbox, heads: &mut Vec<Heads>) -> u32
     ensures dropped { heads.new.items ≡ drop_turn heads.old.items (turn_by mailbox.server (slice_get mailbox.queue 0)) }
 {
     if let (Some(server), Some(head)) = (mailbox.server(), mailbox.head()) {
-        heads[server as usize].remove(head.place);
+        drop_turn(heads, server, head.place);
     }
     mailbox.len()
+}
+
+/// Puts the first entry of an endpoint, by its place, in the order of a server.
+#[inline(always)]
+fn put_turn(heads: &mut Vec<Heads>, server: u32, place: u64, endpoint: u32) -> Result<(), NoMemory>
+    requires { server < length heads.old.items }
+    ensures put { OnOk result (heads.new.items ≡ put_turn heads.old.items (Some (server, place)) endpoint) }
+    ensures err { OnErr result (heads.new.items ≡ heads.old.items) }
+{
+    heads[server as usize].put(place, endpoint)
+}
+
+/// Takes what stands at a place out of the order of a server.
+#[inline(always)]
+fn drop_turn(heads: &mut Vec<Heads>, server: u32, place: u64)
+    requires { server < length heads.old.items }
+    ensures { heads.new.items ≡ drop_turn heads.old.items (Some (server, place)) }
+{
+    heads[server as usize].remove(place);
 }
