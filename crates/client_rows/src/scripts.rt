@@ -8,7 +8,7 @@ use fidl_wire::Ordinals;
 use std::alloc::Global;
 use std::test::Fail;
 use test_rows::{BadCell, Row, Table, all_hold};
-use vfs_script::script_of;
+use vfs_script::{Script, script_of};
 use workload::{MAX_ROUNDS, generated};
 
 #[derive(Drop)]
@@ -40,26 +40,29 @@ fn are_rounds<'a>(alloc: Global, row: &Row<'a>) -> Result<bool, BadCell<'a>> {
     }
 }
 
+/// What a text says as a script, in the mode that its first line says. Nothing where it is none, or too long.
+fn read_script(alloc: Global, ordinals: &Ordinals, text: &[u8]) -> Option<Script> {
+    if text.len() > MAX_TEXT {
+        return None;
+    }
+    let script = script_of(alloc, ordinals, text).ok()?;
+    let is_auto = text.starts_with(b"auto");
+    if is_auto == (script.mode() == Mode::Auto) {
+        Some(script)
+    } else {
+        None
+    }
+}
+
 impl Table for Scripts {
     fn holds<'a>(&mut self, alloc: Global, row: &Row<'a>) -> Result<bool, BadCell<'a>> {
         if row.cell(1)? == "rounds" {
             return are_rounds(alloc, row);
         }
-        let text = lines(alloc, row, 2)?;
-        let mode = if text.starts_with(b"auto") {
-            Mode::Auto
-        } else {
-            Mode::Given
-        };
-        if text.len() > MAX_TEXT {
-            return Err(row.bad(2));
-        }
-        match script_of(alloc, &self.ordinals, &text) {
-            Ok(script) => {
-                let frames = row.bytes(alloc, 3)?;
-                Ok(script.frames() == frames.as_slice() && script.mode() == mode)
-            }
-            Err(_) => Ok(false),
+        let frames = row.bytes(alloc, 3)?;
+        match read_script(alloc, &self.ordinals, &lines(alloc, row, 2)?) {
+            Some(script) => Ok(script.frames() == frames.as_slice()),
+            None => Ok(false),
         }
     }
 }

@@ -1,5 +1,5 @@
 use crate::words;
-use std::alloc::{AllocError, Global};
+use std::alloc::Global;
 use std::fmt::Debug;
 use std::test::Fail;
 
@@ -16,27 +16,17 @@ pub struct BadCell<'a> {
     pub at: usize,
 }
 
-/// The rows of a text: its lines, without those that are empty or begin with `#`.
-pub fn rows(alloc: Global, text: &str) -> Result<Vec<Row<'_>>, AllocError> {
-    let mut all = Vec::new(alloc);
-    for line in text.lines() {
-        let line = line.trim();
-        if !line.is_empty() && !line.starts_with('#') {
-            all.push(Row { line })?;
-        }
-    }
-    Ok(all)
-}
-
 /// A table that can tell of each of its rows whether what it says holds.
 pub trait Table {
     fn holds<'a>(&mut self, alloc: Global, row: &Row<'a>) -> Result<bool, BadCell<'a>>;
 }
 
-/// Tries the rows of a text in order. It fails with the name of the first that doesn't hold, or the first bad cell.
+/// Tries the rows of a text in order: its lines, without those that are empty or begin with `#`. It fails with the name of the first that
+/// doesn't hold, or the first bad cell.
 pub fn all_hold<T: Table>(alloc: Global, text: &str, table: &mut T) -> Result<(), Fail> {
-    for row in &rows(alloc, text)? {
-        if !table.holds(alloc, row)? {
+    for line in text.lines() {
+        let row = Row { line: line.trim() };
+        if !row.is_skipped() && !table.holds(alloc, &row)? {
             return Err(Fail::new(row.name()));
         }
     }
@@ -44,6 +34,10 @@ pub fn all_hold<T: Table>(alloc: Global, text: &str, table: &mut T) -> Result<()
 }
 
 impl<'a> Row<'a> {
+    fn is_skipped(&self) -> bool {
+        self.line.is_empty() || self.line.starts_with('#')
+    }
+
     /// What stands before the first `|`.
     pub fn name(&self) -> &'a str {
         match self.line.split_once('|') {
@@ -88,28 +82,25 @@ impl<'a> Row<'a> {
 
     pub fn bytes(&self, alloc: Global, at: usize) -> Result<Vec<u8>, BadCell<'a>> {
         match words::bytes(alloc, self.cell(at)?) {
-            Ok(Some(bytes)) => Ok(bytes),
-            _ => Err(self.bad(at)),
+            Some(bytes) => Ok(bytes),
+            None => Err(self.bad(at)),
         }
     }
 
     /// Whether the cell says a value as `{:?}` writes it, with texts in place of lists of bytes. Want of memory says no.
     pub fn says<T: Debug>(&self, alloc: Global, at: usize, value: &T) -> bool {
+        let Some(wanted) = self.text(alloc, at) else {
+            return false;
+        };
         match format!(in alloc; "{value:?}") {
-            Ok(said) => self.is_text(alloc, at, &said),
+            Ok(said) => said == wanted,
             Err(_) => false,
         }
     }
 
-    /// Whether the cell is this text, with texts in place of lists of bytes. Want of memory says no.
-    pub fn is_text(&self, alloc: Global, at: usize, text: &str) -> bool {
-        let Ok(cell) = self.cell(at) else {
-            return false;
-        };
-        match words::with_lists(alloc, cell) {
-            Ok(Some(wanted)) => wanted.as_str() == text,
-            _ => false,
-        }
+    /// The cell with lists of bytes in place of texts.
+    fn text(&self, alloc: Global, at: usize) -> Option<String> {
+        words::with_lists(alloc, self.cell(at).ok()?)
     }
 
     /// The fault of the cell at a place, for a test that reads it in its own way.

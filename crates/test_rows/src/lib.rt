@@ -4,5 +4,5 @@
 mod cells;
 mod words;
 
-pub use cells::{BadCell, Row, Table, all_hold, rows};
-pub use words::{bytes, number};
+pub use cells::{BadCell, Row, Table, all_hold};
+pub use words::bytes;

@@ -1,12 +1,11 @@
-use std::alloc::{AllocError, Global};
+use std::alloc::Global;
 
 /// The number that a word says, in decimal or behind `0x` in hexadecimal digits.
-pub fn number(word: &str) -> Option<u64> {
-    let (digits, radix) = match word.strip_prefix("0x") {
-        Some(digits) => (digits, 16),
-        None => (word, 10),
-    };
-    u64::from_str_radix(digits, radix).ok()
+pub(crate) fn number(word: &str) -> Option<u64> {
+    match word.strip_prefix("0x") {
+        Some(digits) => u64::from_str_radix(digits, 16).ok(),
+        None => u64::from_str_radix(word, 10).ok(),
+    }
 }
 
 /// The numbers between the commas of a word; `-` says none. Nothing where one is none, or for want of memory.
@@ -21,73 +20,65 @@ pub(crate) fn numbers(alloc: Global, word: &str) -> Option<Vec<u64>> {
 }
 
 /// The bytes that a word's hexadecimal digits say, in which `[61*255]` stands for the digits 61, 255 times; `-` says none.
-pub fn bytes(alloc: Global, word: &str) -> Result<Option<Vec<u8>>, AllocError> {
+/// Nothing where they are no digits, or for want of memory.
+pub fn bytes(alloc: Global, word: &str) -> Option<Vec<u8>> {
     let mut all = Vec::new(alloc);
-    if word == "-" {
-        return Ok(Some(all));
-    }
-    for part in word.split('[') {
-        let (run, digits) = part.split_once(']').unwrap_or(("*0", part));
-        let (repeated, count) = run.split_once('*').unwrap_or(("", "-"));
-        let Some(count) = number(count) else {
-            return Ok(None);
-        };
-        if !put_digits(alloc, &mut all, repeated, count)?
-            || !put_digits(alloc, &mut all, digits, 1)?
-        {
-            return Ok(None);
+    if word != "-" {
+        for part in word.split('[') {
+            put_part(alloc, &mut all, part)?;
         }
     }
-    Ok(Some(all))
+    Some(all)
 }
 
-/// Puts the bytes of digits, so many times. Nothing is put, and it answers no, where they are no digits.
-fn put_digits(
-    alloc: Global,
-    all: &mut Vec<u8>,
-    digits: &str,
-    count: u64,
-) -> Result<bool, AllocError> {
-    match hex::decode(alloc, digits) {
-        Ok(bytes) => {
-            for _ in 0..count {
-                all.extend_from_slice(&bytes)?;
-            }
-            Ok(true)
+/// Puts the bytes of digits, in front of which a run such as `61*255]` may stand.
+fn put_part(alloc: Global, all: &mut Vec<u8>, part: &str) -> Option<()> {
+    match part.split_once(']') {
+        Some((run, digits)) => {
+            put_run(alloc, all, run)?;
+            put_digits(alloc, all, digits, 1)
         }
-        Err(hex::FromHexError::OutOfMemory) => Err(AllocError),
-        Err(_) => Ok(false),
+        None => put_digits(alloc, all, part, 1),
     }
+}
+
+fn put_run(alloc: Global, all: &mut Vec<u8>, run: &str) -> Option<()> {
+    let (digits, count) = run.split_once('*')?;
+    put_digits(alloc, all, digits, number(count)?)
+}
+
+/// Puts the bytes of digits, so many times.
+fn put_digits(alloc: Global, all: &mut Vec<u8>, digits: &str, count: u64) -> Option<()> {
+    let bytes = hex::decode(alloc, digits).ok()?;
+    for _ in 0..count {
+        all.extend_from_slice(&bytes).ok()?;
+    }
+    Some(())
 }
 
 /// A text in which each `'hi'` and each `x'6869'` becomes the list of its bytes as `{:?}` writes it, here `[104, 105]`.
-pub(crate) fn with_lists(alloc: Global, text: &str) -> Result<Option<String>, AllocError> {
+/// Nothing where a list is none, or for want of memory.
+pub(crate) fn with_lists(alloc: Global, text: &str) -> Option<String> {
     let mut all = String::new(alloc);
     let mut quoted = false;
     let mut in_digits = false;
     for part in text.split('\'') {
         if quoted {
-            let Some(list) = list_of(alloc, part, in_digits)? else {
-                return Ok(None);
-            };
-            all.push_str(&list)?;
+            put_list(alloc, &mut all, part, in_digits)?;
         } else {
             in_digits = part.ends_with('x');
-            all.push_str(part.strip_suffix('x').unwrap_or(part))?;
+            all.push_str(part.strip_suffix('x').unwrap_or(part)).ok()?;
         }
         quoted = !quoted;
     }
-    Ok(Some(all))
+    Some(all)
 }
 
-fn list_of(alloc: Global, part: &str, in_digits: bool) -> Result<Option<String>, AllocError> {
-    let listed = if in_digits {
-        bytes(alloc, part)?
+fn put_list(alloc: Global, all: &mut String, part: &str, in_digits: bool) -> Option<()> {
+    if in_digits {
+        let list = bytes(alloc, part)?;
+        write!(all, "{list:?}").ok()
     } else {
-        Some(Vec::from_slice(alloc, part.as_bytes())?)
-    };
-    match listed {
-        Some(listed) => Ok(Some(format!(in alloc; "{listed:?}")?)),
-        None => Ok(None),
+        write!(all, "{:?}", part.as_bytes()).ok()
     }
 }

@@ -30,3 +30,10 @@ six-pass None None None (Some x) e f more hold = cc
 six-pass None None (Some x) d e f more hold = cc
 six-pass None (Some x) c d e f more hold = cc
 six-pass (Some x) b c d e f more hold = cc
+
+-- three rules that hold are passed
+pub three-pass : (a b c : Option ℕ) (more : List (Option ℕ)) → first_broken 8 (a ∷ b ∷ c ∷ []) ≡ None → first_broken 8 ((a ∷ b ∷ c ∷ []) ++ more) ≡ first_broken 11 more
+three-pass None None None more hold = refl
+three-pass None None (Some x) more hold = cc
+three-pass None (Some x) c more hold = cc
+three-pass (Some x) b c more hold = cc

@@ -204,8 +204,14 @@ first_broken rule rules = first_of (numbered rule rules)
 abbrev pub rules_on_form : Data → List (Option ℕ)
 rules_on_form document = rule_2 document ∷ rule_3 document ∷ rule_4 document ∷ rule_5 document ∷ rule_6 document ∷ rule_7 document ∷ []
 
+abbrev pub rules_on_places : Lists → List (Option ℕ)
+rules_on_places lists = rule_8 lists ∷ rule_9 lists ∷ rule_10 lists ∷ []
+
+abbrev pub rules_on_counts : Lists → List (Option ℕ)
+rules_on_counts lists = rule_11 lists ∷ rule_12 lists ∷ rule_13 lists ∷ []
+
 abbrev pub rules_on_lists : Lists → List (Option ℕ)
-rules_on_lists lists = rule_8 lists ∷ rule_9 lists ∷ rule_10 lists ∷ rule_11 lists ∷ rule_12 lists ∷ rule_13 lists ∷ []
+rules_on_lists lists = rules_on_places lists ++ rules_on_counts lists
 
 -- the first broken rule of a document, and of a text: one that isn't read breaks the first rule
 abbrev pub broken_in : Data → Option (ℕ × ℕ)

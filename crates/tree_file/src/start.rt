@@ -6,7 +6,7 @@ ghost use Rattle.tree_file.specs.Fields.{is_table};
 ghost use Rattle.tree_file.specs.declared.faults.TreeFault.TheVariants.{Rule};
 ghost use Rattle.tree_file.specs.Accepted.{AreAccepted, HasFilesOfBytes};
 ghost use Rattle.tree_file.specs.Lent.{node_item, mount_item, client_item};
-ghost use Rattle.tree_file.specs.Rules.{document_of, broken_in, is_versioned, is_version_one, has_lists, has_all_tables, has_items, has_tables, items_at, read_servers, read_nodes, read_mounts, read_clients, servers_of, lists_of, rule_4, rule_5, rule_6, rule_7, rules_on_form, rules_on_lists, first_broken, first_failure, start_from};
+ghost use Rattle.tree_file.specs.Rules.{document_of, broken_in, is_versioned, is_version_one, has_lists, has_all_tables, has_items, has_tables, items_at, read_servers, read_nodes, read_mounts, read_clients, servers_of, lists_of, rule_4, rule_5, rule_6, rule_7, rules_on_counts, rules_on_form, rules_on_lists, rules_on_places, first_broken, first_failure, start_from};
 ghost use Rattle.tree_file.specs.Faults.{Breaks, IsFirst};
 
 use crate::faults::TreeFault;
@@ -301,19 +301,27 @@ fn broken(rule: u32, item: usize) -> TreeFault
     }
 }
 
-// The rules on where the items stand and how many there are.
-fn check_lists(alloc: Global, parts: &Parts) -> Result<(), TreeFault>
-    requires { length parts.now.servers ≤ MAX_SERVERS }
-    ensures bytes { OnOk result (HasFilesOfBytes parts.now) }
-    ensures hold { OnOk result (first_broken 8 (rules_on_lists parts.now) ≡ None) }
-    ensures refused { IfErr result (IsFirst (first_broken 8 (rules_on_lists parts.now))) }
+// The rules on where the items stand.
+fn check_places(alloc: Global, parts: &Parts) -> Result<(), TreeFault>
+    ensures hold { OnOk result (first_broken 8 (rules_on_places parts.now) ≡ None) }
+    ensures refused { IfErr result (IsFirst (first_broken 8 (rules_on_places parts.now))) }
 {
     let mut places: Places<'_> = BTreeMap::new(alloc);
     rules::add_nodes(&mut places, &parts.nodes)?;
     rules::add_mounts(&mut places, &parts.mounts)?;
-    if let Some(item) = rules::misplaced_client(&places, &parts.clients) {
-        return Err(broken(10, item));
+    match rules::misplaced_client(&places, &parts.clients) {
+        Some(item) => Err(broken(10, item)),
+        None => Ok(()),
     }
+}
+
+// The rules on how much there is.
+fn check_counts(parts: &Parts) -> Result<(), TreeFault>
+    requires { length parts.now.servers ≤ MAX_SERVERS }
+    ensures bytes { OnOk result (HasFilesOfBytes parts.now) }
+    ensures hold { OnOk result (first_broken 11 (rules_on_counts parts.now) ≡ None) }
+    ensures refused { IfErr result (IsFirst (first_broken 11 (rules_on_counts parts.now))) }
+{
     if let Some(item) = rules::large_node(&parts.nodes) {
         return Err(broken(11, item));
     }
@@ -324,6 +332,17 @@ fn check_lists(alloc: Global, parts: &Parts) -> Result<(), TreeFault>
         return Err(broken(13, item));
     }
     Ok(())
+}
+
+// The rules on the lists as a whole.
+fn check_lists(alloc: Global, parts: &Parts) -> Result<(), TreeFault>
+    requires { length parts.now.servers ≤ MAX_SERVERS }
+    ensures bytes { OnOk result (HasFilesOfBytes parts.now) }
+    ensures hold { OnOk result (first_broken 8 (rules_on_lists parts.now) ≡ None) }
+    ensures refused { IfErr result (IsFirst (first_broken 8 (rules_on_lists parts.now))) }
+{
+    check_places(alloc, parts)?;
+    check_counts(parts)
 }
 
 // The start of a document, or the first rule behind the first that it breaks.

@@ -1,7 +1,7 @@
 //! Texts that are paths, names and rights, and texts that are none.
 use io_rights::{Operation, Rights, laws_of_rights, read_rights};
 use path_walk::{Path, PathFault, check_name, path_laws};
-use std::alloc::{AllocError, Global};
+use std::alloc::Global;
 use std::test::Fail;
 use test_rows::{BadCell, Row, Table, all_hold, bytes};
 
@@ -64,9 +64,9 @@ impl Table for Texts {
     fn holds<'a>(&mut self, alloc: Global, row: &Row<'a>) -> Result<bool, BadCell<'a>> {
         for digits in row.cell(2)?.split(',') {
             match bytes(alloc, digits) {
-                Ok(Some(text)) if row.says(alloc, 1, &fault_of(row.name(), &text)) => {}
-                Ok(_) => return Ok(false),
-                Err(AllocError) => return Err(row.bad(2)),
+                Some(text) if row.says(alloc, 1, &fault_of(row.name(), &text)) => {}
+                Some(_) => return Ok(false),
+                None => return Err(row.bad(2)),
             }
         }
         Ok(true)

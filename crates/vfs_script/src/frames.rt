@@ -1,6 +1,6 @@
 // The frames and calls of the lines so far.
 
-ghost use Rattle.std.specs.Prelude.{◌≡◌, ◌<◌, ◌≤◌, [], length, IfOk, IfErr, OnOk, None, Some};
+ghost use Rattle.std.specs.Prelude.{◌≡◌, ◌<◌, [], length, IfOk, IfErr, OnOk, None, Some};
 ghost use Rattle.std.specs.Str.{IsUtf8};
 ghost use Rattle.endpoint_link.specs.Frames.{HasShape, frame_with};
 ghost use Rattle.io_messages.specs.Asked.{asked};
@@ -18,7 +18,7 @@ use crate::forms::{Parsed, line_of};
 use crate::numbers::{bytes, handles, is_text};
 use byteorder::{ByteOrder, LittleEndian};
 use endpoint_link::{FrameKind, Outbox, write_frame, write_message};
-use fidl_names::{MAX_BYTES, MAX_HANDLES, NoMemory};
+use fidl_names::{MAX_BYTES, NoMemory};
 use fidl_wire::{Ordinals, Out};
 use io_client::watcher_of;
 use io_messages::{Request, is_one_way};
@@ -90,9 +90,9 @@ impl Frames {
                 handles,
                 hex,
             } => self.send_raw(number, endpoint, handles, hex),
-            Parsed::HangUp { endpoint } => self.put(endpoint, FrameKind::Close, &[]),
+            Parsed::HangUp { endpoint } => self.put(endpoint, FrameKind::Close, &[], &[]),
             Parsed::Turn { server, count } => self.put_turn(number, server, count),
-            Parsed::Pick { endpoint } => self.put(endpoint, FrameKind::Pick, &[]),
+            Parsed::Pick { endpoint } => self.put(endpoint, FrameKind::Pick, &[], &[]),
         }
     }
 
@@ -159,25 +159,7 @@ impl Frames {
         if bytes.len() > MAX_BYTES {
             return Err(bad(number));
         }
-        self.put_raw(endpoint, &handles, &bytes)
-    }
-
-    /// Appends a message as it is.
-    fn put_raw(&mut self, endpoint: u32, handles: &[u32], bytes: &[u8]) -> Result<(), ScriptFault>
-        requires few_handles { length handles.now ≤ MAX_HANDLES }
-        requires few_bytes { length bytes.now ≤ MAX_BYTES }
-        ensures put { OnOk result (self.new ≡ kept_and self.old (frame_with endpoint FrameKind.Message handles.now bytes.now) None) }
-        ensures no_memory { IfErr result (λ e. e ≡ fault.NoMemory) }
-    {
-        write_frame(
-            &mut self.frames,
-            endpoint,
-            FrameKind::Message,
-            handles,
-            bytes,
-        )?;
-        self.calls.push(None)?;
-        Ok(())
+        self.put(endpoint, FrameKind::Message, &handles, &bytes)
     }
 
     /// Appends a Turn frame.
@@ -187,16 +169,22 @@ impl Frames {
     {
         let mut bytes = [0; 4];
         LittleEndian::write_u32(&mut bytes, count);
-        self.put(server, FrameKind::Turn, &bytes)
+        self.put(server, FrameKind::Turn, &[], &bytes)
     }
 
-    /// Appends a frame without handles that is no message.
-    fn put(&mut self, endpoint: u32, kind: FrameKind, bytes: &[u8]) -> Result<(), ScriptFault>
-        requires { HasShape kind 0 (length bytes.now) }
-        ensures put { OnOk result (self.new ≡ kept_and self.old (frame_with endpoint kind [] bytes.now) None) }
+    /// Appends a frame that makes no call.
+    fn put(
+        &mut self,
+        endpoint: u32,
+        kind: FrameKind,
+        handles: &[u32],
+        bytes: &[u8],
+    ) -> Result<(), ScriptFault>
+        requires { HasShape kind (length handles.now) (length bytes.now) }
+        ensures put { OnOk result (self.new ≡ kept_and self.old (frame_with endpoint kind handles.now bytes.now) None) }
         ensures no_memory { IfErr result (λ e. e ≡ fault.NoMemory) }
     {
-        write_frame(&mut self.frames, endpoint, kind, &[], bytes)?;
+        write_frame(&mut self.frames, endpoint, kind, handles, bytes)?;
         self.calls.push(None)?;
         Ok(())
     }

@@ -61,11 +61,18 @@ fn put_counts(calls: u32, answered: u32, to: &mut Outtext) -> Result<(), NoMemor
     ensures put { OnOk result (to.new ≡ to.old ++ counts_line calls answered) }
     ensures grows { take (length to.old) to.new ≡ to.old }
 {
-    to.put(b"calls ")?;
-    put_number(calls, to)?;
-    to.put(b" answered ")?;
-    put_number(answered, to)?;
+    put_labelled(b"calls ", calls, to)?;
+    put_labelled(b" answered ", answered, to)?;
     to.put_byte(b'\n')
+}
+
+// A number behind its label.
+fn put_labelled(label: &[u8], number: u32, to: &mut Outtext) -> Result<(), NoMemory>
+    ensures put { OnOk result (to.new ≡ to.old ++ label.now ++ decimal number) }
+    ensures grows { take (length to.old) to.new ≡ to.old }
+{
+    to.put(label)?;
+    put_number(number, to)
 }
 
 fn put_number(number: u32, to: &mut Outtext) -> Result<(), NoMemory>
@@ -130,8 +137,7 @@ fn put_turn(bytes: &[u8], to: &mut Outtext) -> Result<(), NoMemory>
     ensures put { OnOk result (to.new ≡ to.old ++ codes " turn " ++ decimal (word_in bytes.now)) }
     ensures grows { take (length to.old) to.new ≡ to.old }
 {
-    to.put(b" turn ")?;
-    put_number(word_in(bytes), to)
+    put_labelled(b" turn ", word_in(bytes), to)
 }
 
 fn put_refused(bytes: &[u8], to: &mut Outtext) -> Result<(), NoMemory>

@@ -37,23 +37,38 @@ fn behind_crowd(alloc: Global, frames: &[u8]) -> Result<Vec<u8>, AllocError> {
     Ok(all)
 }
 
+/// What was refused: the number of a frame, its endpoint, and why.
+type Refusals = Vec<(usize, u32, Refusal)>;
+
 /// What is refused of these frames. Nothing where they are none, or memory is wanting.
-fn refused(alloc: Global, frames: &[u8]) -> Option<Vec<(usize, u32, Refusal)>> {
+fn refused(alloc: Global, frames: &[u8]) -> Option<Refusals> {
     let mut endpoints = Endpoints::new(alloc, &[1], 3, 2).ok()?;
     let mut refused = Vec::new(alloc);
     let mut rest = frames;
     for place in 0..frames.len() {
-        let Reading::Whole { frame, size } = frame_at(Side::ToServers, rest) else {
-            break;
-        };
-        match endpoints.admit(frame) {
-            Ok(()) => {}
-            Err(AdmitFault::Refused(why)) => refused.push((place, frame.endpoint, why)).ok()?,
-            Err(AdmitFault::NoMemory) => return None,
+        if !rest.is_empty() {
+            rest = admit_front(&mut endpoints, &mut refused, place, rest)?;
         }
-        rest = rest.get(size..)?;
     }
-    if rest.is_empty() { Some(refused) } else { None }
+    Some(refused)
+}
+
+/// Admits the frame in front, and gives what is behind it.
+fn admit_front<'a>(
+    endpoints: &mut Endpoints,
+    refused: &mut Refusals,
+    place: usize,
+    frames: &'a [u8],
+) -> Option<&'a [u8]> {
+    let Reading::Whole { frame, size } = frame_at(Side::ToServers, frames) else {
+        return None;
+    };
+    match endpoints.admit(frame) {
+        Ok(()) => {}
+        Err(AdmitFault::Refused(why)) => refused.push((place, frame.endpoint, why)).ok()?,
+        Err(AdmitFault::NoMemory) => return None,
+    }
+    frames.get(size..)
 }
 
 #[derive(Drop)]
@@ -61,18 +76,30 @@ struct Link;
 
 impl Table for Link {
     fn holds<'a>(&mut self, alloc: Global, row: &Row<'a>) -> Result<bool, BadCell<'a>> {
-        let mut bytes = row.bytes(alloc, 2)?;
+        let bytes = row.bytes(alloc, 2)?;
         match row.cell(1)? {
-            "fixed" if bytes.resize(MAX_FRAME_LEN, 0).is_ok() => {
-                let to_servers = row.says(alloc, 3, &front(Side::ToServers, &bytes));
-                Ok(to_servers && row.says(alloc, 4, &front(Side::Any, &bytes)))
-            }
-            "frames" => Ok(row.says(alloc, 3, &refused(alloc, &bytes).ok_or(row.bad(2))?)),
+            "fixed" => Ok(are_fronts(alloc, row, bytes)),
+            "frames" => are_refused(alloc, row, &bytes),
             _ => match behind_crowd(alloc, &bytes) {
-                Ok(frames) => Ok(row.says(alloc, 3, &refused(alloc, &frames).ok_or(row.bad(2))?)),
+                Ok(frames) => are_refused(alloc, row, &frames),
                 Err(AllocError) => Err(row.bad(2)),
             },
         }
+    }
+}
+
+/// Whether these bytes, and zeros behind them, begin with the frames that the row says, on each side.
+fn are_fronts(alloc: Global, row: &Row<'_>, mut bytes: Vec<u8>) -> bool {
+    bytes.resize(MAX_FRAME_LEN, 0).is_ok()
+        && row.says(alloc, 3, &front(Side::ToServers, &bytes))
+        && row.says(alloc, 4, &front(Side::Any, &bytes))
+}
+
+/// Whether what is refused of these frames is what the row says.
+fn are_refused<'a>(alloc: Global, row: &Row<'a>, frames: &[u8]) -> Result<bool, BadCell<'a>> {
+    match refused(alloc, frames) {
+        Some(refused) => Ok(row.says(alloc, 3, &refused)),
+        None => Err(row.bad(2)),
     }
 }
 

@@ -12,6 +12,9 @@ mod head_rows;
 mod reply_rows;
 mod request_rows;
 
+use crate::messages::head_rows::HEADS;
+use crate::messages::reply_rows::REPLIES;
+use crate::messages::request_rows::REQUESTS;
 use fidl_names::{Handle, Method, Status};
 use fidl_wire::{Body, Header, Ordinals, Out, WireFault, ordinal, read_epitaph};
 use io_messages::{Protocol, Reply, Request, Shape, is_one_way, shape_of};
@@ -40,15 +43,7 @@ struct Messages {
 impl Table for Messages {
     fn holds<'a>(&mut self, alloc: Global, row: &Row<'a>) -> Result<bool, BadCell<'a>> {
         let bytes = row.bytes(alloc, 2)?;
-        match row.cell(1)? {
-            "header" => Ok(row.says(alloc, 3, &Header::read(&bytes))),
-            "epitaph" => Ok(row.says(alloc, 3, &read_epitaph(&bytes))),
-            "status" => Ok(row.says(alloc, 3, &read_status(&bytes))),
-            "ordinal" => Ok(
-                bytes.as_slice() == ordinal(row.name().as_bytes()).to_be_bytes().as_slice(),
-            ),
-            _ => self.is_message(alloc, row, &bytes),
-        }
+        self.are_said(alloc, row, &bytes)
     }
 }
 
@@ -69,6 +64,29 @@ fn handles<'a>(alloc: Global, row: &Row<'a>) -> Result<Vec<Handle>, BadCell<'a>>
 }
 
 impl Messages {
+    /// Where two names had equal ordinals there would be none.
+    fn new(alloc: Global) -> Result<Messages, Fail> {
+        let ordinals = Ordinals::new()?;
+        let out = Out::new(alloc)?;
+        Ok(Messages { ordinals, out })
+    }
+
+    /// Whether these bytes are what their row says.
+    fn are_said<'a>(
+        &mut self,
+        alloc: Global,
+        row: &Row<'a>,
+        bytes: &[u8],
+    ) -> Result<bool, BadCell<'a>> {
+        match row.cell(1)? {
+            "header" => Ok(row.says(alloc, 3, &Header::read(bytes))),
+            "epitaph" => Ok(row.says(alloc, 3, &read_epitaph(bytes))),
+            "status" => Ok(row.says(alloc, 3, &read_status(bytes))),
+            "ordinal" => Ok(bytes == ordinal(row.name().as_bytes()).to_be_bytes().as_slice()),
+            _ => self.is_message(alloc, row, bytes),
+        }
+    }
+
     /// Whether a message is read as its row says, and gives the same bytes and handles again, or other ones, where that says so.
     fn is_message<'a>(
         &mut self,
@@ -77,19 +95,41 @@ impl Messages {
         bytes: &[u8],
     ) -> Result<bool, BadCell<'a>> {
         let handles = handles(alloc, row)?;
-        let said = match row.cell(1)? {
-            "event" => self.is_event(alloc, row, bytes),
-            "reply" => self.is_reply(alloc, row, bytes, &handles),
-            _ => self.is_request(alloc, row, row.named(1, &PROTOCOLS)?, bytes, &handles),
-        };
-        let (written, held) = (self.out.as_bytes(), self.out.handles());
-        let same = written == bytes && held == handles.as_slice();
-        let again = match row.cell(5)? {
-            "same" => same,
-            "other" => !same && !written.is_empty(),
-            _ => written.is_empty(),
-        };
-        Ok(said && again)
+        Ok(self.is_read(alloc, row, bytes, &handles)? && self.is_again(row, bytes, &handles)?)
+    }
+
+    /// Whether a message is read as its row says. It is written again.
+    fn is_read<'a>(
+        &mut self,
+        alloc: Global,
+        row: &Row<'a>,
+        bytes: &[u8],
+        handles: &[Handle],
+    ) -> Result<bool, BadCell<'a>> {
+        match row.cell(1)? {
+            "event" => Ok(self.is_event(alloc, row, bytes)),
+            "reply" => Ok(self.is_reply(alloc, row, bytes, handles)),
+            _ => {
+                let protocol = row.named(1, &PROTOCOLS)?;
+                Ok(self.is_request(alloc, row, protocol, bytes, handles))
+            }
+        }
+    }
+
+    /// Whether what was written is what the row says: these bytes and handles, other ones, or nothing.
+    fn is_again<'a>(
+        &self,
+        row: &Row<'a>,
+        bytes: &[u8],
+        handles: &[Handle],
+    ) -> Result<bool, BadCell<'a>> {
+        let written = self.out.as_bytes();
+        let same = written == bytes && self.out.handles() == handles;
+        match row.cell(5)? {
+            "same" => Ok(same),
+            "other" => Ok(!same && !written.is_empty()),
+            _ => Ok(written.is_empty()),
+        }
     }
 
     /// Whether an event is read as its row says. It is written again.
@@ -197,13 +237,17 @@ fn may_be_written(reply: &Reply<'_>) -> bool
     }
 }
 
-/// Where two names had equal ordinals there would be none.
 #[test]
-fn messages_are_read_and_written(rt: HostRuntime) -> Result<(), Fail> {
-    let ordinals = Ordinals::new()?;
-    let out = Out::new(rt.alloc())?;
-    let mut messages = Messages { ordinals, out };
-    all_hold(rt.alloc(), head_rows::HEADS, &mut messages)?;
-    all_hold(rt.alloc(), request_rows::REQUESTS, &mut messages)?;
-    all_hold(rt.alloc(), reply_rows::REPLIES, &mut messages)
+fn heads_are_read(rt: HostRuntime) -> Result<(), Fail> {
+    all_hold(rt.alloc(), HEADS, &mut Messages::new(rt.alloc())?)
+}
+
+#[test]
+fn requests_are_read_and_written(rt: HostRuntime) -> Result<(), Fail> {
+    all_hold(rt.alloc(), REQUESTS, &mut Messages::new(rt.alloc())?)
+}
+
+#[test]
+fn replies_are_read_and_written(rt: HostRuntime) -> Result<(), Fail> {
+    all_hold(rt.alloc(), REPLIES, &mut Messages::new(rt.alloc())?)
 }

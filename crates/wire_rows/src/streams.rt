@@ -33,15 +33,22 @@ fn gives(source: &mut MemSource, answers: &[Result<&[u8], Failed>]) -> bool {
     true
 }
 
+fn reads_hold(
+    alloc: Global,
+    piece: usize,
+    failing: u64,
+    answers: &[Result<&[u8], Failed>],
+) -> Result<bool, Fail> {
+    let bytes = b"hello".to_vec(alloc)?;
+    let failing = [failing].to_vec(alloc)?;
+    Ok(gives(&mut MemSource::new(bytes, piece, failing), answers))
+}
+
 #[test]
 fn a_source_gives_pieces_and_fails_where_listed(rt: HostRuntime) -> Result<(), Fail> {
     for (piece, failing, answers) in &READS {
-        let bytes = b"hello".to_vec(rt.alloc())?;
-        let failing = [*failing].to_vec(rt.alloc())?;
-        assert!(rt;
-            gives(&mut MemSource::new(bytes, *piece, failing), answers),
-            "pieces of {piece}"
-        );
+        let hold = reads_hold(rt.alloc(), *piece, *failing, answers)?;
+        assert!(rt; hold, "pieces of {piece}");
     }
     Ok(())
 }
@@ -69,18 +76,31 @@ fn append(sink: &mut MemSink, bytes: &[u8]) -> Result<(), Failed>
     write_whole(sink, bytes)
 }
 
+fn writes_hold(
+    alloc: Global,
+    (room, piece): (usize, usize),
+    failing: u64,
+    answers: &[Result<usize, Failed>; 4],
+    written: &[u8],
+) -> Result<bool, Fail> {
+    let failing = [failing].to_vec(alloc)?;
+    let mut sink = MemSink::new(alloc, room, piece, failing)?;
+    Ok(takes(&mut sink, answers) && sink.written() == written)
+}
+
 #[test]
 fn a_sink_takes_pieces_while_it_has_room_and_fails_where_listed(
     rt: HostRuntime,
 ) -> Result<(), Fail> {
     for (room, piece, failing, answers, written) in &WRITES {
-        let failing = [*failing].to_vec(rt.alloc())?;
-        let mut sink = MemSink::new(rt.alloc(), *room, *piece, failing)?;
-        assert!(rt;
-            takes(&mut sink, answers) && sink.written() == *written,
-            "pieces of {piece}"
-        );
+        let hold = writes_hold(rt.alloc(), (*room, *piece), *failing, answers, *written)?;
+        assert!(rt; hold, "pieces of {piece}");
     }
+    Ok(())
+}
+
+#[test]
+fn a_sink_tells_what_was_written_whole(rt: HostRuntime) -> Result<(), Fail> {
     let mut sink = MemSink::new(rt.alloc(), 8, 3, Vec::new(rt.alloc()))?;
     assert!(rt; append(&mut sink, b"hello").is_ok() && append(&mut sink, b"hello").is_err());
     assert!(rt; sink.written() == b"hellohel".as_slice());
