@@ -1,8 +1,8 @@
-use anyhow::Result;
+use anyhow::{Context, Result};
 
 /// The number that a word says.
 pub fn number(word: &str) -> Result<u32> {
-    Ok(word.parse::<u32>()?)
+    word.parse::<u32>().ok().context("no number")
 }
 
 /// The same as a size.

@@ -51,13 +51,19 @@ fn put_piece(alloc: Global, all: &mut String, piece: &str, round: u32) -> Result
 /// Puts the number of a round in the form that is said.
 fn put_number(alloc: Global, all: &mut String, said: &str, round: u32) -> Result<()> {
     let (form, first) = said.split_once(' ').unwrap_or(("", said));
-    let counted = number(first)?.wrapping_add(round);
-    let digits = format!(in alloc; "{counted}")?;
-    let text = match form {
-        "low" => hex::encode(alloc, counted.to_le_bytes())?,
-        "digits" => hex::encode(alloc, &digits)?,
-        _ => digits,
-    };
+    let text = spelled(alloc, form, number(first)?.wrapping_add(round))?;
     all.push_str(&text)?;
     Ok(())
+}
+
+/// A number in a form.
+fn spelled(alloc: Global, form: &str, number: u32) -> Result<String> {
+    if form == "low" {
+        return Ok(hex::encode(alloc, number.to_le_bytes())?);
+    }
+    let digits = format!(in alloc; "{number}")?;
+    match form {
+        "digits" => Ok(hex::encode(alloc, &digits)?),
+        _ => Ok(digits),
+    }
 }

@@ -7,7 +7,7 @@
 
 use crate::numbers::{number, size};
 use crate::outside::{Failing, Sizes, run, tree};
-use crate::tally::Tally;
+use crate::tally::{Tally, is_skipped};
 use anyhow::{Context, Result, bail};
 use std::alloc::Global;
 
@@ -31,7 +31,7 @@ struct Row<'a> {
 pub fn play_rows(rt: &HostRuntime, text: &str) -> Result<Tally> {
     let mut tally = Tally::new();
     for line in text.lines() {
-        if !line.is_empty() && !line.starts_with('#') {
+        if !is_skipped(line) {
             let row = row_in(line).context("a row has too few cells")?;
             row.play(rt, &mut tally)?;
         }
@@ -40,16 +40,22 @@ pub fn play_rows(rt: &HostRuntime, text: &str) -> Result<Tally> {
 }
 
 fn row_in(line: &str) -> Option<Row<'_>> {
-    let mut cells = line.splitn(8, " | ");
+    let (name, rest) = line.split_once(" | ")?;
+    let (words, rest) = rest.split_once(" | ")?;
+    let (held, rest) = rest.split_once(" | ")?;
+    let (input, rest) = rest.split_once(" | ")?;
+    let (pieces, rest) = rest.split_once(" | ")?;
+    let (failing, rest) = rest.split_once(" | ")?;
+    let (room, wanted) = rest.split_once(" | ")?;
     Some(Row {
-        name: cells.next()?,
-        words: cells.next()?,
-        held: cells.next()?,
-        input: cells.next()?,
-        pieces: cells.next()?,
-        failing: cells.next()?,
-        room: cells.next()?,
-        wanted: cells.next()?,
+        name,
+        words,
+        held,
+        input,
+        pieces,
+        failing,
+        room,
+        wanted,
     })
 }
 
@@ -75,7 +81,7 @@ impl Row<'_> {
     /// What comes of a run over an input, by such pieces.
     fn run(&self, rt: &HostRuntime, input: &[u8], read: usize) -> Result<String> {
         let held = bytes(rt, self.held)?;
-        let sizes = self.sizes(read)?;
+        let sizes = sizes_in(self.room, read)?;
         let failing = failing_in(self.failing)?;
         let (status, outside) = run(rt.alloc(), self.words, &held, input, sizes, failing)?;
         let output = self.spelled(rt.alloc(), outside.sink.written())?;
@@ -83,22 +89,13 @@ impl Row<'_> {
         Ok(format!(in rt.alloc(); "{output} | {note} | {}", status.exit_code())?)
     }
 
-    /// The sizes of the row, by such pieces.
-    fn sizes(&self, read: usize) -> Result<Sizes> {
-        let (room, write) = self.room.split_once(',').context("a row has no room")?;
-        Ok(Sizes {
-            read,
-            room: size(room)?,
-            write: size(write)?,
-        })
-    }
-
     /// An output, in the way in which the row says its own.
     fn spelled(&self, alloc: Global, output: &[u8]) -> Result<String> {
         if self.wanted.starts_with("? ") {
             Ok(String::from_str(alloc, "?")?)
         } else if self.wanted.starts_with('\'') {
-            in_one_line(alloc, str::from_utf8(output)?)
+            let lines = str::from_utf8(output)?.replace(alloc, '\n', ";")?;
+            Ok(format!(in alloc; "'{lines}")?)
         } else if output.is_empty() {
             Ok(String::from_str(alloc, "-")?)
         } else {
@@ -114,6 +111,14 @@ fn note_in(written: &[u8]) -> Result<&str> {
         USAGE => "usage",
         note => note,
     })
+}
+
+/// The sizes of a cell that says the room and the most of a write, by such pieces.
+fn sizes_in(cell: &str, read: usize) -> Result<Sizes> {
+    let (room, write) = cell.split_once(',').context("a row has no room")?;
+    let room = size(room)?;
+    let write = size(write)?;
+    Ok(Sizes { read, room, write })
 }
 
 /// The call of a cell that fails.
@@ -138,7 +143,7 @@ fn failing_in(cell: &str) -> Result<Failing> {
 pub fn bytes(rt: &HostRuntime, cell: &str) -> Result<Vec<u8>> {
     let alloc = rt.alloc();
     if let Some(text) = cell.strip_prefix("'") {
-        lines(alloc, text)
+        Ok(text.replace(alloc, ';', "\n")?.into_bytes())
     } else if let Some(name) = cell.strip_prefix("tree ") {
         Ok(tree(rt, name)?.into_bytes())
     } else if cell == "-" {
@@ -146,25 +151,4 @@ pub fn bytes(rt: &HostRuntime, cell: &str) -> Result<Vec<u8>> {
     } else {
         Ok(hex::decode(alloc, cell)?)
     }
-}
-
-/// The bytes of a text in which `;` ends a line.
-fn lines(alloc: Global, text: &str) -> Result<Vec<u8>> {
-    let mut all = Vec::new(alloc);
-    for byte in text.as_bytes() {
-        all.push(if *byte == b';' { b'\n' } else { *byte })?;
-    }
-    Ok(all)
-}
-
-/// The same text in one cell.
-fn in_one_line(alloc: Global, text: &str) -> Result<String> {
-    let mut all = String::from_str(alloc, "'")?;
-    for (place, part) in text.split('\n').enumerate() {
-        if place > 0 {
-            all.push(';')?;
-        }
-        all.push_str(part)?;
-    }
-    Ok(all)
 }

@@ -40,16 +40,20 @@ impl fmt::Display for Tally {
     }
 }
 
-/// The first lines of two texts that differ. Of what is wanted the empty lines and those that begin with `#` don't count.
+/// Whether a line says nothing: it is empty, or begins with `#`.
+pub fn is_skipped(line: &str) -> bool {
+    line.is_empty() || line.starts_with('#')
+}
+
+/// The first lines of two texts that differ. Of what is wanted those that say nothing don't count.
 fn first_difference<'a>(wanted: &'a str, came: &'a str) -> Option<(&'a str, &'a str)> {
     let mut came = came.lines();
     for line in wanted.lines() {
-        if line.is_empty() || line.starts_with('#') {
-            continue;
-        }
-        let other = came.next().unwrap_or("(nothing more)");
-        if other != line {
-            return Some((line, other));
+        if !is_skipped(line) {
+            let other = came.next().unwrap_or("(nothing more)");
+            if other != line {
+                return Some((line, other));
+            }
         }
     }
     let behind = came.next()?;

@@ -7,7 +7,7 @@
 use crate::numbers::number;
 use crate::outside::tree;
 use crate::rows::bytes;
-use crate::tally::Tally;
+use crate::tally::{Tally, is_skipped};
 use anyhow::{Context, Result, bail, ensure};
 use endpoint_link::{Mode, Outbox, Reading, Side, frame_at};
 use fidl_wire::Ordinals;
@@ -27,7 +27,7 @@ pub fn play_worlds(rt: &HostRuntime, text: &str) -> Result<Tally> {
 /// Plays the rows of a world.
 fn play_rows(rt: &HostRuntime, world: &mut World, rows: &str, tally: &mut Tally) -> Result<()> {
     for line in rows.lines() {
-        if !line.is_empty() && !line.starts_with('#') {
+        if !is_skipped(line) {
             let (name, deed, wanted) = cells_in(line).context("a row has too few cells")?;
             tally.count(rt, name, wanted, &came(rt, world, deed)?)?;
         }
@@ -36,8 +36,9 @@ fn play_rows(rt: &HostRuntime, world: &mut World, rows: &str, tally: &mut Tally)
 }
 
 fn cells_in(line: &str) -> Option<(&str, &str, &str)> {
-    let mut cells = line.splitn(3, " | ");
-    Some((cells.next()?, cells.next()?, cells.next()?))
+    let (name, rest) = line.split_once(" | ")?;
+    let (deed, wanted) = rest.split_once(" | ")?;
+    Some((name, deed, wanted))
 }
 
 /// The world over the tree file of a name.

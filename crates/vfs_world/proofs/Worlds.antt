@@ -1,10 +1,8 @@
 -- A world is a session with whether it is spent and how many frames it has accepted.
-use Rattle.std.proofs.Common.{◌≡◌, ℕ, ◌+◌, ◌*◌, ◌<◌, ◌≤◌, ◌^◌, ◌==◌, Bool, false, List, [], ◌++◌, filter, take, length, refl, sym, subst, ap, ◌∙◌, arith}
-use Rattle.std.proofs.Math.Seq.{take-append_seam}
+use Rattle.std.proofs.Common.{◌≡◌, ℕ, ◌+◌, ◌*◌, ◌<◌, ◌≤◌, ◌^◌, ◌==◌, Bool, false, List, [], filter, length, refl, sym, subst, ap, ◌∙◌, arith}
 use Rattle.fidl_wire.specs.Names.{AreDistinct}
 use Rattle.vfs_journal.specs.Entries.{Journal, Sent}
 use Rattle.vfs_journal.specs.History.{waiting}
-use Rattle.vfs_journal.specs.Output.{Begins}
 use Rattle.vfs_journal.specs.Past.{history_of}
 use Rattle.vfs_journal.specs.Starts.{Start}
 use Rattle.journal_laws.specs.Viewing.{view_behind}
@@ -67,9 +65,3 @@ as_many_wait start world journal s = counts_its_list world.queues (view_behind s
 
 pub nothing_waits : (start : Start) (world : World) (journal : Journal) → StandsFor start world journal → waiting (history_of start journal) ≡ [] → NothingWaits world.queues (IsBound world.queues)
 nothing_waits start world journal s none endpoint bound = s.holds.queues.queue endpoint ∙ ap (filter (λ (sent : Sent). sent.endpoint == endpoint)) none
-
--- ---- what was written is taken back
-
-pub cut_back : (before after : List ℕ) (n : ℕ) → n ≡ length before → Begins before after → take n after ≡ before
-cut_back before after n is more =
-    ap (λ (bytes : List ℕ). take n bytes) more.1 ∙ ap (λ (m : ℕ). take m (before ++ more.0)) is ∙ take-append_seam before more.0
