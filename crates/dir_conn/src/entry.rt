@@ -16,7 +16,7 @@ use conn_rules::Birth;
 use fidl_names::Status;
 use io_flags::{OpenFlags, asked};
 use io_rights::{Operation, Rights};
-use path_walk::Path;
+use path_walk::{Path, is_dot};
 
 /// An Open that is refused by none of the tests before the walk.
 #[derive(Drop)]
@@ -57,11 +57,4 @@ fn lacks_rights(have: Rights, text: &[u8], flags: OpenFlags) -> bool
         return true;
     }
     !asked(flags).within(have)
-}
-
-/// The path of the directory itself.
-fn is_dot(text: &[u8]) -> bool
-    ensures { result ≡ bytes_eq text.now dot }
-{
-    matches!(text, [b'.'])
 }

@@ -8,5 +8,5 @@ mod walk;
 
 pub use faults::PathFault;
 pub use names::check_name;
-pub use parts::{last_name, parent_of};
+pub use parts::{is_dot, last_name, parent_of};
 pub use walk::{Path, path_laws};

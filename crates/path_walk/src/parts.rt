@@ -5,6 +5,13 @@ ghost use Rattle.path_walk.specs.Parts.{is_dot, last_name, parent_of};
 
 use memchr::memrchr;
 
+/// Whether a path is `.`, that of the root, or of the directory where a walk begins.
+pub fn is_dot(path: &[u8]) -> bool
+    ensures { result ≡ is_dot path.now }
+{
+    matches!(path, [b'.'])
+}
+
 /// A path without its last name: `.` where it has one name alone.
 #[tactic(auto, unfolding(crate::specs::Parts::parent_of))]
 pub fn parent_of(path: &[u8]) -> &[u8]

@@ -3,12 +3,12 @@ ghost use Rattle.std.specs.List.{slice_split, position_or_len};
 ghost use Rattle.std.specs.Option.{option_copied};
 ghost use Rattle.std.specs.Result.{result_err};
 ghost use Rattle.fidl_names.specs.First.{first_of};
-ghost use Rattle.std.specs.Str.{bytes_eq};
-ghost use Rattle.path_walk.specs.Names.{slash, dot, holds, IsName};
+ghost use Rattle.path_walk.specs.Names.{slash, holds, IsName};
 ghost use Rattle.path_walk.specs.Paths.{text_of, IsPath, names_of, text_faults, name_faults, path_fault};
 
 use crate::faults::PathFault;
 use crate::names::check_piece;
+use crate::parts::is_dot;
 use fidl_names::{MAX_NAME, MAX_PATH};
 use memchr::memchr;
 use std::marker::Model;
@@ -128,12 +128,6 @@ fn check_whole(text: &[u8]) -> Result<(), PathFault>
         return Ok(());
     }
     check_pieces(text)
-}
-
-fn is_dot(text: &[u8]) -> bool
-    ensures { result ≡ bytes_eq text.now dot }
-{
-    matches!(text, [b'.'])
 }
 
 // The rules on the whole text.

@@ -26,6 +26,7 @@ pub fn read_fields<'a>(
 }
 
 /// How many bytes the fields of a method's request have, without what stands out of line.
+#[inline(always)]
 fn inline_size(method: Method) -> usize
     ensures { result ≡ sizes_of (request_cells method) }
 {
@@ -54,6 +55,7 @@ fn inline_size(method: Method) -> usize
 }
 
 /// Reads the fields of a method's request, and stands behind them.
+#[inline(always)]
 #[tactic(auto, unfolding(crate::specs::Steps::asked_at))]
 fn take_fields<'a>(method: Method, body: &mut Body<'a, '_>) -> Result<Request<'a>, WireFault>
     requires { IsBefore method body.old }

@@ -3,7 +3,6 @@ ghost use Rattle.std.specs.List.{list_all};
 ghost use Rattle.std.specs.Option.{option_copied, option_and_then};
 ghost use Rattle.toml.specs.Data.{as_str};
 ghost use Rattle.toml.specs.View.{view};
-ghost use Rattle.path_walk.specs.Parts.{is_dot};
 ghost use Rattle.tree_file.specs.Texts.{only, kind_of, is_digit, hex_of};
 ghost use Rattle.tree_file.specs.Reading.{index_of, server_at, path_at, place_at, rights_at, is_new_name, server_of, kind_at, is_file, bytes_at, is_new_endpoint, endpoint_at, endpoint_from, node_of, mount_of, client_of};
 ghost use Rattle.tree_file.specs.Items.{ClientItem};
@@ -15,7 +14,7 @@ use fidl_names::{MAX_SERVERS, NoMemory, is_client};
 use hex::FromHexError;
 use io_rights::{Rights, read_rights};
 use node_graph::NodeKind;
-use path_walk::{Path, check_name};
+use path_walk::{Path, check_name, is_dot};
 use std::alloc::Global;
 use std::collections::BTreeSet;
 use toml::Value;
@@ -51,13 +50,6 @@ fn path_at<'a>(key: &str, value: &'a Value) -> Option<&'a [u8]>
     } else {
         None
     }
-}
-
-// Whether the path is that of the root.
-pub fn is_dot(path: &[u8]) -> bool
-    ensures { result ≡ is_dot path.now }
-{
-    matches!(path, [b'.'])
 }
 
 // The path at a key that isn't `.`.

@@ -7,10 +7,9 @@ ghost use Rattle.tree_file.specs.Faults.{Breaks};
 
 use crate::faults::TreeFault;
 use crate::items::{Bytes, Client, Mount, Node};
-use crate::reading::is_dot;
 use fidl_names::{MAX_CONNECTIONS, MAX_FILE, MAX_NAMES, MAX_SERVERS, NoMemory};
 use node_graph::NodeKind;
-use path_walk::parent_of;
+use path_walk::{is_dot, parent_of};
 use std::collections::BTreeMap;
 
 /// Whether a directory stands at each path of each server.

@@ -1,7 +1,7 @@
 use anyhow::Result;
 use std::fmt;
 
-/// How many cases of a file hold, and how many don't.
+/// How many cases of a file hold, and how many don't. It is shown as `N hold`, or `N hold, M differ`.
 #[derive(Clone, Copy, Debug)]
 pub struct Tally {
     hold: u32,
