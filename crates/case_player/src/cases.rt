@@ -1,4 +1,4 @@
-use crate::outside::{Failing, Sizes, run, tree};
+use crate::outside::{Failing, Outside, Sizes, run, tree};
 use crate::tally::Tally;
 use anyhow::{Context, Result, ensure};
 use std::alloc::Global;
@@ -40,10 +40,16 @@ impl Case<'_> {
         };
         let (words, held, input) = self.asked(tree);
         let (_status, outside) = run(alloc, words, held, input, sizes, Failing::none())?;
-        let mut came = String::from_utf8_lossy(alloc, outside.sink.written())?;
-        came.push_str(str::from_utf8(outside.notes.written())?)?;
-        Ok(came)
+        text_of(alloc, &outside)
     }
+}
+
+/// The output and the note of a run.
+fn text_of(alloc: Global, outside: &Outside) -> Result<String> {
+    let note = str::from_utf8(outside.notes.written())?;
+    let mut text = String::from_utf8_lossy(alloc, outside.sink.written())?;
+    text.push_str(note)?;
+    Ok(text)
 }
 
 /// Plays the cases of a text, which are scripts over a tree, or trees that are checked.

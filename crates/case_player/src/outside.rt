@@ -87,11 +87,15 @@ fn outside_of(
     sizes: Sizes,
     failing: Failing,
 ) -> Result<Outside, NoMemory> {
+    let notes = MemSink::new(alloc, 1000, 1000, Vec::new(alloc))?;
+    let sink = sink_of(alloc, sizes, failing.write)?;
+    let source = source_of(alloc, input, sizes.read, failing.read)?;
+    let files = files_of(alloc, held, input, failing.file)?;
     Ok(Outside {
-        files: files_of(alloc, held, input, failing.file)?,
-        source: source_of(alloc, input, sizes.read, failing.read)?,
-        sink: sink_of(alloc, sizes, failing.write)?,
-        notes: MemSink::new(alloc, 1000, 1000, Vec::new(alloc))?,
+        files,
+        source,
+        sink,
+        notes,
     })
 }
 

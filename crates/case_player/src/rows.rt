@@ -6,9 +6,10 @@
 //! that there are runs for each of its beginnings that has at least FROM bytes and fewer than TO.
 
 use crate::numbers::{number, size};
-use crate::outside::{Failing, Sizes, run, tree};
+use crate::outside::{Failing, Outside, Sizes, run, tree};
 use crate::tally::{Tally, is_skipped};
 use anyhow::{Context, Result, bail};
+use run_status::Status;
 use std::alloc::Global;
 
 const USAGE: &str =
@@ -70,23 +71,34 @@ impl Row<'_> {
         };
         for len in from..to {
             let beginning = input.get(..len).context("an input is too short")?;
-            for piece in self.pieces.split(',') {
-                let came = self.run(rt, beginning, size(piece)?)?;
-                tally.count(rt, self.name, self.wanted, &came)?;
-            }
+            self.play_over(rt, beginning, tally)?;
+        }
+        Ok(())
+    }
+
+    /// Plays the runs over an input: for each of the pieces.
+    fn play_over(&self, rt: &HostRuntime, input: &[u8], tally: &mut Tally) -> Result<()> {
+        for piece in self.pieces.split(',') {
+            let came = self.run(rt, input, size(piece)?)?;
+            tally.count(rt, self.name, self.wanted, &came)?;
         }
         Ok(())
     }
 
     /// What comes of a run over an input, by such pieces.
     fn run(&self, rt: &HostRuntime, input: &[u8], read: usize) -> Result<String> {
-        let held = bytes(rt, self.held)?;
         let sizes = sizes_in(self.room, read)?;
         let failing = failing_in(self.failing)?;
+        let held = bytes(rt, self.held)?;
         let (status, outside) = run(rt.alloc(), self.words, &held, input, sizes, failing)?;
-        let output = self.spelled(rt.alloc(), outside.sink.written())?;
+        self.told(rt.alloc(), status, &outside)
+    }
+
+    /// What a run ended with and wrote, in the way in which rows say it.
+    fn told(&self, alloc: Global, status: Status, outside: &Outside) -> Result<String> {
         let note = note_in(outside.notes.written())?;
-        Ok(format!(in rt.alloc(); "{output} | {note} | {}", status.exit_code())?)
+        let output = self.spelled(alloc, outside.sink.written())?;
+        Ok(format!(in alloc; "{output} | {note} | {}", status.exit_code())?)
     }
 
     /// An output, in the way in which the row says its own.

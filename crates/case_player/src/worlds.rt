@@ -18,10 +18,16 @@ use vfs_world::{Picked, World};
 pub fn play_worlds(rt: &HostRuntime, text: &str) -> Result<Tally> {
     let mut tally = Tally::new();
     for part in text.split("\ntree ").skip(1) {
-        let (name, rows) = part.split_once('\n').context("a world has no rows")?;
-        play_rows(rt, &mut begin(rt, name)?, rows, &mut tally)?;
+        play_world(rt, part, &mut tally)?;
     }
     Ok(tally)
+}
+
+/// Plays the rows behind the name of a tree file, by the world over that.
+fn play_world(rt: &HostRuntime, part: &str, tally: &mut Tally) -> Result<()> {
+    let (name, rows) = part.split_once('\n').context("a world has no rows")?;
+    let mut world = begin(rt, name)?;
+    play_rows(rt, &mut world, rows, tally)
 }
 
 /// Plays the rows of a world.
