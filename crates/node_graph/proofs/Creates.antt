@@ -33,6 +33,23 @@ not_removed edges key none = by_cases (is_removed edges key.directory) refl
     by_cases true e = absurd (let wrong : Some fault.Removed ≡ None = sym (refusal_of edges key true (is_some (finite.get edges key)) (nat_le limit.MAX_NAMES (finite.len edges)) e refl refl) ∙ none in cc)
     by_cases false e = e
 
+-- more room for nodes changes none
+pub rows_roomier : (nodes : Slab Cell) (ends : Ends) (made room : ℕ) → AreRows nodes ends made → AreRows (record nodes { capacity = room }) ends made
+rows_roomier nodes ends made room rows = record {
+  root = rows.root;
+  numbers = rows.numbers;
+  apart = rows.apart;
+  links = rows.links;
+  needed = rows.needed;
+  children = rows.children;
+  parents = rows.parents;
+  one_name = rows.one_name;
+  ways_up = rows.ways_up;
+  no_loop = rows.no_loop;
+  few = rows.few;
+  room = rows.room;
+}
+
 either : (a b : Bool) → not a && not b ≡ false → (a || b) ≡ true
 either true b e = refl
 either false true e = refl

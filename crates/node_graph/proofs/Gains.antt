@@ -1,11 +1,10 @@
 -- One name more leads to a node: what nodes and names are then, and what a graph keeps.
-use Rattle.std.proofs.Common.{◌≡◌, ◌≢◌, ℕ, suc, ◌+◌, ◌<◌, ◌≤◌, List, [], ◌∷◌, length, map, Some, None, refl, ap, sym, ◌∙◌, subst, arith, cond, true, false, nat_lt}
+use Rattle.std.proofs.Common.{◌≡◌, ◌≢◌, ℕ, suc, ◌+◌, ◌-◌, ◌^◌, ◌<◌, ◌≤◌, List, [], ◌∷◌, length, map, Option, Some, None, IfSome, refl, ap, sym, ◌∙◌, subst, arith, cond, true, false, nat_lt}
 use Rattle.std.specs.Prelude.{◌==◌, ◌||◌, is_some, filter}
 use Rattle.std.specs.Option.{option_map}
 use Rattle.std.specs.FinMap as finite
 use Rattle.std.proofs.lemmas.Bool.Decides.{nat_tests}
-use Rattle.slab.specs.Slab.{Slab, get, Updates, with_value}
-use Rattle.slab.proofs.SlabLemmas.{Updates-with_value}
+use Rattle.slab.specs.Slab.{Slab, get, Updates}
 use Rattle.fidl_names.specs.declared.limits.TheConstants as limit
 use Rattle.node_graph.specs.declared.nodes.NodeKind.TheVariants.{Directory}
 use Rattle.node_graph.specs.declared.nodes.NodeRef.{NodeRef}
@@ -14,7 +13,7 @@ use Rattle.node_graph.specs.Cell.{Cell}
 use Rattle.node_graph.specs.Tree.{Edges, EdgeKey, EdgeTo, link_count, has_one_name, add}
 use Rattle.node_graph.specs.Graph.{Kept, Names, kind_at, create_refusal}
 use Rattle.node_graph.specs.Ends.{Ends, end_of, edges_of, name_in}
-use Rattle.node_graph.specs.Rows.{seat_from, kept_of, is_needed, is_reached, Sits, AreRows}
+use Rattle.node_graph.specs.Rows.{seat_from, kept_of, is_needed, is_reached, Sits, AreRows, GainsName}
 use Rattle.node_graph.proofs.RowLists.{same_some, mapped}
 use Rattle.node_graph.proofs.States.{Replaces, unrefused, named_still, same_holds, leads_stay}
 use Rattle.node_graph.proofs.Ordered.{edges_total, comes, fresh, known}
@@ -191,29 +190,43 @@ module _ (old new : Slab Cell) (ends : Ends) (made : ℕ) (from key : EdgeKey) (
   }
 
 -- the same of a link as its call makes it
-module _ (nodes : Slab Cell) (ends ends_new : Ends) (made : ℕ) (graph : Kept) (from : EdgeKey) (into : NodeRef) (name : List ℕ) (to : Target) (was is : Cell)
+module _ (nodes new : Slab Cell) (ends ends_new : Ends) (made : ℕ) (graph : Kept) (from : EdgeKey) (into : NodeRef) (name : List ℕ) (to : Target)
     (view : kept_of nodes ends made ≡ graph) (rows : AreRows nodes ends made) (names : Names graph into) (directory : kind_at graph into.number ≡ Some Directory)
     (there : finite.get ends from ≡ Some to) (many : has_one_name to.kind ≡ false) (free : create_refusal graph.edges (name_in into.number name) ≡ None)
-    (at : get nodes to.node.place ≡ Some was) (is_it : is ≡ record was { links = was.links + 1 }) (put : ends_new ≡ finite.insert ends (name_in into.number name) to) where
-  updates : Updates nodes (with_value nodes to.node.place is) to.node.place (Some is)
-  updates = Updates-with_value nodes to.node.place is (ap is_some at)
+    (gains : GainsName nodes new to.node.place) (put : ends_new ≡ finite.insert ends (name_in into.number name) to) where
+  abbrev key : EdgeKey
+  key = name_in into.number name
 
-  absent : finite.get ends (name_in into.number name) ≡ None
-  absent = unmapped _ (sym (get-edges_of ends (name_in into.number name)) ∙ ap (λ (g : Kept). finite.get g.edges (name_in into.number name)) view ∙ (unrefused graph.edges (name_in into.number name) free).absent)
+  abbrev is : Cell
+  is = record gains.cell { links = gains.cell.links + 1 }
+
+  absent : finite.get ends key ≡ None
+  absent = unmapped _ (sym (get-edges_of ends key) ∙ ap (λ (g : Kept). finite.get g.edges key) view ∙ (unrefused graph.edges key free).absent)
 
   up : (place : ℕ) × Sits nodes place into.number (λ c. (c.kind ≡ Directory) × (is_reached c ≡ true))
-  up = (into.place, reached_here nodes ends made graph into view rows names directory (not_removed graph.edges (name_in into.number name) free))
+  up = (into.place, reached_here nodes ends made graph into view rows names directory (not_removed graph.edges key free))
 
   room : finite.len ends < limit.MAX_NAMES
-  room = let few = (unrefused graph.edges (name_in into.number name) free).few in let len = sym (len-edges_of ends) ∙ ap (λ (g : Kept). finite.len g.edges) view in omega (arith, few, len)
+  room = let few = (unrefused graph.edges key free).few in let len = sym (len-edges_of ends) ∙ ap (λ (g : Kept). finite.len g.edges) view in omega (arith, few, len)
 
-  pub rows_linked : AreRows (with_value nodes to.node.place is) ends_new made
+  pub rows_linked : AreRows new ends_new made
   rows_linked =
-      let P : Ends → Type 0 = λ e. AreRows (with_value nodes to.node.place is) e made in
-      subst P (sym put) (rows_gained nodes (with_value nodes to.node.place is) ends made from (name_in into.number name) to was is rows there absent at updates is_it up many room)
+      let P : Ends → Type 0 = λ e. AreRows new e made in
+      subst P (sym put) (rows_gained nodes new ends made from key to gains.cell is rows there absent gains.at gains.updates refl up many room)
 
-  pub turns_linked : Turns graph (kept_of (with_value nodes to.node.place is) ends_new made) (add (name_in into.number name) (end_of to))
+  pub turns_linked : Turns graph (kept_of new ends_new made) (add key (end_of to))
   turns_linked =
-      let P : Ends → Type 0 = λ e. Turns graph (kept_of (with_value nodes to.node.place is) e made) (add (name_in into.number name) (end_of to)) in
-      let Q : Kept → Type 0 = λ g. Turns g (kept_of (with_value nodes to.node.place is) (finite.insert ends (name_in into.number name) to) made) (add (name_in into.number name) (end_of to)) in
-      subst P (sym put) (subst Q view (turns_gained nodes (with_value nodes to.node.place is) ends made from (name_in into.number name) to was is rows there absent at updates is_it up many room))
+      let P : Ends → Type 0 = λ e. Turns graph (kept_of new e made) (add key (end_of to)) in
+      let Q : Kept → Type 0 = λ g. Turns g (kept_of new (finite.insert ends key to) made) (add key (end_of to)) in
+      subst P (sym put) (subst Q view (turns_gained nodes new ends made from key to gains.cell is rows there absent gains.at gains.updates refl up many room))
+
+-- there is room for one more name of a node that a name leads to
+pub links_room : (nodes : Slab Cell) (ends : Ends) (made : ℕ) → AreRows nodes ends made → (key : EdgeKey) (to : Target) → finite.get ends key ≡ Some to
+    → IfSome (get nodes to.node.place) (λ cell. cell.links < 2 ^ 32 - 1)
+links_room nodes ends made rows key to there =
+    let child = rows.children key to there in
+    let count = rows.links to.node.place child.0 child.1 in
+    let few = links_few ends child.0.number in
+    let all = rows.few in
+    let P : Option Cell → Type 0 = λ o. IfSome o (λ cell. cell.links < 2 ^ 32 - 1) in
+    subst P (sym child.1) (omega (arith, count, few, all))

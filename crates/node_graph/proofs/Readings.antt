@@ -1,6 +1,6 @@
 -- What a graph tells of each tree that it stands for, and so which refusals hold.
 use Rattle.std.proofs.Common.{◌≡◌, nat_le, Result, Ok, Err, IsErrAnd, IfErr, ℕ, ◌<◌, [], ◌∷◌, Option, Some, None, refl, ap, sym, ◌∙◌, subst, arith, Bool, true, false, ◌&&◌, IfSome}
-use Rattle.std.specs.Prelude.{is_some, is_none, if◌then◌else◌}
+use Rattle.std.specs.Prelude.{OnErr, is_some, is_none, if◌then◌else◌}
 use Rattle.std.specs.Option.{option_map, option_map_or, option_or}
 use Rattle.std.specs.FinMap as finite
 use Rattle.slab.specs.Slab.{Slab, get}
@@ -129,6 +129,11 @@ many_names (Mount index) e = absurd (let wrong : Some fault.Unsupported ≡ None
 pub only_memory : {T : Type 0} (result : Result T GraphFault) → IsErrAnd result (λ found. found ≡ fault.NoMemory) → IfErr result (λ found. found ≡ fault.NoMemory)
 only_memory (Ok value) memory = tt
 only_memory (Err found) memory = memory
+
+-- what holds holds of each error
+pub on_err : {T E P : Type 0} (result : Result T E) → P → OnErr result P
+on_err (Ok value) holds = tt
+on_err (Err found) holds = holds
 
 -- ---- rename
 

@@ -68,6 +68,12 @@ pub data Forgets (old new : Slab Cell) (place : ℕ) : Type 0 where
   keeps : (cell : Cell) → get old place ≡ Some cell → is_needed cell ≡ true → new ≡ old → Forgets old new place
   drops : (cell : Cell) → get old place ≡ Some cell → is_needed cell ≡ false → Updates old new place None → slab_len new + 1 ≡ slab_len old → Forgets old new place
 
+-- one name more leads to a node
+pub record GainsName (old new : Slab Cell) (place : ℕ) : Type 0 where
+  pub cell : Cell
+  pub at : get old place ≡ Some cell
+  pub updates : Updates old new place (Some (record cell { links = cell.links + 1 }))
+
 -- one name less leads to a node, which is then taken out where it isn't needed
 pub record LosesName (old new : Slab Cell) (place : ℕ) : Type 0 where
   pub cell : Cell

@@ -1,4 +1,4 @@
-ghost use Rattle.std.specs.Prelude.{◌≡◌, ◌≢◌, ◌^◌, ◌<◌, ◌≤◌, ◌+◌, ◌-◌, nat_le, length, OnOk, OnErr, IfErr, Some};
+ghost use Rattle.std.specs.Prelude.{◌≡◌, ◌≢◌, ◌^◌, ◌<◌, ◌≤◌, ◌+◌, ◌-◌, nat_le, nat_lt, length, OnOk, OnErr, IfErr, Some};
 ghost use Rattle.node_graph.specs.declared.nodes.NodeKind.TheVariants.{File};
 ghost use Rattle.node_graph.specs.declared.faults.GraphFault.TheVariants as fault;
 ghost use Rattle.slab.specs.Slab.{ContainsKey};
@@ -80,13 +80,20 @@ impl Graph {
         ensures holds { SameHolds self.old self.new }
         ensures names { KeepsNames self.old self.new }
     {
-        if size > MAX_FILE as u64 {
+        if is_too_long(size) {
             return Err(GraphFault::FileBig);
         }
         let row = &mut self.nodes[node.place];
         row.resize(size as usize)?;
         Ok(())
     }
+}
+
+// Whether no file has that length.
+fn is_too_long(size: u64) -> bool
+    ensures { result ≡ nat_lt MAX_FILE size }
+{
+    size > MAX_FILE as u64
 }
 
 // Whether so many bytes from the offset on end within the longest file.

@@ -1,15 +1,22 @@
-ghost use Rattle.std.specs.Prelude.{◌≡◌, ◌∷◌, [], ◌≤◌, length, OnOk, OnErr, Some};
+ghost use Rattle.std.specs.Prelude.{◌≡◌, ◌∷◌, [], ◌≤◌, ◌<◌, ◌-◌, ◌^◌, length, OnOk, OnErr, IfSome, Some};
+ghost use Rattle.std.specs.FinMap as finite;
+ghost use Rattle.slab.specs.Slab.{ContainsKey, get};
 ghost use Rattle.fidl_names.specs.First.{cause_if, first_of};
 ghost use Rattle.node_graph.specs.declared.nodes.NodeKind.TheVariants.{Directory};
 ghost use Rattle.node_graph.specs.declared.faults.GraphFault.TheVariants as fault;
 ghost use Rattle.node_graph.specs.Tree.{Tree};
 ghost use Rattle.node_graph.specs.Refusals.{is_directory, is_mount};
+ghost use Rattle.node_graph.specs.Ends.{name_in};
+ghost use Rattle.node_graph.specs.Rows.{GainsName};
 ghost use Rattle.node_graph.specs.Graph.{number_of, Names, kind_at, StandsFor, LeadsBy, SameHolds, KeepsNames, Answers, link_refusal, link_change};
 
+use crate::edges::{Edges, Target};
 use crate::faults::GraphFault;
 use crate::graph::Graph;
 use crate::nodes::{NodeKind, NodeRef};
-use fidl_names::MAX_NAME;
+use crate::rows::Node;
+use fidl_names::{MAX_NAME, NoMemory};
+use slab::Slab;
 
 impl Graph {
     /// Gives the node that a name leads to a second name in a directory, with the mask of the first.
@@ -40,18 +47,39 @@ impl Graph {
         let Some(from) = self.edges.find(dir.number, src) else {
             return Err(GraphFault::NotFound);
         };
-        let node = from.node;
         if let Some(fault) = link_fault(from.kind) {
             return Err(fault);
         }
         if let Some(fault) = self.create_fault(into, dst) {
             return Err(fault);
         }
-        self.edges.put(into.number, dst, from)?;
-        let row = &mut self.nodes[node.place];
-        row.link();
+        name_again(&mut self.edges, &mut self.nodes, into.number, dst, from)?;
         Ok(())
     }
+}
+
+// One name more leads to a node. Without memory for it nothing has changed.
+fn name_again(
+    edges: &mut Edges,
+    nodes: &mut Slab<Node>,
+    directory: u64,
+    name: &[u8],
+    to: Target,
+) -> Result<(), NoMemory>
+    requires some { 1 ≤ length name.now }
+    requires few { length name.now ≤ MAX_NAME }
+    requires present { ContainsKey nodes.old to.node.place }
+    requires links { IfSome (get nodes.old to.node.place) (λ cell. cell.links < 2 ^ 32 - 1) }
+    ensures named { OnOk result (edges.new ≡ finite.insert edges.old (name_in directory name.now) to) }
+    ensures linked { OnOk result (GainsName nodes.old nodes.new to.node.place) }
+    ensures same_names { OnErr result (edges.new ≡ edges.old) }
+    ensures same_nodes { OnErr result (nodes.new ≡ nodes.old) }
+{
+    let node = to.node;
+    edges.put(directory, name, to)?;
+    let row = &mut nodes[node.place];
+    row.link();
+    Ok(())
 }
 
 // Why a node of this kind gets no second name.

@@ -48,12 +48,7 @@ impl Graph {
             place: self.nodes.vacant_key(),
             number: self.made + 1,
         };
-        let to = Target {
-            node: child,
-            kind,
-            mask,
-        };
-        self.edges.put(dir.number, name, to)?;
+        self.edges.put(dir.number, name, target(child, kind, mask))?;
         let row = Node::new(self.alloc, child.number, kind, 1, dir);
         self.nodes.insert_reserved(row);
         self.made = child.number;
@@ -76,4 +71,11 @@ impl Graph {
         }
         None
     }
+}
+
+// Where a new node's name leads.
+fn target(node: NodeRef, kind: NodeKind, mask: Rights) -> Target
+    ensures { result ≡ record { node = node; kind = kind; mask = mask } }
+{
+    Target { node, kind, mask }
 }

@@ -1,4 +1,4 @@
-ghost use Rattle.std.specs.Prelude.{◌≡◌, ◌∷◌, [], ◌&&◌, ◌≤◌, ◌<◌, ◌-◌, ◌^◌, ◌≢◌, true, not, length, OnOk, OnErr, IfOk, IfErr, IfSome, Some};
+ghost use Rattle.std.specs.Prelude.{◌≡◌, ◌∷◌, [], ◌&&◌, ◌≤◌, ◌<◌, ◌-◌, ◌^◌, ◌≢◌, true, not, length, OnOk, OnErr, IfOk, IfErr, IfSome, Some, None, if◌then◌else◌};
 ghost use Rattle.std.specs.Option.{option_map, option_to_list};
 ghost use Rattle.std.specs.FinMap as finite;
 ghost use Rattle.fidl_names.specs.First.{cause_if, first_of};
@@ -89,10 +89,7 @@ impl Graph {
         lose_name(&mut self.nodes, gone.place);
         let row = &mut self.nodes[node.place];
         row.set_parent(into);
-        Ok(Moved {
-            changed: true,
-            replaced: directory_of(gone, gone_kind),
-        })
+        Ok(moved_over(gone, gone_kind))
     }
 
     // Why a node isn't moved into a directory, whatever its name there.
@@ -107,10 +104,19 @@ impl Graph {
         if self.removed(into) {
             return Some(GraphFault::Removed);
         }
-        if kind.is_directory() && self.lies_within(into, node.number) {
+        if self.makes_loop(node, kind, into) {
             return Some(GraphFault::Loop);
         }
         None
+    }
+
+    // Whether a directory would come to lie in itself.
+    fn makes_loop(&self, node: NodeRef, kind: NodeKind, into: NodeRef) -> bool
+        requires named { Names self.now into }
+        requires directory { kind_at self.now (number_of into) ≡ Some Directory }
+        ensures { result ≡ (is_directory kind && lies_within (finite.len self.now.edges) self.now.edges into.number node.number) }
+    {
+        kind.is_directory() && self.lies_within(into, node.number)
     }
 
     // Whether a directory is another one or below it.
@@ -146,6 +152,16 @@ impl Graph {
         } else {
             Some(row.parent())
         }
+    }
+}
+
+// What a rename did that replaced this node.
+fn moved_over(gone: NodeRef, kind: NodeKind) -> Moved
+    ensures { result ≡ record { changed = true; replaced = if is_directory kind then Some gone.number else None } }
+{
+    Moved {
+        changed: true,
+        replaced: directory_of(gone, kind),
     }
 }
 

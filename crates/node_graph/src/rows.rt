@@ -70,7 +70,12 @@ impl Node {
     pub fn is_needed(&self) -> bool
         ensures { result ≡ is_needed self.now }
     {
-        self.number == 1 || self.links > 0 || self.holds > 0
+        let is_root = self.number == 1;
+        let is_linked = self.links > 0;
+        if is_root || is_linked {
+            return true;
+        }
+        self.holds > 0
     }
 
     pub fn hold(&mut self)

@@ -15,6 +15,12 @@ some_mapped : {A B : Type 0} (f : A → B) (o : Option A) → is_some (option_ma
 some_mapped f None = refl
 some_mapped f (Some x) = refl
 
+pub returns-then-removed : goal.returns-then-removed
+returns-then-removed c =
+    let key = name_in c.args.dir.number c.args.name.now in
+    let edges = c.args.self.now.edges in
+    sym (refusal_of edges key true (is_some (finite.get edges key)) (nat_le limit.MAX_NAMES (finite.len edges)) (sym c.removed.ensures ∙ c.if-removed.true) refl refl)
+
 pub returns-then-is_some : goal.returns-then-is_some
 returns-then-is_some c =
     let found = edge_found _ _ _ c.args.self.now c.self.view_is c.self.invariant (name_in c.args.dir.number c.args.name.now) c.find.result c.find.ensures.found in
