@@ -72,10 +72,7 @@ impl Node {
     {
         let is_root = self.number == 1;
         let is_linked = self.links > 0;
-        if is_root || is_linked {
-            return true;
-        }
-        self.holds > 0
+        is_root || is_linked || self.holds > 0
     }
 
     pub fn hold(&mut self)
