@@ -4,8 +4,8 @@ use Rattle.std.proofs.lemmas.List.{get_or-take, length-take-le}
 use Rattle.std.proofs.lemmas.Bool.{cases_lt}
 use Rattle.fidl_names.specs.declared.methods.Method.{Method}
 use Rattle.fidl_names.specs.declared.methods.Method.TheVariants as method
-use Rattle.fidl_wire.specs.Names.{row_of, row_count, event_row, ordinal_at, method_ordinal, event_ordinal, AreDistinct}
-use Rattle.fidl_wire.specs.Collisions.{IsEarlier}
+use Rattle.fidl_wire.specs.Names.{row_of, row_count, event_row, ordinal_at, method_ordinal, event_ordinal, AreDistinct, IsFirstCollision}
+use Rattle.fidl_wire.specs.Collisions.{IsEarlier, IsFirstEqual}
 
 -- each method has a row above the event's
 pub row_of-lt : (m : Method) → row_of m < event_row
@@ -25,6 +25,19 @@ no_row numbers number named size none m e =
     let below : row_of m < event_row = row_of-lt m in
     let len : length (take event_row numbers) ≡ event_row = length-take-le event_row numbers (omega arith) in
     none (row_of m) (omega arith) (get_or-take event_row numbers (row_of m) 0 below ∙ named (row_of m) (omega arith) ∙ e)
+
+-- the first two places of equal ordinals are the first collision
+pub first_collision : (numbers : List ℕ) (i j : ℕ) → length numbers ≡ row_count → ((k : ℕ) → k < row_count → get_or numbers k 0 ≡ ordinal_at k) → IsFirstEqual numbers i j → IsFirstCollision i j
+first_collision numbers i j size named found =
+    let order : i < j = found.order in
+    let row : j < row_count = omega (arith, size, found.within) in
+    record {
+      order = order;
+      row = row;
+      equal = sym (named i (omega arith)) ∙ found.equal ∙ named j row;
+      second = λ a b less below e. found.second a b less below (named a (omega arith) ∙ e ∙ sym (named b (omega arith)));
+      first = λ a less e. found.first a less (named a (omega arith) ∙ e ∙ sym (named j row));
+    }
 
 -- the methods in the order of their rows
 abbrev methods : List Method

@@ -1,8 +1,10 @@
-ghost use Rattle.std.specs.Prelude.{◌≡◌, ◌+◌, ◌<◌, ◌≤◌, true, false, [], ◌∷◌, Some, None, IsSome, IfSome, option_map, length, replicate, Ok, Err, IfOk, IfErr, OnOk, OnErr};
+ghost use Rattle.std.specs.Prelude.{◌≡◌, ◌+◌, ◌<◌, ◌≤◌, ◌==◌, true, false, [], ◌∷◌, Some, None, IsSome, IfSome, option_map, length, replicate, Ok, Err, IfOk, IfErr, OnOk, OnErr};
 ghost use Rattle.std.specs.Int.{w32, w64, cast_unsigned};
 ghost use Rattle.fidl_wire.specs.Layout.{number, pad, handle, text, vector, table, num, blank, held, seq, members, is_kind};
 ghost use Rattle.fidl_wire.specs.Cursor.{start_of, outside_of, IsPart};
-ghost use Rattle.fidl_wire.specs.Reading.{inline_at, count_at, list_cell, cell_at, inlined_word, object_at, branch_of, ordinal_at, finish_of, closed, is_whole};
+ghost use Rattle.fidl_wire.specs.Headers.{fault};
+ghost use Rattle.fidl_wire.specs.declared.faults.WireWhat.TheVariants.{Handles};
+ghost use Rattle.fidl_wire.specs.Reading.{check, all_blank, inline_at, count_at, list_cell, cell_at, inlined_word, object_at, branch_of, ordinal_at, finish_of, closed, is_whole};
 
 use crate::envelopes::{Outside, bytes_at, check_handles, enter, handles_at, is_inlined};
 use crate::faults::{WireFault, WireWhat};
@@ -10,8 +12,8 @@ use crate::headers::HEADER_SIZE;
 use crate::kinds::{HandleKind, is_kind};
 use crate::numbers::{u32_at, u64_at};
 use crate::padding::{check_blank, padding_after};
-use crate::tables::{forget, members};
-use crate::texts::is_utf8;
+use crate::tables::{forget, have_room, members};
+use crate::texts::may_stand;
 use fidl_names::Handle;
 use std::marker::Model;
 
@@ -137,9 +139,18 @@ impl<'a, 'h> Body<'a, 'h> {
         ensures unchanged { OnErr result (self.new ≡ self.old) }
     {
         let at = self.inline_place(size)?;
-        check_blank(self.bytes, at, at + size)?;
+        self.check_pad(at, size)?;
         self.place += size;
         Ok(())
+    }
+
+    /// So many bytes from a place on are zero.
+    #[inline(always)]
+    fn check_pad(&self, at: usize, size: usize) -> Result<(), WireFault>
+        requires { at + size ≤ length self.now.message }
+        ensures { result ≡ all_blank self.now.message at (at + size) }
+    {
+        check_blank(self.bytes, at, at + size)
     }
 
     /// The next handle, of either kind. `Presence` where the word is neither of the two, or absent
@@ -246,7 +257,7 @@ impl<'a, 'h> Body<'a, 'h> {
         }
         let end = self.out + count;
         let part = &self.bytes[self.out..end];
-        if is_text && !is_utf8(part) {
+        if !may_stand(is_text, part) {
             return Err(WireFault::new(at, WireWhat::Utf8));
         }
         check_blank(self.bytes, end, end + padding)?;
@@ -281,7 +292,7 @@ impl<'a, 'h> Body<'a, 'h> {
         let at = self.inline_place(16)?;
         let count = self.count_at(at)?;
         let first = self.out;
-        if count > (self.bytes.len() - first) / 8 {
+        if !have_room(first, count, self.bytes.len()) {
             return Err(WireFault::new(at, WireWhat::Count));
         }
         let start = Outside {
@@ -418,7 +429,15 @@ impl<'a, 'h> Body<'a, 'h> {
         if self.out < self.bytes.len() {
             return Err(WireFault::new(self.out, WireWhat::Trailing));
         }
-        if !self.handles.is_empty() {
+        self.check_left()
+    }
+
+    /// No handle is left over.
+    fn check_left(&self) -> Result<(), WireFault>
+        ensures { result ≡ check (length self.now.handles == 0) (fault (length self.now.message) Handles) }
+    {
+        let left = self.handles.len();
+        if left != 0 {
             return Err(WireFault::new(self.bytes.len(), WireWhat::Handles));
         }
         Ok(())

@@ -1,4 +1,4 @@
-ghost use Rattle.std.specs.Prelude.{◌≡◌, ◌+◌, ◌*◌, ◌≤◌, ◌%◌, length, nat_le, max, IfOk, OnOk};
+ghost use Rattle.std.specs.Prelude.{◌≡◌, ◌+◌, ◌-◌, ◌==◌, ◌*◌, ◌≤◌, ◌%◌, length, nat_le, max, IfOk, OnOk};
 ghost use Rattle.fidl_wire.specs.Numbers.{padded};
 ghost use Rattle.fidl_wire.specs.Cursor.{IsPlaced};
 ghost use Rattle.fidl_wire.specs.Reading.{bytes_at, handles_at, flags_at, is_absent, is_inlined, is_outside, enough_handles, entered, skipped, number_member, member_at};
@@ -52,13 +52,20 @@ pub fn is_inlined(message: &[u8], at: usize) -> bool
     flags_at(message, at) == 1
 }
 
+fn has_no_flag(message: &[u8], at: usize) -> bool
+    requires { at + 8 ≤ length message.now }
+    ensures { result ≡ (flags_at at message.now == 0) }
+{
+    flags_at(message, at) == 0
+}
+
 /// Its value stands out of line.
 fn is_outside(message: &[u8], at: usize) -> bool
     requires { at + 8 ≤ length message.now }
     ensures { result ≡ is_outside at message.now }
 {
     let bytes = bytes_at(message, at);
-    flags_at(message, at) == 0 && bytes != 0 && bytes % 8 == 0
+    has_no_flag(message, at) && bytes != 0 && bytes % 8 == 0
 }
 
 /// As many handles are left as it counts.
@@ -96,6 +103,15 @@ pub fn enter(message: &[u8], at: usize, size: usize, outside: Outside) -> Result
     check_handles(message, at, outside)
 }
 
+/// How many of so many handles are left behind those that the envelope at a place counts.
+fn left_behind(message: &[u8], at: usize, left: usize) -> usize
+    requires envelope { at + 8 ≤ length message.now }
+    requires enough { handles_at at message.now ≤ left }
+    ensures { result ≡ left - handles_at at message.now }
+{
+    left - handles_at(message, at)
+}
+
 /// Passes a member by its counts.
 fn skip(message: &[u8], at: usize, outside: Outside) -> Result<Outside, WireFault>
     requires envelope { at + 8 ≤ length message.now }
@@ -104,18 +120,17 @@ fn skip(message: &[u8], at: usize, outside: Outside) -> Result<Outside, WireFaul
     ensures placed { IfOk result (λ rest. IsPlaced (length message.now) rest) }
     ensures left { IfOk result (λ rest. rest.left ≤ outside.left) }
 {
-    let handles = handles_at(message, at);
     if is_inlined(message, at) {
         check_handles(message, at, outside)?;
         return Ok(Outside {
             out: outside.out,
-            left: outside.left - handles,
+            left: left_behind(message, at, outside.left),
         });
     }
     enter(message, at, 0, outside)?;
     Ok(Outside {
         out: outside.out + bytes_at(message, at),
-        left: outside.left - handles,
+        left: left_behind(message, at, outside.left),
     })
 }
 

@@ -43,7 +43,8 @@ fn status_in(bytes: &[u8]) -> Option<i32>
     ensures found { IfSome result (λ status. IsEpitaph bytes.now status) }
     ensures none { IsNone result → (status : ℤ) → IsEpitaph bytes.now status → ⊥ }
 {
-    if bytes.len() != EPITAPH_SIZE {
+    let size = bytes.len();
+    if size != EPITAPH_SIZE {
         return None;
     }
     let header = Header::read(bytes).ok()?;

@@ -1,4 +1,4 @@
-ghost use Rattle.std.specs.Prelude.{◌≡◌};
+ghost use Rattle.std.specs.Prelude.{◌≡◌, ◌%◌, ◌^◌};
 ghost use Rattle.fidl_wire.specs.Names.{ordinal_of};
 
 use byteorder::{ByteOrder, LittleEndian};
@@ -14,5 +14,12 @@ pub fn ordinal(name: &[u8]) -> u64
     ensures { result ≡ ordinal_of name.now }
 {
     let digest = Sha256::digest(name);
-    LittleEndian::read_u64(&digest) & LOW_BITS
+    low_bits(LittleEndian::read_u64(&digest))
+}
+
+/// The number with the top bit cleared.
+fn low_bits(number: u64) -> u64
+    ensures { result ≡ number % 2 ^ 63 }
+{
+    number & LOW_BITS
 }

@@ -39,7 +39,8 @@ impl Header {
         if bytes.len() < HEADER_SIZE {
             return Err(WireFault::new(bytes.len(), WireWhat::Short));
         }
-        if bytes[7] != MAGIC {
+        let is_magic = bytes[7] == MAGIC;
+        if !is_magic {
             return Err(WireFault::new(7, WireWhat::Magic));
         }
         if bytes[4] & VERSION_BIT == 0 {

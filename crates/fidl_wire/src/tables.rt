@@ -1,4 +1,4 @@
-ghost use Rattle.std.specs.Prelude.{◌≡◌, ◌+◌, ◌*◌, ◌≤◌, drop, length, Ok, Err, None, IfOk, IfErr, replicate, slice_set};
+ghost use Rattle.std.specs.Prelude.{◌≡◌, ◌+◌, ◌*◌, ◌≤◌, drop, length, nat_le, Ok, Err, None, IfOk, IfErr, replicate, slice_set};
 ghost use Rattle.fidl_wire.specs.Cursor.{IsPlaced};
 ghost use Rattle.fidl_wire.specs.Layout.{is_known};
 ghost use Rattle.fidl_wire.specs.Reading.{members_at};
@@ -32,6 +32,14 @@ pub fn members(
         outside = rest;
     }
     Ok(outside)
+}
+
+/// So many envelopes from a place on lie within the length.
+pub fn have_room(first: usize, count: usize, length: usize) -> bool
+    requires { first ≤ length }
+    ensures { result ≡ nat_le (first + 8 * count) length }
+{
+    count <= (length - first) / 8
 }
 
 /// Whether the layout knows the member of that index.

@@ -1,4 +1,4 @@
-ghost use Rattle.std.specs.Prelude.{◌≡◌};
+ghost use Rattle.std.specs.Prelude.{◌≡◌, ◌||◌, not};
 ghost use Rattle.std.specs.Str.{is_utf8};
 
 /// The bytes are UTF-8.
@@ -9,4 +9,11 @@ pub fn is_utf8(bytes: &[u8]) -> bool
         Ok(_) => true,
         Err(_) => false,
     }
+}
+
+/// The bytes are UTF-8, where they are a text.
+pub fn may_stand(is_text: bool, bytes: &[u8]) -> bool
+    ensures { result ≡ (not is_text || is_utf8 bytes.now) }
+{
+    if is_text { is_utf8(bytes) } else { true }
 }
