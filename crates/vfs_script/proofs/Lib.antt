@@ -1,6 +1,7 @@
 mod PieceLemmas
 mod NumberLemmas
 mod LineLemmas
+mod Behind
 mod ScriptLemmas
 mod PrintLemmas
 mod FrameLaws

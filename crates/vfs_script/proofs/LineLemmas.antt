@@ -1,4 +1,4 @@
--- Words that are read one by one, words byte by byte, and verbs by the lengths of their words.
+-- Words byte by byte, and verbs by the lengths of their words.
 use Rattle.std.proofs.Common.{◌≡◌, ℕ, ◌==◌, Bool, true, false, cond, inl, inr, List, [], ◌∷◌, ◌+◌, ◌<◌, ◌≤◌, ◌++◌, length, take, get_or, Option, Some, None, ap, refl, sym, ◌∙◌, arith}
 use Rattle.std.specs.Prelude.{◌≢◌, filter}
 use Rattle.std.specs.List.{find}
@@ -6,43 +6,9 @@ use Rattle.std.specs.Str.{bytes_eq}
 use Rattle.std.proofs.lemmas.Bool.{cases_Bool, eq-eqb, false_from_ne_true, ne_eqb}
 use Rattle.std.proofs.lemmas.List.{take_all, take_more}
 use Rattle.std.proofs.lemmas.Slice.Eq.{bytes_eq-Decides}
-use Rattle.vfs_script.specs.Lines.{one, two, all_verbs, verb_of, word_of_verb}
-use Rattle.vfs_script.specs.Parsed.{short_and_long, verb_among, verbs_with}
+use Rattle.vfs_script.specs.Lines.{all_verbs, verb_of, word_of_verb}
+use Rattle.vfs_script.specs.Parsed.{verb_among, verbs_with}
 use Rattle.vfs_script.specs.declared.verbs.Verb.{Verb}
-use Rattle.vfs_script.specs.Words.{◌>>=◌, number_in}
-
--- ---- words that are read one by one
-
-module _ {A : Type 0} (k : ℕ → Option A) where
-  pub one_then : (words : List (List ℕ)) (found : Option ℕ) → found ≡ one words (number_in 32) → one words (λ a. number_in 32 a >>= k) ≡ (found >>= k)
-  one_then words found is = same words ∙ ap (λ (f : Option ℕ). f >>= k) (sym is)
-    where
-      same : (words : List (List ℕ)) → one words (λ a. number_in 32 a >>= k) ≡ (one words (number_in 32) >>= k)
-      same [] = refl
-      same (a ∷ []) = refl
-      same (a ∷ b ∷ words) = refl
-
-abbrev pair : Option ℕ → Option ℕ → Option (ℕ × ℕ)
-pair first second = do
-  x ← first
-  y ← second
-  Some (x, y)
-
-module _ {A : Type 0} (k : ℕ → ℕ → Option A) where
-  both : (first second : Option ℕ) → (first >>= (λ x. second >>= k x)) ≡ (pair first second >>= (λ p. k p.0 p.1))
-  both None second = refl
-  both (Some x) None = refl
-  both (Some x) (Some y) = refl
-
-  pub two_then : (words : List (List ℕ)) (found : Option (ℕ × ℕ)) → found ≡ two words short_and_long →
-      two words (λ a b. number_in 32 a >>= (λ x. number_in 64 b >>= k x)) ≡ (found >>= (λ p. k p.0 p.1))
-  two_then words found is = same words ∙ ap (λ (f : Option (ℕ × ℕ)). f >>= (λ p. k p.0 p.1)) (sym is)
-    where
-      same : (words : List (List ℕ)) → two words (λ a b. number_in 32 a >>= (λ x. number_in 64 b >>= k x)) ≡ (two words short_and_long >>= (λ p. k p.0 p.1))
-      same [] = refl
-      same (a ∷ []) = refl
-      same (a ∷ b ∷ []) = both (number_in 32 a) (number_in 64 b)
-      same (a ∷ b ∷ c ∷ words) = refl
 
 -- ---- words byte by byte
 

@@ -122,3 +122,7 @@ cut_found by text at others found are =
 pub texts_behind : (words : List (List ℕ)) (first : List ℕ) (others : List (List ℕ)) → words ≡ first ∷ others → AreTexts words → AreTexts others
 texts_behind [] first others e h = cc
 texts_behind (word ∷ words) first others e h = subst AreTexts (ap (drop 1) e) h.1
+
+pub texts_left : (words : List (List ℕ)) → AreTexts words → AreTexts (drop 1 words)
+texts_left [] h = tt
+texts_left (word ∷ words) h = h.1

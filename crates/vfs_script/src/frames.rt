@@ -77,7 +77,7 @@ impl Frames {
             return Err(bad(number));
         };
         match parsed {
-            Parsed::Request { endpoint, request } => self.ask(number, endpoint, request),
+            Parsed::Request(endpoint, request) => self.ask(number, endpoint, request),
             Parsed::Write { endpoint, hex } => self.write(number, endpoint, hex),
             Parsed::WriteAt {
                 endpoint,

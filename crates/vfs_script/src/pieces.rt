@@ -2,8 +2,8 @@
 
 ghost use Rattle.std.specs.Prelude.{◌≡◌, ◌≢◌, ◌==◌, ◌∷◌, [], drop, length, IfSome, IfNone};
 ghost use Rattle.memchr.specs.Find.{IsFirstByte, is_byte};
-ghost use Rattle.vfs_script.specs.Lines.{one, two};
-ghost use Rattle.vfs_script.specs.Parsed.{first_in, short_and_long};
+ghost use Rattle.vfs_script.specs.Lines.{one};
+ghost use Rattle.vfs_script.specs.Parsed.{first_in};
 ghost use Rattle.vfs_script.specs.Words.{number_in, pieces};
 
 use crate::numbers::{decimal_in_front, long};
@@ -73,7 +73,7 @@ impl<'a> Pieces<'a> {
 
     /// Whether no piece is left.
     #[inline(always)]
-    fn is_empty(&self) -> bool
+    pub(crate) fn is_empty(&self) -> bool
         ensures { result ≡ (length self.now == 0) }
     {
         self.is_done
@@ -157,18 +157,13 @@ impl<'a> Pieces<'a> {
         if self.is_empty() { Some(number) } else { None }
     }
 
-    /// The numbers of 32 and of 64 bits that the two pieces are.
+    /// The number of 64 bits that the one piece is.
     #[inline(always)]
-    pub(crate) fn short_and_long(mut self) -> Option<(u32, u64)>
-        ensures { result ≡ two self.entry short_and_long }
+    pub(crate) fn only_long(mut self) -> Option<u64>
+        ensures { result ≡ one self.entry (number_in 64) }
     {
-        let first = self.short()?;
-        let second = self.long()?;
-        if self.is_empty() {
-            Some((first, second))
-        } else {
-            None
-        }
+        let number = self.long()?;
+        if self.is_empty() { Some(number) } else { None }
     }
 
     /// The pieces, if there are exactly two.
@@ -189,15 +184,5 @@ impl<'a> Pieces<'a> {
         let first = self.next()?;
         let (second, third) = self.two()?;
         Some((first, second, third))
-    }
-
-    /// The pieces, if there are exactly four.
-    pub(crate) fn four(mut self) -> Option<(&'a [u8], &'a [u8], &'a [u8], &'a [u8])>
-        ensures found { IfSome result (λ all. self.entry ≡ all.0.now ∷ all.1.now ∷ all.2.now ∷ all.3.now ∷ []) }
-        ensures none { IfNone result (length self.entry ≢ 4) }
-    {
-        let first = self.next()?;
-        let (second, third, fourth) = self.three()?;
-        Some((first, second, third, fourth))
     }
 }
