@@ -1,5 +1,5 @@
 -- Words as numbers.
-use Rattle.std.proofs.Common.{◌≡◌, ℕ, zero, suc, ◌+◌, ◌-◌, ◌*◌, ◌<◌, ◌≤◌, ◌^◌, nat_lt, nat_le, Bool, true, false, ◌&&◌, List, [], ◌∷◌, ◌++◌, length, map, get_or, take, drop, ◌||◌, ◌==◌, slice_index, Option, Some, None, Result, Ok, Err, refl, sym, ap, ◌∙◌, arith, inl, inr, append_assoc, append-nil}
+use Rattle.std.proofs.Common.{not, ◌≡◌, ℕ, zero, suc, ◌+◌, ◌-◌, ◌*◌, ◌<◌, ◌≤◌, ◌^◌, nat_lt, nat_le, Bool, true, false, ◌&&◌, List, [], ◌∷◌, ◌++◌, length, map, get_or, take, drop, ◌||◌, ◌==◌, slice_index, Option, Some, None, Result, Ok, Err, refl, sym, ap, ◌∙◌, arith, inl, inr, append_assoc, append-nil}
 use Rattle.std.specs.Prelude.{IfSome, MatchResult, is_ok}
 use Rattle.memchr.specs.Find.{Nowhere, Passes, is_byte}
 use Rattle.std.specs.List.{list_all}
@@ -132,6 +132,11 @@ pub led_some : (word : List ℕ) → is_led word ≡ true → 0 < length word
 unfolding is_led
 led_some [] h = absurd (cc)
 led_some (c ∷ word) h = omega arith
+
+-- the first of some digits decides
+pub led_by_first : (word : List ℕ) → (length word ≡ 1 → ⊥) → (length word == 0) ≡ false → not (slice_index word 0 == 48) ≡ is_led word
+unfolding is_led
+led_by_first word more some = rw (ne_eqb (length word) 1 more, some) refl
 
 -- the greatest of bytes
 pub greatest_more : (bytes : List ℕ) (i old new : ℕ) → old ≤ new → slice_index bytes i ≤ new → ((k : ℕ) → k < i → slice_index bytes k ≤ old) → (k : ℕ) → k < i + 1 → slice_index bytes k ≤ new

@@ -1,9 +1,10 @@
 // The frames and calls of the lines so far.
 
-ghost use Rattle.std.specs.Prelude.{◌≡◌, ◌<◌, [], length, IfOk, IfErr, OnOk, None, Some};
+ghost use Rattle.std.specs.Prelude.{◌≡◌, ◌<◌, [], length, if◌then◌else◌, IfOk, IfErr, OnOk, None, Some};
 ghost use Rattle.std.specs.Str.{IsUtf8};
 ghost use Rattle.endpoint_link.specs.Frames.{HasShape, frame_with};
 ghost use Rattle.io_messages.specs.Asked.{asked};
+ghost use Rattle.io_messages.specs.Shapes.{is_one_way};
 ghost use Rattle.io_messages.specs.Writing.{HasTexts};
 ghost use Rattle.vfs_script.specs.declared.faults.ScriptFault.TheVariants as fault;
 ghost use Rattle.vfs_script.specs.Kept.{Takes, kept_and};
@@ -18,7 +19,7 @@ use crate::forms::{Parsed, line_of};
 use crate::numbers::{bytes, handles, is_text};
 use byteorder::{ByteOrder, LittleEndian};
 use endpoint_link::{FrameKind, Outbox, write_frame, write_message};
-use fidl_names::{MAX_BYTES, NoMemory};
+use fidl_names::{MAX_BYTES, Method, NoMemory};
 use fidl_wire::{Ordinals, Out};
 use io_client::watcher_of;
 use io_messages::{Request, is_one_way};
@@ -195,8 +196,7 @@ impl Frames {
         requires texts { HasTexts (asked request) }
         ensures { Takes number (said_at number (Some (lines.request endpoint (asked request.entry)))) self.old self.new result }
     {
-        let method = request.method();
-        let txid = if is_one_way(method) { 0 } else { number };
+        let txid = txid_of(number, request.method());
         self.out.clear();
         if write_request(&self.ordinals, txid, request, &mut self.out).is_err() {
             return Err(bad(number));
@@ -210,6 +210,13 @@ impl Frames {
         self.calls.push(call_of(endpoint, number, &request))?;
         Ok(())
     }
+}
+
+// The transaction id of a request in the line with this number.
+fn txid_of(number: u32, method: Method) -> u32
+    ensures { result ≡ if is_one_way method then 0 else number }
+{
+    if is_one_way(method) { 0 } else { number }
 }
 
 // The fault of a bad line.

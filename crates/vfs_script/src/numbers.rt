@@ -66,10 +66,13 @@ fn all_decimal(word: &[u8]) -> bool
 fn is_led(word: &[u8]) -> bool
     ensures { result ≡ is_led word.now }
 {
+    if word.is_empty() {
+        return false;
+    }
     if word.len() == 1 {
         return true;
     }
-    !word.is_empty() && word[0] != b'0'
+    word[0] != b'0'
 }
 
 fn all_digits(word: &[u8]) -> bool
