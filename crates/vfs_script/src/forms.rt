@@ -53,6 +53,13 @@ fn alone<'a>(parsed: Parsed<'a>, fields: Pieces<'a>) -> Option<Parsed<'a>>
     fields.is_empty().then_some(parsed)
 }
 
+// Behind `hangup E`: nothing
+fn hang_up_form<'a>(endpoint: u32, fields: Pieces<'a>) -> Option<Parsed<'a>>
+    ensures { Forms (behind Verb.HangUp endpoint fields.entry) result }
+{
+    alone(Parsed::HangUp { endpoint }, fields)
+}
+
 // A text and a number of 64 bits.
 fn text_and_long<'a>(fields: Pieces<'a>) -> Option<(&'a [u8], u64)>
     ensures read { option_map (λ r. (r.0.now, r.1)) result ≡ two fields.entry text_and_long }
@@ -184,7 +191,7 @@ fn form_of<'a>(verb: Verb, endpoint: u32, fields: Pieces<'a>) -> Option<Parsed<'
             let hex = fields.one()?;
             Some(Parsed::Echo { endpoint, hex })
         }
-        Verb::HangUp => alone(Parsed::HangUp { endpoint }, fields),
+        Verb::HangUp => hang_up_form(endpoint, fields),
         Verb::Turn => {
             let count = fields.only_short()?;
             Some(Parsed::Turn {
