@@ -15,7 +15,7 @@ use io_client::{Client, Taken};
 use io_messages::{Reply, Request, is_one_way};
 use std::alloc::Global;
 use std::test::Fail;
-use test_rows::{BadCell, Row, Table, all_hold};
+use test_rows::{Row, Table, all_hold};
 
 /// The requests of rows. The file is to be read, and to tell what it is; an Open makes endpoint 2.
 const REQUESTS: [(&str, Request<'static>); 8] = [
@@ -91,21 +91,20 @@ fn has_txid(txid: u32, request: &Request<'_>) -> bool
 }
 
 /// The request of a row. The table stands here alone, since what is proved of a function goes over all that it has.
-fn request<'a>(row: &Row<'a>) -> Result<Request<'static>, BadCell<'a>> {
+fn request(row: &Row<'_>) -> Option<Request<'static>> {
     row.named(4, &REQUESTS)
 }
 
-fn method<'a>(row: &Row<'a>) -> Result<Method, BadCell<'a>> {
+fn method(row: &Row<'_>) -> Option<Method> {
     row.named(4, &METHODS)
 }
 
 /// A number of 32 bits.
-fn number<'a>(row: &Row<'a>, at: usize) -> Result<u32, BadCell<'a>> {
-    let number = row.number(at)?;
-    if number > u64::from(u32::MAX) {
-        return Err(row.bad(at));
+fn number(row: &Row<'_>, at: usize) -> Option<u32> {
+    match row.number(at) {
+        Some(number) if number <= u64::from(u32::MAX) => Some(number as u32),
+        _ => None,
     }
-    Ok(number as u32)
 }
 
 /// What a frame is to the client, if it is one that servers send.
@@ -122,109 +121,122 @@ fn taken<'a>(ordinals: &Ordinals, client: &mut Client, bytes: &'a [u8]) -> Optio
 }
 
 impl Caller {
-    fn new(alloc: Global) -> Result<Caller, Fail> {
-        let ordinals = Ordinals::new()?;
-        let client = Client::new(alloc)?;
-        let outbox = Outbox::new(alloc);
-        Ok(Caller {
-            ordinals,
-            client,
-            outbox,
-        })
+    /// Whether sending the row's request writes its frame, or is refused as that says.
+    fn sends(&mut self, alloc: Global, row: &Row<'_>) -> bool {
+        match request(row) {
+            Some(request) => self.sends_one(alloc, row, request),
+            None => false,
+        }
     }
 
-    /// Whether sending a request writes its row's frame, or is refused as that says.
-    fn sends<'a>(
-        &mut self,
-        alloc: Global,
-        row: &Row<'a>,
-        request: Request<'_>,
-    ) -> Result<bool, BadCell<'a>> {
-        let (endpoint, txid) = (number(row, 2)?, number(row, 3)?);
+    /// Whether a Write of the row's bytes is sent as that says.
+    fn writes(&mut self, alloc: Global, row: &Row<'_>) -> bool {
+        match row.bytes(alloc, 4) {
+            Some(bytes) => self.sends_one(alloc, row, Request::Write { bytes: &bytes }),
+            None => false,
+        }
+    }
+
+    fn sends_one(&mut self, alloc: Global, row: &Row<'_>, request: Request<'_>) -> bool {
+        let (Some(endpoint), Some(txid)) = (number(row, 2), number(row, 3)) else {
+            return false;
+        };
         if !has_texts(&request) || !has_txid(txid, &request) {
-            return Err(row.bad(4));
+            return false;
         }
         match self
             .client
             .send(&self.ordinals, endpoint, txid, request, &mut self.outbox)
         {
             Ok(()) => self.has_sent(alloc, row, 5),
-            Err(fault) => Ok(row.says(alloc, 5, &fault)),
+            Err(fault) => row.says(alloc, 5, &fault),
         }
-    }
-
-    /// Whether a Write of the row's bytes is sent as that says.
-    fn writes<'a>(&mut self, alloc: Global, row: &Row<'a>) -> Result<bool, BadCell<'a>> {
-        let bytes = row.bytes(alloc, 4)?;
-        self.sends(alloc, row, Request::Write { bytes: &bytes })
     }
 
     /// Whether what was sent since the last time is the frame of a cell.
-    fn has_sent<'a>(
-        &mut self,
-        alloc: Global,
-        row: &Row<'a>,
-        at: usize,
-    ) -> Result<bool, BadCell<'a>> {
-        let frame = row.bytes(alloc, at)?;
-        let same = self.outbox.as_bytes() == frame.as_slice();
+    fn has_sent(&mut self, alloc: Global, row: &Row<'_>, at: usize) -> bool {
+        let same = match row.bytes(alloc, at) {
+            Some(frame) => self.outbox.as_bytes() == frame.as_slice(),
+            None => false,
+        };
         self.outbox.clear();
-        Ok(same)
+        same
     }
 
     /// Whether noting a call answers what its row says.
-    fn notes<'a>(&mut self, alloc: Global, row: &Row<'a>) -> Result<bool, BadCell<'a>> {
-        let (endpoint, txid, method) = (number(row, 2)?, number(row, 3)?, method(row)?);
-        let watcher = number(row, 5).ok();
-        if txid == 0 || is_one_way(method) {
-            return Err(row.bad(3));
+    fn notes(&mut self, alloc: Global, row: &Row<'_>) -> bool {
+        match (number(row, 2), number(row, 3), method(row)) {
+            (Some(endpoint), Some(txid), Some(method)) if txid > 0 && !is_one_way(method) => {
+                let noted = self.client.note(endpoint, txid, method, number(row, 5));
+                row.says(alloc, 6, &noted)
+            }
+            _ => false,
         }
-        let noted = self.client.note(endpoint, txid, method, watcher);
-        Ok(row.says(alloc, 6, &noted))
     }
 
     /// Whether hanging up writes its row's frame.
-    fn hangs_up<'a>(&mut self, alloc: Global, row: &Row<'a>) -> Result<bool, BadCell<'a>> {
-        let hung_up = self.client.hang_up(number(row, 2)?, &mut self.outbox);
-        Ok(hung_up.is_ok() && self.has_sent(alloc, row, 3)?)
+    fn hangs_up(&mut self, alloc: Global, row: &Row<'_>) -> bool {
+        match number(row, 2) {
+            Some(endpoint) => {
+                self.client.hang_up(endpoint, &mut self.outbox).is_ok()
+                    && self.has_sent(alloc, row, 3)
+            }
+            None => false,
+        }
     }
 
     /// Whether the row's frame is to the client what the row says.
-    fn takes<'a>(&mut self, alloc: Global, row: &Row<'a>) -> Result<bool, BadCell<'a>> {
-        let bytes = row.bytes(alloc, 2)?;
+    fn takes(&mut self, alloc: Global, row: &Row<'_>) -> bool {
+        let Some(bytes) = row.bytes(alloc, 2) else {
+            return false;
+        };
         match taken(&self.ordinals, &mut self.client, &bytes) {
-            Some(taken) => Ok(row.says(alloc, 3, &taken)),
-            None => Err(row.bad(2)),
+            Some(taken) => row.says(alloc, 3, &taken),
+            None => false,
         }
     }
 }
 
 impl Table for Caller {
-    fn holds<'a>(&mut self, alloc: Global, row: &Row<'a>) -> Result<bool, BadCell<'a>> {
-        match row.cell(1)? {
-            "send" => self.sends(alloc, row, request(row)?),
-            "write" => self.writes(alloc, row),
-            "note" => self.notes(alloc, row),
-            "waiting" => Ok(self.client.waiting() as u64 == row.number(2)?),
-            "hang up" => self.hangs_up(alloc, row),
-            _ => self.takes(alloc, row),
+    fn holds(&mut self, alloc: Global, row: &Row<'_>) -> bool {
+        match row.cell(1) {
+            Some("send") => self.sends(alloc, row),
+            Some("write") => self.writes(alloc, row),
+            Some("note") => self.notes(alloc, row),
+            Some("waiting") => row.number(2) == Some(self.client.waiting() as u64),
+            Some("hang up") => self.hangs_up(alloc, row),
+            Some("take") => self.takes(alloc, row),
+            _ => false,
         }
     }
 }
 
+/// Tries the rows of a text, which one client does in order.
+fn exchanges_go(alloc: Global, text: &[u8]) -> Result<(), Fail> {
+    let ordinals = Ordinals::new()?;
+    let client = Client::new(alloc)?;
+    let outbox = Outbox::new(alloc);
+    let mut caller = Caller {
+        ordinals,
+        client,
+        outbox,
+    };
+    all_hold(alloc, text, &mut caller)
+}
+
 #[test]
 fn exchanges_over_a_file_go_as_their_rows_say(rt: HostRuntime) -> Result<(), Fail> {
-    all_hold(rt.alloc(), FILE, &mut Caller::new(rt.alloc())?)
+    exchanges_go(rt.alloc(), FILE)
 }
 
 #[test]
 fn exchanges_go_as_their_rows_say(rt: HostRuntime) -> Result<(), Fail> {
-    all_hold(rt.alloc(), EXCHANGE, &mut Caller::new(rt.alloc())?)
+    exchanges_go(rt.alloc(), EXCHANGE)
 }
 
 #[test]
 fn frames_are_taken_as_their_rows_say(rt: HostRuntime) -> Result<(), Fail> {
-    all_hold(rt.alloc(), TAKEN, &mut Caller::new(rt.alloc())?)
+    exchanges_go(rt.alloc(), TAKEN)
 }
 
 /// How many calls are made at a time.

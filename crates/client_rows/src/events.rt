@@ -1,12 +1,12 @@
 //! Messages to watchers, also such that no server writes, and the events that are read in them.
 use std::alloc::Global;
 use std::test::Fail;
-use test_rows::{BadCell, Row, Table, all_hold};
+use test_rows::{Row, Table, all_hold};
 use watch_events::read_events;
 
 /// A name, the bytes of a message, its first three events, and whether those that it has use it up. The first three are what watchers of
 /// a directory get.
-const MESSAGES: &str = "
+const MESSAGES: &[u8] = b"
 a snapshot of two names | 03012e030166 | (Some(Seen { event: 3, name: '.' }), Some(Seen { event: 3, name: 'f' }), None, true)
 these were all | 0400 | (Some(Seen { event: 4, name: '' }), None, None, true)
 a name came | 010162 | (Some(Seen { event: 1, name: 'b' }), None, None, true)
@@ -21,11 +21,13 @@ a third event without a length | 0700070007 | (Some(Seen { event: 7, name: '' })
 struct Watched;
 
 impl Table for Watched {
-    fn holds<'a>(&mut self, alloc: Global, row: &Row<'a>) -> Result<bool, BadCell<'a>> {
-        let bytes = row.bytes(alloc, 1)?;
+    fn holds(&mut self, alloc: Global, row: &Row<'_>) -> bool {
+        let Some(bytes) = row.bytes(alloc, 1) else {
+            return false;
+        };
         let mut events = read_events(&bytes);
         let (first, second, third) = (events.next(), events.next(), events.next());
-        Ok(row.says(alloc, 2, &(first, second, third, events.whole())))
+        row.says(alloc, 2, &(first, second, third, events.whole()))
     }
 }
 

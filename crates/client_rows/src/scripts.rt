@@ -7,7 +7,7 @@ use fidl_names::MAX_TEXT;
 use fidl_wire::Ordinals;
 use std::alloc::Global;
 use std::test::Fail;
-use test_rows::{BadCell, Row, Table, all_hold};
+use test_rows::{Row, Table, all_hold};
 use vfs_script::{Script, script_of};
 use workload::{MAX_ROUNDS, generated};
 
@@ -17,26 +17,24 @@ struct Scripts {
 }
 
 /// The lines of a cell, where each `;` stands for a line's end.
-fn lines<'a>(alloc: Global, row: &Row<'a>, at: usize) -> Result<Vec<u8>, BadCell<'a>> {
-    let mut text = Vec::new(alloc);
-    for byte in row.cell(at)?.as_bytes() {
-        let byte = if *byte == b';' { b'\n' } else { *byte };
-        if text.push(byte).is_err() {
-            return Err(row.bad(at));
-        }
-    }
-    Ok(text)
+fn lines(alloc: Global, row: &Row<'_>, at: usize) -> Option<String> {
+    row.cell(at)?.replace(alloc, ';', "\n").ok()
 }
 
 /// Whether so many rounds give the script of the row.
-fn are_rounds<'a>(alloc: Global, row: &Row<'a>) -> Result<bool, BadCell<'a>> {
-    let rounds = row.number(2)?;
+fn are_rounds(alloc: Global, row: &Row<'_>) -> bool {
+    let Some(rounds) = row.number(2) else {
+        return false;
+    };
     if rounds < 1 || rounds > u64::from(MAX_ROUNDS) {
-        return Err(row.bad(2));
+        return false;
     }
+    let Some(lines) = lines(alloc, row, 3) else {
+        return false;
+    };
     match generated(alloc, rounds as u32) {
-        Ok(text) => Ok(text.as_bytes() == lines(alloc, row, 3)?.as_slice()),
-        Err(_) => Ok(false),
+        Ok(text) => text.as_bytes() == lines.as_bytes(),
+        Err(_) => false,
     }
 }
 
@@ -54,15 +52,26 @@ fn read_script(alloc: Global, ordinals: &Ordinals, text: &[u8]) -> Option<Script
     }
 }
 
+/// Whether the row's script stands for its frames.
+fn is_script(alloc: Global, ordinals: &Ordinals, row: &Row<'_>) -> bool {
+    let Some(lines) = lines(alloc, row, 2) else {
+        return false;
+    };
+    let Some(script) = read_script(alloc, ordinals, lines.as_bytes()) else {
+        return false;
+    };
+    match row.bytes(alloc, 3) {
+        Some(frames) => script.frames() == frames.as_slice(),
+        None => false,
+    }
+}
+
 impl Table for Scripts {
-    fn holds<'a>(&mut self, alloc: Global, row: &Row<'a>) -> Result<bool, BadCell<'a>> {
-        if row.cell(1)? == "rounds" {
-            return are_rounds(alloc, row);
-        }
-        let frames = row.bytes(alloc, 3)?;
-        match read_script(alloc, &self.ordinals, &lines(alloc, row, 2)?) {
-            Some(script) => Ok(script.frames() == frames.as_slice()),
-            None => Ok(false),
+    fn holds(&mut self, alloc: Global, row: &Row<'_>) -> bool {
+        match row.cell(1) {
+            Some("rounds") => are_rounds(alloc, row),
+            Some("script") => is_script(alloc, &self.ordinals, row),
+            _ => false,
         }
     }
 }

@@ -1,8 +1,8 @@
-// Rows of outside values as texts, for tests: a test reads a `&str` constant of lines, and what fails names its row.
+// Rows of outside values as texts, for tests: a test reads a constant of lines, and what fails names its row.
 #![tactic(auto)]
 
 mod cells;
 mod words;
 
-pub use cells::{BadCell, Row, Table, all_hold};
+pub use cells::{Row, Table, all_hold};
 pub use words::bytes;

@@ -3,10 +3,10 @@ use io_flags::{OpenFlags, forwarded, grant, laws_of_flags, words_are_sets};
 use io_rights::{Rights, read_rights};
 use std::alloc::Global;
 use std::test::Fail;
-use test_rows::{BadCell, Row, Table, all_hold};
+use test_rows::{Row, Table, all_hold};
 
 // A fault | words that have it
-const FAULTY: &str = "
+const FAULTY: &[u8] = b"
 UnknownBit    | 0x200,0x400,0x800,0x1000,0x8000,0x10000,0x80000000,0x2000000000,0x8000000000,0x80000000000,0x400000000000,0x800000000000,0x2000000000000,0x8000000000000000,0xffffffffffffffff,0x30800000200
 BothCreate    | 0x30800000000,0x30000000000,0x70000000000,0x31000000000
 Unsupported   | 0x1000000000,0x40000000000,0x40800000000,0x11000000000,0x50000000000,0x1200000000
@@ -17,7 +17,7 @@ NodeAlone     | 0x600000000,0xa00000000,0x300000000,0x100a00000000
 ";
 
 // A word | the connection's rights | the masks | what is granted | the word that goes on
-const GRANTED: &str = "
+const GRANTED: &[u8] = b"
 0x0             | crwxguetm | crwxguetm | -         | 0x0
 0x6             | crwxguetm | crwxguetm | rw        | 0x6
 0x6             | crwxguetm | rg        | none      | 0x6
@@ -57,40 +57,49 @@ const GRANTED: &str = "
 0x1100800004002 | crwxguetm | r         | r         | 0x1100800000002
 ";
 
-#[derive(Clone, Copy)]
+#[derive(Drop)]
 struct Faulty;
 
 impl Table for Faulty {
-    fn holds<'a>(&mut self, alloc: Global, row: &Row<'a>) -> Result<bool, BadCell<'a>> {
-        for word in &row.numbers(alloc, 1)? {
+    fn holds(&mut self, alloc: Global, row: &Row<'_>) -> bool {
+        let Some(words) = row.numbers(alloc, 1) else {
+            return false;
+        };
+        for word in &words {
             match OpenFlags::check(*word) {
                 Err(fault) if row.says(alloc, 0, &fault) => {}
-                _ => return Ok(false),
+                _ => return false,
             }
         }
-        Ok(true)
+        true
     }
 }
 
-#[derive(Clone, Copy)]
+#[derive(Drop)]
 struct Granted;
 
 // The rights of a cell.
-fn rights<'a>(row: &Row<'a>, at: usize) -> Result<Rights, BadCell<'a>> {
-    match read_rights(row.cell(at)?.as_bytes()) {
-        Some(rights) => Ok(rights),
-        None => Err(row.bad(at)),
+fn rights(row: &Row<'_>, at: usize) -> Option<Rights> {
+    read_rights(row.cell(at)?.as_bytes())
+}
+
+// Whether a word is granted what the row says, and goes on as it says.
+fn is_granted(row: &Row<'_>, word: u64, have: Rights, masks: Rights) -> bool {
+    match OpenFlags::check(word) {
+        Ok(flags) => {
+            grant(flags, have, masks) == rights(row, 3)
+                && row.number(4) == Some(forwarded(flags, have, masks).word())
+        }
+        Err(_) => false,
     }
 }
 
 impl Table for Granted {
-    fn holds<'a>(&mut self, _: Global, row: &Row<'a>) -> Result<bool, BadCell<'a>> {
-        let (have, masks) = (rights(row, 1)?, rights(row, 2)?);
-        let Ok(flags) = OpenFlags::check(row.number(0)?) else {
-            return Ok(false);
-        };
-        let granted = grant(flags, have, masks) == read_rights(row.cell(3)?.as_bytes());
-        Ok(granted && forwarded(flags, have, masks).word() == row.number(4)?)
+    fn holds(&mut self, _: Global, row: &Row<'_>) -> bool {
+        match (row.number(0), rights(row, 1), rights(row, 2)) {
+            (Some(word), Some(have), Some(masks)) => is_granted(row, word, have, masks),
+            _ => false,
+        }
     }
 }
 

@@ -1,5 +1,5 @@
 //! Outside values of the link, read row by row, and the largest frame.
-ghost use Rattle.std.specs.Prelude.{◌≡◌, length};
+ghost use Rattle.std.specs.Prelude.{◌≡◌, [], length};
 
 mod rows;
 
@@ -10,7 +10,7 @@ use endpoint_link::{
 };
 use std::alloc::{AllocError, Global};
 use std::test::Fail;
-use test_rows::{BadCell, Row, Table, all_hold};
+use test_rows::{Row, Table, all_hold};
 
 /// The frame in front, or why it is none.
 fn front(side: Side, bytes: &[u8]) -> Result<(u32, FrameKind, usize, usize), Option<FrameReason>> {
@@ -24,33 +24,32 @@ fn front(side: Side, bytes: &[u8]) -> Result<(u32, FrameKind, usize, usize), Opt
     }
 }
 
-/// Messages that bring 65,472 endpoints, from 2 on, 64 each, and these frames behind them.
-fn behind_crowd(alloc: Global, frames: &[u8]) -> Result<Vec<u8>, AllocError> {
-    let mut all = Vec::new(alloc);
+/// Puts messages that bring 65,472 endpoints, from 2 on, 64 each, and these frames behind them.
+fn put_crowd(all: &mut Vec<u8>, frames: &[u8]) -> Result<(), AllocError> {
     for number in 2_u32..65_474 {
         if number % 64 == 2 {
             all.extend_from_slice(b"\x01\x00\x00\x00\x01\x40\x00\x00\x00\x00\x00\x00")?;
         }
         all.extend_from_slice(&number.to_le_bytes())?;
     }
-    all.extend_from_slice(frames)?;
-    Ok(all)
+    all.extend_from_slice(frames)
 }
 
 /// What was refused: the number of a frame, its endpoint, and why.
 type Refusals = Vec<(usize, u32, Refusal)>;
 
-/// What is refused of these frames. Nothing where they are none, or memory is wanting.
-fn refused(alloc: Global, frames: &[u8]) -> Option<Refusals> {
-    let mut endpoints = Endpoints::new(alloc, &[1], 3, 2).ok()?;
-    let mut refused = Vec::new(alloc);
+/// Admits frames, and puts those that are refused. No where they are none, or memory is wanting.
+fn are_admitted(endpoints: &mut Endpoints, refused: &mut Refusals, frames: &[u8]) -> bool {
     let mut rest = frames;
     for place in 0..frames.len() {
         if !rest.is_empty() {
-            rest = admit_front(&mut endpoints, &mut refused, place, rest)?;
+            match admit_front(endpoints, refused, place, rest) {
+                Some(behind) => rest = behind,
+                None => return false,
+            }
         }
     }
-    Some(refused)
+    true
 }
 
 /// Admits the frame in front, and gives what is behind it.
@@ -75,31 +74,39 @@ fn admit_front<'a>(
 struct Link;
 
 impl Table for Link {
-    fn holds<'a>(&mut self, alloc: Global, row: &Row<'a>) -> Result<bool, BadCell<'a>> {
-        let bytes = row.bytes(alloc, 2)?;
-        match row.cell(1)? {
-            "fixed" => Ok(are_fronts(alloc, row, bytes)),
-            "frames" => are_refused(alloc, row, &bytes),
-            _ => match behind_crowd(alloc, &bytes) {
-                Ok(frames) => are_refused(alloc, row, &frames),
-                Err(AllocError) => Err(row.bad(2)),
-            },
+    fn holds(&mut self, alloc: Global, row: &Row<'_>) -> bool {
+        let Some(mut bytes) = row.bytes(alloc, 2) else {
+            return false;
+        };
+        match row.cell(1) {
+            Some("fixed") => are_fronts(alloc, row, &mut bytes),
+            Some("frames") => are_refused(alloc, row, &bytes),
+            Some("crowd") => are_refused_behind_crowd(alloc, row, &bytes),
+            _ => false,
         }
     }
 }
 
 /// Whether these bytes, and zeros behind them, begin with the frames that the row says, on each side.
-fn are_fronts(alloc: Global, row: &Row<'_>, mut bytes: Vec<u8>) -> bool {
+fn are_fronts(alloc: Global, row: &Row<'_>, bytes: &mut Vec<u8>) -> bool {
     bytes.resize(MAX_FRAME_LEN, 0).is_ok()
-        && row.says(alloc, 3, &front(Side::ToServers, &bytes))
-        && row.says(alloc, 4, &front(Side::Any, &bytes))
+        && row.says(alloc, 3, &front(Side::ToServers, bytes))
+        && row.says(alloc, 4, &front(Side::Any, bytes))
+}
+
+fn are_refused_behind_crowd(alloc: Global, row: &Row<'_>, frames: &[u8]) -> bool {
+    let mut all = Vec::new(alloc);
+    put_crowd(&mut all, frames).is_ok() && are_refused(alloc, row, &all)
 }
 
 /// Whether what is refused of these frames is what the row says.
-fn are_refused<'a>(alloc: Global, row: &Row<'a>, frames: &[u8]) -> Result<bool, BadCell<'a>> {
-    match refused(alloc, frames) {
-        Some(refused) => Ok(row.says(alloc, 3, &refused)),
-        None => Err(row.bad(2)),
+fn are_refused(alloc: Global, row: &Row<'_>, frames: &[u8]) -> bool {
+    match Endpoints::new(alloc, &[1], 3, 2) {
+        Ok(mut endpoints) => {
+            let mut refused = Vec::new(alloc);
+            are_admitted(&mut endpoints, &mut refused, frames) && row.says(alloc, 3, &refused)
+        }
+        Err(_) => false,
     }
 }
 
@@ -108,30 +115,47 @@ fn the_link_is_what_its_rows_say(rt: HostRuntime) -> Result<(), Fail> {
     all_hold(rt.alloc(), ROWS, &mut Link)
 }
 
-/// Whether the largest frame, 64 handles and these 65,536 bytes, and a Close frame behind it fill a room, and are what an outbox has.
-fn are_gathered(alloc: Global, bytes: &[u8], outbox: &mut Outbox) -> Result<bool, Fail>
-    requires { length bytes.now ≡ 65_536 }
+/// Whether the largest frame, 64 handles and these bytes, and a Close frame behind it fill a room, and are what was written.
+fn fill(room: &mut FrameRoom, bytes: &[u8], written: &[u8]) -> bool
+    requires bytes { length bytes.now ≡ 65_536 }
+    requires empty { room.old.bytes ≡ [] }
+    requires size { room.old.size ≡ 65_816 }
 {
-    write_frame(outbox, 1, FrameKind::Message, &[7; 64], bytes)?;
-    write_frame(outbox, 1, FrameKind::Close, &[], &[])?;
-    let mut room = FrameRoom::new(alloc, 65_816)?;
     room.put_frame(1, FrameKind::Message, &[7; 64], bytes);
     let rest = room.room();
     room.put_frame(1, FrameKind::Close, &[], &[]);
-    let same = room.as_bytes() == outbox.as_bytes();
+    let same = room.as_bytes() == written;
     room.clear();
-    Ok(same && rest == spelled_len(0, 0) && room.room() == 65_816)
+    same && rest == spelled_len(0, 0) && room.room() == 65_816
+}
+
+/// Whether these frames, written to an outbox, are what a room has. Want of memory says no.
+fn are_gathered(alloc: Global, bytes: &[u8], outbox: &mut Outbox) -> bool
+    requires { length bytes.now ≡ 65_536 }
+{
+    if write_frame(outbox, 1, FrameKind::Message, &[7; 64], bytes).is_err()
+        || write_frame(outbox, 1, FrameKind::Close, &[], &[]).is_err()
+    {
+        return false;
+    }
+    match FrameRoom::new(alloc, 65_816) {
+        Ok(mut room) => fill(&mut room, bytes, outbox.as_bytes()),
+        Err(_) => false,
+    }
+}
+
+/// Whether the largest frame is read, and is what is left where the Close frame is cut off.
+fn is_read_and_cut(outbox: &mut Outbox) -> bool {
+    let read = front(Side::ToServers, outbox.as_bytes());
+    outbox.truncate(65_804);
+    let cut = outbox.len() == 65_804;
+    outbox.clear();
+    matches!(read, Ok((1, FrameKind::Message, 64, 65_536))) && cut && outbox.is_empty()
 }
 
 #[test]
-fn the_largest_frame_passes(rt: HostRuntime) -> Result<(), Fail> {
+fn the_largest_frame_passes(rt: HostRuntime) {
     let mut outbox = Outbox::new(rt.alloc());
-    assert!(rt; are_gathered(rt.alloc(), &[0x61; 65_536], &mut outbox)?);
-    let front = front(Side::ToServers, outbox.as_bytes());
-    assert!(rt; front == Ok((1, FrameKind::Message, 64, 65_536)));
-    outbox.truncate(65_804);
-    assert!(rt; outbox.len() == 65_804);
-    outbox.clear();
-    assert!(rt; outbox.is_empty());
-    Ok(())
+    let gathered = are_gathered(rt.alloc(), &[0x61; 65_536], &mut outbox);
+    assert!(rt; gathered && is_read_and_cut(&mut outbox));
 }

@@ -23,7 +23,7 @@ use message_writer::{write_event, write_reply, write_request};
 use request_reader::read_request;
 use std::alloc::Global;
 use std::test::Fail;
-use test_rows::{BadCell, Row, Table, all_hold};
+use test_rows::{Row, Table, all_hold};
 
 const PROTOCOLS: [(&str, Protocol); 5] = [
     ("Directory", Protocol::Directory),
@@ -41,9 +41,14 @@ struct Messages {
 }
 
 impl Table for Messages {
-    fn holds<'a>(&mut self, alloc: Global, row: &Row<'a>) -> Result<bool, BadCell<'a>> {
-        let bytes = row.bytes(alloc, 2)?;
-        self.are_said(alloc, row, &bytes)
+    fn holds(&mut self, alloc: Global, row: &Row<'_>) -> bool {
+        let Some(bytes) = row.bytes(alloc, 2) else {
+            return false;
+        };
+        match row.cell(1) {
+            Some(kind) => self.are_said(alloc, row, kind, &bytes),
+            None => false,
+        }
     }
 }
 
@@ -52,83 +57,69 @@ fn read_status(bytes: &[u8]) -> Result<i32, WireFault> {
     Body::new(bytes, &[], 4)?.get_i32()
 }
 
-/// The handles of a row, by their numbers.
-fn handles<'a>(alloc: Global, row: &Row<'a>) -> Result<Vec<Handle>, BadCell<'a>> {
-    let mut all = Vec::new(alloc);
-    for number in &row.numbers(alloc, 3)? {
+/// Puts handles by their numbers.
+fn put_handles(all: &mut Vec<Handle>, numbers: &[u64]) -> bool {
+    for number in numbers {
         if *number > 0xffff_ffff || all.push(Handle::with_number(*number as u32)).is_err() {
-            return Err(row.bad(3));
+            return false;
         }
     }
-    Ok(all)
+    true
 }
 
 impl Messages {
-    /// Where two names had equal ordinals there would be none.
-    fn new(alloc: Global) -> Result<Messages, Fail> {
-        let ordinals = Ordinals::new()?;
-        let out = Out::new(alloc)?;
-        Ok(Messages { ordinals, out })
-    }
-
     /// Whether these bytes are what their row says.
-    fn are_said<'a>(
-        &mut self,
-        alloc: Global,
-        row: &Row<'a>,
-        bytes: &[u8],
-    ) -> Result<bool, BadCell<'a>> {
-        match row.cell(1)? {
-            "header" => Ok(row.says(alloc, 3, &Header::read(bytes))),
-            "epitaph" => Ok(row.says(alloc, 3, &read_epitaph(bytes))),
-            "status" => Ok(row.says(alloc, 3, &read_status(bytes))),
-            "ordinal" => Ok(bytes == ordinal(row.name().as_bytes()).to_be_bytes().as_slice()),
-            _ => self.is_message(alloc, row, bytes),
+    fn are_said(&mut self, alloc: Global, row: &Row<'_>, kind: &str, bytes: &[u8]) -> bool {
+        match kind {
+            "header" => row.says(alloc, 3, &Header::read(bytes)),
+            "epitaph" => row.says(alloc, 3, &read_epitaph(bytes)),
+            "status" => row.says(alloc, 3, &read_status(bytes)),
+            "ordinal" => bytes == ordinal(row.name().as_bytes()).to_be_bytes().as_slice(),
+            _ => self.is_message(alloc, row, kind, bytes),
         }
     }
 
     /// Whether a message is read as its row says, and gives the same bytes and handles again, or other ones, where that says so.
-    fn is_message<'a>(
-        &mut self,
-        alloc: Global,
-        row: &Row<'a>,
-        bytes: &[u8],
-    ) -> Result<bool, BadCell<'a>> {
-        let handles = handles(alloc, row)?;
-        Ok(self.is_read(alloc, row, bytes, &handles)? && self.is_again(row, bytes, &handles)?)
+    fn is_message(&mut self, alloc: Global, row: &Row<'_>, kind: &str, bytes: &[u8]) -> bool {
+        let mut handles = Vec::new(alloc);
+        match row.numbers(alloc, 3) {
+            Some(numbers) => {
+                put_handles(&mut handles, &numbers)
+                    && self.is_read(alloc, row, kind, bytes, &handles)
+                    && self.is_again(row, bytes, &handles)
+            }
+            None => false,
+        }
     }
 
     /// Whether a message is read as its row says. It is written again.
-    fn is_read<'a>(
+    fn is_read(
         &mut self,
         alloc: Global,
-        row: &Row<'a>,
+        row: &Row<'_>,
+        kind: &str,
         bytes: &[u8],
         handles: &[Handle],
-    ) -> Result<bool, BadCell<'a>> {
-        match row.cell(1)? {
-            "event" => Ok(self.is_event(alloc, row, bytes)),
-            "reply" => Ok(self.is_reply(alloc, row, bytes, handles)),
-            _ => {
-                let protocol = row.named(1, &PROTOCOLS)?;
-                Ok(self.is_request(alloc, row, protocol, bytes, handles))
-            }
+    ) -> bool {
+        match kind {
+            "event" => self.is_event(alloc, row, bytes),
+            "reply" => self.is_reply(alloc, row, bytes, handles),
+            _ => match row.named(1, &PROTOCOLS) {
+                Some(protocol) => self.is_request(alloc, row, protocol, bytes, handles),
+                None => false,
+            },
         }
     }
 
     /// Whether what was written is what the row says: these bytes and handles, other ones, or nothing.
-    fn is_again<'a>(
-        &self,
-        row: &Row<'a>,
-        bytes: &[u8],
-        handles: &[Handle],
-    ) -> Result<bool, BadCell<'a>> {
+    fn is_again(&self, row: &Row<'_>, bytes: &[u8], handles: &[Handle]) -> bool {
         let written = self.out.as_bytes();
         let same = written == bytes && self.out.handles() == handles;
-        match row.cell(5)? {
-            "same" => Ok(same),
-            "other" => Ok(!same && !written.is_empty()),
-            _ => Ok(written.is_empty()),
+        match row.cell(5) {
+            Some("same") => same,
+            Some("other") => !same && !written.is_empty(),
+            Some("-") => written.is_empty(),
+            _ => false,
         }
     }
 
@@ -237,17 +228,24 @@ fn may_be_written(reply: &Reply<'_>) -> bool
     }
 }
 
+/// Tries the rows of a text. Where two names had equal ordinals there would be no messages.
+fn messages_hold(alloc: Global, text: &[u8]) -> Result<(), Fail> {
+    let ordinals = Ordinals::new()?;
+    let out = Out::new(alloc)?;
+    all_hold(alloc, text, &mut Messages { ordinals, out })
+}
+
 #[test]
 fn heads_are_read(rt: HostRuntime) -> Result<(), Fail> {
-    all_hold(rt.alloc(), HEADS, &mut Messages::new(rt.alloc())?)
+    messages_hold(rt.alloc(), HEADS)
 }
 
 #[test]
 fn requests_are_read_and_written(rt: HostRuntime) -> Result<(), Fail> {
-    all_hold(rt.alloc(), REQUESTS, &mut Messages::new(rt.alloc())?)
+    messages_hold(rt.alloc(), REQUESTS)
 }
 
 #[test]
 fn replies_are_read_and_written(rt: HostRuntime) -> Result<(), Fail> {
-    all_hold(rt.alloc(), REPLIES, &mut Messages::new(rt.alloc())?)
+    messages_hold(rt.alloc(), REPLIES)
 }

@@ -2,71 +2,91 @@
 ghost use Rattle.std.specs.Prelude.{◌≡◌, ◌++◌, OnOk};
 
 use host_io::{
-    Failed, FileFault, Files, MemFiles, MemSink, MemSource, Sink, Source, StdSink, StdSource,
-    write_whole,
+    Failed, Files, MemFiles, MemSink, MemSource, Sink, Source, StdSink, StdSource, write_whole,
 };
 use std::alloc::Global;
 use std::io;
 use std::io::{ErrorKind, Read, Write};
 use std::test::Fail;
+use test_rows::{Row, Table, all_hold};
 
-/// A source of "hello" by its pieces, the read that fails, and what reads into four bytes answer.
-const READS: [(usize, u64, [Result<&[u8], Failed>; 4]); 4] = [
-    (9, 9, [Ok(b"hell"), Ok(b"o"), Ok(b""), Ok(b"")]),
-    (2, 1, [Ok(b"he"), Err(Failed), Ok(b"ll"), Ok(b"o")]),
-    (3, 2, [Ok(b"hel"), Ok(b"lo"), Err(Failed), Ok(b"")]),
-    (0, 0, [Err(Failed), Ok(b"h"), Ok(b"e"), Ok(b"l")]),
-];
+/// A name, and
+///
+/// - `reads`, the pieces of a source of "hello", the read that fails, and what four reads into four bytes answer, each with these bytes;
+/// - `writes`, a sink's room, its pieces and the call that fails; what a write of "hello", a flush, and two more writes of "hello" answer; and
+///   what is written then; or `wholes`, the same with two writes of "hello" that are whole;
+/// - `file`, a file's name, the most bytes and what is read, where `a` holds "hello", `b` nothing, and the read of number 3 fails;
+/// - `source` or `sink`, and what two reads, or two writes of "hello" and two flushes, of a stream with interrupted calls answer.
+const ROWS: &[u8] = b"
+a read for all | reads | 9 | 9 | [(Ok(4), 'hell'), (Ok(1), x'6f[00*3]'), (Ok(0), x'[00*4]'), (Ok(0), x'[00*4]')]
+pieces of two | reads | 2 | 1 | [(Ok(2), x'6865[00*2]'), (Err(Failed), x'[00*4]'), (Ok(2), x'6c6c[00*2]'), (Ok(1), x'6f[00*3]')]
+pieces of three | reads | 3 | 2 | [(Ok(3), x'68656c00'), (Ok(2), x'6c6f[00*2]'), (Err(Failed), x'[00*4]'), (Ok(0), x'[00*4]')]
+pieces of one | reads | 0 | 0 | [(Err(Failed), x'[00*4]'), (Ok(1), x'68[00*3]'), (Ok(1), x'65[00*3]'), (Ok(1), x'6c[00*3]')]
+a write for all | writes | 15 | 9 | 9 | (Ok(5), Ok(()), Ok(5), Ok(5)) | 'hellohellohello'
+writes of two | writes | 15 | 2 | 1 | (Ok(2), Err(Failed), Ok(2), Ok(2)) | 'hehehe'
+a write that fails | writes | 7 | 9 | 0 | (Err(Failed), Ok(()), Ok(5), Ok(2)) | 'hellohe'
+a write of one | writes | 1 | 0 | 9 | (Ok(1), Ok(()), Err(Failed), Err(Failed)) | 'h'
+no room for all | wholes | 8 | 3 | - | (Ok(()), Err(Failed)) | 'hellohel'
+all of a file | file | a | 5 | Ok('hello')
+too many bytes | file | a | 4 | Err(TooLarge)
+an empty file | file | b | 0 | Ok([])
+a read that fails | file | b | 5 | Err(Failed)
+no such file | file | c | 5 | Err(Failed)
+more than a file has | file | a | 9 | Ok('hello')
+interrupted reads | source | (Ok(3), Err(Failed))
+interrupted writes | sink | (Ok(2), Err(Failed), Ok(()), Err(Failed))
+";
 
-fn gives(source: &mut MemSource, answers: &[Result<&[u8], Failed>]) -> bool {
-    for answer in answers {
-        let mut buffer = [0; 4];
-        let same = match (source.read(&mut buffer), answer) {
-            (Ok(n), Ok(bytes)) => &buffer[..n] == *bytes,
-            (Err(Failed), Err(Failed)) => true,
+#[derive(Drop)]
+struct Streams {
+    files: MemFiles,
+}
+
+impl Table for Streams {
+    fn holds(&mut self, alloc: Global, row: &Row<'_>) -> bool {
+        match row.cell(1) {
+            Some("reads") => are_reads(alloc, row),
+            Some("writes") | Some("wholes") => are_writes(alloc, row),
+            Some("file") => is_read(alloc, row, &mut self.files),
+            Some("source") => is_source(alloc, row),
+            Some("sink") => is_sink(alloc, row),
             _ => false,
-        };
-        if !same {
-            return false;
         }
     }
-    true
 }
 
-fn reads_hold(
-    alloc: Global,
-    piece: usize,
-    failing: u64,
-    answers: &[Result<&[u8], Failed>],
-) -> Result<bool, Fail> {
-    let bytes = b"hello".to_vec(alloc)?;
-    let failing = [failing].to_vec(alloc)?;
-    Ok(gives(&mut MemSource::new(bytes, piece, failing), answers))
-}
-
-#[test]
-fn a_source_gives_pieces_and_fails_where_listed(rt: HostRuntime) -> Result<(), Fail> {
-    for (piece, failing, answers) in &READS {
-        let hold = reads_hold(rt.alloc(), *piece, *failing, answers)?;
-        assert!(rt; hold, "pieces of {piece}");
+fn size(row: &Row<'_>, at: usize) -> Option<usize> {
+    match row.number(at) {
+        Some(number) => Some(number as usize),
+        None => None,
     }
-    Ok(())
 }
 
-/// A sink by its room, its pieces and the write that fails; what a write of "hello", a flush (`Ok(0)` says that it is done), and two more
-/// writes of "hello" answer; and what is written then.
-const WRITES: [(usize, usize, u64, [Result<usize, Failed>; 4], &[u8]); 4] = [
-    (15, 9, 9, [Ok(5), Ok(0), Ok(5), Ok(5)], b"hellohellohello"),
-    (15, 2, 1, [Ok(2), Err(Failed), Ok(2), Ok(2)], b"hehehe"),
-    (7, 9, 0, [Err(Failed), Ok(0), Ok(5), Ok(2)], b"hellohe"),
-    (1, 0, 9, [Ok(1), Ok(0), Err(Failed), Err(Failed)], b"h"),
-];
+/// What a read into four bytes answers, and these bytes.
+fn read(source: &mut MemSource) -> (Result<usize, Failed>, [u8; 4]) {
+    let mut buffer = [0; 4];
+    let answer = source.read(&mut buffer);
+    (answer, buffer)
+}
 
-fn takes(sink: &mut MemSink, answers: &[Result<usize, Failed>; 4]) -> bool {
-    sink.write(b"hello") == answers[0]
-        && sink.flush().is_ok() == answers[1].is_ok()
-        && sink.write(b"hello") == answers[2]
-        && sink.write(b"hello") == answers[3]
+fn are_reads(alloc: Global, row: &Row<'_>) -> bool {
+    let Some(piece) = size(row, 2) else {
+        return false;
+    };
+    let Some(failing) = row.numbers(alloc, 3) else {
+        return false;
+    };
+    let Ok(bytes) = b"hello".to_vec(alloc) else {
+        return false;
+    };
+    let mut source = MemSource::new(bytes, piece, failing);
+    let answers = [
+        read(&mut source),
+        read(&mut source),
+        read(&mut source),
+        read(&mut source),
+    ];
+    row.says(alloc, 4, &answers)
 }
 
 // What a generic call says of the sink's bytes, the sink itself tells.
@@ -76,75 +96,45 @@ fn append(sink: &mut MemSink, bytes: &[u8]) -> Result<(), Failed>
     write_whole(sink, bytes)
 }
 
-fn writes_hold(
-    alloc: Global,
-    (room, piece): (usize, usize),
-    failing: u64,
-    answers: &[Result<usize, Failed>; 4],
-    written: &[u8],
-) -> Result<bool, Fail> {
-    let failing = [failing].to_vec(alloc)?;
-    let mut sink = MemSink::new(alloc, room, piece, failing)?;
-    Ok(takes(&mut sink, answers) && sink.written() == written)
+/// The sink of a row. Nothing for want of memory.
+fn sink_of(alloc: Global, row: &Row<'_>) -> Option<MemSink> {
+    let (Some(room), Some(piece)) = (size(row, 2), size(row, 3)) else {
+        return None;
+    };
+    let failing = row.numbers(alloc, 4)?;
+    MemSink::new(alloc, room, piece, failing).ok()
 }
 
-#[test]
-fn a_sink_takes_pieces_while_it_has_room_and_fails_where_listed(
-    rt: HostRuntime,
-) -> Result<(), Fail> {
-    for (room, piece, failing, answers, written) in &WRITES {
-        let hold = writes_hold(rt.alloc(), (*room, *piece), *failing, answers, *written)?;
-        assert!(rt; hold, "pieces of {piece}");
+fn are_writes(alloc: Global, row: &Row<'_>) -> bool {
+    match sink_of(alloc, row) {
+        Some(mut sink) => are_taken(alloc, row, &mut sink) && row.says(alloc, 6, &sink.written()),
+        None => false,
     }
-    Ok(())
 }
 
-#[test]
-fn a_sink_tells_what_was_written_whole(rt: HostRuntime) -> Result<(), Fail> {
-    let mut sink = MemSink::new(rt.alloc(), 8, 3, Vec::new(rt.alloc()))?;
-    assert!(rt; append(&mut sink, b"hello").is_ok() && append(&mut sink, b"hello").is_err());
-    assert!(rt; sink.written() == b"hellohel".as_slice());
-    Ok(())
+fn are_taken(alloc: Global, row: &Row<'_>, sink: &mut MemSink) -> bool {
+    if matches!(row.cell(1), Some("wholes")) {
+        let (first, second) = (append(sink, b"hello"), append(sink, b"hello"));
+        return row.says(alloc, 5, &(first, second));
+    }
+    let (first, flush) = (sink.write(b"hello"), sink.flush());
+    let (second, third) = (sink.write(b"hello"), sink.write(b"hello"));
+    row.says(alloc, 5, &(first, flush, second, third))
 }
 
-/// Reads of files, of which `a` holds "hello", `b` nothing, and the read of number 3 fails: a name, the most bytes, and the answer.
-const FILES: [(&str, usize, Result<&[u8], FileFault>); 6] = [
-    ("a", 5, Ok(b"hello")),
-    ("a", 4, Err(FileFault::TooLarge)),
-    ("b", 0, Ok(b"")),
-    ("b", 5, Err(FileFault::Failed)),
-    ("c", 5, Err(FileFault::Failed)),
-    ("a", 9, Ok(b"hello")),
-];
+/// Nothing for want of memory.
+fn put_files(files: &mut MemFiles) -> Option<()> {
+    files.put("a", b"in place of this").ok()?;
+    files.put("b", b"").ok()?;
+    files.put("a", b"hello").ok()?;
+    files.fail_at(3).ok()
+}
 
-fn holds(
-    alloc: Global,
-    files: &mut MemFiles,
-    name: &str,
-    limit: usize,
-    answer: Result<&[u8], FileFault>,
-) -> bool {
-    match (files.read_all(alloc, name, limit), answer) {
-        (Ok(bytes), Ok(wanted)) => bytes.as_slice() == wanted,
-        (Err(fault), Err(wanted)) => fault == wanted,
+fn is_read(alloc: Global, row: &Row<'_>, files: &mut MemFiles) -> bool {
+    match (row.cell(2), size(row, 3)) {
+        (Some(name), Some(limit)) => row.says(alloc, 4, &files.read_all(alloc, name, limit)),
         _ => false,
     }
-}
-
-#[test]
-fn files_in_memory_are_read_by_name(rt: HostRuntime) -> Result<(), Fail> {
-    let mut files = MemFiles::new(rt.alloc());
-    files.put("a", b"in place of this")?;
-    files.put("b", b"")?;
-    files.put("a", b"hello")?;
-    files.fail_at(3)?;
-    for (name, limit, answer) in &FILES {
-        assert!(rt;
-            holds(rt.alloc(), &mut files, *name, *limit, *answer),
-            "{name}"
-        );
-    }
-    Ok(())
 }
 
 // A stream whose calls answer these in turn, the last first, and then fail.
@@ -180,15 +170,29 @@ impl Write for Answers {
     }
 }
 
-#[test]
-fn interrupted_calls_are_tried_again(rt: HostRuntime) -> Result<(), Fail> {
+fn is_source(alloc: Global, row: &Row<'_>) -> bool {
+    let Ok(answers) = [Some(3), None, None].to_vec(alloc) else {
+        return false;
+    };
     let mut buffer = [0; 4];
-    let answers = [Some(3), None, None].to_vec(rt.alloc())?;
     let mut source = StdSource::new(Answers(answers));
-    assert!(rt; source.read(&mut buffer) == Ok(3) && source.read(&mut buffer) == Err(Failed));
-    let answers = [Some(1), None, Some(0), Some(2), None].to_vec(rt.alloc())?;
+    let (first, second) = (source.read(&mut buffer), source.read(&mut buffer));
+    row.says(alloc, 2, &(first, second))
+}
+
+fn is_sink(alloc: Global, row: &Row<'_>) -> bool {
+    let Ok(answers) = [Some(1), None, Some(0), Some(2), None].to_vec(alloc) else {
+        return false;
+    };
     let mut sink = StdSink::new(Answers(answers));
-    assert!(rt; sink.write(b"hello") == Ok(2) && sink.write(b"hello") == Err(Failed));
-    assert!(rt; sink.flush() == Ok(()) && sink.flush() == Err(Failed));
-    Ok(())
+    let (first, second) = (sink.write(b"hello"), sink.write(b"hello"));
+    let (third, fourth) = (sink.flush(), sink.flush());
+    row.says(alloc, 2, &(first, second, third, fourth))
+}
+
+#[test]
+fn streams_answer_as_their_rows_say(rt: HostRuntime) -> Result<(), Fail> {
+    let mut files = MemFiles::new(rt.alloc());
+    assert!(rt; put_files(&mut files).is_some());
+    all_hold(rt.alloc(), ROWS, &mut Streams { files })
 }

@@ -2,46 +2,46 @@
 
 /// A name, `header`, `epitaph` or `status` (of an epitaph, as its one field), the bytes, and what is read; or a full name, `ordinal`, and the
 /// ordinal's digits.
-pub const HEADS: &str = "
+pub const HEADS: &[u8] = b"
 header_plain | header | 01000000020000014c01b891c67ff240 | Ok(Header { txid: 1, flexible: false, ordinal: 4679943453616374092 })
 header_flexible | header | 01000000020080014c01b891c67ff240 | Ok(Header { txid: 1, flexible: true, ordinal: 4679943453616374092 })
-header_largest_numbers | header | ffffffff02008001ffffffffffffffff | Ok(Header { txid: 4294967295, flexible: true, ordinal: 18446744073709551615 })
-header_all_zero_but_version_and_magic | header | 00000000020000010000000000000000 | Ok(Header { txid: 0, flexible: false, ordinal: 0 })
-header_bytes_behind_it | header | 01000000020000014c01b891c67ff2400500000000000000 | Ok(Header { txid: 1, flexible: false, ordinal: 4679943453616374092 })
+header_largest_numbers | header | [ff*4]02008001[ff*8] | Ok(Header { txid: 4294967295, flexible: true, ordinal: 18446744073709551615 })
+header_all_zero_but_version_and_magic | header | [00*4]02000001[00*8] | Ok(Header { txid: 0, flexible: false, ordinal: 0 })
+header_bytes_behind_it | header | 01000000020000014c01b891c67ff24005[00*7] | Ok(Header { txid: 1, flexible: false, ordinal: 4679943453616374092 })
 header_empty | header | - | Err(WireFault { at: 0, what: Short })
 header_one_byte | header | 01 | Err(WireFault { at: 1, what: Short })
 header_fifteen_bytes | header | 01000000020000014c01b891c67ff2 | Err(WireFault { at: 15, what: Short })
 header_magic_zero | header | 01000000020000004c01b891c67ff240 | Err(WireFault { at: 7, what: Magic })
 header_magic_two | header | 01000000020000024c01b891c67ff240 | Err(WireFault { at: 7, what: Magic })
-header_version_bit_clear | header | 01000000000000014c01b891c67ff240 | Err(WireFault { at: 4, what: Version })
+header_version_bit_clear | header | 01[00*6]014c01b891c67ff240 | Err(WireFault { at: 4, what: Version })
 header_version_bit_clear_all_others_set | header | 01000000fd0000014c01b891c67ff240 | Err(WireFault { at: 4, what: Version })
 header_other_at_rest_bits_set | header | 01000000ffff00014c01b891c67ff240 | Ok(Header { txid: 1, flexible: false, ordinal: 4679943453616374092 })
-header_version_bit_in_the_second_byte | header | 01000000000200014c01b891c67ff240 | Err(WireFault { at: 4, what: Version })
+header_version_bit_in_the_second_byte | header | 01[00*4]0200014c01b891c67ff240 | Err(WireFault { at: 4, what: Version })
 header_byte_overflow | header | 01000000020040014c01b891c67ff240 | Err(WireFault { at: 6, what: Overflow })
 header_byte_overflow_and_flexible | header | 010000000200c0014c01b891c67ff240 | Err(WireFault { at: 6, what: Overflow })
 header_all_dynamic_bits_but_overflow | header | 010000000200bf014c01b891c67ff240 | Ok(Header { txid: 1, flexible: true, ordinal: 4679943453616374092 })
 header_low_dynamic_bits | header | 0100000002003f014c01b891c67ff240 | Ok(Header { txid: 1, flexible: false, ordinal: 4679943453616374092 })
-header_magic_before_version | header | 01000000000000004c01b891c67ff240 | Err(WireFault { at: 7, what: Magic })
-header_version_before_overflow | header | 01000000000040014c01b891c67ff240 | Err(WireFault { at: 4, what: Version })
-header_magic_before_all | header | 01000000000040ff4c01b891c67ff240 | Err(WireFault { at: 7, what: Magic })
-header_short_before_magic | header | 01000000000040004c01b891c67ff2 | Err(WireFault { at: 15, what: Short })
-epitaph_not_found | epitaph | 0000000002000001ffffffffffffffffe7ffffff00000000 | Some(-25)
-epitaph_status_zero | epitaph | 0000000002000001ffffffffffffffff0000000000000000 | Some(0)
-epitaph_status_positive | epitaph | 0000000002000001ffffffffffffffff0500000000000000 | Some(5)
-epitaph_status_least | epitaph | 0000000002000001ffffffffffffffff0000008000000000 | Some(-2147483648)
-epitaph_other_header_bits | epitaph | 00000000ffffbf01ffffffffffffffffe7ffffff00000000 | Some(-25)
-epitaph_overflow_bit | epitaph | 0000000002004001ffffffffffffffffe7ffffff00000000 | None
-epitaph_with_a_txid | epitaph | 0100000002000001ffffffffffffffffe7ffffff00000000 | None
-epitaph_another_ordinal | epitaph | 0000000002000001ffffffffffffff7fe7ffffff00000000 | None
-epitaph_last_four_not_zero | epitaph | 0000000002000001ffffffffffffffffe7ffffff00000001 | None
-epitaph_one_byte_less | epitaph | 0000000002000001ffffffffffffffffe7ffffff000000 | None
-epitaph_one_byte_more | epitaph | 0000000002000001ffffffffffffffffe7ffffff0000000000 | None
-epitaph_header_alone | epitaph | 0000000002000001ffffffffffffffff | None
+header_magic_before_version | header | 01[00*7]4c01b891c67ff240 | Err(WireFault { at: 7, what: Magic })
+header_version_before_overflow | header | 01[00*5]40014c01b891c67ff240 | Err(WireFault { at: 4, what: Version })
+header_magic_before_all | header | 01[00*5]40ff4c01b891c67ff240 | Err(WireFault { at: 7, what: Magic })
+header_short_before_magic | header | 01[00*5]40004c01b891c67ff2 | Err(WireFault { at: 15, what: Short })
+epitaph_not_found | epitaph | [00*4]02000001[ff*8]e7ffffff[00*4] | Some(-25)
+epitaph_status_zero | epitaph | [00*4]02000001[ff*8][00*8] | Some(0)
+epitaph_status_positive | epitaph | [00*4]02000001[ff*8]05[00*7] | Some(5)
+epitaph_status_least | epitaph | [00*4]02000001[ff*8]00000080[00*4] | Some(-2147483648)
+epitaph_other_header_bits | epitaph | [00*4]ffffbf01[ff*8]e7ffffff[00*4] | Some(-25)
+epitaph_overflow_bit | epitaph | [00*4]02004001[ff*8]e7ffffff[00*4] | None
+epitaph_with_a_txid | epitaph | 0100000002000001[ff*8]e7ffffff[00*4] | None
+epitaph_another_ordinal | epitaph | [00*4]02000001[ff*7]7fe7ffffff[00*4] | None
+epitaph_last_four_not_zero | epitaph | [00*4]02000001[ff*8]e7ffffff00000001 | None
+epitaph_one_byte_less | epitaph | [00*4]02000001[ff*8]e7ffffff000000 | None
+epitaph_one_byte_more | epitaph | [00*4]02000001[ff*8]e7ffffff[00*5] | None
+epitaph_header_alone | epitaph | [00*4]02000001[ff*8] | None
 epitaph_nothing | epitaph | - | None
-epitaph_magic_zero | epitaph | 0000000002000000ffffffffffffffffe7ffffff00000000 | None
-epitaph_version_clear | epitaph | 0000000000000001ffffffffffffffffe7ffffff00000000 | None
-epitaph | status | 0000000002000001ffffffffffffffffe7ffffff00000000 | Ok(-25)
-epitaph_three_bytes | status | 0000000002000001ffffffffffffffffe7ffff | Err(WireFault { at: 19, what: Short })
+epitaph_magic_zero | epitaph | [00*4]02000000[ff*8]e7ffffff[00*4] | None
+epitaph_version_clear | epitaph | [00*7]01[ff*8]e7ffffff[00*4] | None
+epitaph | status | [00*4]02000001[ff*8]e7ffffff[00*4] | Ok(-25)
+epitaph_three_bytes | status | [00*4]02000001[ff*8]e7ffff | Err(WireFault { at: 19, what: Short })
 fuchsia.unknown/Cloneable.Clone | ordinal | 20d8a7aba2168a79
 fuchsia.unknown/Closeable.Close | ordinal | 74f5d243849cb458
 fuchsia.unknown/Queryable.Query | ordinal | 2658edee9decfc06
