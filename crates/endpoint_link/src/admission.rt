@@ -1,6 +1,6 @@
 // The first refusal of a frame, over whatever can be looked up.
 
-ghost use Rattle.std.specs.Prelude.{◌≡◌, ◌≤◌, ◌<◌, ◌+◌, ◌^◌, [], ◌∷◌, nat_lt, not, length, drop, count_by};
+ghost use Rattle.std.specs.Prelude.{◌≡◌, ◌≤◌, ◌<◌, ◌+◌, ◌^◌, [], ◌∷◌, nat_le, nat_lt, not, length, drop, count_by};
 ghost use Rattle.fidl_names.specs.First.{cause_if, first_of};
 ghost use Rattle.fidl_names.specs.HandleNumber.{is_client};
 ghost use Rattle.endpoint_link.specs.Numbering.{among};
@@ -49,7 +49,7 @@ pub fn first_refusal<L: LookUp>(look_ups: &L, frame: FrameView<'_>) -> Option<Re
         FrameKind::Message => message_refusal(look_ups, frame.endpoint, frame.handles),
         FrameKind::Close => close_refusal(look_ups, frame.endpoint),
         FrameKind::Turn => turn_refusal(look_ups, frame.endpoint),
-        FrameKind::Pick => by_standing(look_ups.standing_at(frame.endpoint)),
+        FrameKind::Pick => pick_refusal(look_ups, frame.endpoint),
         FrameKind::Refused => None,
     }
 }
@@ -137,10 +137,23 @@ fn live_close_refusal<L: LookUp>(look_ups: &L, endpoint: u32) -> Option<Refusal>
 fn turn_refusal<L: LookUp>(look_ups: &L, server: u32) -> Option<Refusal>
     ensures { result ≡ refusal_by FrameKind.Turn (L.tells look_ups.now) server [] }
 {
-    if server >= look_ups.servers() {
+    if is_behind(look_ups, server) {
         return Some(Refusal::BadHandle);
     }
     None
+}
+
+/// Whether there is no server of that number.
+fn is_behind<L: LookUp>(look_ups: &L, server: u32) -> bool
+    ensures { result ≡ nat_le (L.tells look_ups.now).servers server }
+{
+    server >= look_ups.servers()
+}
+
+fn pick_refusal<L: LookUp>(look_ups: &L, endpoint: u32) -> Option<Refusal>
+    ensures { result ≡ by_standing ((L.tells look_ups.now).standing endpoint) }
+{
+    by_standing(look_ups.standing_at(endpoint))
 }
 
 /// The refusal of a frame on an endpoint that stands so.
@@ -150,7 +163,8 @@ fn by_standing(standing: Standing) -> Option<Refusal>
     match standing {
         Standing::Unused => Some(Refusal::BadHandle),
         Standing::Live => None,
-        Standing::HungUp | Standing::Dead => Some(Refusal::PeerClosed),
+        Standing::HungUp => Some(Refusal::PeerClosed),
+        Standing::Dead => Some(Refusal::PeerClosed),
     }
 }
 

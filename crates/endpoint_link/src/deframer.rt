@@ -99,7 +99,8 @@ impl Deframer {
         requires { (f : Frame) × IsKept self.old f }
         ensures { self.new ≡ dropped self.old }
     {
-        self.start += self.kept.len() as u64;
+        let count = self.kept.len();
+        self.start += count as u64;
         self.kept.clear();
     }
 

@@ -78,7 +78,8 @@ fn reason_of(
     let Some(kind) = kind else {
         return Some(FrameReason::Kind);
     };
-    if zero != 0 {
+    let is_zero = zero == 0;
+    if !is_zero {
         return Some(FrameReason::Zero);
     }
     if handles > MAX_HANDLES {
