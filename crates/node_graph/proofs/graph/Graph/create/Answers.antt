@@ -1,4 +1,4 @@
-use Rattle.std.proofs.Common.{◌≡◌, ℕ, ◌+◌, Ok, Option, Some, ap, sym, ◌∙◌, refl, subst}
+use Rattle.std.proofs.Common.{ℕ, ◌+◌, Ok, Option, Some, ap, sym, ◌∙◌, refl, subst}
 use Rattle.std.specs.FinMap as finite
 use Rattle.slab.specs.Slab.{Slab, Updates}
 use Rattle.node_graph.specs.declared.edges.Target.{Target}
