@@ -1,4 +1,4 @@
-use Rattle.std.proofs.Common.{◌≡◌, ◌%◌, ℕ, List, ap, cond, eqb, refl, subst, ◌∙◌}
+use Rattle.std.proofs.Common.{◌%◌, ℕ, List, ap, cond, eqb, refl, subst, ◌∙◌}
 use Rattle.std.specs.Prelude.{IsSome, Option, Some}
 use Rattle.std.specs.Map.{lookup}
 use Rattle.endpoint_link.specs.declared.pages.Page.{Page}

@@ -1,4 +1,4 @@
-use Rattle.std.proofs.Common.{◌≡◌, ◌%◌, ℕ, ap, cond, eqb, refl, subst, sym, ◌∙◌}
+use Rattle.std.proofs.Common.{◌%◌, ℕ, ap, cond, eqb, refl, subst, ◌∙◌}
 use Rattle.std.specs.Prelude.{IsSome, Option}
 use Rattle.std.specs.Map.{lookup}
 use Rattle.endpoint_link.specs.declared.pages.Page.{Page}
