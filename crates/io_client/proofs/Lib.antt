@@ -1,3 +1,4 @@
 mod Latest
 mod Passing
 mod Tables
+mod Sending

@@ -1,20 +1,24 @@
 -- A frame that passes: what is told of it, and what waits then.
 use Rattle.std.proofs.Common.{◌≡◌, Bool, true, false, refl, sym, ap, ◌∙◌}
-use Rattle.std.specs.Prelude.{ℤ, Option, Some, None, Result, Ok}
+use Rattle.std.specs.Prelude.{ℕ, ℤ, map, Option, Some, None, Result, Ok}
+use Rattle.std.specs.FinMap as finite
 use Rattle.std.specs.Int.{w32, cast_signed}
-use Rattle.std.proofs.lemmas.Bool.{ne_eqb}
+use Rattle.std.proofs.lemmas.Bool.{eq-eqb, ne_eqb}
+use Rattle.fidl_names.specs.HandleNumber.{handle_with}
 use Rattle.fidl_names.specs.Numbers.{number_at}
 use Rattle.fidl_names.specs.declared.methods.Method.{Method}
 use Rattle.fidl_wire.specs.declared.faults.WireFault.{WireFault}
 use Rattle.fidl_wire.specs.declared.headers.Header.{Header}
 use Rattle.fidl_wire.specs.Epitaphs.{IsEpitaph}
 use Rattle.fidl_wire.specs.Headers.{header_of}
-use Rattle.fidl_wire.specs.Names.{event_ordinal}
+use Rattle.fidl_wire.specs.Names.{event_ordinal, method_ordinal}
 use Rattle.endpoint_link.specs.declared.kinds.FrameKind.{FrameKind}
 use Rattle.endpoint_link.specs.declared.kinds.FrameKind.TheVariants as kind
 use Rattle.endpoint_link.specs.Frames.{Frame}
-use Rattle.io_client.specs.Calls.{Calls, answered_at, call_at, is_watched}
-use Rattle.io_client.specs.Taking.{IsNoEpitaph, Takes, TakesMessage, Taking, by_call, by_header, closed, epitaph, is_from_servers, refused, watch}
+use Rattle.io_messages.specs.Replies.{Answered}
+use Rattle.io_replies.specs.Reading.{reply_of}
+use Rattle.io_client.specs.Calls.{Calls, answered_at, call_at, call_cmp, is_watched}
+use Rattle.io_client.specs.Taking.{IsNoEpitaph, Takes, TakesMessage, Taking, answer_to, by_call, by_header, closed, epitaph, is_from_servers, refused, reply, watch}
 use Rattle.io_client.proofs.Tables.{calls_total, calls_exact, remove-none}
 
 -- no call waits there, or one waits no more
@@ -26,6 +30,17 @@ by_found calls f h (Some m) there = refl
 pub by_head : (calls : Calls) (f : Frame) (h : Header) (read : Result Header WireFault) → read ≡ Ok h → (h.ordinal ≡ event_ordinal → ⊥) →
     answered_at calls f.endpoint h.txid ≡ (by_header calls f read).1
 by_head calls f h read is other = rw (is, ne_eqb h.ordinal event_ordinal other) (by_found calls f h (call_at calls f.endpoint h.txid) refl)
+
+-- the reply to a call, which waits no more
+pub by_reply : (calls : Calls) (f : Frame) (h : Header) (m : Method) (read : Result Header WireFault) (told : Taking) (waiting : finite.FinMap call_cmp Method) →
+    read ≡ Ok h → (h.ordinal ≡ event_ordinal → ⊥) → call_at calls f.endpoint h.txid ≡ Some m → told ≡ answer_to h m (reply_of f.bytes (map handle_with f.handles)) →
+    waiting ≡ finite.remove calls.waiting (f.endpoint, h.txid) → (told, record { waiting = waiting; watched = calls.watched }) ≡ by_header calls f read
+by_reply calls f h m read told waiting is other there answers without = rw (is, ne_eqb h.ordinal event_ordinal other, there, answers, without) refl
+
+-- where the reply has the ordinal of the call's method
+pub reply_taken : (h : Header) (m : Method) (txid ordinal : ℕ) (a : Answered) (read : Result (ℕ × Answered) WireFault) → read ≡ Ok (txid, a) → h.ordinal ≡ ordinal → ordinal ≡ method_ordinal m →
+    reply txid a ≡ answer_to h m read
+reply_taken h m txid ordinal a read is same of = rw (is, eq-eqb h.ordinal (method_ordinal m) (same ∙ of)) refl
 
 clash : (b : Bool) → b ≡ true → b ≡ false → ⊥
 clash b on off = let wrong : true ≡ false = sym on ∙ off in cc
