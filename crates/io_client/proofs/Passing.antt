@@ -10,7 +10,8 @@ use Rattle.fidl_names.specs.declared.methods.Method.{Method}
 use Rattle.fidl_wire.specs.declared.faults.WireFault.{WireFault}
 use Rattle.fidl_wire.specs.declared.headers.Header.{Header}
 use Rattle.fidl_wire.specs.Epitaphs.{IsEpitaph}
-use Rattle.fidl_wire.specs.Headers.{header_of}
+use Rattle.fidl_wire.specs.declared.faults.WireWhat.TheVariants.{Ordinal}
+use Rattle.fidl_wire.specs.Headers.{fault, header_of}
 use Rattle.fidl_wire.specs.Names.{event_ordinal, method_ordinal}
 use Rattle.endpoint_link.specs.declared.kinds.FrameKind.{FrameKind}
 use Rattle.endpoint_link.specs.declared.kinds.FrameKind.TheVariants as kind
@@ -18,7 +19,7 @@ use Rattle.endpoint_link.specs.Frames.{Frame}
 use Rattle.io_messages.specs.Replies.{Answered}
 use Rattle.io_replies.specs.Reading.{reply_of}
 use Rattle.io_client.specs.Calls.{Calls, answered_at, call_at, call_cmp, is_watched}
-use Rattle.io_client.specs.Taking.{IsNoEpitaph, Takes, TakesMessage, Taking, answer_to, by_call, by_header, closed, epitaph, is_from_servers, refused, reply, watch}
+use Rattle.io_client.specs.Taking.{IsNoEpitaph, Takes, TakesMessage, Taking, answer_to, bad, by_call, by_header, closed, epitaph, is_from_servers, refused, reply, watch}
 use Rattle.io_client.proofs.Tables.{calls_total, calls_exact, remove-none}
 
 -- no call waits there, or one waits no more
@@ -41,6 +42,11 @@ by_reply calls f h m read told waiting is other there answers without = rw (is, 
 pub reply_taken : (h : Header) (m : Method) (txid ordinal : ℕ) (a : Answered) (read : Result (ℕ × Answered) WireFault) → read ≡ Ok (txid, a) → h.ordinal ≡ ordinal → ordinal ≡ method_ordinal m →
     reply txid a ≡ answer_to h m read
 reply_taken h m txid ordinal a read is same of = rw (is, eq-eqb h.ordinal (method_ordinal m) (same ∙ of)) refl
+
+-- where it has another
+pub reply_of_other : (h : Header) (m : Method) (txid ordinal : ℕ) (a : Answered) (read : Result (ℕ × Answered) WireFault) (e : WireFault) → read ≡ Ok (txid, a) → (h.ordinal ≡ ordinal → ⊥) →
+    ordinal ≡ method_ordinal m → e ≡ fault 8 Ordinal → bad e ≡ answer_to h m read
+reply_of_other h m txid ordinal a read e is other of flaw = rw (is, ne_eqb h.ordinal (method_ordinal m) (λ same. other (same ∙ sym of))) (ap bad flaw)
 
 clash : (b : Bool) → b ≡ true → b ≡ false → ⊥
 clash b on off = let wrong : true ≡ false = sym on ∙ off in cc
