@@ -65,7 +65,7 @@ pub(crate) fn hear_read(
 fn can_be_served(session: &Session, frame: FrameView<'_>) -> bool
     ensures { result ≡ true → CanBeServed (frame_of frame.entry) (whole session.now) }
 {
-    session.queues.len() == 0 && session.endpoints.live() as usize <= MAX_LIVE && is_plain(frame)
+    is_plain(frame) && session.endpoints.live() as usize <= MAX_LIVE && session.queues.len() == 0
 }
 
 /// The server at which an endpoint may be bound. Where there is but one, nobody need look.

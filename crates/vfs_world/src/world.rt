@@ -184,8 +184,7 @@ impl World {
         }
         let begun = outbox.len();
         match self.session.pick(endpoint, outbox) {
-            Ok(true) => Ok(Picked::Served),
-            Ok(false) => Ok(Picked::Idle),
+            Ok(served) => Ok(told(served)),
             Err(NoMemory) => Err(take_back(begun, outbox, &mut self.spent)),
         }
     }
@@ -220,9 +219,10 @@ impl World {
         ensures spent { IfErr result (λ fault. (fault ≡ WorldFault.Spent) × (self.now.spent ≡ true)) }
     {
         if self.spent {
-            return Err(WorldFault::Spent);
+            Err(WorldFault::Spent)
+        } else {
+            Ok(())
         }
-        Ok(())
     }
 
     /// How many servers there are.
@@ -259,6 +259,17 @@ impl World {
     {
         self.frames
     }
+}
+
+/// What a Pick tells of whether it served an entry.
+fn told(served: bool) -> Picked
+    ensures idle { served ≡ false → result ≡ Picked.Idle }
+    ensures only_idle { result ≡ Picked.Idle → served ≡ false }
+{
+    if !served {
+        return Picked::Idle;
+    }
+    Picked::Served
 }
 
 /// Ends a call for which memory was wanting: what it wrote is taken back, and its world is spent.

@@ -31,3 +31,6 @@ pub returns-clause-none : goal.returns-clause-none
 returns-clause-none c =
     λ auto start journal stands.
     c.in_default-hear.ensures.none auto start journal (stands_inside c.self.inside c.self.view_is start journal stands)
+
+pub returns-clause-frames : goal.returns-clause-frames
+returns-clause-frames c = ap (λ (w : World). w.frames + 1) c.self.view_is

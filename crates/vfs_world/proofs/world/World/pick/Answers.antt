@@ -1,3 +1,4 @@
+use Rattle.std.proofs.Common.{Ok, ap}
 use Rattle.vfs_session.specs.Running.{whole}
 use Rattle.vfs_session.proofs.Serves.{head_none, pick_idle, pick_leads}
 use Rattle.vfs_world.proofs.Worlds.{leads_inside, runs_inside, stands_inside}
@@ -6,27 +7,19 @@ use Rattle.vfs_world.proofs.world.World.pick.Goals as goal
 pub pick-requires : goal.pick-requires
 pick-requires c = record { running = runs_inside c.self.inside c.self.view_is c.self.invariant c.in_default.ensures.able }
 
-pub returns-in-Ok-true-clause-picked : goal.returns-in-Ok-true-clause-picked
-returns-in-Ok-true-clause-picked c =
+pub returns-in-Ok-clause-picked : goal.returns-in-Ok-clause-picked
+returns-in-Ok-clause-picked c =
     λ start journal stands.
     leads_inside c.self.inside c.self.view_is (whole c.pick.new.self) c.self.inside.frames stands
     (pick_leads (runs_inside c.self.inside c.self.view_is c.self.invariant stands.able).apart start journal c.args.endpoint (whole c.self.inside.session) (whole c.pick.new.self) c.args.outbox.now c.pick.new.outbox
     (stands_inside c.self.inside c.self.view_is start journal stands)
-    c.in-Ok-true.ensures.picked)
+    c.in-Ok.ensures.picked)
 
-pub returns-in-Ok-false-clause-picked : goal.returns-in-Ok-false-clause-picked
-returns-in-Ok-false-clause-picked c =
-    λ start journal stands.
-    leads_inside c.self.inside c.self.view_is (whole c.pick.new.self) c.self.inside.frames stands
-    (pick_leads (runs_inside c.self.inside c.self.view_is c.self.invariant stands.able).apart start journal c.args.endpoint (whole c.self.inside.session) (whole c.pick.new.self) c.args.outbox.now c.pick.new.outbox
-    (stands_inside c.self.inside c.self.view_is start journal stands)
-    c.in-Ok-false.ensures.picked)
-
-pub returns-in-Ok-true-clause-idle : goal.returns-in-Ok-true-clause-idle
-returns-in-Ok-true-clause-idle c =
+pub returns-in-Ok-clause-idle : goal.returns-in-Ok-clause-idle
+returns-in-Ok-clause-idle c =
     λ start journal stands none.
-    let told = c.in-Ok-true.ensures.idle (pick_idle start journal (whole c.self.inside.session) c.args.endpoint (stands_inside c.self.inside c.self.view_is start journal stands) none) in
-    absurd (cc)
+    let none_served = c.in-Ok.ensures.idle (pick_idle start journal (whole c.self.inside.session) c.args.endpoint (stands_inside c.self.inside c.self.view_is start journal stands) none) in
+    ap Ok (c.told.ensures.idle (cc))
 
 pub returns-in-Err-pick-clause-idle : goal.returns-in-Err-pick-clause-idle
 returns-in-Err-pick-clause-idle c =
@@ -34,9 +27,9 @@ returns-in-Err-pick-clause-idle c =
     let told = c.in-Err-pick.ensures.idle (pick_idle start journal (whole c.self.inside.session) c.args.endpoint (stands_inside c.self.inside c.self.view_is start journal stands) none) in
     absurd (cc)
 
-pub returns-in-Ok-false-clause-only_idle : goal.returns-in-Ok-false-clause-only_idle
-returns-in-Ok-false-clause-only_idle c =
+pub returns-in-Ok-clause-only_idle : goal.returns-in-Ok-clause-only_idle
+returns-in-Ok-clause-only_idle c =
     λ start journal stands is.
     head_none (runs_inside c.self.inside c.self.view_is c.self.invariant stands.able).apart start journal (whole c.self.inside.session) c.args.endpoint
     (stands_inside c.self.inside c.self.view_is start journal stands)
-    (c.in-Ok-false.ensures.only_idle (cc))
+    (c.in-Ok.ensures.only_idle (ap Ok (c.told.ensures.only_idle (cc))))
