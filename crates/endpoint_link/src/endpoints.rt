@@ -55,7 +55,8 @@ fn is_used(standing: Standing) -> bool
 {
     match standing {
         Standing::Unused => false,
-        Standing::Live | Standing::HungUp => true,
+        Standing::Live => true,
+        Standing::HungUp => true,
         Standing::Dead => true,
     }
 }

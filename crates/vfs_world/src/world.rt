@@ -266,10 +266,7 @@ fn told(served: bool) -> Picked
     ensures idle { served ≡ false → result ≡ Picked.Idle }
     ensures only_idle { result ≡ Picked.Idle → served ≡ false }
 {
-    if !served {
-        return Picked::Idle;
-    }
-    Picked::Served
+    if served { Picked::Served } else { Picked::Idle }
 }
 
 /// Ends a call for which memory was wanting: what it wrote is taken back, and its world is spent.
