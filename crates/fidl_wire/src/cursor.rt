@@ -433,6 +433,7 @@ impl<'a, 'h> Body<'a, 'h> {
     }
 
     /// No handle is left over.
+    #[inline(always)]
     fn check_left(&self) -> Result<(), WireFault>
         ensures { result ≡ check (length self.now.handles == 0) (fault (length self.now.message) Handles) }
     {
