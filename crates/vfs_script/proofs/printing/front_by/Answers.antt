@@ -1,5 +1,5 @@
 -- The name of a method between its spaces.
-use Rattle.std.proofs.Common.{◌≡◌, ◌++◌, ℕ, List, sym, ap}
+use Rattle.std.proofs.Common.{◌≡◌, ◌++◌, sym, ap}
 use Rattle.std.specs.Prelude.{codes}
 use Rattle.fidl_names.specs.declared.methods.Method.{Method}
 use Rattle.vfs_script.specs.Transcripts.{name_of}
