@@ -1,8 +1,8 @@
-use Rattle.std.proofs.Common.{subst, sym}
-use Rattle.endpoint_link.specs.Standings.{Known}
+use Rattle.std.proofs.Common.{◌∙◌, ap, fold, subst, sym}
+use Rattle.endpoint_link.specs.Standings.{Known, gone}
 use Rattle.vfs_journal.specs.Entries.{tokens_in}
 use Rattle.vfs_session.specs.Steps.{CanGo}
-use Rattle.vfs_session.proofs.Forgotten.{all_then, both_out}
+use Rattle.vfs_session.proofs.Forgotten.{all_then, both_out, gone_then}
 use Rattle.vfs_session.proofs.forgetting.spend.Goals as goal
 
 pub forget_carried-requires : goal.forget_carried-requires
@@ -19,3 +19,8 @@ pub returns-clause-forgets : goal.returns-clause-forgets
 returns-clause-forgets c =
     all_then c.args.servers.now.items c.forget_carried.new.servers.items c.forget_all.new.servers.items (tokens_in c.args.sent.now) c.args.dropped.now c.forget_carried.ensures.forgets
     c.forget_all.ensures.forgets
+
+pub returns-clause-known : goal.returns-clause-known
+returns-clause-known c =
+    c.forget_all.ensures.known ∙ ap (λ (known : Known). fold gone known c.args.dropped.now) c.forget_carried.ensures.known
+    ∙ sym (gone_then (tokens_in c.args.sent.now) c.args.dropped.now c.args.endpoints.now)

@@ -1,3 +1,4 @@
+use Rattle.std.proofs.Common.{arith}
 use Rattle.vfs_session.specs.Running.{whole}
 use Rattle.message_queues.specs.Oldest.{IsBoundAt}
 use Rattle.vfs_session.specs.Servings.{IsOldestAt}
@@ -12,3 +13,6 @@ loop-done-preserved c =
 pub returns-in_err-serve_head-clause-idle : goal.returns-in_err-serve_head-clause-idle
 returns-in_err-serve_head-clause-idle c =
     λ none. absurd (never_idle (λ queues. IsBoundAt queues c.args.server) c.loop-done.done c.in-Some.endpoint (whole c.args.self.now) (whole c.loop-done.self) c.args.outbox.now c.loop-done.outbox c.loop-done.invariant.serves none c.in-Some.ensures)
+
+pub returns-in_default-clause-turned : goal.returns-in_default-clause-turned
+returns-in_default-clause-turned c = let low = c.loop-done-test.true in record { most = omega (arith, low); serves = c.loop-done.invariant.serves; last = λ _. c.in_default.ensures }
