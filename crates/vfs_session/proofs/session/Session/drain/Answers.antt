@@ -20,3 +20,6 @@ loop-endpoint-preserved c = (
 pub returns-in_err-serve_head-clause-idle : goal.returns-in_err-serve_head-clause-idle
 returns-in_err-serve_head-clause-idle c =
     λ none. absurd (never_idle IsBound c.loop-endpoint.invariant.0 c.in-Some.endpoint (whole c.args.self.now) (whole c.loop-endpoint.self) c.args.outbox.now c.loop-endpoint.outbox c.loop-endpoint.invariant.1.serves none c.in-Some.ensures)
+
+pub returns-clause-drained : goal.returns-clause-drained
+returns-clause-drained c = record { done = c.loop-endpoint.invariant.0; serves = c.loop-endpoint.invariant.1.serves; last = c.in_default.ensures }
