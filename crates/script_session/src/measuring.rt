@@ -40,6 +40,5 @@ pub fn measure(
 {
     let bytes = script.frames();
     let mut meter = Meter::new(alloc, ordinals, start, script.mode())?;
-    meter.hear_all(script, bytes)?;
-    meter.end()
+    meter.hear_script(script, bytes)
 }

@@ -11,7 +11,7 @@ ghost use Rattle.vfs_journal.specs.Session.{drained, session, steps};
 ghost use Rattle.vfs_journal.specs.Starts.{Start as TheStart, start_of};
 ghost use Rattle.vfs_script.specs.Scripts.{frames_of};
 ghost use Rattle.vfs_session.specs.World.{StandsFor};
-ghost use Rattle.script_session.specs.Measured.{Measures};
+ghost use Rattle.script_session.specs.Measured.{Measures, output_frames};
 ghost use Rattle.script_session.specs.Steps.{IsScript};
 ghost use Rattle.script_session.specs.Tallies.{Metered, Tallies};
 
@@ -60,8 +60,26 @@ impl Meter {
         })
     }
 
+    /// Hears a script to its end, where these bytes are its frames, and tells what was written for it.
+    pub(crate) fn hear_script(
+        &mut self,
+        script: &Script,
+        bytes: &[u8],
+    ) -> Result<Measured, NoMemory>
+        requires bytes { bytes.now ≡ script.now.bytes }
+        requires script { (text : List ℕ) × IsScript text script.now }
+        requires frames { self.old.world.frames ≡ 0 }
+        requires few { self.old.tally.frames ≡ 0 }
+        requires small { self.old.tally.bytes ≡ 0 }
+        ensures { (start : TheStart) (text : List ℕ) → IsScript text script.now → Metered start [] self.old.world self.old.tally →
+            IfOk result (Measures (output_frames start self.old.mode text)) }
+    {
+        self.hear_all(script, bytes)?;
+        self.end()
+    }
+
     /// Hears each frame of a script, where these bytes are its frames.
-    pub(crate) fn hear_all(&mut self, script: &Script, bytes: &[u8]) -> Result<(), NoMemory>
+    fn hear_all(&mut self, script: &Script, bytes: &[u8]) -> Result<(), NoMemory>
         requires bytes { bytes.now ≡ script.now.bytes }
         requires script { (text : List ℕ) × IsScript text script.now }
         requires frames { self.old.world.frames ≡ 0 }
@@ -103,10 +121,10 @@ impl Meter {
     }
 
     /// Serves all that waits, and tells what was written from the beginning on.
-    pub(crate) fn end(mut self) -> Result<Measured, NoMemory>
-        requires few { self.tally.frames < 2 ^ 126 }
-        requires small { self.tally.bytes < 2 ^ 126 }
-        ensures { (start : TheStart) (journal : Journal) → Metered start journal self.world self.tally →
+    fn end(&mut self) -> Result<Measured, NoMemory>
+        requires few { self.old.tally.frames < 2 ^ 126 }
+        requires small { self.old.tally.bytes < 2 ^ 126 }
+        ensures { (start : TheStart) (journal : Journal) → Metered start journal self.old.world self.old.tally →
             IfOk result (Measures (frames_behind start (drained start journal))) }
     {
         self.outbox.clear();

@@ -52,8 +52,7 @@ pub fn play<K: Sink>(
 {
     let bytes = script.frames();
     let mut player = Player::new(alloc, ordinals, start, script.mode())?;
-    player.play_lines(script, bytes, sink)?;
-    player.end(script.calls(), sink)
+    player.play_all(script, bytes, sink)
 }
 
 /// A session over a tree whose frames come from a script.
@@ -83,6 +82,30 @@ impl Player {
             outbox: Outbox::new(alloc),
             scribe,
         })
+    }
+
+    /// Plays a script to its end, where these bytes are its frames.
+    fn play_all<K: Sink>(
+        &mut self,
+        script: &Script,
+        bytes: &[u8],
+        sink: &mut K,
+    ) -> Result<(), TranscriptFault>
+        requires bytes { bytes.now ≡ script.now.bytes }
+        requires script { (text : List ℕ) × IsScript text script.now }
+        requires frames { self.old.world.frames ≡ 0 }
+        requires client { self.old.scribe.calls ≡ none_yet }
+        ensures whole { (start : TheStart) (text : List ℕ) (first : Option (List ℕ)) → IsScript text script.now → Plays start not_yet self.old.world self.old.scribe.calls →
+            IsTold first (K.written sink.old) self.old.scribe.gathered [] →
+            OnOk result (Appends first (K.written sink.new) (transcript start self.old.mode text)) }
+        ensures flushed { OnOk result (IsFlushed (K.written sink.new) (K.flushed sink.new)) }
+        ensures part { (start : TheStart) (text : List ℕ) (first : Option (List ℕ)) → IsScript text script.now → Plays start not_yet self.old.world self.old.scribe.calls →
+            IsTold first (K.written sink.old) self.old.scribe.gathered [] →
+            OnErr result (AppendsPart first (K.written sink.new) (transcript start self.old.mode text)) }
+        ensures cause { HasSinkCause (K.faults sink.old) (K.faults sink.new) result }
+    {
+        self.play_lines(script, bytes, sink)?;
+        self.end(script.calls(), sink)
     }
 
     /// Plays each line of a script, where these bytes are its frames.

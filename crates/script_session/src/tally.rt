@@ -46,14 +46,14 @@ impl Tally {
         self.hasher.update(frames);
     }
 
-    /// What is told of them.
-    pub(crate) fn finish(self) -> Measured
-        ensures { (frames : List Frame) → Tallies frames self → Measures frames result }
+    /// What is told of them. The hash begins anew.
+    pub(crate) fn finish(&mut self) -> Measured
+        ensures { (frames : List Frame) → Tallies frames self.old → Measures frames result }
     {
         Measured {
             frames: self.frames,
             bytes: self.bytes,
-            hash: self.hasher.finalize(),
+            hash: self.hasher.finalize_reset(),
         }
     }
 }

@@ -1,8 +1,6 @@
 use Rattle.std.proofs.Common.{rules, ◌∙◌, subst}
 use Rattle.endpoint_link.specs.declared.kinds.Mode.{Mode}
-use Rattle.vfs_journal.specs.Session.{session}
 use Rattle.vfs_journal.specs.Starts.{start_of}
-use Rattle.vfs_script.specs.Scripts.{frames_of}
 use Rattle.script_session.specs.Measured.{Measures, output_frames}
 use Rattle.script_session.proofs.Metering.{if_ok, metered_first}
 use Rattle.script_session.proofs.Stages.{fits_bytes, may_go}
@@ -14,16 +12,12 @@ returns-clause-measured c = λ text is.
     let start = start_of lists in
     let meter = c.in_ok-meter.meter in
     let first = metered_first lists meter.world meter.tally c.args.ordinals.distinct c.in_ok-meter.ensures.accepted c.in_ok-meter.ensures.bytes c.in_ok-meter.ensures.stands c.in_ok-meter.ensures.tally in
-    let heard = c.in_ok-hear_all.ensures.metered start text is first in
-    if_ok c.end.result (Measures (output_frames start meter.mode text)) (Measures (output_frames start c.args.script.now.mode text))
+    if_ok c.hear_script.result (Measures (output_frames start meter.mode text)) (Measures (output_frames start c.args.script.now.mode text))
     (λ told are. subst (λ (by : Mode). Measures (output_frames start by text) told) (c.in_ok-meter.ensures.mode ∙ c.mode.ensures) are)
-    (c.end.ensures start (session start meter.mode (frames_of text)) heard)
+    (c.hear_script.ensures start text is first)
 
 pub returns-in_err-meter-clause-sent : goal.returns-in_err-meter-clause-sent
 returns-in_err-meter-clause-sent c = λ text is. may_go text c.args.script.now c.frames-bytes.result.now is c.frames-bytes.ensures (fits_bytes c.frames-bytes.result.now (search rules))
-
-pub returns-in_err-hear_all-clause-sent : goal.returns-in_err-hear_all-clause-sent
-returns-in_err-hear_all-clause-sent c = λ text is. may_go text c.args.script.now c.frames-bytes.result.now is c.frames-bytes.ensures (fits_bytes c.frames-bytes.result.now (search rules))
 
 pub returns-clause-sent : goal.returns-clause-sent
 returns-clause-sent c = λ text is. may_go text c.args.script.now c.frames-bytes.result.now is c.frames-bytes.ensures (fits_bytes c.frames-bytes.result.now (search rules))
