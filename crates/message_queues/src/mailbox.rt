@@ -12,6 +12,7 @@ use fidl_names::{MAX_WAITING, NoMemory};
 use std::alloc::Global;
 use std::collections::VecDeque;
 use std::marker::Model;
+use std::mem;
 
 /// At which server an endpoint is bound, and what waits on it. The first entry lies here and takes no memory
 /// of its own.
@@ -102,9 +103,8 @@ impl Mailbox {
         ensures later { self.new.queue ≡ drop 1 self.old.queue }
         ensures server { self.new.server ≡ self.old.server }
     {
-        let first = self.first.take();
-        self.first = self.later.pop_front();
-        first
+        let next = self.later.pop_front();
+        mem::replace(&mut self.first, next)
     }
 
     /// How many entries wait, of which there are no more than may wait.

@@ -309,8 +309,8 @@ fn bind_at(
     ensures unique { IsUnique nat_eq boxes.new }
     ensures err { OnErr result ((boxes.new.entries ≡ boxes.old.entries) × (heads.new.items ≡ heads.old.items)) }
 {
-    let empty = Mailbox::new(alloc, None, None);
-    let mailbox = boxes.entry(endpoint)?.or_insert(empty);
+    let entry = boxes.entry(endpoint)?;
+    let mailbox = entry.or_insert(Mailbox::new(alloc, None, None));
     bind_waiting(mailbox, heads, endpoint, server)
 }
 
