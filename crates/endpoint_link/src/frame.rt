@@ -6,7 +6,7 @@ use crate::fixed::word_in;
 use crate::kinds::{FrameKind, FrameReason};
 
 /// The handles of a frame, four bytes each with the low one first, lent from where the frame stands.
-#[derive(Clone, Copy, Debug)]
+#[derive(Clone, Copy)]
 pub struct HandleBytes<'a> {
     bytes: &'a [u8],
     ghost whole: { length bytes.now % 4 ≡ 0 },
@@ -48,7 +48,7 @@ impl<'a> HandleBytes<'a> {
 }
 
 /// A frame, lent from where it stands.
-#[derive(Clone, Copy, Debug)]
+#[derive(Clone, Copy)]
 pub struct FrameView<'a> {
     pub endpoint: u32,
     pub kind: FrameKind,
@@ -57,7 +57,7 @@ pub struct FrameView<'a> {
 }
 
 /// What stands in front of some bytes.
-#[derive(Clone, Copy, Debug)]
+#[derive(Clone, Copy)]
 pub enum Reading<'a> {
     /// A whole frame, and how many bytes it takes.
     Whole { frame: FrameView<'a>, size: usize },

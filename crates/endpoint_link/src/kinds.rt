@@ -7,7 +7,7 @@ ghost use Rattle.endpoint_link.specs.Standings.{is_live};
 use fidl_names::{NoMemory, Status};
 
 /// What a frame is for.
-#[derive(Clone, Copy, Debug, PartialEq, Eq)]
+#[derive(Clone, Copy, Debug)]
 pub enum FrameKind {
     Message,
     Close,
@@ -32,7 +32,7 @@ pub enum FrameReason {
 }
 
 /// Which way a stream of frames goes.
-#[derive(Clone, Copy, Debug, PartialEq, Eq)]
+#[derive(Clone, Copy)]
 pub enum Side {
     /// To the servers: no Refused frames.
     ToServers,
@@ -41,21 +41,21 @@ pub enum Side {
 }
 
 /// Whether waiting entries are served after each frame, or by Turn and Pick frames alone.
-#[derive(Clone, Copy, Debug, PartialEq, Eq)]
+#[derive(Clone, Copy, PartialEq, Eq)]
 pub enum Mode {
     Auto,
     Given,
 }
 
 /// A bad fixed part: the offset of its first byte in the stream, and the first reason against it.
-#[derive(Clone, Copy, Debug, PartialEq, Eq)]
+#[derive(Clone, Copy)]
 pub struct LinkFault {
     pub at: u64,
     pub reason: FrameReason,
 }
 
 /// How an endpoint's number stands.
-#[derive(Clone, Copy, Debug, PartialEq, Eq)]
+#[derive(Clone, Copy)]
 pub enum Standing {
     /// It was never used.
     Unused,
@@ -80,7 +80,7 @@ impl Standing {
 }
 
 /// Why a frame isn't admitted.
-#[derive(Clone, Copy, Debug, PartialEq, Eq)]
+#[derive(Clone, Copy, Debug)]
 pub enum Refusal {
     PeerClosed,
     BadHandle,
@@ -103,7 +103,7 @@ impl Refusal {
 }
 
 /// What `admit` answers of a frame that it didn't admit.
-#[derive(Clone, Copy, Debug, PartialEq, Eq)]
+#[derive(Clone, Copy)]
 pub enum AdmitFault {
     Refused(Refusal),
     NoMemory,
@@ -120,7 +120,7 @@ impl From<NoMemory> for AdmitFault {
 }
 
 /// What `give_token` answers where it gives none.
-#[derive(Clone, Copy, Debug, PartialEq, Eq)]
+#[derive(Clone, Copy)]
 pub enum TokenFault {
     /// So many tokens are held or travel as can, or the last number was given.
     Full,
