@@ -20,7 +20,7 @@ pub struct Birth {
 
 /// What is in use at a server: its connections, at most 4,096; the watchers of the connection's directory, at most 64; and the
 /// number that the next token gets, `None` where none is given any more.
-#[derive(Clone, Copy, Debug, PartialEq, Eq)]
+#[derive(Clone, Copy)]
 pub struct Room {
     pub connections: u32,
     pub watchers: u32,

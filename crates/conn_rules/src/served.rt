@@ -2,7 +2,7 @@ use crate::births::Birth;
 use fidl_names::Status;
 
 /// What a connection makes of a request.
-#[derive(Clone, Copy, Debug, PartialEq, Eq)]
+#[derive(Clone, Copy)]
 pub enum Served {
     /// The reply stands in the output.
     Reply,
