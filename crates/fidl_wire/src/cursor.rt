@@ -30,7 +30,7 @@ pub struct Opened {
 
 /// A union's ordinal, and the value of its branch where that stands in the envelope: a word whose
 /// bytes behind those of the value are zero. Otherwise the branch is the object that follows.
-#[derive(Clone, Copy, Debug, PartialEq, Eq)]
+#[derive(Clone, Copy)]
 pub struct Branch {
     pub ordinal: u64,
     pub inlined: Option<u32>,

@@ -1,7 +1,7 @@
 ghost use Rattle.std.specs.Prelude.{◌≡◌};
 
 /// Why bytes and handles are not a message.
-#[derive(Clone, Copy, Debug, PartialEq, Eq)]
+#[derive(Clone, Copy, Debug)]
 pub enum WireWhat {
     /// The header or the padded primary object passes the message's end.
     Short,
@@ -31,7 +31,7 @@ pub enum WireWhat {
 /// The first fault of a message: its reason, and the offset in the message of the first byte of
 /// the field or of the padding that is wrong. For `Short`, and for handles that are left over,
 /// the offset is the message's length.
-#[derive(Clone, Copy, Debug, PartialEq, Eq)]
+#[derive(Clone, Copy, Debug)]
 pub struct WireFault {
     pub at: usize,
     pub what: WireWhat,

@@ -20,7 +20,7 @@ pub const FLEXIBLE_BIT: u8 = 0x80;
 pub const OVERFLOW_BIT: u8 = 0x40;
 
 /// The header of a transactional message.
-#[derive(Clone, Copy, Debug, PartialEq, Eq)]
+#[derive(Clone, Copy, Debug)]
 pub struct Header {
     /// What ties a reply to its request; 0 for a one-way message.
     pub txid: u32,

@@ -4,7 +4,7 @@ ghost use Rattle.fidl_wire.specs.Layout.{is_kind};
 use fidl_names::Handle;
 
 /// Which handles a field may hold.
-#[derive(Clone, Copy, Debug, PartialEq, Eq)]
+#[derive(Clone, Copy)]
 pub enum HandleKind {
     AnyHandle,
     AnEndpoint,

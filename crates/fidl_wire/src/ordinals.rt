@@ -16,7 +16,7 @@ const EVENT_ROW: usize = 20;
 const LOW_BYTES: usize = 256;
 
 /// Two names have equal ordinals.
-#[derive(Clone, Copy, Debug, PartialEq, Eq)]
+#[derive(Clone, Copy, Debug)]
 pub enum OrdinalFault {
     /// The rows of the first two: of all such pairs the one with the least second row, and then
     /// the least first row.
