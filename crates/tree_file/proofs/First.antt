@@ -37,3 +37,7 @@ three-pass None None None more hold = refl
 three-pass None None (Some x) more hold = cc
 three-pass None (Some x) c more hold = cc
 three-pass (Some x) b c more hold = cc
+
+-- two of three rules that hold are passed
+pub third-broken : (a b c : Option ℕ) (item : ℕ) (fault : TreeFault) → a ≡ None → b ≡ None → c ≡ Some item → fault ≡ Rule 13 item → IsFirst (first_broken 11 (a ∷ b ∷ c ∷ [])) fault
+third-broken a b c item fault first second third told = rw (first, second, third, told)

@@ -7,7 +7,7 @@ use node_graph::NodeKind;
 
 /// A node of a start: its server's index, its path, its kind, the mask of its name, and the bytes of a
 /// file.
-#[derive(Clone, Copy, Debug, PartialEq, Eq)]
+#[derive(Clone, Copy)]
 pub struct StartNode<'a> {
     pub server: u32,
     pub path: &'a [u8],
@@ -17,7 +17,7 @@ pub struct StartNode<'a> {
 }
 
 /// A mount of a start: at a path of a server the target goes on, from its own directory `at`.
-#[derive(Clone, Copy, Debug, PartialEq, Eq)]
+#[derive(Clone, Copy)]
 pub struct StartMount<'a> {
     pub server: u32,
     pub path: &'a [u8],
@@ -27,7 +27,7 @@ pub struct StartMount<'a> {
 }
 
 /// A first connection of a start.
-#[derive(Clone, Copy, Debug, PartialEq, Eq)]
+#[derive(Clone, Copy)]
 pub struct StartClient<'a> {
     pub endpoint: u32,
     pub server: u32,

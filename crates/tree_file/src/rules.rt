@@ -100,7 +100,7 @@ fn mount_fits<'a>(places: &Places<'a>, mount: &'a Mount) -> bool
 {
     let path = mount.path.as_slice();
     let at = mount.at.as_slice();
-    fits_in(places, mount.server, path) && is_directory(places, mount.target, at)
+    is_directory(places, mount.target, at) && fits_in(places, mount.server, path)
 }
 
 fn add_mount<'a>(places: &mut Places<'a>, mount: &'a Mount) -> Result<(), NoMemory>
