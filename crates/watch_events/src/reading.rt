@@ -4,7 +4,7 @@ ghost use Rattle.watch_events.specs.Events.{Gives, left};
 
 /// An event, with the name lent from the message: 0 that the directory is gone, 1 that a name came, 2 that one went, 3 that one is
 /// there, 4 that these were all.
-#[derive(Clone, Copy, Debug, PartialEq, Eq)]
+#[derive(Clone, Copy, Debug)]
 pub struct Seen<'a> {
     pub event: u8,
     pub name: &'a [u8],
