@@ -9,7 +9,7 @@ use fidl_wire::Out;
 
 /// An entry of a listing: the number of a node, the type of its kind, and a name of at most 255 bytes. The types are 4 for a
 /// directory and a mount, 8 for a file and 16 for a service.
-#[derive(Clone, Copy, Debug, PartialEq, Eq)]
+#[derive(Clone, Copy)]
 pub struct Dirent<'a> {
     pub ino: u64,
     pub kind: u8,
@@ -17,7 +17,7 @@ pub struct Dirent<'a> {
 }
 
 /// The entries of a listing's bytes that weren't given yet, in order: those of the longest front of the bytes that is whole entries.
-#[derive(Clone, Copy, Debug)]
+#[derive(Clone, Copy)]
 pub struct Entries<'a> {
     bytes: &'a [u8],
 }
