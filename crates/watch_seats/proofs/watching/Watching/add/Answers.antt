@@ -1,15 +1,23 @@
-use Rattle.std.proofs.Common.{◌≡◌, ◌∙◌, ◌++◌, ◌∷◌, [], true, false, None, OnOk, Result, Ok, Err, ap, nat_eq, subst, sym}
+use Rattle.std.proofs.Common.{◌≡◌, ◌∙◌, ◌++◌, ◌∷◌, ℕ, [], true, false, None, OnOk, Result, Ok, Err, ap, arith, filter, length, nat_eq, subst, sym}
+use Rattle.std.proofs.lemmas.List.{length-map}
 use Rattle.std.specs.Result.{is_err}
 use Rattle.indexmap.proofs.CallerLemmas.{insert_entry-new}
 use Rattle.watch_events.specs.Watching.{Adds}
-use Rattle.watch_seats.specs.Seats.{AreByDirectory, Seats, seat_at}
+use Rattle.node_graph.specs.Graph.{number_of}
+use Rattle.watch_seats.specs.Seats.{AreByDirectory, Seats, is_at, seat_at, watcher_of}
 use Rattle.watch_seats.proofs.Seats.{by_directory_more, new_there}
 use Rattle.watch_seats.proofs.watching.Watching.add.Goals as goal
 
-pub add-requires-clause-new : goal.add-requires-clause-new
-add-requires-clause-new c =
-    new_there c.self.inside.seats.entries c.self.inside.watchers c.self.invariant c.args.endpoint c.number.result
-    (ap (λ (seats : Seats). seat_at seats c.args.endpoint) c.self.view_is ∙ c.requires.free)
+pub add-requires : goal.add-requires
+add-requires c =
+    let seats = c.self.inside.seats.entries in
+    let here : length (filter (is_at c.number.result) seats) ≡ length (filter (is_at (number_of c.args.directory)) c.args.self.now) =
+    ap (λ (number : ℕ). length (filter (is_at number) seats)) c.number.ensures
+    ∙ ap (λ (seats : Seats). length (filter (is_at (number_of c.args.directory)) seats)) c.self.view_is in
+    record {
+      few = omega (arith, ap length (c.self.invariant c.number.result), length-map (filter (is_at c.number.result) seats) watcher_of, here, c.requires.few);
+      new = new_there seats c.self.inside.watchers c.self.invariant c.args.endpoint c.number.result (ap (λ (seats : Seats). seat_at seats c.args.endpoint) c.self.view_is ∙ c.requires.free);
+    }
 
 when_ok : {X E : Type 0} (r : Result X E) (P : Type 0) → is_err r ≡ false → OnOk r P → P
 when_ok (Ok x) P is p = p
