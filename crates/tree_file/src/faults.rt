@@ -6,7 +6,7 @@ use thiserror::Error;
 
 /// Why a text has no start: the first rule that it breaks, counted from 1, with the first item of
 /// that rule's list that fails, counted from 0; or want of memory.
-#[derive(Clone, Copy, Debug, PartialEq, Eq, Error)]
+#[derive(Clone, Copy, Debug, Error)]
 pub enum TreeFault {
     #[error("tree refused: rule {rule} item {item}")]
     Rule { rule: u32, item: u64 },

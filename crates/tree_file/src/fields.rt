@@ -8,18 +8,11 @@ ghost use Rattle.tree_file.specs.Fields.{has_only, text_at};
 
 use toml::{Table, Value};
 
-// Whether a key is one of these.
-fn is_known(key: &str, known: &[&str]) -> bool
-    ensures { result ≡ list_any (λ one. bytes_eq one.now key.now) known.now }
-{
-    known.iter().any(|one| *one == key)
-}
-
 // Whether the table has no other keys than these.
 fn knows_all(table: &Table, known: &[&str]) -> bool
     ensures { result ≡ list_all (λ key. list_any (λ one. bytes_eq one.now (string_bytes key)) known.now) (keys table.now) }
 {
-    table.keys().all(|key| is_known(key.as_str(), known))
+    table.keys().all(|key| known.contains(&key.as_str()))
 }
 
 /// Whether the value is a table with no other keys than these.
