@@ -1,4 +1,4 @@
-ghost use Rattle.std.specs.Prelude.{◌≡◌, ◌<◌, ◌≤◌, ◌++◌, true, false, [], length, map, take, None, IfOk, IfErr, OnOk, OnErr};
+ghost use Rattle.std.specs.Prelude.{◌≡◌, ◌<◌, ◌≤◌, ◌++◌, true, false, [], length, map, take, None, Some, IfOk, IfErr, OnOk, OnErr};
 ghost use Rattle.std.specs.FinMap as finite;
 ghost use Rattle.std.specs.Int.{w32, cast_signed};
 ghost use Rattle.fidl_names.specs.HandleNumber.{handle_with};
@@ -11,7 +11,7 @@ ghost use Rattle.io_messages.specs.Asked.{asked, method_of};
 ghost use Rattle.io_replies.specs.Reading.{event_of, reply_of};
 ghost use Rattle.io_messages.specs.Requests.{has_txid};
 ghost use Rattle.io_messages.specs.Shapes.{is_one_way};
-ghost use Rattle.io_messages.specs.Writing.{HasTexts};
+ghost use Rattle.io_messages.specs.Writing.{HasTexts, request_bytes, request_handles};
 ghost use Rattle.io_client.specs.Calls.{Answers, call_at, none_yet, note_refusal, noted, request_frame, send_refusal, sent, watcher_of};
 ghost use Rattle.io_client.specs.Taking.{LendsPayload, Takes, TakesMessage, Taking, answer_to, by_header, is_from_servers, taking, told_event};
 
@@ -20,7 +20,7 @@ use crate::faults::ClientFault;
 use crate::taking::Taken;
 use byteorder::{ByteOrder, LittleEndian};
 use endpoint_link::{FrameKind, FrameView, HandleBytes, Outbox, write_frame, write_message};
-use fidl_names::{Handle, MAX_HANDLES, Method, NoMemory};
+use fidl_names::{Handle, MAX_BYTES, MAX_HANDLES, Method, NoMemory};
 use fidl_wire::{Header, Ordinals, Out, WireFault, WireWhat, read_epitaph};
 use io_messages::{Request, is_one_way};
 use io_replies::{read_event, read_reply};
@@ -96,11 +96,14 @@ impl Client {
         ensures same_calls { OnErr result (self.new ≡ self.old) }
         ensures same_frames { OnErr result (to.new ≡ to.old) }
     {
-        self.out.clear();
-        write_request(ordinals, txid, request, &mut self.out)?;
-        if self.waiting.at(endpoint, txid).is_some() {
-            return Err(ClientFault::Busy);
-        }
+        put_request(
+            ordinals,
+            &self.waiting,
+            endpoint,
+            txid,
+            request,
+            &mut self.out,
+        )?;
         let len = to.len();
         write_message(to, endpoint, self.out.handles(), self.out.as_bytes())?;
         if let Err(fault) = self.wait_for(endpoint, txid, &request) {
@@ -291,6 +294,31 @@ impl Client {
             }
         }
     }
+}
+
+/// Puts a request into an output, where nothing refuses it.
+fn put_request(
+    ordinals: &Ordinals,
+    waiting: &Waiting,
+    endpoint: u32,
+    txid: u32,
+    request: Request<'_>,
+    out: &mut Out,
+) -> Result<(), ClientFault>
+    requires texts { HasTexts (asked request) }
+    requires way { has_txid (is_one_way (method_of (asked request))) txid ≡ true }
+    ensures bytes { OnOk result (out.new.bytes ≡ request_bytes txid (asked request.entry)) }
+    ensures handles { OnOk result (out.new.handles ≡ request_handles (asked request.entry)) }
+    ensures fits { OnOk result (length (request_bytes txid (asked request.entry)) ≤ MAX_BYTES) }
+    ensures free { OnOk result (send_refusal (record none_yet { waiting = waiting.now }) endpoint txid (asked request.entry) ≡ None) }
+    ensures refused { IfErr result (λ fault. send_refusal (record none_yet { waiting = waiting.now }) endpoint txid (asked request.entry) ≡ Some fault) }
+{
+    out.clear();
+    write_request(ordinals, txid, request, out)?;
+    if waiting.at(endpoint, txid).is_some() {
+        return Err(ClientFault::Busy);
+    }
+    Ok(())
 }
 
 /// The status of a refusal.

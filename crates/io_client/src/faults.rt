@@ -2,7 +2,7 @@ use fidl_names::NoMemory;
 use io_messages::TooLong;
 
 /// Why a request was not sent, or a call not noted.
-#[derive(Clone, Copy, Debug, PartialEq, Eq)]
+#[derive(Clone, Copy, Debug)]
 pub enum ClientFault {
     /// The message would have more than 65,536 bytes.
     TooLong,
