@@ -2,7 +2,7 @@ use conn_rules::Birth;
 use node_graph::NodeRef;
 
 /// What becomes of endpoints when an entry was served.
-#[derive(Clone, Copy, Debug, PartialEq, Eq)]
+#[derive(Clone, Copy)]
 pub enum Fate {
     /// Nothing: the endpoint stays.
     Stays,

@@ -84,8 +84,8 @@ fn bind_end<'a>(
     )
 }
 
-/// Binds the first connections to a server, in the order of the file.
-pub(crate) fn bind_clients<'a>(
+// Binds the first connections to a server, in the order of the file.
+fn bind_clients<'a>(
     start: &'a Start,
     index: u32,
     places: &Places<'a>,
@@ -102,8 +102,8 @@ pub(crate) fn bind_clients<'a>(
     Ok(())
 }
 
-/// Binds the ends of the mounts that go on at a server, behind its first connections.
-pub(crate) fn bind_ends<'a>(
+// Binds the ends of the mounts that go on at a server, behind its first connections.
+fn bind_ends<'a>(
     start: &'a Start,
     index: u32,
     places: &Places<'a>,
@@ -118,4 +118,20 @@ pub(crate) fn bind_ends<'a>(
         bind_end(start, index, item, places, server)?;
     }
     Ok(())
+}
+
+/// Binds all that a server begins with: its first connections, and the ends of the mounts that go on at it.
+pub(crate) fn bind_firsts<'a>(
+    start: &'a Start,
+    index: u32,
+    places: &Places<'a>,
+    server: &mut Server,
+) -> Result<(), NoMemory>
+    requires accepted { AreAccepted start.now }
+    requires there { index < length start.now.servers }
+    requires holds { HoldsJust start.now index [] server.old places.now }
+    ensures { OnOk result (HoldsJust start.now index (begins_with start.now index) server.new places.now) }
+{
+    bind_clients(start, index, places, server)?;
+    bind_ends(start, index, places, server)
 }
