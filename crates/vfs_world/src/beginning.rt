@@ -19,17 +19,24 @@ use tree_file::Start;
 use vfs_server::Server;
 use vfs_session::Session;
 
-// The servers, by their indexes, of a start that keeps the rules of a tree.
-fn begin_servers(alloc: Global, start: &Start) -> Result<Vec<Server>, NoMemory>
-    ensures accepted { AreAccepted start.now }
-    ensures bytes { HasFilesOfBytes start.now }
-    ensures holds { IfOk result (λ servers. HoldsEach (view_of (start_of start.now) []) servers.items) }
+// Puts the servers of a start behind each other, by their indexes.
+fn add_servers(alloc: Global, start: &Start, servers: &mut Vec<Server>) -> Result<(), NoMemory>
+    requires none { servers.old.items ≡ [] }
+    ensures { OnOk result (HoldsEach (view_of (start_of start.now) []) servers.new.items) }
 {
-    let mut servers = Vec::new(alloc);
     for index in 0..start.servers() {
         let server = Server::begin(alloc, start, index)?;
         servers.push(server)?;
     }
+    Ok(())
+}
+
+// The servers, by their indexes.
+fn begin_servers(alloc: Global, start: &Start) -> Result<Vec<Server>, NoMemory>
+    ensures { IfOk result (λ servers. HoldsEach (view_of (start_of start.now) []) servers.items) }
+{
+    let mut servers = Vec::new(alloc);
+    add_servers(alloc, start, &mut servers)?;
     Ok(servers)
 }
 
@@ -59,14 +66,24 @@ fn bind_mounts(start: &Start, queues: &mut Queues) -> Result<(), NoMemory>
     Ok(())
 }
 
-// Nothing waits, and first connections and the ends of mounts are bound.
-fn begin_queues(alloc: Global, start: &Start) -> Result<Queues, NoMemory>
+// Binds all that is bound from the first on.
+fn bind_firsts(start: &Start, queues: &mut Queues) -> Result<(), NoMemory>
     requires accepted { AreAccepted start.now }
-    ensures { IfOk result (HoldsQueues (view_of (start_of start.now) [])) }
+    requires none { BindsJust (start_of start.now) [] queues.old }
+    ensures { OnOk result (BindsJust (start_of start.now) ((start_of start.now).firsts ++ (start_of start.now).mounts) queues.new) }
+{
+    bind_clients(start, queues)?;
+    bind_mounts(start, queues)
+}
+
+// Nothing waits, and first connections and the ends of mounts are bound, of a start that keeps the rules of a tree.
+fn begin_queues(alloc: Global, start: &Start) -> Result<Queues, NoMemory>
+    ensures accepted { AreAccepted start.now }
+    ensures bytes { HasFilesOfBytes start.now }
+    ensures holds { IfOk result (HoldsQueues (view_of (start_of start.now) [])) }
 {
     let mut queues = Queues::new(alloc, start.servers())?;
-    bind_clients(start, &mut queues)?;
-    bind_mounts(start, &mut queues)?;
+    bind_firsts(start, &mut queues)?;
     Ok(queues)
 }
 
@@ -91,16 +108,16 @@ fn known_endpoints(alloc: Global, start: &Start) -> Result<Endpoints, NoMemory>
     Endpoints::new(alloc, &firsts, start.mounts(), start.servers())
 }
 
-/// The session of an accepted start, before its first frame.
+/// The session of an accepted start, before its first frame. Its servers are made last, so that they need not be let go of for want of memory.
 pub(crate) fn begin(alloc: Global, ordinals: Ordinals, start: &Start) -> Result<Session, NoMemory>
     ensures accepted { AreAccepted start.now }
     ensures bytes { HasFilesOfBytes start.now }
     ensures stands { IfOk result (λ session. StandsFor (start_of start.now) (whole session) []) }
 {
-    let servers = begin_servers(alloc, start)?;
     let queues = begin_queues(alloc, start)?;
     let endpoints = known_endpoints(alloc, start)?;
     let out = Out::new(alloc)?;
+    let servers = begin_servers(alloc, start)?;
     Ok(Session {
         alloc,
         ordinals,

@@ -1,7 +1,7 @@
 //! A Read of a file that arrives while nothing waits. Nothing becomes of anybody by it, so that it is neither put
 //! among what waits nor settled.
 
-ghost use Rattle.std.specs.Prelude.{◌≡◌, ◌≢◌, ◌<◌, ◌+◌, ◌-◌, ◌^◌, ℕ, [], true, IfSome, None, OnErr, OnOk, Some, length};
+ghost use Rattle.std.specs.Prelude.{◌≡◌, ◌≢◌, ◌<◌, ◌+◌, ◌-◌, ◌^◌, ℕ, [], true, IfSome, None, Ok, OnErr, OnOk, Some, length};
 ghost use Rattle.endpoint_link.specs.Frames.{IsFrame};
 ghost use Rattle.endpoint_link.specs.Views.{frame_of};
 ghost use Rattle.endpoint_link.specs.declared.kinds.Side.TheVariants as side;
@@ -11,6 +11,8 @@ ghost use Rattle.vfs_journal.specs.Output.{Begins};
 ghost use Rattle.vfs_journal.specs.Past.{history_of};
 ghost use Rattle.vfs_journal.specs.Session.{arrives, drained};
 ghost use Rattle.vfs_journal.specs.Starts.{Start};
+ghost use Rattle.io_messages.specs.Asked.{read};
+ghost use Rattle.io_messages.specs.Requests.{request_of};
 ghost use Rattle.message_queues.specs.Queues.{server_of};
 ghost use Rattle.vfs_session.specs.Running.{IsRunning, whole};
 ghost use Rattle.vfs_session.specs.World.{LeadsTo, StandsFor};
@@ -20,6 +22,7 @@ use crate::arriving::is_plain;
 use endpoint_link::{FrameView, LookUp, Outbox};
 use fidl_names::{MAX_LIVE, NoMemory};
 use fidl_wire::{Ordinals, Out};
+use io_messages::Protocol;
 use vfs_server::{Server, read_in};
 use vfs_session::Session;
 
@@ -41,11 +44,7 @@ pub(crate) fn hear_read(
     ensures unchanged { result ≡ None → (whole session.new ≡ whole session.old) × (outbox.new ≡ outbox.old) }
     ensures begins { Begins outbox.old outbox.new }
 {
-    if !can_be_served(session, frame) {
-        return None;
-    }
-    let (txid, count) = read_in(&session.ordinals, frame.bytes, &[])?;
-    let at = server_for(session, frame.endpoint)?;
+    let (at, txid, count) = read_asked(session, frame)?;
     let read = read_at(
         &mut session.servers,
         &session.ordinals,
@@ -58,6 +57,21 @@ pub(crate) fn hear_read(
     )?;
     session.places += 2;
     Some(read)
+}
+
+/// The server, the transaction id and the count of the Read that a frame asks for, where that can be served at once.
+#[inline(always)]
+fn read_asked(session: &Session, frame: FrameView<'_>) -> Option<(u32, u32, u64)>
+    ensures served { IfSome result (λ asked. CanBeServed (frame_of frame.entry) (whole session.now)) }
+    ensures read { IfSome result (λ asked. request_of Protocol.File frame.entry.bytes.now [] ≡ Ok (asked.1, read asked.2)) }
+    ensures txid { IfSome result (λ asked. 0 < asked.1) }
+{
+    if !can_be_served(session, frame) {
+        return None;
+    }
+    let (txid, count) = read_in(&session.ordinals, frame.bytes, &[])?;
+    let at = server_for(session, frame.endpoint)?;
+    Some((at, txid, count))
 }
 
 /// Whether a frame is a message without handles that needn't wait, and that nothing refuses where its endpoint is

@@ -24,7 +24,7 @@ use std::marker::Model;
 use vfs_session::Session;
 
 /// Why a call of a world did nothing.
-#[derive(Clone, Copy, Debug, PartialEq, Eq)]
+#[derive(Clone, Copy)]
 pub enum WorldFault {
     /// Memory is wanting; the world is spent from then on.
     NoMemory,
@@ -39,7 +39,7 @@ impl From<WorldFault> for NoMemory {
 }
 
 /// Whether a Pick served an entry.
-#[derive(Clone, Copy, Debug, PartialEq, Eq)]
+#[derive(Clone, Copy)]
 pub enum Picked {
     Served,
     /// Nothing of that endpoint can be served.
