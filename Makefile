@@ -11,7 +11,7 @@ help:
 	@echo "make build  prove the program and build it, as $(PROGRAM)"
 	@echo "make run    build it, serve example trees and a file (frames with what comes back), play a script, and check example trees"
 	@echo "make test   all proofs, the edits that must be refused, the tests and the programs, the examples and the documents"
-	@echo "make check  build it, and run it on the examples alone"
+	@echo "make check  build it, run it on the examples, and play worked sessions and trees by it"
 	@echo "make bench  processor time, frames a second and memory"
 	@echo "make clean  remove what was built and what checks kept"
 	@echo
@@ -54,6 +54,7 @@ test:
 
 check: build
 	@examples/check.sh $(PROGRAM)
+	@examples/play.sh $(PROGRAM)
 
 bench: build
 	@tools/bench.sh $(PROGRAM)

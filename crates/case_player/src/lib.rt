@@ -1,17 +1,13 @@
-//! Plays sessions, runs and calls of a world that stand in files as text, by the program over objects in memory, and says which of them don't
-//! end as they should. Each kind of file has its form:
+//! Plays runs of the program and calls of a world that stand in files as text, over objects in memory, and says which of them don't end as they
+//! should: runs by any cuts, with calls that fail and outputs that fill up, which the built program can't be given, and what no frame of a
+//! session shows. Each kind of file has its form:
 //!
-//! - `.sessions`: behind `== ` a name; then a script, a line `--`, and its whole transcript, over the tree file that the last line `tree NAME`
-//!   names (`trees/NAME.toml`), or each of several;
-//! - `.trees`: behind `== ` a name; then a tree file, a line `--`, and what `check` says of it;
 //! - `.runs`: a row for each run, as `rows` says;
-//! - `.worlds`: a row for each call of a world, as `worlds` says: what no frame that comes back shows.
+//! - `.worlds`: a row for each call of a world, as `worlds` says.
 //!
-//! Before they are read `repeats` writes out what they say once for many times. Empty lines, and those that begin with `#`, are skipped, but in
-//! a script or a tree file.
+//! Before they are read `repeats` writes out what they say once for many times. Empty lines, and those that begin with `#`, are skipped.
 #![tactic(auto)]
 
-mod cases;
 mod files;
 mod numbers;
 mod outside;

@@ -80,7 +80,8 @@ fn list_of(alloc: Global, number: Option<u64>) -> Result<Vec<u64>, NoMemory> {
     Ok(list)
 }
 
-fn outside_of(
+/// What a run has outside as it begins.
+pub fn outside_of(
     alloc: Global,
     held: &[u8],
     input: &[u8],
@@ -111,26 +112,16 @@ fn words_in(alloc: Global, text: &str) -> Result<Vec<String>> {
 }
 
 /// Runs the program on words. What it wrote is in what was outside.
-pub fn run(
-    alloc: Global,
-    words: &str,
-    held: &[u8],
-    input: &[u8],
-    sizes: Sizes,
-    failing: Failing,
-) -> Result<(Status, Outside)> {
+pub fn run(alloc: Global, words: &str, outside: &mut Outside) -> Result<Status> {
     let words = words_in(alloc, words)?;
-    let outside = outside_of(alloc, held, input, sizes, failing);
-    let mut outside = outside.ok().context("no memory")?;
-    let status = run_words(
+    Ok(run_words(
         alloc,
         &words,
         &mut outside.files,
         &mut outside.source,
         &mut outside.sink,
         &mut outside.notes,
-    );
-    Ok((status, outside))
+    ))
 }
 
 /// The tree file of a name.

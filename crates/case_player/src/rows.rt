@@ -6,7 +6,7 @@
 //! that there are runs for each of its beginnings that has at least FROM bytes and fewer than TO.
 
 use crate::numbers::{number, size};
-use crate::outside::{Failing, Outside, Sizes, run, tree};
+use crate::outside::{Failing, Outside, Sizes, outside_of, run, tree};
 use crate::tally::{Tally, is_skipped};
 use anyhow::{Context, Result, bail};
 use run_status::Status;
@@ -87,11 +87,23 @@ impl Row<'_> {
 
     /// What comes of a run over an input, by such pieces.
     fn run(&self, rt: &HostRuntime, input: &[u8], read: usize) -> Result<String> {
+        let mut outside = self.outside(rt, input, read)?;
+        self.came(rt.alloc(), &mut outside)
+    }
+
+    /// What the run has outside.
+    fn outside(&self, rt: &HostRuntime, input: &[u8], read: usize) -> Result<Outside> {
         let sizes = sizes_in(self.room, read)?;
         let failing = failing_in(self.failing)?;
         let held = bytes(rt, self.held)?;
-        let (status, outside) = run(rt.alloc(), self.words, &held, input, sizes, failing)?;
-        self.told(rt.alloc(), status, &outside)
+        let outside = outside_of(rt.alloc(), &held, input, sizes, failing);
+        outside.ok().context("no memory")
+    }
+
+    /// What comes of the run over that.
+    fn came(&self, alloc: Global, outside: &mut Outside) -> Result<String> {
+        let status = run(alloc, self.words, outside)?;
+        self.told(alloc, status, outside)
     }
 
     /// What a run ended with and wrote, in the way in which rows say it.

@@ -1,7 +1,7 @@
 use anyhow::Result;
 use std::fmt;
 
-/// How many cases of a file hold, and how many don't. It is shown as `N hold`, or `N hold, M differ`.
+/// How many rows of a file hold, and how many don't. It is shown as `N hold`, or `N hold, M differ`.
 #[derive(Clone, Copy, Debug)]
 pub struct Tally {
     hold: u32,
@@ -13,20 +13,19 @@ impl Tally {
         Tally { hold: 0, differ: 0 }
     }
 
-    /// Whether there is a case, and all hold.
+    /// Whether there is a row, and all hold.
     pub fn is_whole(&self) -> bool {
         self.hold > 0 && self.differ == 0
     }
 
-    /// Counts a case. Where it doesn't hold, the first line that differs is told.
+    /// Counts a row. Where it doesn't hold, that is told.
     pub fn count(&mut self, rt: &HostRuntime, name: &str, wanted: &str, came: &str) -> Result<()> {
-        match first_difference(wanted, came) {
-            None => self.hold = self.hold.saturating_add(1),
-            Some((wanted, came)) => {
-                println!(rt; "{name}\n    wanted {wanted}\n    came   {came}")?;
-                self.differ = self.differ.saturating_add(1);
-            }
+        if came == wanted {
+            self.hold = self.hold.saturating_add(1);
+            return Ok(());
         }
+        self.differ = self.differ.saturating_add(1);
+        println!(rt; "{name}\n    wanted {wanted}\n    came   {came}")?;
         Ok(())
     }
 }
@@ -43,19 +42,4 @@ impl fmt::Display for Tally {
 /// Whether a line says nothing: it is empty, or begins with `#`.
 pub fn is_skipped(line: &str) -> bool {
     line.is_empty() || line.starts_with('#')
-}
-
-/// The first lines of two texts that differ. Of what is wanted those that say nothing don't count.
-fn first_difference<'a>(wanted: &'a str, came: &'a str) -> Option<(&'a str, &'a str)> {
-    let mut came = came.lines();
-    for line in wanted.lines() {
-        if !is_skipped(line) {
-            let other = came.next().unwrap_or("(nothing more)");
-            if other != line {
-                return Some((line, other));
-            }
-        }
-    }
-    let behind = came.next()?;
-    Some(("(nothing more)", behind))
 }

@@ -11,7 +11,8 @@ use crate::tally::{Tally, is_skipped};
 use anyhow::{Context, Result, bail, ensure};
 use endpoint_link::{Mode, Outbox, Reading, Side, frame_at};
 use fidl_wire::Ordinals;
-use tree_file::start_of;
+use std::alloc::Global;
+use tree_file::{Start, start_of};
 use vfs_world::{Picked, World};
 
 /// Plays the rows of a text.
@@ -52,8 +53,12 @@ fn begin(rt: &HostRuntime, name: &str) -> Result<World> {
     let text = tree(rt, name)?;
     let start = start_of(rt.alloc(), text.as_bytes());
     let start = start.ok().context("a tree is refused")?;
+    world_of(rt.alloc(), &start)
+}
+
+fn world_of(alloc: Global, start: &Start) -> Result<World> {
     let ordinals = Ordinals::new().ok().context("ordinals collide")?;
-    let world = World::new(rt.alloc(), ordinals, &start);
+    let world = World::new(alloc, ordinals, start);
     world.ok().context("no memory")
 }
 
@@ -67,13 +72,22 @@ fn came(rt: &HostRuntime, world: &mut World, deed: &str) -> Result<String> {
 
 /// Does what a row says.
 fn answer(rt: &HostRuntime, world: &mut World, deed: &str) -> Result<&'static str> {
-    let (verb, said) = deed.split_once(' ').context("a deed says nothing")?;
     let mut outbox = Outbox::new(rt.alloc());
-    match verb {
-        "turn" => turn(world, number(said)?, &mut outbox),
-        "pick" => pick(world, number(said)?, &mut outbox),
-        "send" => take(world, &bytes(rt, said)?, Mode::Given, &mut outbox),
-        "drain" => take(world, &bytes(rt, said)?, Mode::Auto, &mut outbox),
+    done(rt, world, deed, &mut outbox)
+}
+
+/// The same, with an outbox that takes the frames.
+fn done(
+    rt: &HostRuntime,
+    world: &mut World,
+    deed: &str,
+    outbox: &mut Outbox,
+) -> Result<&'static str> {
+    match deed.split_once(' ') {
+        Some(("turn", said)) => turn(world, number(said)?, outbox),
+        Some(("pick", said)) => pick(world, number(said)?, outbox),
+        Some(("send", said)) => take(world, &bytes(rt, said)?, Mode::Given, outbox),
+        Some(("drain", said)) => take(world, &bytes(rt, said)?, Mode::Auto, outbox),
         _ => bail!("no such deed"),
     }
 }
