@@ -1,9 +1,11 @@
 -- The report of a workload, from what is counted.
-use Rattle.std.proofs.Common.{◌≡◌, ℕ, List, Option, length, sym, ap, ◌∙◌, subst}
+use Rattle.std.proofs.Common.{◌≡◌, ℕ, List, Option, Result, Ok, Err, IfOk, length, refl, sym, ap, ◌∙◌, subst}
+use Rattle.std.specs.Prelude.{All}
 use Rattle.std.proofs.lemmas.List.{length-map}
 use Rattle.endpoint_link.specs.declared.kinds.Mode.{Mode}
 use Rattle.endpoint_link.specs.declared.kinds.Mode.TheVariants.{Auto}
-use Rattle.endpoint_link.specs.Frames.{Frame, spellings}
+use Rattle.endpoint_link.specs.Frames.{Frame, IsFrame, spellings}
+use Rattle.endpoint_link.specs.declared.kinds.Side.TheVariants.{ToServers}
 use Rattle.sha2.specs.Sha256.{sha256}
 use Rattle.vfs_script.specs.Scripts.{call_in, calls_of, frame_of, frames_of, script_lines}
 use Rattle.vfs_script.specs.declared.calls.Call.{Call}
@@ -15,7 +17,7 @@ use Rattle.vfs_journal.specs.Starts.{start_of}
 use Rattle.workload.specs.Laws.{IsGoodScript}
 use Rattle.workload.specs.Workload.{IsRounds, workload}
 use Rattle.workload.proofs.Whole.{workloads}
-use Rattle.script_session.specs.Workloads.{report_of, report_with}
+use Rattle.script_session.specs.Workloads.{IsReport, Reports, report_of, report_with}
 
 -- so many rounds are a script
 pub is_good : (rounds : ℕ) → IsRounds rounds → IsGoodScript rounds
@@ -42,3 +44,11 @@ is_report rounds sent start by calls out report from auto beside count measures 
     ∙ ap (λ n. report_with frames n out.bytes out.hash) all.frames
     ∙ ap (λ n. report_with frames (length written) n out.hash) all.bytes
     ∙ ap (report_with frames (length written) (length (spellings written))) all.hash
+
+pub is_reported : {V E : Type 0} (r : Result V E) (bytes : V → List ℕ) (rounds : ℕ) (start : Lists) (by : Mode) (calls : List (Option Call))
+    → start ≡ generated_lists → by ≡ Auto → calls ≡ calls_of (workload rounds) → All (IsFrame ToServers) (frames_of (workload rounds))
+    → IfOk r (λ report. Reports (output_frames (start_of start) by (workload rounds)) (length calls) (bytes report))
+    → IfOk r (λ report. IsReport rounds (bytes report))
+is_reported (Ok report) bytes rounds start by calls from auto beside sent told =
+    record { sent = sent; is = is_report rounds (length calls) start by calls told.0 (bytes report) from auto beside refl told.1 told.2 }
+is_reported (Err e) bytes rounds start by calls from auto beside sent told = tt

@@ -5,7 +5,8 @@ use Rattle.sha2.specs.Sha256.{sha256}
 use Rattle.endpoint_link.specs.Frames.{Frame, IsFrame, spellings}
 use Rattle.endpoint_link.specs.declared.kinds.Mode.TheVariants.{Auto}
 use Rattle.endpoint_link.specs.declared.kinds.Side.TheVariants.{ToServers}
-use Rattle.script_session.specs.Measured.{output_frames}
+use Rattle.script_session.specs.Measured.{Measures, output_frames}
+use Rattle.script_session.specs.declared.measuring.Measured.{Measured}
 use Rattle.tree_file.specs.Generated.{generated_lists}
 use Rattle.vfs_journal.specs.Starts.{start_of}
 use Rattle.vfs_script.specs.Scripts.{frames_of}
@@ -16,6 +17,10 @@ abbrev pub report_with : ℕ → ℕ → ℕ → List ℕ → List ℕ
 report_with frames_in frames_out bytes_out hash =
     codes "frames in " ++ decimal frames_in ++ codes "\nframes out " ++ decimal frames_out
     ++ codes "\nbytes out " ++ decimal bytes_out ++ codes "\nsha256 " ++ encode_lower hash ++ codes "\n"
+
+-- of so many frames that go in, and what is measured of those that come out
+abbrev pub Reports : List Frame → ℕ → List ℕ → Type 0
+Reports written sent report = (out : Measured) × Measures written out × (report ≡ report_with sent out.frames out.bytes out.hash)
 
 -- of frames that go in and those that come out
 abbrev pub report_for : List Frame → List Frame → List ℕ

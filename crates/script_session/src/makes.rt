@@ -1,12 +1,17 @@
-ghost use Rattle.std.specs.Prelude.{◌≡◌, IfOk};
+ghost use Rattle.std.specs.Prelude.{◌≡◌, ℕ, List, All, IfOk, length};
+ghost use Rattle.endpoint_link.specs.Frames.{IsFrame};
 ghost use Rattle.endpoint_link.specs.declared.kinds.Mode.TheVariants as mode;
+ghost use Rattle.endpoint_link.specs.declared.kinds.Side.TheVariants as side;
+ghost use Rattle.script_session.specs.Measured.{output_frames};
 ghost use Rattle.script_session.specs.Steps.{IsScript};
+ghost use Rattle.vfs_journal.specs.Starts.{start_of};
+ghost use Rattle.vfs_script.specs.Scripts.{frames_of};
 ghost use Rattle.workload.specs.Workload.{IsRounds, workload};
 ghost use Rattle.run_status.specs.Causes.{AfterNames};
 ghost use Rattle.run_status.specs.Outside.{sink_told};
 ghost use Rattle.run_status.specs.Texts.{WritesText};
 ghost use Rattle.script_session.specs.ScriptCauses.{AfterReport};
-ghost use Rattle.script_session.specs.Workloads.{IsReport, report_with};
+ghost use Rattle.script_session.specs.Workloads.{IsReport, Reports, report_with};
 
 use crate::{Measured, measure};
 use fidl_names::NoMemory;
@@ -14,7 +19,7 @@ use fidl_wire::{OrdinalFault, Ordinals};
 use host_io::{Failed, Sink};
 use run_status::{Status, pass_on, put_number};
 use std::alloc::{AllocError, Global};
-use tree_file::generated_start;
+use tree_file::{Start, generated_start};
 use vfs_script::{Script, ScriptFault, script_of};
 use workload::generated;
 
@@ -44,7 +49,22 @@ fn report_of(alloc: Global, ordinals: Ordinals, rounds: u32) -> Result<Vec<u8>, 
 {
     let start = generated_start(alloc)?;
     let script = generated_script(alloc, &ordinals, rounds)?;
-    let measured = measure(alloc, ordinals, &start, &script)?;
+    report_over(alloc, ordinals, &start, &script)
+}
+
+/// The report of a script that is played over the tree of an accepted start.
+fn report_over(
+    alloc: Global,
+    ordinals: Ordinals,
+    start: &Start,
+    script: &Script,
+) -> Result<Vec<u8>, NoMemory>
+    requires { (text : List ℕ) × IsScript text script.now }
+    ensures told { (text : List ℕ) → IsScript text script.now →
+        IfOk result (λ report. Reports (output_frames (start_of start.now) script.now.mode text) (length script.now.calls) report.items) }
+    ensures sent { (text : List ℕ) → IsScript text script.now → All (IsFrame side.ToServers) (frames_of text) }
+{
+    let measured = measure(alloc, ordinals, start, script)?;
     Ok(report_with(alloc, script.len(), &measured)?)
 }
 
