@@ -14,7 +14,7 @@ use std::collections::btree_map::Range;
 use std::marker::Model;
 
 /// A name of a directory, with the number and the kind of the node that it leads to.
-#[derive(Clone, Copy, Debug, PartialEq, Eq)]
+#[derive(Clone, Copy)]
 pub struct NameView<'a> {
     pub name: &'a [u8],
     pub number: u64,

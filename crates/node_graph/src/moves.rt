@@ -17,7 +17,7 @@ use crate::nodes::{NodeKind, NodeRef};
 use fidl_names::MAX_NAME;
 
 /// What a rename did.
-#[derive(Clone, Copy, Debug, PartialEq, Eq)]
+#[derive(Clone, Copy)]
 pub struct Moved {
     /// Whether anything changed. Nothing does where a name is to be what it is.
     pub changed: bool,

@@ -36,7 +36,7 @@ pub struct NodeRef {
 }
 
 /// What a name leads to: a node, and the mask of the rights that pass through the name.
-#[derive(Clone, Copy, Debug, PartialEq, Eq)]
+#[derive(Clone, Copy)]
 pub struct Entry {
     pub node: NodeRef,
     pub mask: Rights,
