@@ -7,7 +7,7 @@ use io_rights::Rights;
 use node_graph::NodeRef;
 
 /// What an endpoint is bound to: a node, what may be done there, and how.
-#[derive(Clone, Copy, Debug, PartialEq, Eq)]
+#[derive(Clone, Copy)]
 pub struct Birth {
     pub node: NodeRef,
     pub rights: Rights,

@@ -7,7 +7,7 @@ ghost use Rattle.file_session.specs.Meanings.{HasTxid, seen};
 use fidl_wire::{Body, Header, Method, Ordinals, Status, WireFault};
 
 /// What a message on the file's endpoint is.
-#[derive(Clone, Copy, Debug)]
+#[derive(Clone, Copy)]
 pub enum Meaning {
     /// It asks for so many bytes.
     Reads { txid: u32, count: u64 },

@@ -6,7 +6,7 @@ ghost use Rattle.host_io.specs.declared.files.FileFault.TheVariants as fault;
 use std::alloc::{AllocError, Global};
 
 /// Why a file wasn't read.
-#[derive(Clone, Copy, Debug, PartialEq, Eq)]
+#[derive(Clone, Copy, Debug)]
 pub enum FileFault {
     /// The file is missing, or couldn't be read.
     Failed,

@@ -5,7 +5,7 @@ ghost use Rattle.host_io.specs.Streams.{AppendsPart, IsFlushed, IsLast};
 
 /// A read, a write or a flush that failed. The object's count of faults rose, or stands at its last
 /// value.
-#[derive(Clone, Copy, Debug, PartialEq, Eq)]
+#[derive(Clone, Copy, Debug)]
 pub struct Failed;
 
 /// Where bytes come from.

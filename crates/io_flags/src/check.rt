@@ -10,7 +10,7 @@ use crate::words;
 use std::marker::Model;
 
 /// A flag word without a fault. Contracts see it as the word, whose flags `has` tells.
-#[derive(Clone, Copy, Debug, PartialEq, Eq)]
+#[derive(Clone, Copy)]
 pub struct OpenFlags {
     word: u64,
 }

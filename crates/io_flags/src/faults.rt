@@ -4,7 +4,7 @@ ghost use Rattle.io_flags.specs.Faults.{status_of};
 use fidl_names::Status;
 
 /// What is wrong with a flag word.
-#[derive(Clone, Copy, Debug, PartialEq, Eq)]
+#[derive(Clone, Copy, Debug)]
 pub enum FlagFault {
     /// A bit without a name is set.
     UnknownBit,

@@ -4,7 +4,7 @@ ghost use Rattle.io_flags.specs.Words.{place};
 use io_rights::Operation;
 
 /// The flags of an Open, after those of `fuchsia.io`; the names and the bits are this project's own.
-#[derive(Clone, Copy, Debug, PartialEq, Eq)]
+#[derive(Clone, Copy)]
 pub enum Flag {
     /// PERM_CONNECT, PERM_READ_BYTES and so on: the right to this operation.
     Perm(Operation),

@@ -132,5 +132,5 @@ impl From<WireFault> for RequestFault {
 }
 
 /// A message would have more than `MAX_BYTES` bytes.
-#[derive(Clone, Copy, Debug)]
+#[derive(Clone, Copy)]
 pub struct TooLong;

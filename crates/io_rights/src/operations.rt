@@ -4,7 +4,7 @@ ghost use Rattle.io_rights.specs.Letters.{letter_of};
 
 /// What a connection may be allowed to do, after the `Operations` of `fuchsia.io`. The order and the
 /// bits are this project's own.
-#[derive(Clone, Copy, Debug, PartialEq, Eq)]
+#[derive(Clone, Copy)]
 pub enum Operation {
     Connect,
     ReadBytes,

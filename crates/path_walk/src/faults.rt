@@ -1,5 +1,5 @@
 /// What is wrong with a path, or with a single name.
-#[derive(Clone, Copy, Debug, PartialEq, Eq)]
+#[derive(Clone, Copy, Debug)]
 pub enum PathFault {
     /// The path has no byte.
     Empty,

@@ -17,7 +17,7 @@ use vfs_script::Script;
 
 /// What is told of output frames: how many there are, how many bytes they have, and the SHA-256 of these. The sums are wider than 64 bits,
 /// since nothing but memory bounds what each line of a script makes the servers write.
-#[derive(Clone, Copy, Debug, PartialEq, Eq)]
+#[derive(Clone, Copy)]
 pub struct Measured {
     pub frames: u128,
     pub bytes: u128,

@@ -2,7 +2,7 @@ use fidl_names::NoMemory;
 use host_io::Failed;
 
 /// Why a transcript isn't written whole.
-#[derive(Clone, Copy, Debug, PartialEq, Eq)]
+#[derive(Clone, Copy)]
 pub enum TranscriptFault {
     /// The sink failed.
     Failed,
