@@ -1,4 +1,4 @@
-use Rattle.std.proofs.Common.{[], sym, ap, subst, inr}
+use Rattle.std.proofs.Common.{[], refl, sym, ap, subst, inl, inr}
 use Rattle.endpoint_link.specs.declared.kinds.Mode.{Mode}
 use Rattle.vfs_journal.specs.Starts.{start_of}
 use Rattle.tree_session.specs.TreeSession.{tree_course, StandsBehind}
@@ -20,3 +20,6 @@ returns-clause-answers g c =
             (start, ap (tree_course start) (sym c.in-Ok-new-2.ensures.mode), subst (λ (m : Mode). StandsBehind start m session.world []) (sym c.in-Ok-new-2.ensures.mode) c.in-Ok-new-2.ensures.stands),
       ),
     )
+
+pub returns-in-Err-clause-answers : goal.returns-in-Err-clause-answers
+returns-in-Err-clause-answers g c = inr (tt, c.in-Ok.ensures.distinct, inl (c.in-Err.ensures.refused, (refl, refl)))
