@@ -6,7 +6,6 @@ use Rattle.endpoint_link.specs.declared.kinds.Mode.{Mode}
 use Rattle.endpoint_link.specs.declared.kinds.Mode.TheVariants.{Auto}
 use Rattle.endpoint_link.specs.Frames.{Frame, IsFrame, spellings}
 use Rattle.endpoint_link.specs.declared.kinds.Side.TheVariants.{ToServers}
-use Rattle.sha2.specs.Sha256.{sha256}
 use Rattle.vfs_script.specs.Scripts.{call_in, calls_of, frame_of, frames_of, script_lines}
 use Rattle.vfs_script.specs.declared.calls.Call.{Call}
 use Rattle.script_session.specs.Measured.{Measures, output_frames}
