@@ -4,7 +4,7 @@ ghost use Rattle.run_status.specs.Notes.{exit_of};
 use endpoint_link::FrameReason;
 
 /// How a run of the program ended.
-#[derive(Clone, Copy, Debug, PartialEq, Eq)]
+#[derive(Clone, Copy)]
 pub enum Status {
     /// All was done, written and flushed.
     Done,
