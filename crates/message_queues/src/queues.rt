@@ -19,13 +19,25 @@ use std::collections::HashMap;
 use std::marker::Model;
 
 /// What waits on each endpoint, and at which server each endpoint is bound. At most 4,096 entries wait.
-#[derive(Drop)]
 pub struct Queues {
     alloc: Global,
     boxes: HashMap<u32, Mailbox>,
     heads: Vec<Heads>,
     count: u32,
     servers: u32,
+}
+
+// Who owns queues lets go of them by one call, and not of each part by another.
+impl Drop for Queues {
+    fn drop(self) {
+        let Queues {
+            alloc: _alloc,
+            boxes: _boxes,
+            heads: _heads,
+            count: _count,
+            servers: _servers,
+        } = self;
+    }
 }
 
 impl Model for Queues {

@@ -14,12 +14,23 @@ use std::alloc::Global;
 use std::marker::Model;
 
 /// One server's tree.
-#[derive(Drop)]
 pub struct Graph {
     pub(crate) nodes: Slab<Node>,
     pub(crate) edges: Edges,
     pub(crate) made: u64,
     pub(crate) alloc: Global,
+}
+
+// Who owns a tree lets go of it by one call, and not of each part by another.
+impl Drop for Graph {
+    fn drop(self) {
+        let Graph {
+            nodes: _nodes,
+            edges: _edges,
+            made: _made,
+            alloc: _alloc,
+        } = self;
+    }
 }
 
 impl Model for Graph {

@@ -8,7 +8,6 @@ use vfs_server::Server;
 
 /// The servers by their indexes, what waits, what is known of endpoints and tokens, and how many places of
 /// the journal are taken.
-#[derive(Drop)]
 pub struct Session {
     pub alloc: Global,
     pub ordinals: Ordinals,
@@ -23,4 +22,21 @@ pub struct Session {
     pub rooms: Vec<Vec<u8>>,
     /// Where the list was of who died last.
     pub dying: Vec<u32>,
+}
+
+// Who owns a session lets go of it by one call, and not of each part by another.
+impl Drop for Session {
+    fn drop(self) {
+        let Session {
+            alloc: _alloc,
+            ordinals: _ordinals,
+            servers: _servers,
+            queues: _queues,
+            endpoints: _endpoints,
+            places: _places,
+            out: _out,
+            rooms: _rooms,
+            dying: _dying,
+        } = self;
+    }
 }

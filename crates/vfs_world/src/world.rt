@@ -47,21 +47,11 @@ pub enum Picked {
 }
 
 /// A session over all servers of a start.
+#[derive(Drop)]
 pub struct World {
     session: Session,
     spent: bool,
     frames: u64,
-}
-
-// Who owns a world lets go of it by one call, and not of each part by another.
-impl Drop for World {
-    fn drop(self) {
-        let World {
-            session: _session,
-            spent: _spent,
-            frames: _frames,
-        } = self;
-    }
 }
 
 impl Model for World {

@@ -14,10 +14,16 @@ use std::alloc::Global;
 use std::marker::Model;
 
 /// The watchers of one directory, each once, in order of registration.
-#[derive(Drop)]
 pub(crate) struct Row {
     // The masks by their endpoints.
     masks: IndexMap<u32, u32>,
+}
+
+// Who owns a row lets go of it by one call, and not of each part of its map by another.
+impl Drop for Row {
+    fn drop(self) {
+        let Row { masks: _masks } = self;
+    }
 }
 
 impl Model for Row {

@@ -31,10 +31,16 @@ pub struct Seat {
 
 /// The endpoints that watch, in order of their births. They stand a second time by their directories, where
 /// they are told of changes.
-#[derive(Drop)]
 pub struct Watching {
     seats: IndexMap<u32, Seat>,
     watchers: Watchers,
+}
+
+// Who owns these lets go of them by one call, and not of each part by another.
+impl Drop for Watching {
+    fn drop(self) {
+        let Watching { seats: _seats, watchers: _watchers } = self;
+    }
 }
 
 impl Model for Watching {
