@@ -1,11 +1,10 @@
--- Words that ask for something ask for nothing else, and so name one list of files.
-use Rattle.std.proofs.Common.{◌≡◌, ℕ, List, [], ◌∷◌, refl, sym, ap, ◌∙◌, codes, decimal, arith, subst}
+-- Words that ask for something ask for nothing else.
+use Rattle.std.proofs.Common.{◌≡◌, ℕ, List, [], ◌∷◌, refl, sym, ap, ◌∙◌, codes, decimal, arith}
 use Rattle.std.proofs.lemmas.Fmt.{decimal_injective}
 use Rattle.endpoint_link.specs.declared.kinds.Mode.{Mode}
 use Rattle.endpoint_link.specs.declared.kinds.Mode.TheVariants as mode
-use Rattle.run_status.specs.Reads.{ReadsOnly}
 use Rattle.workload.specs.Workload.{IsRounds}
-use Rattle.vfs_program.specs.Words.{Asks, FileOf, ServeOf, RunOf, CheckOf, ShowAll, MakeOf, Means, files_of, mode_word}
+use Rattle.vfs_program.specs.Words.{Asks, FileOf, ServeOf, RunOf, CheckOf, ShowAll, MakeOf, Means, HasRounds, mode_word}
 
 same_mode : (a b : Mode) → mode_word a ≡ mode_word b → a ≡ b
 same_mode mode.Auto mode.Auto e = refl
@@ -24,7 +23,7 @@ files_alone words name (CheckOf tree) m n = absurd (grind (arith, m, n))
 files_alone words name ShowAll m n = absurd (grind (arith, m, n))
 files_alone words name (MakeOf rounds) m n = absurd (grind (arith, m, n.0))
 
-pub serves_alone : (words : List (List ℕ)) (tree : List ℕ) (by : Mode) (asks : Asks) → Means words (ServeOf tree by) → Means words asks → asks ≡ ServeOf tree by
+serves_alone : (words : List (List ℕ)) (tree : List ℕ) (by : Mode) (asks : Asks) → Means words (ServeOf tree by) → Means words asks → asks ≡ ServeOf tree by
 serves_alone words tree by (FileOf name) m n = absurd (grind (arith, m, n))
 serves_alone words tree by (ServeOf other mode') m n =
     let both : codes "serve" ∷ other ∷ mode_word mode' ∷ [] ≡ codes "serve" ∷ tree ∷ mode_word by ∷ [] = sym n ∙ m in
@@ -37,7 +36,7 @@ serves_alone words tree by (CheckOf name) m n = absurd (grind (arith, m, n))
 serves_alone words tree by ShowAll m n = absurd (grind (arith, m, n))
 serves_alone words tree by (MakeOf rounds) m n = absurd (grind (arith, m, n.0))
 
-pub runs_alone : (words : List (List ℕ)) (tree script : List ℕ) (asks : Asks) → Means words (RunOf tree script) → Means words asks → asks ≡ RunOf tree script
+runs_alone : (words : List (List ℕ)) (tree script : List ℕ) (asks : Asks) → Means words (RunOf tree script) → Means words asks → asks ≡ RunOf tree script
 runs_alone words tree script (FileOf name) m n = absurd (grind (arith, m, n))
 runs_alone words tree script (ServeOf other by) m n = absurd (grind (arith, m, n))
 runs_alone words tree script (RunOf other second) m n =
@@ -52,7 +51,7 @@ runs_alone words tree script (MakeOf rounds) m n = absurd (grind (arith, m, n.0)
 same_rounds : (a b : ℕ) → IsRounds a → IsRounds b → decimal a ≡ decimal b → a ≡ b
 same_rounds a b p q e = decimal_injective a b (omega (arith, p.1)) (omega (arith, q.1)) e
 
-pub makes_alone : (words : List (List ℕ)) (rounds : ℕ) (asks : Asks) → Means words (MakeOf rounds) → Means words asks → asks ≡ MakeOf rounds
+makes_alone : (words : List (List ℕ)) (rounds : ℕ) (asks : Asks) → Means words (MakeOf rounds) → Means words asks → asks ≡ MakeOf rounds
 makes_alone words rounds (FileOf name) m n = absurd (grind (arith, m.0, n))
 makes_alone words rounds (ServeOf tree by) m n = absurd (grind (arith, m.0, n))
 makes_alone words rounds (RunOf tree script) m n = absurd (grind (arith, m.0, n))
@@ -82,15 +81,19 @@ shows_alone words (CheckOf tree) m n = absurd (grind (arith, m, n))
 shows_alone words ShowAll m n = refl
 shows_alone words (MakeOf rounds) m n = absurd (grind (arith, m, n.0))
 
-same_files : (words : List (List ℕ)) (one asks : Asks) → Means words one → Means words asks → files_of asks ≡ files_of one
-same_files words (FileOf name) asks m n = ap files_of (files_alone words name asks m n)
-same_files words (ServeOf tree by) asks m n = ap files_of (serves_alone words tree by asks m n)
-same_files words (RunOf tree script) asks m n = ap files_of (runs_alone words tree script asks m n)
-same_files words (CheckOf tree) asks m n = ap files_of (checks_alone words tree asks m n)
-same_files words ShowAll asks m n = ap files_of (shows_alone words asks m n)
-same_files words (MakeOf rounds) asks m n = ap files_of (makes_alone words rounds asks m n)
+pub one_meaning : (words : List (List ℕ)) (one asks : Asks) → Means words one → Means words asks → asks ≡ one
+one_meaning words (FileOf name) asks m n = files_alone words name asks m n
+one_meaning words (ServeOf tree by) asks m n = serves_alone words tree by asks m n
+one_meaning words (RunOf tree script) asks m n = runs_alone words tree script asks m n
+one_meaning words (CheckOf tree) asks m n = checks_alone words tree asks m n
+one_meaning words ShowAll asks m n = shows_alone words asks m n
+one_meaning words (MakeOf rounds) asks m n = makes_alone words rounds asks m n
 
--- what reads only the files of one meaning reads only those of each
-pub reads_only : {F : Type 0} (reads : List ℕ → F → F → Type 0) (words : List (List ℕ)) (one asks : Asks) (before after : F)
-    → Means words one → Means words asks → ReadsOnly reads (files_of one) before after → ReadsOnly reads (files_of asks) before after
-reads_only reads words one asks before after m n r = subst (λ (names : List (List ℕ)). ReadsOnly reads names before after) (sym (same_files words one asks m n)) r
+-- words that ask for a workload say its rounds
+pub has_rounds : (words : List (List ℕ)) (asks : Asks) → Means words asks → HasRounds asks
+has_rounds words (FileOf name) m = tt
+has_rounds words (ServeOf tree by) m = tt
+has_rounds words (RunOf tree script) m = tt
+has_rounds words (CheckOf tree) m = tt
+has_rounds words ShowAll m = tt
+has_rounds words (MakeOf rounds) m = m.1

@@ -39,6 +39,11 @@ Means words (MakeOf rounds) = (words ≡ codes "make" ∷ decimal rounds ∷ [])
 abbrev pub MeanNothing : List (List ℕ) → Type 0
 MeanNothing words = (asks : Asks) → Means words asks → ⊥
 
+-- a workload has 1 to 10,000 rounds
+abbrev pub HasRounds : Asks → Type 0
+HasRounds (MakeOf rounds) = IsRounds rounds
+HasRounds _ = Unit {0}
+
 -- the files that a command reads, in this order
 abbrev pub files_of : Asks → List (List ℕ)
 files_of (FileOf name) = name ∷ []

@@ -6,7 +6,7 @@ ghost use Rattle.run_status.specs.Texts.{Tells};
 ghost use Rattle.run_status.specs.declared.statuses.Status.TheVariants as status;
 ghost use Rattle.vfs_program.specs.Answers.{Answers, IsServable, NoFault, IsDoneOrNoMemory};
 ghost use Rattle.vfs_program.specs.Lawful.{IsLawfulRun};
-ghost use Rattle.vfs_program.specs.Words.{Asks, Means, MeanNothing, files_of};
+ghost use Rattle.vfs_program.specs.Words.{Asks, HasRounds, Means, MeanNothing, command_seen, files_of};
 
 use crate::words::{Command, command_of};
 use file_session::serve_file;
@@ -77,12 +77,31 @@ fn answer<F: Files, S: Source, K: Sink>(
     ensures reads { (asks : Asks) → Means (map string_bytes words.now) asks → ReadsOnly F.reads (files_of asks) files.old files.new }
 {
     match command_of(words) {
-        Some(Command::File { name }) => serve_file(alloc, name, files, source, sink),
-        Some(Command::Serve { tree, mode }) => serve_tree(alloc, tree, mode, files, source, sink),
-        Some(Command::Run { tree, script }) => run_script(alloc, tree, script, files, sink),
-        Some(Command::Check { tree }) => check_tree(alloc, tree, files, sink),
-        Some(Command::Show) => show(alloc, source, sink),
-        Some(Command::Make { rounds }) => make(alloc, rounds, sink),
+        Some(command) => carry_out(alloc, command, files, source, sink),
         None => Status::Usage,
+    }
+}
+
+/// Does what a command says.
+fn carry_out<F: Files, S: Source, K: Sink>(
+    alloc: Global,
+    command: Command<'_>,
+    files: &mut F,
+    source: &mut S,
+    sink: &mut K,
+) -> Status
+    requires { HasRounds (command_seen command) }
+    ensures answers { let told = outside_told F.told F.faults F.overlong S.left S.last S.faults K.written K.flushed K.faults in
+        Answers (command_seen command.entry) (told files.old source.old sink.old) (told files.new source.new sink.new)
+        (source.new ≡ source.old) (sink.new ≡ sink.old) result }
+    ensures reads { ReadsOnly F.reads (files_of (command_seen command.entry)) files.old files.new }
+{
+    match command {
+        Command::File { name } => serve_file(alloc, name, files, source, sink),
+        Command::Serve { tree, mode } => serve_tree(alloc, tree, mode, files, source, sink),
+        Command::Run { tree, script } => run_script(alloc, tree, script, files, sink),
+        Command::Check { tree } => check_tree(alloc, tree, files, sink),
+        Command::Show => show(alloc, source, sink),
+        Command::Make { rounds } => make(alloc, rounds, sink),
     }
 }
