@@ -25,6 +25,19 @@ grown (x ∷ a) (y ∷ b) [] h k = cc
 grown (x ∷ a) (y ∷ b) (z ∷ c) h k =
     ap (λ t. z ∷ t) (grown a b c (ap (drop 1) h) (ap (drop 1) k)) ∙ ap (λ first. first ∷ a) (ap (λ l. get_or l 0 0) k ∙ ap (λ l. get_or l 0 0) h)
 
+-- one text behind another
+pub three_put : (a b c d x y z : List ℕ) → b ≡ a ++ x → c ≡ b ++ y → d ≡ c ++ z → d ≡ a ++ (x ++ y ++ z)
+three_put a b c d x y z first second third = rw (third, second, first) (simp append_assoc)
+
+-- the last line of a transcript
+pub counts_put : (a b c d label n other m end : List ℕ) → b ≡ a ++ label ++ n → c ≡ b ++ other ++ m → d ≡ c ++ end → d ≡ a ++ (label ++ n ++ other ++ m ++ end)
+counts_put a b c d label n other m end first second third = rw (third, second, first) (simp append_assoc)
+
+-- what stands behind the number of a message's endpoint
+pub message_put : (a b c d e front kind label handles space bytes : List ℕ) → b ≡ a ++ front → front ≡ kind ++ label ++ space → c ≡ b ++ handles → d ≡ c ++ space → e ≡ d ++ bytes →
+    e ≡ a ++ (kind ++ label ++ space ++ handles ++ space ++ bytes)
+message_put a b c d e front kind label handles space bytes first is second third last = rw (last, third, second, first, is) (simp append_assoc)
+
 -- ---- bytes
 
 pub bytes_text-some : (bytes : List ℕ) → 0 < length bytes → bytes_text bytes ≡ encode_lower bytes

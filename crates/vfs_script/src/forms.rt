@@ -53,13 +53,6 @@ fn alone<'a>(parsed: Parsed<'a>, fields: Pieces<'a>) -> Option<Parsed<'a>>
     fields.is_empty().then_some(parsed)
 }
 
-// Behind `hangup E`: nothing
-fn hang_up_form<'a>(endpoint: u32, fields: Pieces<'a>) -> Option<Parsed<'a>>
-    ensures { Forms (behind Verb.HangUp endpoint fields.entry) result }
-{
-    alone(Parsed::HangUp { endpoint }, fields)
-}
-
 // A text and a number of 64 bits.
 fn text_and_long<'a>(fields: Pieces<'a>) -> Option<(&'a [u8], u64)>
     ensures read { option_map (λ r. (r.0.now, r.1)) result ≡ two fields.entry text_and_long }
@@ -96,6 +89,57 @@ fn open_form<'a>(endpoint: u32, fields: Pieces<'a>) -> Option<Parsed<'a>>
     Some(Parsed::Request(endpoint, request))
 }
 
+// Behind `clone E`: N
+fn clone_form<'a>(endpoint: u32, fields: Pieces<'a>) -> Option<Parsed<'a>>
+    ensures { Forms (behind Verb.Clone endpoint fields.entry) result }
+{
+    let request = fields.only_short()?;
+    Some(Parsed::Request(endpoint, Request::Clone { request }))
+}
+
+// Behind `attributes E`: Q
+fn attributes_form<'a>(endpoint: u32, fields: Pieces<'a>) -> Option<Parsed<'a>>
+    ensures { Forms (behind Verb.Attributes endpoint fields.entry) result }
+{
+    let query = fields.only_long()?;
+    Some(Parsed::Request(endpoint, Request::GetAttributes { query }))
+}
+
+// Behind `list E`: MAX
+fn list_form<'a>(endpoint: u32, fields: Pieces<'a>) -> Option<Parsed<'a>>
+    ensures { Forms (behind Verb.List endpoint fields.entry) result }
+{
+    let max_bytes = fields.only_long()?;
+    Some(Parsed::Request(endpoint, Request::ReadDirents { max_bytes }))
+}
+
+// Behind `rename E`: SRC T DST
+fn rename_form<'a>(endpoint: u32, fields: Pieces<'a>) -> Option<Parsed<'a>>
+    requires { AreTexts fields }
+    ensures { Forms (behind Verb.Rename endpoint fields.entry) result }
+{
+    let (src, token, dst) = names_and_token(fields)?;
+    Some(Parsed::Request(endpoint, Request::Rename { src, token, dst }))
+}
+
+// Behind `link E`: SRC T DST
+fn link_form<'a>(endpoint: u32, fields: Pieces<'a>) -> Option<Parsed<'a>>
+    requires { AreTexts fields }
+    ensures { Forms (behind Verb.Link endpoint fields.entry) result }
+{
+    let (src, token, dst) = names_and_token(fields)?;
+    Some(Parsed::Request(endpoint, Request::Link { src, token, dst }))
+}
+
+// Behind `unlink E`: NAME FLAGS
+fn unlink_form<'a>(endpoint: u32, fields: Pieces<'a>) -> Option<Parsed<'a>>
+    requires { AreTexts fields }
+    ensures { Forms (behind Verb.Unlink endpoint fields.entry) result }
+{
+    let (name, flags) = text_and_long(fields)?;
+    Some(Parsed::Request(endpoint, Request::Unlink { name, flags }))
+}
+
 // Behind `watch E`: MASK N
 fn watch_form<'a>(endpoint: u32, mut fields: Pieces<'a>) -> Option<Parsed<'a>>
     ensures { Forms (behind Verb.Watch endpoint fields.entry) result }
@@ -110,6 +154,14 @@ fn watch_form<'a>(endpoint: u32, mut fields: Pieces<'a>) -> Option<Parsed<'a>>
     Some(Parsed::Request(endpoint, request))
 }
 
+// Behind `read E`: COUNT
+fn read_form<'a>(endpoint: u32, fields: Pieces<'a>) -> Option<Parsed<'a>>
+    ensures { Forms (behind Verb.Read endpoint fields.entry) result }
+{
+    let count = fields.only_long()?;
+    Some(Parsed::Request(endpoint, Request::Read { count }))
+}
+
 // Behind `readat E`: COUNT OFFSET
 fn read_at_form<'a>(endpoint: u32, mut fields: Pieces<'a>) -> Option<Parsed<'a>>
     ensures { Forms (behind Verb.ReadAt endpoint fields.entry) result }
@@ -117,6 +169,26 @@ fn read_at_form<'a>(endpoint: u32, mut fields: Pieces<'a>) -> Option<Parsed<'a>>
     let count = fields.long()?;
     let offset = fields.only_long()?;
     Some(Parsed::Request(endpoint, Request::ReadAt { count, offset }))
+}
+
+// Behind `write E`: HEX
+fn write_form<'a>(endpoint: u32, fields: Pieces<'a>) -> Option<Parsed<'a>>
+    ensures { Forms (behind Verb.Write endpoint fields.entry) result }
+{
+    let hex = fields.one()?;
+    Some(Parsed::Write { endpoint, hex })
+}
+
+// Behind `writeat E`: HEX OFFSET
+fn write_at_form<'a>(endpoint: u32, fields: Pieces<'a>) -> Option<Parsed<'a>>
+    ensures { Forms (behind Verb.WriteAt endpoint fields.entry) result }
+{
+    let (hex, offset) = text_and_long(fields)?;
+    Some(Parsed::WriteAt {
+        endpoint,
+        offset,
+        hex,
+    })
 }
 
 // Behind `seek E`: ORIGIN OFFSET
@@ -128,6 +200,52 @@ fn seek_form<'a>(endpoint: u32, mut fields: Pieces<'a>) -> Option<Parsed<'a>>
     Some(Parsed::Request(endpoint, Request::Seek { origin, offset }))
 }
 
+// Behind `resize E`: LENGTH
+fn resize_form<'a>(endpoint: u32, fields: Pieces<'a>) -> Option<Parsed<'a>>
+    ensures { Forms (behind Verb.Resize endpoint fields.entry) result }
+{
+    let length = fields.only_long()?;
+    Some(Parsed::Request(endpoint, Request::Resize { length }))
+}
+
+// Behind `echo E`: HEX
+fn echo_form<'a>(endpoint: u32, fields: Pieces<'a>) -> Option<Parsed<'a>>
+    ensures { Forms (behind Verb.Echo endpoint fields.entry) result }
+{
+    let hex = fields.one()?;
+    Some(Parsed::Echo { endpoint, hex })
+}
+
+// Behind `hangup E`: nothing
+fn hang_up_form<'a>(endpoint: u32, fields: Pieces<'a>) -> Option<Parsed<'a>>
+    ensures { Forms (behind Verb.HangUp endpoint fields.entry) result }
+{
+    alone(Parsed::HangUp { endpoint }, fields)
+}
+
+// Behind `turn S`: N
+fn turn_form<'a>(endpoint: u32, fields: Pieces<'a>) -> Option<Parsed<'a>>
+    ensures { Forms (behind Verb.Turn endpoint fields.entry) result }
+{
+    let count = fields.only_short()?;
+    Some(Parsed::Turn {
+        server: endpoint,
+        count,
+    })
+}
+
+// Behind `raw E`: HANDLES HEX
+fn raw_form<'a>(endpoint: u32, fields: Pieces<'a>) -> Option<Parsed<'a>>
+    ensures { Forms (behind Verb.Raw endpoint fields.entry) result }
+{
+    let (handles, hex) = fields.two()?;
+    Some(Parsed::Raw {
+        endpoint,
+        handles,
+        hex,
+    })
+}
+
 // What the words behind the verb and the endpoint say.
 fn form_of<'a>(verb: Verb, endpoint: u32, fields: Pieces<'a>) -> Option<Parsed<'a>>
     requires { AreTexts fields }
@@ -135,79 +253,29 @@ fn form_of<'a>(verb: Verb, endpoint: u32, fields: Pieces<'a>) -> Option<Parsed<'
 {
     match verb {
         Verb::Open => open_form(endpoint, fields),
-        Verb::Clone => {
-            let request = fields.only_short()?;
-            Some(Parsed::Request(endpoint, Request::Clone { request }))
-        }
+        Verb::Clone => clone_form(endpoint, fields),
         Verb::Close => alone(Parsed::Request(endpoint, Request::Close), fields),
         Verb::Query => alone(Parsed::Request(endpoint, Request::Query), fields),
         Verb::Sync => alone(Parsed::Request(endpoint, Request::Sync), fields),
         Verb::Rewind => alone(Parsed::Request(endpoint, Request::Rewind), fields),
         Verb::Token => alone(Parsed::Request(endpoint, Request::GetToken), fields),
-        Verb::Attributes => {
-            let query = fields.only_long()?;
-            Some(Parsed::Request(endpoint, Request::GetAttributes { query }))
-        }
-        Verb::List => {
-            let max_bytes = fields.only_long()?;
-            Some(Parsed::Request(endpoint, Request::ReadDirents { max_bytes }))
-        }
-        Verb::Rename => {
-            let (src, token, dst) = names_and_token(fields)?;
-            Some(Parsed::Request(endpoint, Request::Rename { src, token, dst }))
-        }
-        Verb::Link => {
-            let (src, token, dst) = names_and_token(fields)?;
-            Some(Parsed::Request(endpoint, Request::Link { src, token, dst }))
-        }
-        Verb::Unlink => {
-            let (name, flags) = text_and_long(fields)?;
-            Some(Parsed::Request(endpoint, Request::Unlink { name, flags }))
-        }
+        Verb::Attributes => attributes_form(endpoint, fields),
+        Verb::List => list_form(endpoint, fields),
+        Verb::Rename => rename_form(endpoint, fields),
+        Verb::Link => link_form(endpoint, fields),
+        Verb::Unlink => unlink_form(endpoint, fields),
         Verb::Watch => watch_form(endpoint, fields),
-        Verb::Read => {
-            let count = fields.only_long()?;
-            Some(Parsed::Request(endpoint, Request::Read { count }))
-        }
+        Verb::Read => read_form(endpoint, fields),
         Verb::ReadAt => read_at_form(endpoint, fields),
-        Verb::Write => {
-            let hex = fields.one()?;
-            Some(Parsed::Write { endpoint, hex })
-        }
-        Verb::WriteAt => {
-            let (hex, offset) = text_and_long(fields)?;
-            Some(Parsed::WriteAt {
-                endpoint,
-                offset,
-                hex,
-            })
-        }
+        Verb::Write => write_form(endpoint, fields),
+        Verb::WriteAt => write_at_form(endpoint, fields),
         Verb::Seek => seek_form(endpoint, fields),
-        Verb::Resize => {
-            let length = fields.only_long()?;
-            Some(Parsed::Request(endpoint, Request::Resize { length }))
-        }
-        Verb::Echo => {
-            let hex = fields.one()?;
-            Some(Parsed::Echo { endpoint, hex })
-        }
+        Verb::Resize => resize_form(endpoint, fields),
+        Verb::Echo => echo_form(endpoint, fields),
         Verb::HangUp => hang_up_form(endpoint, fields),
-        Verb::Turn => {
-            let count = fields.only_short()?;
-            Some(Parsed::Turn {
-                server: endpoint,
-                count,
-            })
-        }
+        Verb::Turn => turn_form(endpoint, fields),
         Verb::Pick => alone(Parsed::Pick { endpoint }, fields),
-        Verb::Raw => {
-            let (handles, hex) = fields.two()?;
-            Some(Parsed::Raw {
-                endpoint,
-                handles,
-                hex,
-            })
-        }
+        Verb::Raw => raw_form(endpoint, fields),
     }
 }
 
