@@ -20,12 +20,23 @@ use std::alloc::Global;
 use std::marker::Model;
 
 /// All endpoints and tokens of the link, and how many entries wait.
-#[derive(Drop)]
 pub struct Endpoints {
     standings: Standings,
     tokens: Tokens,
     waiting: u32,
     servers: u32,
+}
+
+// Who owns these lets go of them by one call, and not of each part by another.
+impl Drop for Endpoints {
+    fn drop(self) {
+        let Endpoints {
+            standings: _standings,
+            tokens: _tokens,
+            waiting: _waiting,
+            servers: _servers,
+        } = self;
+    }
 }
 
 impl Model for Endpoints {

@@ -21,12 +21,23 @@ use std::alloc::Global;
 use std::marker::Model;
 
 /// A script: its mode, its frames, and beside each frame the call that it makes, if any.
-#[derive(Drop)]
 pub struct Script {
     mode: Mode,
     frames: Outbox,
     calls: Vec<Option<Call>>,
     count: u32,
+}
+
+// Who owns a script lets go of it by one call, and not of each part by another.
+impl Drop for Script {
+    fn drop(self) {
+        let Script {
+            mode: _mode,
+            frames: _frames,
+            calls: _calls,
+            count: _count,
+        } = self;
+    }
 }
 
 impl Model for Script {

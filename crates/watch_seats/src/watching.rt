@@ -39,7 +39,10 @@ pub struct Watching {
 // Who owns these lets go of them by one call, and not of each part by another.
 impl Drop for Watching {
     fn drop(self) {
-        let Watching { seats: _seats, watchers: _watchers } = self;
+        let Watching {
+            seats: _seats,
+            watchers: _watchers,
+        } = self;
     }
 }
 
