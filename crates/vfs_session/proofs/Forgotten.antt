@@ -128,6 +128,9 @@ module _ (handles : List Handle) (i : ℕ) (d : Handle) (number : ℕ) (within :
     here : (b : Bool) → is_client number ≡ b → AreGoing old known (tokens_of (take i handles)) (cond (not b) (number ∷ tokens_of (drop (i + 1) handles)) (tokens_of (drop (i + 1) handles))) servers now
     here b e = subst (λ (left : List ℕ). AreGoing old known (tokens_of (take i handles)) left servers now) (left_more b e) h
 
+    pub handle_out : is_client number ≡ false → finite.get now.tokens number ≡ Some false
+    handle_out e = (here false e).out.0
+
     pub handle_goes : (new : List Server) (then : Known) → is_client number ≡ false → ForgetsEach servers number new → then ≡ gone now number → AreGoing old known (tokens_of (take (i + 1) handles)) (tokens_of (drop (i + 1) handles)) new then
     handle_goes new then e f g =
         subst (λ (k : Known). AreGoing old known (tokens_of (take (i + 1) handles)) (tokens_of (drop (i + 1) handles)) new k) (sym g)

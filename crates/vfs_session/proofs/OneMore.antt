@@ -1,15 +1,16 @@
 -- Servings with one more behind them are servings.
-use Rattle.std.proofs.Common.{◌≡◌, ℕ, zero, suc, ◌+◌, ◌-◌, ◌<◌, List, refl, sym, ap, ◌∙◌, subst, arith}
+use Rattle.std.proofs.Common.{◌≡◌, ℕ, zero, suc, ◌+◌, ◌-◌, ◌<◌, List, [], append-nil, refl, sym, ap, ◌∙◌, subst, arith}
 use Rattle.std.specs.Prelude.{slice_get}
 use Rattle.std.proofs.lemmas.Option.{none-some}
 use Rattle.std.proofs.Math.Numerals.{add-one}
 use Rattle.vfs_journal.specs.Entries.{Sent}
 use Rattle.vfs_journal.specs.Output.{Begins}
-use Rattle.message_queues.specs.Oldest.{IsOldest, NothingWaits}
-use Rattle.message_queues.specs.Queues.{Queues}
+use Rattle.message_queues.specs.Oldest.{IsBoundAt, IsOldest, NothingWaits}
+use Rattle.message_queues.specs.Queues.{IsReady, Queues}
 use Rattle.vfs_session.specs.Running.{IsRunning}
 use Rattle.vfs_session.specs.Servings.{ServesOne, ServesTimes}
 use Rattle.vfs_session.specs.World.{World}
+use Rattle.vfs_session.proofs.Answered.{some_is}
 use Rattle.vfs_session.proofs.Halves.{begins_on}
 
 -- ---- one serving
@@ -39,6 +40,10 @@ fewer_left These most old new before after one running =
 oldest_waits : (queues : Queues) (These : ℕ → Type 0) (endpoint : ℕ) → NothingWaits queues These → IsOldest queues These endpoint → ⊥
 oldest_waits queues These endpoint none oldest = none-some oldest.sent (sym (ap (λ (sents : List Sent). slice_get sents 0) (none endpoint oldest.one_of)) ∙ oldest.waits)
 
+-- what is oldest can be served
+pub oldest_is_ready : (queues : Queues) (server endpoint : ℕ) → IsOldest queues (IsBoundAt queues server) endpoint → IsReady queues endpoint
+oldest_is_ready queues server endpoint oldest = (some_is _ _ oldest.one_of, some_is _ _ oldest.waits)
+
 -- ---- servings
 
 serves_more : (Chosen : Queues → ℕ → Type 0) (done : ℕ) (old k new : World) (before between after : List ℕ) → ServesTimes Chosen done old k before between → ServesOne (Chosen k.queues) k new between after →
@@ -53,6 +58,9 @@ pub record AreDone (Chosen : Queues → ℕ → Type 0) (done : ℕ) (old new : 
   pub serves : ServesTimes Chosen done old new before after
   pub running : (most : ℕ) → IsRunning most old → IsRunning most new
   pub begins : Begins before after
+
+pub none_done : (Chosen : Queues → ℕ → Type 0) (world : World) (bytes : List ℕ) → AreDone Chosen 0 world world bytes bytes
+none_done Chosen world bytes = record { serves = (refl, refl); running = λ most was. was; begins = ([], sym (append-nil bytes)) }
 
 pub one_more_done : (Chosen : Queues → ℕ → Type 0) (done endpoint : ℕ) (old k new : World) (before between after : List ℕ) → AreDone Chosen done old k before between → Chosen k.queues endpoint →
     ServesOne (λ one. one ≡ endpoint) k new between after → ((most : ℕ) → IsRunning most k → IsRunning most new) → Begins between after → AreDone Chosen (done + 1) old new before after

@@ -1,10 +1,13 @@
 -- The two parts of a serving: what comes before the deaths, and what comes with them. Of these a public clause needs WasTaken and ServesTaken.
-use Rattle.std.specs.Prelude.{◌≡◌, ◌≤◌, ◌<◌, ◌+◌, ◌-◌, ◌^◌, ◌++◌, ◌∷◌, [], ℕ, All, List, drop, fold, Some, true}
+use Rattle.std.specs.Prelude.{◌≡◌, ◌≤◌, ◌<◌, ◌+◌, ◌-◌, ◌^◌, ◌++◌, ◌∷◌, [], ℕ, All, List, drop, fold, Ok, Some, true}
 use Rattle.fidl_names.specs.declared.limits.TheConstants as limit
 use Rattle.fidl_wire.specs.Written.{Written}
 use Rattle.endpoint_link.specs.Frames.{spellings}
 use Rattle.endpoint_link.specs.Standings.{ended, gone, is_live, next_token_of, standing_of}
-use Rattle.vfs_journal.specs.Entries.{Sent}
+use Rattle.io_messages.specs.Asked.{read}
+use Rattle.io_messages.specs.Requests.{request_of}
+use Rattle.io_messages.specs.declared.protocols.Protocol.TheVariants as protocol
+use Rattle.vfs_journal.specs.Entries.{Sent, message}
 use Rattle.vfs_journal.specs.View.{View}
 use Rattle.message_queues.specs.Dying.{AreDeaths, Buries, tokens_on}
 use Rattle.message_queues.specs.Queues.{IsAbove, Queues, Requeues, count, head_of, queue_of, server_of}
@@ -28,6 +31,12 @@ pub record Takes (old : World) (endpoint server : ℕ) (sent : Sent) (new : Worl
 -- it was taken so from a world that runs
 abbrev pub WasTaken : ℕ → ℕ → Sent → World → Type 0
 WasTaken endpoint server sent world = (from : World) × (IsRunning (2 ^ 61) from × Takes from endpoint server sent world)
+
+-- a message without handles that asks a file for a Read of so many bytes
+pub record AsksRead (sent : Sent) (txid wanted : ℕ) : Type 0 where
+  pub bytes : List ℕ
+  pub sending : sent.sending ≡ message bytes []
+  pub asks : request_of protocol.File bytes [] ≡ Ok (txid, read wanted)
 
 -- what was taken is served: behind whatever world that runs it was taken from, that one's first entry is served, and it runs on
 pub record ServesTaken (endpoint server : ℕ) (sent : Sent) (old new : World) (before after : List ℕ) : Type 0 where

@@ -1,11 +1,11 @@
 //! The serving of the first entry of an endpoint.
 
-ghost use Rattle.std.specs.Prelude.{◌≡◌, ◌^◌, ◌∷◌, [], ℕ, true, false, All, IfOk, IfSome, List, None, OnOk};
+ghost use Rattle.std.specs.Prelude.{◌≡◌, ◌<◌, ◌^◌, ◌∷◌, [], ℕ, true, false, All, IfOk, IfSome, List, None, OnOk};
 ghost use Rattle.endpoint_link.specs.Standings.{is_live, standing_of};
 ghost use Rattle.message_queues.specs.Dying.{AreDeaths};
 ghost use Rattle.message_queues.specs.Queues.{IsReady, count};
 ghost use Rattle.vfs_journal.specs.Output.{Begins};
-ghost use Rattle.vfs_session.specs.Heads.{CanSettle, DiesAlone, LetsDie, ServesTaken, SettlesHead, Takes, TakesHead, WasTaken};
+ghost use Rattle.vfs_session.specs.Heads.{AsksRead, CanSettle, DiesAlone, LetsDie, ServesTaken, SettlesHead, Takes, TakesHead, WasTaken};
 ghost use Rattle.vfs_session.specs.Running.{IsRunning, whole};
 ghost use Rattle.vfs_session.specs.Servings.{ServesOne};
 ghost use Rattle.vfs_session.specs.Steps.{first_told};
@@ -19,6 +19,7 @@ use crate::session::Session;
 use crate::settling::{bind, bury, let_all_go, send_on};
 use endpoint_link::Outbox;
 use fidl_names::{MAX_WAITING, NoMemory};
+use fidl_wire::Ordinals;
 use message_queues::{Lent, Sent};
 use std::mem;
 use vfs_server::{Fate, read_in};
@@ -36,9 +37,9 @@ impl Session {
         ensures begins { Begins outbox.old outbox.new }
     {
         let (server, sent) = self.queues.take(endpoint)?;
-        self.serve_sent(endpoint, server, &sent.lend(), outbox)?;
+        let served = self.serve_sent(endpoint, server, &sent.lend(), outbox);
         self.keep_room(sent);
-        Ok(())
+        served
     }
 
     /// Serves what was taken from an endpoint, as `serve_taken` does. Most of it are Reads of files, and have a way
@@ -76,11 +77,7 @@ impl Session {
         ensures unchanged { result ≡ None → (whole self.new ≡ whole self.old) × (outbox.new ≡ outbox.old) }
         ensures begins { Begins outbox.old outbox.new }
     {
-        let (bytes, handles) = sent.message()?;
-        if !handles.is_empty() {
-            return None;
-        }
-        let (txid, count) = read_in(&self.ordinals, bytes, &[])?;
+        let (txid, count) = read_asked(&self.ordinals, sent)?;
         let one = &mut self.servers[server as usize];
         let read = one.read(&self.ordinals, endpoint, txid, count, &mut self.out, outbox)?;
         self.endpoints.served();
@@ -237,13 +234,13 @@ impl Session {
             &mut self.endpoints,
             dying,
         )?;
+        self.dying = buried.dead;
         close_others(
             self.alloc,
             end_told(sent.endpoint, fate),
-            &buried.dead,
+            &self.dying,
             outbox,
         )?;
-        self.dying = buried.dead;
         Ok(buried.tokens)
     }
 
@@ -260,4 +257,18 @@ impl Session {
             let _ = self.rooms.push(room);
         }
     }
+}
+
+/// The transaction id and the count of the Read of a file that was sent; `None` where anything else was, or handles
+/// beside it.
+#[inline(always)]
+fn read_asked(ordinals: &Ordinals, sent: &Lent<'_>) -> Option<(u32, u64)>
+    ensures read { IfSome result (λ asked. AsksRead sent.now asked.0 asked.1) }
+    ensures txid { IfSome result (λ asked. 0 < asked.0) }
+{
+    let (bytes, handles) = sent.message()?;
+    if !handles.is_empty() {
+        return None;
+    }
+    read_in(ordinals, bytes, &[])
 }

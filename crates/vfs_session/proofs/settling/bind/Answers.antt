@@ -1,4 +1,4 @@
-use Rattle.std.proofs.Common.{◌∙◌, refl, sym, subst}
+use Rattle.std.proofs.Common.{◌∙◌, arith, refl, sym, subst}
 use Rattle.std.specs.Prelude.{slice_set}
 use Rattle.std.proofs.lemmas.Option.{same_Some, slice_get_read}
 use Rattle.node_graph.specs.Graph.{number_of}
@@ -65,3 +65,39 @@ returns-in-Gives-clause-bound c =
       )),
       refl,
     )) c.give.ensures.named
+
+pub index_mut-one-requires : goal.index_mut-one-requires
+index_mut-one-requires c = let within = c.requires.can.within in omega (arith, within)
+
+pub index_mut-one-requires-in-Watches : goal.index_mut-one-requires-in-Watches
+index_mut-one-requires-in-Watches c = let within = c.requires.can.within in omega (arith, within)
+
+pub index_mut-one-requires-in-Gives : goal.index_mut-one-requires-in-Gives
+index_mut-one-requires-in-Gives c = let within = c.requires.can.within in omega (arith, within)
+
+pub bind-requires-clause-free : goal.bind-requires-clause-free
+bind-requires-clause-free c = c.requires.can.free _ _ _ c.in-Binds.is (slice_get_read _ _ _ _ refl c.requires.can.within c.index_mut-one.ensures.value)
+
+pub watch-requires-clause-free : goal.watch-requires-clause-free
+watch-requires-clause-free c = c.requires.can.unwatched _ _ _ _ c.in-Watches.is (slice_get_read _ _ _ _ refl c.requires.can.within c.index_mut-one-in-Watches.ensures.value)
+
+pub bind-requires-in-Binds-clause-unbound : goal.bind-requires-in-Binds-clause-unbound
+bind-requires-in-Binds-clause-unbound c = c.requires.can.unbound _ _ c.in-Binds.is
+
+pub bind-requires-in-Binds-clause-one_of : goal.bind-requires-in-Binds-clause-one_of
+bind-requires-in-Binds-clause-one_of c = c.requires.can.one_of
+
+pub bind-requires-in-Watches-clause-unbound : goal.bind-requires-in-Watches-clause-unbound
+bind-requires-in-Watches-clause-unbound c = c.requires.can.silent _ _ _ c.in-Watches.is
+
+pub bind-requires-in-Watches-clause-one_of : goal.bind-requires-in-Watches-clause-one_of
+bind-requires-in-Watches-clause-one_of c = c.requires.can.one_of
+
+pub returns-in_ok-bind-in-Binds-clause-count : goal.returns-in_ok-bind-in-Binds-clause-count
+returns-in_ok-bind-in-Binds-clause-count c = c.bind-in-Binds.ensures.len
+
+pub returns-in_ok-watch-in-Watches-clause-count : goal.returns-in_ok-watch-in-Watches-clause-count
+returns-in_ok-watch-in-Watches-clause-count c = c.bind-in-Watches.ensures.len
+
+pub returns-in-Gives-clause-count : goal.returns-in-Gives-clause-count
+returns-in-Gives-clause-count c = if_ok c.give.result (λ names. refl) c.give.ensures.named

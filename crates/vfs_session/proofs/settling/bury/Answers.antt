@@ -1,5 +1,5 @@
-use Rattle.std.proofs.Common.{◌∙◌, ℕ, List, ap, arith, fold, subst}
-use Rattle.endpoint_link.specs.Standings.{ended}
+use Rattle.std.proofs.Common.{◌≡◌, ◌≢◌, ◌∙◌, ℕ, All, AllPairs, List, ap, arith, fold, subst, sym, true}
+use Rattle.endpoint_link.specs.Standings.{Known, ended, is_live, standing_of}
 use Rattle.vfs_session.specs.Holding.{HoldsEach}
 use Rattle.vfs_session.specs.Steps.{without_in}
 use Rattle.vfs_session.proofs.Ending.{ended_known}
@@ -13,3 +13,12 @@ returns-clause-known c =
 pub returns-clause-gone : goal.returns-clause-gone
 returns-clause-gone c = λ view apart holds.
     subst (λ (dead : List ℕ). HoldsEach (without_in view dead) c.let_all_go.new.servers.items) c.deref-2.ensures.value (c.let_all_go.ensures.gone view apart holds)
+
+pub end_all-requires-clause-live : goal.end_all-requires-clause-live
+end_all-requires-clause-live c =
+    subst (λ (k : Known). All (λ endpoint. is_live (standing_of k endpoint) ≡ true) c.deref.result.now) (sym c.dropped.ensures)
+    (subst (λ (dead : List ℕ). All (λ endpoint. is_live (standing_of c.args.endpoints.now endpoint) ≡ true) dead) (sym c.deref.ensures.value)
+    (c.requires.live c.in_ok-buried.buried.dead.items c.in_ok-buried.ensures.died))
+
+pub end_all-requires-clause-once : goal.end_all-requires-clause-once
+end_all-requires-clause-once c = subst (AllPairs (λ one other. one ≢ other)) (sym c.deref.ensures.value) c.in_ok-buried.ensures.died.once

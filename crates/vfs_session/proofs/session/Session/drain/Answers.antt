@@ -1,8 +1,10 @@
-use Rattle.std.proofs.Common.{◌≡◌, ◌+◌, ◌^◌}
+use Rattle.std.proofs.Common.{◌≡◌, ◌+◌, ◌^◌, refl}
 use Rattle.vfs_session.specs.Running.{whole}
 use Rattle.message_queues.specs.Oldest.{IsBound}
 use Rattle.vfs_session.specs.Servings.{IsOldestOfAll}
-use Rattle.vfs_session.proofs.OneMore.{fewer_left, never_idle, one_more_done}
+use Rattle.vfs_session.proofs.Answered.{some_is}
+use Rattle.vfs_session.proofs.Halves.{begins_on}
+use Rattle.vfs_session.proofs.OneMore.{fewer_left, never_idle, none_done, one_more_done}
 use Rattle.vfs_session.proofs.session.Session.drain.Goals as goal
 
 pub loop-endpoint-smaller : goal.loop-endpoint-smaller
@@ -23,3 +25,24 @@ returns-in_err-serve_head-clause-idle c =
 
 pub returns-clause-drained : goal.returns-clause-drained
 returns-clause-drained c = record { done = c.loop-endpoint.invariant.0; serves = c.loop-endpoint.invariant.1.serves; last = c.in_default.ensures }
+
+pub loop-endpoint-init : goal.loop-endpoint-init
+loop-endpoint-init c = (0, none_done IsOldestOfAll (whole c.args.self.now) c.args.outbox.now)
+
+pub serve_head-requires-clause-running : goal.serve_head-requires-clause-running
+serve_head-requires-clause-running c = c.loop-endpoint.invariant.1.running (2 ^ 61) c.requires.running
+
+pub serve_head-requires-clause-ready : goal.serve_head-requires-clause-ready
+serve_head-requires-clause-ready c = (c.in-Some.ensures.one_of, some_is _ _ c.in-Some.ensures.waits)
+
+pub returns-in_err-serve_head-clause-begins : goal.returns-in_err-serve_head-clause-begins
+returns-in_err-serve_head-clause-begins c = begins_on c.args.outbox.now c.loop-endpoint.outbox c.serve_head.new.outbox c.loop-endpoint.invariant.1.begins c.serve_head.ensures.begins
+
+pub returns-clause-idle : goal.returns-clause-idle
+returns-clause-idle c = λ none. refl
+
+pub returns-clause-running : goal.returns-clause-running
+returns-clause-running c = c.loop-endpoint.invariant.1.running
+
+pub returns-clause-begins : goal.returns-clause-begins
+returns-clause-begins c = c.loop-endpoint.invariant.1.begins

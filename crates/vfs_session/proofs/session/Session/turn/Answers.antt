@@ -1,8 +1,9 @@
-use Rattle.std.proofs.Common.{arith}
+use Rattle.std.proofs.Common.{◌≡◌, ◌^◌, ℕ, arith, subst}
 use Rattle.vfs_session.specs.Running.{whole}
 use Rattle.message_queues.specs.Oldest.{IsBoundAt}
-use Rattle.vfs_session.specs.Servings.{IsOldestAt}
-use Rattle.vfs_session.proofs.OneMore.{never_idle, one_more_done}
+use Rattle.vfs_session.specs.Servings.{IsOldestAt, ServesTimes}
+use Rattle.vfs_session.proofs.Halves.{begins_on}
+use Rattle.vfs_session.proofs.OneMore.{never_idle, none_done, oldest_is_ready, one_more_done}
 use Rattle.vfs_session.proofs.session.Session.turn.Goals as goal
 
 pub loop-done-preserved : goal.loop-done-preserved
@@ -16,3 +17,36 @@ returns-in_err-serve_head-clause-idle c =
 
 pub returns-in_default-clause-turned : goal.returns-in_default-clause-turned
 returns-in_default-clause-turned c = let low = c.loop-done-test.true in record { most = omega (arith, low); serves = c.loop-done.invariant.serves; last = λ _. c.in_default.ensures }
+
+pub loop-done-init : goal.loop-done-init
+loop-done-init c = none_done (IsOldestAt c.args.server) (whole c.args.self.now) c.args.outbox.now
+
+pub serve_head-requires-clause-running : goal.serve_head-requires-clause-running
+serve_head-requires-clause-running c = c.loop-done.invariant.running (2 ^ 61) c.requires.running
+
+pub serve_head-requires-clause-ready : goal.serve_head-requires-clause-ready
+serve_head-requires-clause-ready c = oldest_is_ready c.loop-done.self.queues _ c.in-Some.endpoint c.in-Some.ensures
+
+pub returns-in_err-serve_head-clause-begins : goal.returns-in_err-serve_head-clause-begins
+returns-in_err-serve_head-clause-begins c = begins_on c.args.outbox.now c.loop-done.outbox c.serve_head.new.outbox c.loop-done.invariant.begins c.serve_head.ensures.begins
+
+pub returns-in_default-clause-running : goal.returns-in_default-clause-running
+returns-in_default-clause-running c = c.loop-done.invariant.running
+
+pub returns-in_default-clause-begins : goal.returns-in_default-clause-begins
+returns-in_default-clause-begins c = c.loop-done.invariant.begins
+
+pub returns-clause-turned : goal.returns-clause-turned
+returns-clause-turned c =
+    let all : c.loop-done.done ≡ c.args.times = omega arith in
+    record {
+      most = omega arith;
+      serves = subst (λ (n : ℕ). ServesTimes (IsOldestAt c.args.server) n (whole c.args.self.now) (whole c.loop-done.self) c.args.outbox.now c.loop-done.outbox) all c.loop-done.invariant.serves;
+      last = λ fewer. absurd (omega (arith, fewer));
+    }
+
+pub returns-clause-running : goal.returns-clause-running
+returns-clause-running c = c.loop-done.invariant.running
+
+pub returns-clause-begins : goal.returns-clause-begins
+returns-clause-begins c = c.loop-done.invariant.begins
