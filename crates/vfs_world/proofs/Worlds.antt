@@ -1,8 +1,10 @@
 -- A world is a session with whether it is spent and how many frames it has accepted.
-use Rattle.std.proofs.Common.{◌≡◌, ℕ, ◌+◌, ◌*◌, ◌<◌, ◌≤◌, ◌^◌, ◌==◌, Bool, false, List, [], filter, length, refl, sym, subst, ap, ◌∙◌, arith}
+use Rattle.std.proofs.Common.{◌≡◌, ℕ, ◌+◌, ◌*◌, ◌<◌, ◌≤◌, ◌^◌, ◌==◌, Bool, false, List, [], filter, length, take, refl, sym, subst, ap, ◌∙◌, arith}
+use Rattle.std.proofs.lemmas.List.{take-append-le, take_all}
 use Rattle.fidl_wire.specs.Names.{AreDistinct}
 use Rattle.vfs_journal.specs.Entries.{Journal, Sent}
 use Rattle.vfs_journal.specs.History.{waiting}
+use Rattle.vfs_journal.specs.Output.{Begins}
 use Rattle.vfs_journal.specs.Past.{history_of}
 use Rattle.vfs_journal.specs.Starts.{Start}
 use Rattle.journal_laws.specs.Viewing.{view_behind}
@@ -65,3 +67,9 @@ as_many_wait start world journal s = counts_its_list world.queues (view_behind s
 
 pub nothing_waits : (start : Start) (world : World) (journal : Journal) → StandsFor start world journal → waiting (history_of start journal) ≡ [] → NothingWaits world.queues (IsBound world.queues)
 nothing_waits start world journal s none endpoint bound = s.holds.queues.queue endpoint ∙ ap (filter (λ (sent : Sent). sent.endpoint == endpoint)) none
+
+-- ---- what is taken back
+
+-- cut back to where a call began, what is written is what was
+pub taken_back : (before after : List ℕ) (begun : ℕ) → begun ≡ length before → Begins before after → take begun after ≡ before
+taken_back before after begun is begins = ap (take begun) begins.1 ∙ take-append-le begun before begins.0 (omega (arith, is)) ∙ take_all begun before (omega (arith, is))

@@ -115,8 +115,8 @@ pub(crate) fn begin(alloc: Global, ordinals: Ordinals, start: &Start) -> Result<
     ensures stands { IfOk result (λ session. StandsFor (start_of start.now) (whole session) []) }
 {
     let queues = begin_queues(alloc, start)?;
-    let endpoints = known_endpoints(alloc, start)?;
     let out = Out::new(alloc)?;
+    let endpoints = known_endpoints(alloc, start)?;
     let servers = begin_servers(alloc, start)?;
     Ok(Session {
         alloc,

@@ -1,6 +1,8 @@
-use Rattle.std.proofs.Common.{◌-◌, ◌^◌, arith}
+use Rattle.std.proofs.Common.{◌∙◌, ◌-◌, ◌^◌, [], List, append-nil, ap, arith, refl, sym}
 use Rattle.endpoint_link.specs.Views.{frame_of}
+use Rattle.vfs_server.specs.Servers.{Server}
 use Rattle.vfs_session.specs.Running.{whole}
+use Rattle.vfs_session.specs.World.{World}
 use Rattle.vfs_world.proofs.Answered.{begins_by, on_ok}
 use Rattle.vfs_world.proofs.Hearing.{places_low}
 use Rattle.vfs_world.proofs.ReadAtOnce.{read_lasts, read_leads}
@@ -39,3 +41,12 @@ returns-clause-begins c =
     (leads.part, leads.written))
     c.in_ok-read.ensures.answers)
     c.in_ok-read.ensures.no_memory
+
+-- where nothing was read, all is as it was
+pub returns-in_err-read-clause-unchanged : goal.returns-in_err-read-clause-unchanged
+returns-in_err-read-clause-unchanged c = λ none.
+    let same = c.in_err-read.ensures.unchanged refl in
+    (ap (λ (servers : List Server). let world : World = record (whole c.args.session.now) { servers = servers } in world) same.0, same.1)
+
+pub returns-in_err-read-clause-begins : goal.returns-in_err-read-clause-begins
+returns-in_err-read-clause-begins c = ([], (c.in_err-read.ensures.unchanged refl).1 ∙ sym (append-nil c.args.outbox.now))

@@ -1,7 +1,8 @@
-use Rattle.std.proofs.Common.{◌*◌}
+use Rattle.std.proofs.Common.{◌*◌, ◌∙◌, refl, sym}
+use Rattle.std.proofs.lemmas.Bool.{true≢false}
 use Rattle.vfs_session.specs.Running.{whole}
 use Rattle.vfs_session.proofs.Serves.{drain_leads}
-use Rattle.vfs_world.proofs.Worlds.{leads_inside, runs_inside, stands_inside}
+use Rattle.vfs_world.proofs.Worlds.{leads_inside, nothing_waits, runs_inside, stands_inside, taken_back}
 use Rattle.vfs_world.proofs.world.World.drain.Goals as goal
 
 pub drain-requires : goal.drain-requires
@@ -27,3 +28,35 @@ returns-clause-none c =
     (drain_leads (runs_inside c.self.inside c.self.view_is c.self.invariant stands.able).apart start journal (whole c.self.inside.session) (whole c.drain.new.self) c.args.outbox.now c.drain.new.outbox
     (stands_inside c.self.inside c.self.view_is start journal stands)
     c.in_default-drain.ensures.drained).1
+
+-- for want of memory what was written is taken back
+pub returns-in-Err-drain-clause-memory : goal.returns-in-Err-drain-clause-memory
+returns-in-Err-drain-clause-memory c = λ is. (c.in_default.ensures.able, c.take_back.ensures.spent)
+
+pub returns-in-Err-drain-clause-spent : goal.returns-in-Err-drain-clause-spent
+returns-in-Err-drain-clause-spent c = λ spent. absurd (true≢false (sym spent ∙ c.in_default.ensures.able))
+
+pub returns-in-Err-drain-clause-silent : goal.returns-in-Err-drain-clause-silent
+returns-in-Err-drain-clause-silent c = c.take_back.ensures.back ∙ taken_back c.args.outbox.now c.drain.new.outbox c.len-begun.result c.len-begun.ensures c.drain.ensures.begins
+
+pub returns-in-Err-drain-clause-idle : goal.returns-in-Err-drain-clause-idle
+returns-in-Err-drain-clause-idle c =
+    λ start journal stands none.
+    let told = c.in-Err-drain.ensures.idle (nothing_waits start (whole c.self.inside.session) journal (stands_inside c.self.inside c.self.view_is start journal stands) none) in
+    absurd (cc)
+
+pub returns-clause-idle : goal.returns-clause-idle
+returns-clause-idle c = λ start journal stands none. refl
+
+pub returns-in-Err-drain-clause-only_spent : goal.returns-in-Err-drain-clause-only_spent
+returns-in-Err-drain-clause-only_spent c = λ is. absurd (let fault = c.take_back.ensures.fault in cc)
+
+-- what was done was done by a world that wasn't spent
+pub returns-clause-memory : goal.returns-clause-memory
+returns-clause-memory c = λ is. absurd (cc)
+
+pub returns-clause-spent : goal.returns-clause-spent
+returns-clause-spent c = λ spent. absurd (true≢false (sym spent ∙ c.in_default.ensures.able))
+
+pub returns-clause-only_spent : goal.returns-clause-only_spent
+returns-clause-only_spent c = λ is. absurd (cc)

@@ -1,8 +1,9 @@
-use Rattle.std.proofs.Common.{◌≡◌, ◌∙◌, ◌+◌, ◌-◌, ◌*◌, ◌^◌, ◌<◌, ap, arith}
+use Rattle.std.proofs.Common.{◌≡◌, ◌∙◌, ◌+◌, ◌-◌, ◌*◌, ◌^◌, ◌<◌, ap, arith, sym}
+use Rattle.std.proofs.lemmas.Bool.{true≢false}
 use Rattle.vfs_session.specs.Running.{whole}
 use Rattle.vfs_session.specs.World.{World}
 use Rattle.vfs_session.proofs.Lasting.{lasts_more}
-use Rattle.vfs_world.proofs.Worlds.{leads_inside, stands_inside, within_more}
+use Rattle.vfs_world.proofs.Worlds.{leads_inside, stands_inside, taken_back, within_more}
 use Rattle.vfs_world.proofs.world.World.hear.Goals as goal
 
 pub hear-requires-clause-running : goal.hear-requires-clause-running
@@ -34,3 +35,26 @@ returns-clause-none c =
 
 pub returns-clause-frames : goal.returns-clause-frames
 returns-clause-frames c = ap (λ (w : World). w.frames + 1) c.self.view_is
+
+-- for want of memory what was written is taken back
+pub returns-in-Err-hear-clause-memory : goal.returns-in-Err-hear-clause-memory
+returns-in-Err-hear-clause-memory c = λ is. (c.in_default.ensures.able, c.take_back.ensures.spent)
+
+pub returns-in-Err-hear-clause-spent : goal.returns-in-Err-hear-clause-spent
+returns-in-Err-hear-clause-spent c = λ spent. absurd (true≢false (sym spent ∙ c.in_default.ensures.able))
+
+pub returns-in-Err-hear-clause-silent : goal.returns-in-Err-hear-clause-silent
+returns-in-Err-hear-clause-silent c = c.take_back.ensures.back ∙ taken_back c.args.outbox.now c.hear.new.outbox c.len-begun.result c.len-begun.ensures c.hear.ensures.begins
+
+pub returns-in-Err-hear-clause-only_spent : goal.returns-in-Err-hear-clause-only_spent
+returns-in-Err-hear-clause-only_spent c = λ is. absurd (let fault = c.take_back.ensures.fault in cc)
+
+-- what was done was done by a world that wasn't spent
+pub returns-clause-memory : goal.returns-clause-memory
+returns-clause-memory c = λ is. absurd (cc)
+
+pub returns-clause-spent : goal.returns-clause-spent
+returns-clause-spent c = λ spent. absurd (true≢false (sym spent ∙ c.in_default.ensures.able))
+
+pub returns-clause-only_spent : goal.returns-clause-only_spent
+returns-clause-only_spent c = λ is. absurd (cc)

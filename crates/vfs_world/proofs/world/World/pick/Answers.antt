@@ -1,7 +1,8 @@
-use Rattle.std.proofs.Common.{Ok, ap}
+use Rattle.std.proofs.Common.{Ok, ap, ◌∙◌, sym}
+use Rattle.std.proofs.lemmas.Bool.{true≢false}
 use Rattle.vfs_session.specs.Running.{whole}
 use Rattle.vfs_session.proofs.Serves.{head_none, pick_idle, pick_leads}
-use Rattle.vfs_world.proofs.Worlds.{leads_inside, runs_inside, stands_inside}
+use Rattle.vfs_world.proofs.Worlds.{leads_inside, runs_inside, stands_inside, taken_back}
 use Rattle.vfs_world.proofs.world.World.pick.Goals as goal
 
 pub pick-requires : goal.pick-requires
@@ -33,3 +34,26 @@ returns-in-Ok-clause-only_idle c =
     head_none (runs_inside c.self.inside c.self.view_is c.self.invariant stands.able).apart start journal (whole c.self.inside.session) c.args.endpoint
     (stands_inside c.self.inside c.self.view_is start journal stands)
     (c.in-Ok.ensures.only_idle (ap Ok (c.told.ensures.only_idle (cc))))
+
+-- for want of memory what was written is taken back
+pub returns-in-Err-pick-clause-memory : goal.returns-in-Err-pick-clause-memory
+returns-in-Err-pick-clause-memory c = λ is. (c.in_default.ensures.able, c.take_back.ensures.spent)
+
+pub returns-in-Err-pick-clause-spent : goal.returns-in-Err-pick-clause-spent
+returns-in-Err-pick-clause-spent c = λ spent. absurd (true≢false (sym spent ∙ c.in_default.ensures.able))
+
+pub returns-in-Err-pick-clause-silent : goal.returns-in-Err-pick-clause-silent
+returns-in-Err-pick-clause-silent c = c.take_back.ensures.back ∙ taken_back c.args.outbox.now c.pick.new.outbox c.len-begun.result c.len-begun.ensures c.pick.ensures.begins
+
+pub returns-in-Err-pick-clause-only_spent : goal.returns-in-Err-pick-clause-only_spent
+returns-in-Err-pick-clause-only_spent c = λ is. absurd (let fault = c.take_back.ensures.fault in cc)
+
+-- what was done was done by a world that wasn't spent
+pub returns-in-Ok-clause-memory : goal.returns-in-Ok-clause-memory
+returns-in-Ok-clause-memory c = λ is. absurd (cc)
+
+pub returns-in-Ok-clause-spent : goal.returns-in-Ok-clause-spent
+returns-in-Ok-clause-spent c = λ spent. absurd (true≢false (sym spent ∙ c.in_default.ensures.able))
+
+pub returns-in-Ok-clause-only_spent : goal.returns-in-Ok-clause-only_spent
+returns-in-Ok-clause-only_spent c = λ is. absurd (cc)
