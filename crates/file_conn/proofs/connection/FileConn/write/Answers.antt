@@ -1,7 +1,8 @@
-use Rattle.std.proofs.Common.{◌≡◌, true, refl, subst}
+use Rattle.std.proofs.Common.{◌≡◌, ◌∙◌, true, refl, subst, sym}
 use Rattle.node_graph.specs.Graph.{Leads, bytes_at, number_of, write_change}
 use Rattle.conn_rules.specs.Contexts.{context_of}
 use Rattle.conn_rules.specs.Served.{takes_memory}
+use Rattle.conn_rules.specs.declared.served.Served.TheVariants as served
 use Rattle.file_conn.proofs.Rows.{bytes_of_row, ends_within, write_row}
 use Rattle.file_conn.proofs.Serving.{behind_at, made_served, refused_served, wanting_takes}
 use Rattle.file_conn.proofs.connection.FileConn.write.Goals as goal
@@ -33,3 +34,18 @@ returns-in-NoMemory-clause-memory c room tree directory stands wants =
 
 pub returns-in-NoMemory-clause-untouched : goal.returns-in-NoMemory-clause-untouched
 returns-in-NoMemory-clause-untouched c wants = record { connection = refl; graph = c.in-NoMemory.ensures.comes.2; empty = c.requires.empty }
+
+pub returns-in-Done-clause-memory : goal.returns-in-Done-clause-memory
+returns-in-Done-clause-memory c room tree directory stands wants = let wrong : served.Reply ≡ served.NoMemory = sym c.reply.ensures.kind ∙ wants in absurd (cc)
+
+pub returns-in-Done-clause-untouched : goal.returns-in-Done-clause-untouched
+returns-in-Done-clause-untouched c wants = let wrong : served.Reply ≡ served.NoMemory = sym c.reply.ensures.kind ∙ wants in absurd (cc)
+
+pub returns-in-Refused-clause-memory : goal.returns-in-Refused-clause-memory
+returns-in-Refused-clause-memory c room tree directory stands wants = absurd (c.fail.ensures.memory wants)
+
+pub returns-in-Refused-clause-untouched : goal.returns-in-Refused-clause-untouched
+returns-in-Refused-clause-untouched c wants = absurd (c.fail.ensures.memory wants)
+
+pub returns-in-NoMemory-clause-serves : goal.returns-in-NoMemory-clause-serves
+returns-in-NoMemory-clause-serves c room tree directory stands served = absurd (served refl)
