@@ -5,16 +5,34 @@ use Rattle.endpoint_link.specs.declared.kinds.Side.TheVariants as side
 use Rattle.transcripts.specs.Answering.{gets}
 use Rattle.transcripts.specs.Telling.{IsWithin, Knows}
 use Rattle.endpoint_link.specs.Views.{frame_of}
+use Rattle.std.proofs.lemmas.Result.{err_from_is_err_and}
+use Rattle.host_io.specs.Causes.{Rose}
 use Rattle.host_io.specs.Streams.{AppendsPart}
 use Rattle.transcripts.specs.Transcript.{lines_of, with_frames}
 use Rattle.transcripts.proofs.Stages.{Split, Stage, all_done, any_err, read_more, rest_is, stage_more, stopped_at, stopped_behind}
 use Rattle.transcripts.proofs.scribe.Scribe.gets_all.Goals as goal
+
+pub returns-in_err-gets-clause-cause : goal.returns-in_err-gets-clause-cause
+returns-in_err-gets-clause-cause g c =
+    let p = err_from_is_err_and c.from_residual.result c.from_residual.ensures.1 in
+    rw (p.1, p.2) (record { later = omega (arith, c.loop-frame.invariant.2); stays = c.loop-frame.invariant.2; failed = tt })
 
 pub returns-in_err-gets-clause-part : goal.returns-in_err-gets-clause-part
 returns-in_err-gets-clause-part g c = λ past first all are is told.
     any_err c.from_residual.result (AppendsPart first (g.K.Sink.written c.loop-frame.sink) (lines_of (with_frames past all)))
     (stopped_at c.args.self.now.calls c.args.self.now.gathered (g.K.Sink.written c.args.sink.now) c.loop-frame.self.calls c.loop-frame.self.gathered
     (g.K.Sink.written c.loop-frame.sink) all c.loop-frame.rest.now (c.loop-frame.invariant.0 all are is) past first told)
+
+pub returns-in_err-make_room-clause-cause : goal.returns-in_err-make_room-clause-cause
+returns-in_err-make_room-clause-cause g c =
+    let p = err_from_is_err_and c.from_residual-in_err-make_room.result c.from_residual-in_err-make_room.ensures.1 in
+    let cause = c.in_err-make_room.ensures.cause in
+    rw (p.1, p.2)
+    (record {
+      later = omega (arith, c.loop-frame.invariant.2, cause.later);
+      stays = tt;
+      failed = subst (λ before. Rose before (g.K.Sink.faults c.make_room.new.sink)) c.loop-frame.invariant.2 cause.failed;
+    })
 
 pub returns-in_err-make_room-clause-part : goal.returns-in_err-make_room-clause-part
 returns-in_err-make_room-clause-part g c = λ past first all are is told.

@@ -1,8 +1,18 @@
 use Rattle.std.proofs.Common.{List, ℕ, sym, ap, ◌∙◌, subst}
 use Rattle.std.specs.Io.KnownBytes.{Appends}
 use Rattle.transcripts.specs.Telling.{IsTold, Scribe}
-use Rattle.transcripts.proofs.Lines.{told_written}
+use Rattle.host_io.specs.Streams.{AppendsPart}
+use Rattle.transcripts.proofs.Lines.{part_written, told_written}
+use Rattle.transcripts.proofs.Stages.{any_err}
 use Rattle.transcripts.proofs.scribe.Scribe.make_room.Goals as goal
+
+pub returns-in_err-write_whole-clause-part : goal.returns-in_err-write_whole-clause-part
+returns-in_err-write_whole-clause-part g c = λ first lines told.
+    let text = c.as_bytes.ensures ∙ ap (λ (s : Scribe). s.gathered) c.self.view_is in
+    let written = g.K.Sink.written c.args.sink.now in
+    let now = g.K.Sink.written c.write_whole.new.sink in
+    any_err c.from_residual.result (AppendsPart first now lines)
+    (part_written first written now c.args.self.now.gathered lines (subst (AppendsPart written now) text c.in_err-write_whole.ensures.part) told)
 
 pub returns-clause-told : goal.returns-clause-told
 returns-clause-told g c = λ first lines told.
