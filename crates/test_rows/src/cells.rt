@@ -48,6 +48,14 @@ impl<'a> Row<'a> {
         }
     }
 
+    /// Whether a cell is this word. What a row is for is asked so, word by word: a `match` over texts is proved over all words before it.
+    pub fn is(&self, at: usize, word: &str) -> bool {
+        match self.cell(at) {
+            Some(cell) => cell == word,
+            None => false,
+        }
+    }
+
     pub fn number(&self, at: usize) -> Option<u64> {
         words::number(self.cell(at)?)
     }
@@ -70,6 +78,14 @@ impl<'a> Row<'a> {
 
     pub fn bytes(&self, alloc: Global, at: usize) -> Option<Vec<u8>> {
         words::bytes(alloc, self.cell(at)?)
+    }
+
+    /// Whether the cell says these bytes. Want of memory says no.
+    pub fn has_bytes(&self, alloc: Global, at: usize, bytes: &[u8]) -> bool {
+        match self.bytes(alloc, at) {
+            Some(said) => said.as_slice() == bytes,
+            None => false,
+        }
     }
 
     /// Whether the cell says a value as `{:?}` writes it, with texts in place of lists of bytes. Want of memory says no.
