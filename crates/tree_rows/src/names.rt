@@ -38,36 +38,41 @@ fn make(graph: &mut Graph, name: &[u8], kind: NodeKind) -> bool {
 }
 
 // Whether a name that is there gets a second one, or that in its place.
-fn goes_on(graph: &mut Graph, how: &str, name: &[u8], second: &[u8]) -> bool {
+fn goes_on(graph: &mut Graph, row: &Row<'_>, name: &[u8], second: &[u8]) -> bool {
     if second.is_empty() || second.len() > MAX_NAME {
         return false;
     }
     let root = graph.root();
-    match how {
-        "link" => graph.link(root, name, root, second).is_ok(),
-        "rename" => graph.rename(root, name, root, second).is_ok(),
-        _ => false,
+    if row.is(1, "link") {
+        graph.link(root, name, root, second).is_ok()
+    } else {
+        row.is(1, "rename") && graph.rename(root, name, root, second).is_ok()
     }
 }
 
 // Whether what is done goes as it says.
-fn goes(graph: &mut Graph, how: &str, name: &[u8], second: &[u8]) -> bool {
+fn goes(graph: &mut Graph, row: &Row<'_>, name: &[u8], second: &[u8]) -> bool {
     let root = graph.root();
-    match how {
-        "file" => make(graph, name, NodeKind::File),
-        "service" => make(graph, name, NodeKind::Service),
-        "directory" => make(graph, name, NodeKind::Directory),
-        "unlink" => graph.unlink(root, name, false).is_ok(),
-        "not_found" => graph.unlink(root, name, false) == Err(GraphFault::NotFound),
-        _ => goes_on(graph, how, name, second),
+    if row.is(1, "file") {
+        make(graph, name, NodeKind::File)
+    } else if row.is(1, "service") {
+        make(graph, name, NodeKind::Service)
+    } else if row.is(1, "directory") {
+        make(graph, name, NodeKind::Directory)
+    } else if row.is(1, "unlink") {
+        graph.unlink(root, name, false).is_ok()
+    } else if row.is(1, "not_found") {
+        graph.unlink(root, name, false) == Err(GraphFault::NotFound)
+    } else {
+        goes_on(graph, row, name, second)
     }
 }
 
 impl Table for Changed {
     fn holds(&mut self, _: Global, row: &Row<'_>) -> bool {
-        match (row.cell(1), row.cell(2), row.cell(3)) {
-            (Some(how), Some(name), Some(second)) => {
-                goes(&mut self.graph, how, name.as_bytes(), second.as_bytes())
+        match (row.cell(2), row.cell(3)) {
+            (Some(name), Some(second)) => {
+                goes(&mut self.graph, row, name.as_bytes(), second.as_bytes())
                     && row.number(4) == Some(u64::from(self.graph.names()))
                     && row.number(5) == Some(self.graph.kept() as u64)
             }

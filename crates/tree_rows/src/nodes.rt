@@ -28,27 +28,24 @@ fn make(
     graph.create(root, name, kind, Rights::of(Operation::ReadBytes))
 }
 
+// Whether so many nodes are kept, so many were made, and there are so many names.
+fn is_counted(graph: &Graph, kept: usize, made: u64, names: u32) -> bool {
+    graph.kept() == kept && graph.made() == made && graph.names() == names
+}
+
 fn count_and_number(rt: &impl Abort, graph: &mut Graph) -> Result<(), GraphFault>
     requires idle { (number : ℕ) → holds_at graph.old number ≡ 0 }
 {
-    assert!(rt; graph.kept() == 1 && graph.made() == 1 && graph.names() == 0);
+    assert!(rt; is_counted(graph, 1, 1, 0));
     let node = make(rt, graph, b"f", NodeKind::File)?;
-    assert!(rt; graph.number(node) == 2 && graph.kept() == 2);
-    assert!(rt; graph.links(node) == 1 && !graph.removed(node));
+    assert!(rt; graph.number(node) == 2 && graph.links(node) == 1 && !graph.removed(node));
+    assert!(rt; is_counted(graph, 2, 2, 1));
     graph.hold(node);
     let root = graph.root();
     graph.unlink(root, b"f", false)?;
-    assert!(rt; graph.links(node) == 0 && graph.names() == 0 && graph.kept() == 2);
+    assert!(rt; graph.links(node) == 0 && is_counted(graph, 2, 2, 0));
     graph.release(node);
-    assert!(rt; graph.kept() == 1 && graph.made() == 2);
-    changes_keep_trees_sound();
-    climbing_finds_what_is_above();
-    Ok(())
-}
-
-#[test]
-fn a_node_is_kept_while_it_is_held(rt: HostRuntime) -> Result<(), Fail> {
-    count_and_number(&rt, &mut Graph::new(rt.alloc())?)?;
+    assert!(rt; is_counted(graph, 1, 2, 0));
     Ok(())
 }
 
@@ -81,10 +78,19 @@ fn look_for_names(rt: &impl Abort, graph: &mut Graph) -> Result<(), GraphFault> 
     Ok(())
 }
 
+// Both look at one graph, since each owner of one lets go of all its parts.
 #[test]
-fn names_of_any_length_are_looked_for(rt: HostRuntime) -> Result<(), Fail> {
-    look_for_names(&rt, &mut Graph::new(rt.alloc())?)?;
+fn nodes_are_kept_and_names_looked_for(rt: HostRuntime) -> Result<(), Fail> {
+    let mut graph = Graph::new(rt.alloc())?;
+    count_and_number(&rt, &mut graph)?;
+    look_for_names(&rt, &mut graph)?;
     Ok(())
+}
+
+#[test]
+fn laws_are_called() {
+    changes_keep_trees_sound();
+    climbing_finds_what_is_above();
 }
 
 #[test]
