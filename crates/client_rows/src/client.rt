@@ -155,10 +155,7 @@ impl Caller {
 
     /// Whether what was sent since the last time is the frame of a cell.
     fn has_sent(&mut self, alloc: Global, row: &Row<'_>, at: usize) -> bool {
-        let same = match row.bytes(alloc, at) {
-            Some(frame) => self.outbox.as_bytes() == frame.as_slice(),
-            None => false,
-        };
+        let same = row.has_bytes(alloc, at, self.outbox.as_bytes());
         self.outbox.clear();
         same
     }
@@ -199,14 +196,18 @@ impl Caller {
 
 impl Table for Caller {
     fn holds(&mut self, alloc: Global, row: &Row<'_>) -> bool {
-        match row.cell(1) {
-            Some("send") => self.sends(alloc, row),
-            Some("write") => self.writes(alloc, row),
-            Some("note") => self.notes(alloc, row),
-            Some("waiting") => row.number(2) == Some(self.client.waiting() as u64),
-            Some("hang up") => self.hangs_up(alloc, row),
-            Some("take") => self.takes(alloc, row),
-            _ => false,
+        if row.is(1, "send") {
+            self.sends(alloc, row)
+        } else if row.is(1, "write") {
+            self.writes(alloc, row)
+        } else if row.is(1, "note") {
+            self.notes(alloc, row)
+        } else if row.is(1, "waiting") {
+            row.number(2) == Some(self.client.waiting() as u64)
+        } else if row.is(1, "hang up") {
+            self.hangs_up(alloc, row)
+        } else {
+            row.is(1, "take") && self.takes(alloc, row)
         }
     }
 }
@@ -270,8 +271,8 @@ fn takes_many(ordinals: &Ordinals, client: &mut Client) -> bool {
 
 #[test]
 fn many_calls_are_answered_the_other_way_round(rt: HostRuntime) -> Result<(), Fail> {
+    let ordinals = Ordinals::new()?;
     let mut client = Client::new(rt.alloc())?;
-    assert!(rt; notes_many(&mut client));
-    assert!(rt; takes_many(&Ordinals::new()?, &mut client));
+    assert!(rt; notes_many(&mut client) && takes_many(&ordinals, &mut client));
     Ok(())
 }

@@ -34,12 +34,14 @@ struct Cells;
 
 impl Table for Cells {
     fn holds(&mut self, alloc: Global, row: &Row<'_>) -> bool {
-        match row.cell(1) {
-            Some("number") => row.says(alloc, 3, &row.number(2)),
-            Some("not") => !row.says(alloc, 3, &row.number(2)),
-            Some("numbers") => row.says(alloc, 3, &row.numbers(alloc, 2)),
-            Some("bytes") => row.says(alloc, 3, &row.bytes(alloc, 2)),
-            _ => false,
+        if row.is(1, "number") {
+            row.says(alloc, 3, &row.number(2))
+        } else if row.is(1, "not") {
+            !row.says(alloc, 3, &row.number(2))
+        } else if row.is(1, "numbers") {
+            row.says(alloc, 3, &row.numbers(alloc, 2))
+        } else {
+            row.is(1, "bytes") && row.says(alloc, 3, &row.bytes(alloc, 2))
         }
     }
 }

@@ -45,10 +45,7 @@ impl Table for Messages {
         let Some(bytes) = row.bytes(alloc, 2) else {
             return false;
         };
-        match row.cell(1) {
-            Some(kind) => self.are_said(alloc, row, kind, &bytes),
-            None => false,
-        }
+        self.are_said(alloc, row, &bytes)
     }
 }
 
@@ -69,23 +66,27 @@ fn put_handles(all: &mut Vec<Handle>, numbers: &[u64]) -> bool {
 
 impl Messages {
     /// Whether these bytes are what their row says.
-    fn are_said(&mut self, alloc: Global, row: &Row<'_>, kind: &str, bytes: &[u8]) -> bool {
-        match kind {
-            "header" => row.says(alloc, 3, &Header::read(bytes)),
-            "epitaph" => row.says(alloc, 3, &read_epitaph(bytes)),
-            "status" => row.says(alloc, 3, &read_status(bytes)),
-            "ordinal" => bytes == ordinal(row.name().as_bytes()).to_be_bytes().as_slice(),
-            _ => self.is_message(alloc, row, kind, bytes),
+    fn are_said(&mut self, alloc: Global, row: &Row<'_>, bytes: &[u8]) -> bool {
+        if row.is(1, "header") {
+            row.says(alloc, 3, &Header::read(bytes))
+        } else if row.is(1, "epitaph") {
+            row.says(alloc, 3, &read_epitaph(bytes))
+        } else if row.is(1, "status") {
+            row.says(alloc, 3, &read_status(bytes))
+        } else if row.is(1, "ordinal") {
+            bytes == ordinal(row.name().as_bytes()).to_be_bytes().as_slice()
+        } else {
+            self.is_message(alloc, row, bytes)
         }
     }
 
     /// Whether a message is read as its row says, and gives the same bytes and handles again, or other ones, where that says so.
-    fn is_message(&mut self, alloc: Global, row: &Row<'_>, kind: &str, bytes: &[u8]) -> bool {
+    fn is_message(&mut self, alloc: Global, row: &Row<'_>, bytes: &[u8]) -> bool {
         let mut handles = Vec::new(alloc);
         match row.numbers(alloc, 3) {
             Some(numbers) => {
                 put_handles(&mut handles, &numbers)
-                    && self.is_read(alloc, row, kind, bytes, &handles)
+                    && self.is_read(alloc, row, bytes, &handles)
                     && self.is_again(row, bytes, &handles)
             }
             None => false,
@@ -93,21 +94,16 @@ impl Messages {
     }
 
     /// Whether a message is read as its row says. It is written again.
-    fn is_read(
-        &mut self,
-        alloc: Global,
-        row: &Row<'_>,
-        kind: &str,
-        bytes: &[u8],
-        handles: &[Handle],
-    ) -> bool {
-        match kind {
-            "event" => self.is_event(alloc, row, bytes),
-            "reply" => self.is_reply(alloc, row, bytes, handles),
-            _ => match row.named(1, &PROTOCOLS) {
-                Some(protocol) => self.is_request(alloc, row, protocol, bytes, handles),
-                None => false,
-            },
+    fn is_read(&mut self, alloc: Global, row: &Row<'_>, bytes: &[u8], handles: &[Handle]) -> bool {
+        if row.is(1, "event") {
+            return self.is_event(alloc, row, bytes);
+        }
+        if row.is(1, "reply") {
+            return self.is_reply(alloc, row, bytes, handles);
+        }
+        match row.named(1, &PROTOCOLS) {
+            Some(protocol) => self.is_request(alloc, row, protocol, bytes, handles),
+            None => false,
         }
     }
 
@@ -115,11 +111,12 @@ impl Messages {
     fn is_again(&self, row: &Row<'_>, bytes: &[u8], handles: &[Handle]) -> bool {
         let written = self.out.as_bytes();
         let same = written == bytes && self.out.handles() == handles;
-        match row.cell(5) {
-            Some("same") => same,
-            Some("other") => !same && !written.is_empty(),
-            Some("-") => written.is_empty(),
-            _ => false,
+        if row.is(5, "same") {
+            same
+        } else if row.is(5, "other") {
+            !same && !written.is_empty()
+        } else {
+            row.is(5, "-") && written.is_empty()
         }
     }
 
@@ -181,8 +178,9 @@ fn has_texts(request: &Request<'_>) -> bool
 {
     match request {
         Request::OpenPath { path, .. } => is_utf8(path),
-        Request::Rename { src, dst, .. } => is_utf8(src) && is_utf8(dst),
-        Request::Link { src, dst, .. } => is_utf8(src) && is_utf8(dst),
+        Request::Rename { src, dst, .. } | Request::Link { src, dst, .. } => {
+            is_utf8(src) && is_utf8(dst)
+        }
         Request::Unlink { name, .. } => is_utf8(name),
         Request::EchoString { value } => is_utf8(value),
         _ => true,

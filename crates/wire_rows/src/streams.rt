@@ -44,13 +44,16 @@ struct Streams {
 
 impl Table for Streams {
     fn holds(&mut self, alloc: Global, row: &Row<'_>) -> bool {
-        match row.cell(1) {
-            Some("reads") => are_reads(alloc, row),
-            Some("writes") | Some("wholes") => are_writes(alloc, row),
-            Some("file") => is_read(alloc, row, &mut self.files),
-            Some("source") => is_source(alloc, row),
-            Some("sink") => is_sink(alloc, row),
-            _ => false,
+        if row.is(1, "reads") {
+            are_reads(alloc, row)
+        } else if row.is(1, "writes") || row.is(1, "wholes") {
+            are_writes(alloc, row)
+        } else if row.is(1, "file") {
+            is_read(alloc, row, &mut self.files)
+        } else if row.is(1, "source") {
+            is_source(alloc, row)
+        } else {
+            row.is(1, "sink") && is_sink(alloc, row)
         }
     }
 }
@@ -113,7 +116,7 @@ fn are_writes(alloc: Global, row: &Row<'_>) -> bool {
 }
 
 fn are_taken(alloc: Global, row: &Row<'_>, sink: &mut MemSink) -> bool {
-    if matches!(row.cell(1), Some("wholes")) {
+    if row.is(1, "wholes") {
         let (first, second) = (append(sink, b"hello"), append(sink, b"hello"));
         return row.says(alloc, 5, &(first, second));
     }

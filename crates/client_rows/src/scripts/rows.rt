@@ -1,6 +1,7 @@
 //! Outside values of scripts and generated workloads.
 
-/// A name, `script`, a script, with `;` between its lines, and its frames; or a name, `rounds`, how many, and the script of so many rounds.
+/// A name, `script`, a script, with `;` between its lines, and its frames; or a name, `rounds`, how many, and the script of so
+/// many rounds; or `most`, and how many bytes the script of the most rounds has.
 pub const SCRIPTS: &[u8] = b"
 lines that are skipped count | script | auto;;# the root;;list 1 10 | 010000000100000018000000050000000200000114916b2a59ccb0050a[00*7]
 rewind and sync | script | given;rewind 7;sync 0xffffffff | 0700000001000000100000000200000002000001594705f815b1c77d[ff*4]0100000010000000030000000200000149dcb50aca275c2c
@@ -37,4 +38,5 @@ watch_snapshot_idle_added | script | auto;open 1 d 0x1c0 2;watch 2 31 3;open 2 b
 write_past_the_largest_size | script | auto;open 1 d/f 0x6 2;writeat 2 78 65536;writeat 2 78 65535;readat 2 2 65534 | 01000000010100004800000002[00*7]02000001d6547cffbb4fbc2f03[00*7][ff*8]06[00*15][ff*12][00*4]642f66[00*5]02000000010000003000000003000000020000012b795e04c0ef3e7901[00*7][ff*8]000001[00*5]78[00*7]02000000010000003000000004000000020000012b795e04c0ef3e7901[00*7][ff*10][00*6]78[00*7]02000000010000002000000005000000020000013e720da693a2071602[00*7]feff[00*6]
 one round | rounds | 1 | auto;open 1 m/d 0x40 1000000;watch 1000000 31 1000001;open 1 m/d 0x40 2;list 2 8192;hangup 2;
 eleven rounds | rounds | 11 | auto;open 1 m/d 0x40 1000000;watch 1000000 31 1000001;open 1 m/d/f14 0x10800000006 2;write 2 31;hangup 2;open 1 m/d 0x100 3;unlink 3 f0 0;hangup 3;open 1 d 0x100 4;unlink 4 f7 0;hangup 4;open 1 d/f22 0x10800000006 5;write 5 34;hangup 5;open 1 m/d 0x40 6;list 6 8192;hangup 6;open 1 d 0x100 7;unlink 7 f24 0;hangup 7;open 1 d/f28 0x2 8;read 8 64;hangup 8;open 1 m/d 0x40 9;list 9 8192;hangup 9;open 1 m/d/f31 0x10800000006 10;write 10 39;hangup 10;open 1 m/d 0x100 11;unlink 11 f28 0;hangup 11;open 1 m/d 0x100 12;unlink 12 f12 0;hangup 12;
+the most rounds | most | 520703
 ";

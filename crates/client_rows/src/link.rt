@@ -78,11 +78,12 @@ impl Table for Link {
         let Some(mut bytes) = row.bytes(alloc, 2) else {
             return false;
         };
-        match row.cell(1) {
-            Some("fixed") => are_fronts(alloc, row, &mut bytes),
-            Some("frames") => are_refused(alloc, row, &bytes),
-            Some("crowd") => are_refused_behind_crowd(alloc, row, &bytes),
-            _ => false,
+        if row.is(1, "fixed") {
+            are_fronts(alloc, row, &mut bytes)
+        } else if row.is(1, "frames") {
+            are_refused(alloc, row, &bytes)
+        } else {
+            row.is(1, "crowd") && are_refused_behind_crowd(alloc, row, &bytes)
         }
     }
 }
@@ -130,16 +131,15 @@ fn fill(room: &mut FrameRoom, bytes: &[u8], written: &[u8]) -> bool
 }
 
 /// Whether these frames, written to an outbox, are what a room has. Want of memory says no.
-fn are_gathered(alloc: Global, bytes: &[u8], outbox: &mut Outbox) -> bool
-    requires { length bytes.now ≡ 65_536 }
-{
-    if write_frame(outbox, 1, FrameKind::Message, &[7; 64], bytes).is_err()
+fn are_gathered(alloc: Global, outbox: &mut Outbox) -> bool {
+    let bytes = [0x61; 65_536];
+    if write_frame(outbox, 1, FrameKind::Message, &[7; 64], &bytes).is_err()
         || write_frame(outbox, 1, FrameKind::Close, &[], &[]).is_err()
     {
         return false;
     }
     match FrameRoom::new(alloc, 65_816) {
-        Ok(mut room) => fill(&mut room, bytes, outbox.as_bytes()),
+        Ok(mut room) => fill(&mut room, &bytes, outbox.as_bytes()),
         Err(_) => false,
     }
 }
@@ -156,6 +156,5 @@ fn is_read_and_cut(outbox: &mut Outbox) -> bool {
 #[test]
 fn the_largest_frame_passes(rt: HostRuntime) {
     let mut outbox = Outbox::new(rt.alloc());
-    let gathered = are_gathered(rt.alloc(), &[0x61; 65_536], &mut outbox);
-    assert!(rt; gathered && is_read_and_cut(&mut outbox));
+    assert!(rt; are_gathered(rt.alloc(), &mut outbox) && is_read_and_cut(&mut outbox));
 }
