@@ -25,17 +25,38 @@ returns-in-OpenPath-clause-memory c = λ tree directory stands named wants.
 pub returns-in-OpenPath-clause-untouched : goal.returns-in-OpenPath-clause-untouched
 returns-in-OpenPath-clause-untouched c = (c.open.ensures.opened (λ token. None)).untouched
 
-pub returns-in-ReadDirents-clause-served : goal.returns-in-ReadDirents-clause-served
-returns-in-ReadDirents-clause-served c = λ tree directory stands named some.
-    rw c.in-ReadDirents.is (c.list.ensures.served tree c.args.room directory stands)
+pub returns-in-ReadDirents : goal.returns-in-ReadDirents
+returns-in-ReadDirents c =
+    record {
+      served = λ tree directory stands named some. rw c.in-ReadDirents.is (c.list.ensures.served tree c.args.room directory stands);
+      keeps = kept c.args.graph.now;
+      memory = λ tree directory stands named wants. absurd (c.list.ensures.memory wants);
+      untouched = λ wants. absurd (c.list.ensures.memory wants);
+      stays = λ wants. absurd (c.list.ensures.memory wants);
+      empty = λ wants. absurd (c.list.ensures.memory wants);
+    }
 
-pub returns-in-Rewind-clause-served : goal.returns-in-Rewind-clause-served
-returns-in-Rewind-clause-served c = λ tree directory stands named some.
-    rw c.in-Rewind.is (c.rewind.ensures.served tree c.args.room directory c.args.graph.now)
+pub returns-in-Rewind : goal.returns-in-Rewind
+returns-in-Rewind c =
+    record {
+      served = λ tree directory stands named some. rw c.in-Rewind.is (c.rewind.ensures.served tree c.args.room directory c.args.graph.now);
+      keeps = kept c.args.graph.now;
+      memory = λ tree directory stands named wants. absurd (c.rewind.ensures.memory wants);
+      untouched = λ wants. absurd (c.rewind.ensures.memory wants);
+      stays = λ wants. absurd (c.rewind.ensures.memory wants);
+      empty = λ wants. absurd (c.rewind.ensures.memory wants);
+    }
 
-pub returns-in-GetToken-clause-served : goal.returns-in-GetToken-clause-served
-returns-in-GetToken-clause-served c = λ tree directory stands named some.
-    rw c.in-GetToken.is (c.get_token.ensures.served tree (standing_at c.args.place.now) directory c.args.graph.now)
+pub returns-in-GetToken : goal.returns-in-GetToken
+returns-in-GetToken c =
+    record {
+      served = λ tree directory stands named some. rw c.in-GetToken.is (c.get_token.ensures.served tree (standing_at c.args.place.now) directory c.args.graph.now);
+      keeps = kept c.args.graph.now;
+      memory = λ tree directory stands named wants. absurd (c.get_token.ensures.memory wants);
+      untouched = λ wants. absurd (c.get_token.ensures.memory wants);
+      stays = λ wants. absurd (c.get_token.ensures.memory wants);
+      empty = λ wants. absurd (c.get_token.ensures.memory wants);
+    }
 
 pub returns-in-Rename-clause-served : goal.returns-in-Rename-clause-served
 returns-in-Rename-clause-served c = λ tree directory stands named some.
@@ -71,13 +92,27 @@ returns-in-Link-clause-untouched c = (c.link.ensures.tried c.args.room (λ token
 pub returns-in-Link-clause-empty : goal.returns-in-Link-clause-empty
 returns-in-Link-clause-empty c = (c.link.ensures.tried c.args.room (λ token. option_map number_of c.args.target) 0 refl).empty
 
-pub returns-in-Unlink-clause-served : goal.returns-in-Unlink-clause-served
-returns-in-Unlink-clause-served c = λ tree directory stands named some.
-    rw c.in-Unlink.is (c.unlink.ensures.served tree (standing_at c.args.place.now) c.args.room directory stands)
+pub returns-in-Unlink : goal.returns-in-Unlink
+returns-in-Unlink c =
+    record {
+      served = λ tree directory stands named some. rw c.in-Unlink.is (c.unlink.ensures.served tree (standing_at c.args.place.now) c.args.room directory stands);
+      keeps = c.unlink.ensures.keeps;
+      memory = λ tree directory stands named wants. absurd (c.unlink.ensures.memory wants);
+      untouched = λ wants. absurd (c.unlink.ensures.memory wants);
+      stays = λ wants. absurd (c.unlink.ensures.memory wants);
+      empty = λ wants. absurd (c.unlink.ensures.memory wants);
+    }
 
-pub returns-in-Watch-clause-served : goal.returns-in-Watch-clause-served
-returns-in-Watch-clause-served c = λ tree directory stands named some.
-    rw c.in-Watch.is (c.watch.ensures.served tree (standing_at c.args.place.now) directory c.args.graph.now)
+pub returns-in-Watch : goal.returns-in-Watch
+returns-in-Watch c =
+    record {
+      served = λ tree directory stands named some. rw c.in-Watch.is (c.watch.ensures.served tree (standing_at c.args.place.now) directory c.args.graph.now);
+      keeps = kept c.args.graph.now;
+      memory = λ tree directory stands named wants. absurd (c.watch.ensures.memory wants);
+      untouched = λ wants. absurd (c.watch.ensures.memory wants);
+      stays = λ wants. absurd (c.watch.ensures.memory wants);
+      empty = λ wants. absurd (c.watch.ensures.memory wants);
+    }
 
 pub returns-in_default : goal.returns-in_default
 returns-in_default c =

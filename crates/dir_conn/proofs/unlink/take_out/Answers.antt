@@ -4,6 +4,7 @@ use Rattle.std.specs.Prelude.{◌==◌, ◌||◌, nat_lt}
 use Rattle.node_graph.specs.Graph.{number_of}
 use Rattle.node_graph.specs.Refusals.{unlink_refusal}
 use Rattle.conn_rules.specs.NameRows.{is_bad_name, name_in}
+use Rattle.dir_conn.proofs.Opening.{kept}
 use Rattle.dir_conn.proofs.Unlinking.{bad_refuses, graph_refuses, none_refuses}
 use Rattle.dir_conn.proofs.unlink.take_out.Goals as goal
 
@@ -24,3 +25,12 @@ returns-in-Err-clause-refusal c = λ tree stands.
     ∙ graph_refuses (is_bad_name c.args.name.now || nat_lt 1 c.args.flags) c.unlink.result c.in-Err.fault
     (unlink_refusal tree (name_in (number_of c.args.directory) c.args.name.now) (c.args.flags == 1)) (sym c.is_bad.ensures ∙ c.if-is_bad.false) c.in-Err.is
     (c.unlink.ensures.answer tree stands)
+
+pub returns-then-is_bad-clause-keeps : goal.returns-then-is_bad-clause-keeps
+returns-then-is_bad-clause-keeps c = kept c.args.graph.now
+
+pub returns-in-Ok-clause-keeps : goal.returns-in-Ok-clause-keeps
+returns-in-Ok-clause-keeps c = record { holds = c.unlink.ensures.holds; names = c.unlink.ensures.names }
+
+pub returns-in-Err-clause-keeps : goal.returns-in-Err-clause-keeps
+returns-in-Err-clause-keeps c = record { holds = c.unlink.ensures.holds; names = c.unlink.ensures.names }

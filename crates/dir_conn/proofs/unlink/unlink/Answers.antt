@@ -33,3 +33,9 @@ returns-in-Err-clause-served c = λ tree position room directory stands.
     )
     (c.of_node.ensures.served (only position (failure_of method.Unlink c.in-Err.status)) c.args.txid c.fail.new.out (connection_with c.args.birth.now position)
     c.args.graph.now (c.fail.ensures.served (connection_with c.args.birth.now position) c.args.graph.now))
+
+pub returns-in-Ok-clause-memory : goal.returns-in-Ok-clause-memory
+returns-in-Ok-clause-memory c = λ wants. cc
+
+pub returns-in-Err-clause-memory : goal.returns-in-Err-clause-memory
+returns-in-Err-clause-memory c = c.of_node.ensures.memory c.fail.ensures.memory

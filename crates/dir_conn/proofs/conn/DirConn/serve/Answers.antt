@@ -42,3 +42,15 @@ returns-in-None-clause-memory c = λ tree directory stands named wants.
     (asked c.args.request) c.method-method.result refl c.method-method.ensures c.in-None.ensures.first
     )
     (c.serve_row.ensures.memory tree directory stands named wants))
+
+pub returns-in-Some-clause-holds : goal.returns-in-Some-clause-holds
+returns-in-Some-clause-holds c = record { birth = refl; holds = λ number. refl; names = λ node named keep. (named, refl) }
+
+pub returns-in-Some-clause-memory : goal.returns-in-Some-clause-memory
+returns-in-Some-clause-memory c = λ tree directory stands named wants. absurd (c.of_node.ensures.memory c.fail.ensures.memory wants)
+
+pub returns-in-Some-clause-untouched : goal.returns-in-Some-clause-untouched
+returns-in-Some-clause-untouched c = λ wants. absurd (c.of_node.ensures.memory c.fail.ensures.memory wants)
+
+pub returns-in-None-clause-holds : goal.returns-in-None-clause-holds
+returns-in-None-clause-holds c = record { birth = ap (λ conn. conn.birth) c.self.view_is; holds = c.serve_row.ensures.keeps.holds; names = c.serve_row.ensures.keeps.names }
