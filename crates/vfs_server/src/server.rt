@@ -37,7 +37,6 @@ use watch_seats::Watching;
 
 /// One server: its tree, what is connected to it, who watches, and the tokens that name directories of it.
 /// Each connection holds its node, and each watcher and each token its directory.
-#[derive(Drop)]
 pub struct Server {
     alloc: Global,
     index: u32,
@@ -45,6 +44,20 @@ pub struct Server {
     connections: Connections,
     watching: Watching,
     tokens: Tokens,
+}
+
+// Who owns a server lets go of it by one call, and not of each part by another.
+impl Drop for Server {
+    fn drop(self) {
+        let Server {
+            alloc: _alloc,
+            index: _index,
+            graph: _graph,
+            connections: _connections,
+            watching: _watching,
+            tokens: _tokens,
+        } = self;
+    }
 }
 
 impl Model for Server {

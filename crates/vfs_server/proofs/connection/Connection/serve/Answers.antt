@@ -1,13 +1,58 @@
-use Rattle.std.proofs.Common.{◌≡◌, ◌∙◌, IfOk, ap, subst}
-use Rattle.io_messages.specs.Asked.{asked}
+use Rattle.std.proofs.Common.{◌≡◌, ◌∙◌, ℕ, List, true, IfOk, ap, refl, subst, sym}
+use Rattle.fidl_names.specs.declared.methods.Handle.{Handle}
+use Rattle.fidl_names.specs.declared.methods.Method.{Method}
+use Rattle.fidl_names.specs.declared.methods.Method.TheVariants as method
+use Rattle.fidl_wire.specs.Layout.{Item}
+use Rattle.io_messages.specs.Asked.{Asked, asked, method_of}
+use Rattle.io_messages.specs.Protocols.{has_method}
+use Rattle.io_messages.specs.declared.protocols.Protocol.{Protocol}
 use Rattle.io_messages.specs.declared.protocols.Protocol.TheVariants as protocol
-use Rattle.io_messages.specs.Requests.{Reads, request_of}
+use Rattle.io_messages.specs.Requests.{Reads, asked_from, has_txid, request_of}
+use Rattle.io_messages.specs.Shapes.{is_one_way}
 use Rattle.node_conn.proofs.Echoes.{read_text}
 use Rattle.vfs_journal.specs.Serving.{outcome_of_read}
 use Rattle.vfs_server.specs.Steps.{Answers, done_with}
 use Rattle.vfs_server.proofs.Answering.{fault_answers, fault_tells, ok_map}
 use Rattle.vfs_server.proofs.Carried.{target_named}
+use Rattle.vfs_server.proofs.Giving.{all_kept}
 use Rattle.vfs_server.proofs.connection.Connection.serve.Goals as goal
+
+-- what is read is a request of the method that its fields are of
+method_read : (m : Method) (items : List Item) → method_of (asked_from m items) ≡ m
+method_read method.Clone items = refl
+method_read method.Close items = refl
+method_read method.Query items = refl
+method_read method.GetAttributes items = refl
+method_read method.Sync items = refl
+method_read method.OpenPath items = refl
+method_read method.ReadDirents items = refl
+method_read method.Rewind items = refl
+method_read method.GetToken items = refl
+method_read method.Rename items = refl
+method_read method.Link items = refl
+method_read method.Unlink items = refl
+method_read method.Watch items = refl
+method_read method.Read items = refl
+method_read method.ReadAt items = refl
+method_read method.Write items = refl
+method_read method.WriteAt items = refl
+method_read method.Seek items = refl
+method_read method.Resize items = refl
+method_read method.EchoString items = refl
+
+method_is : (p : Protocol) (bytes : List ℕ) (handles : List Handle) (txid : ℕ) (a : Asked) (r : Reads p bytes handles txid a) → method_of a ≡ r.method
+method_is p bytes handles txid a r = ap method_of (sym r.fields_are) ∙ method_read r.method r.items
+
+pub serve_request-requires-clause-method : goal.serve_request-requires-clause-method
+serve_request-requires-clause-method c =
+    let read = c.in-Ok.ensures.found in
+    subst (λ p. has_method p (method_of (asked c.in-Ok.request)) ≡ true) (c.protocol.ensures ∙ ap (λ connection. connection.birth.protocol) c.self.view_is)
+    (ap (has_method c.protocol.result) (method_is c.protocol.result c.args.bytes.now c.args.handles.now c.in-Ok.txid (asked c.in-Ok.request) read) ∙ read.known)
+
+pub serve_request-requires-clause-txid : goal.serve_request-requires-clause-txid
+serve_request-requires-clause-txid c =
+    let read = c.in-Ok.ensures.found in
+    ap (λ m. has_txid (is_one_way m) c.in-Ok.txid) (method_is c.protocol.result c.args.bytes.now c.args.handles.now c.in-Ok.txid (asked c.in-Ok.request) read) ∙ read.way
 
 pub serve_request-requires-clause-echo : goal.serve_request-requires-clause-echo
 serve_request-requires-clause-echo c is =
@@ -40,3 +85,6 @@ returns-in-Err-clause-tells c =
     ok_map _ _ c.answer_fault.result
     (λ fate does. fault_tells 0 c.args.asking.now c.args.self.now c.in-Err.fault (done_with fate c.args.changes.now) c.requires.none c.answer_fault.new.out c.args.outbox.now c.answer_fault.new.outbox does)
     c.answer_fault.ensures.does
+
+pub returns-in-Err-clause-holds : goal.returns-in-Err-clause-holds
+returns-in-Err-clause-holds c = all_kept c.args.self.now c.args.graph.now
