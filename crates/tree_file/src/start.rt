@@ -41,9 +41,15 @@ impl Model for Parts {
 /// What a session starts with: servers, nodes, mounts and first connections, each in the order of the
 /// file. Contracts see it as these lists. They keep the rules of a tree, and what is in their files are
 /// bytes: the counts of servers and nodes say so.
-#[derive(Drop)]
 pub struct Start {
     parts: Parts,
+}
+
+// Who owns a start lets go of it by one call, and not of each list by another.
+impl Drop for Start {
+    fn drop(self) {
+        let Start { parts: _parts } = self;
+    }
 }
 
 impl Model for Start {
