@@ -78,7 +78,6 @@ fn look_for_names(rt: &impl Abort, graph: &mut Graph) -> Result<(), GraphFault> 
     Ok(())
 }
 
-// Both look at one graph, since each owner of one lets go of all its parts.
 #[test]
 fn nodes_are_kept_and_names_looked_for(rt: HostRuntime) -> Result<(), Fail> {
     let mut graph = Graph::new(rt.alloc())?;
