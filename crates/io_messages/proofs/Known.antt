@@ -1,12 +1,14 @@
--- The method of a protocol with an ordinal.
+-- The method of a protocol with an ordinal, and that of a request that was read.
 use Rattle.std.proofs.Common.{◌≡◌, ℕ, ◌&&◌, ◌⊎◌, inl, inr, Bool, true, false, cond, nat_eq, find, List, [], ◌∷◌, Option, Some, None, IfSome, IsNone, refl, sym, ap, ◌∙◌, arith}
 use Rattle.std.proofs.lemmas.Bool.Decides.{nat_tests}
 use Rattle.fidl_names.specs.declared.methods.Method.{Method}
 use Rattle.fidl_names.specs.declared.methods.Method.TheVariants as method
+use Rattle.fidl_wire.specs.Layout.{Item}
 use Rattle.fidl_wire.specs.Names.{method_ordinal, MethodsHaveTheirOwn}
+use Rattle.io_messages.specs.Asked.{method_of}
 use Rattle.io_messages.specs.declared.protocols.Protocol.{Protocol}
 use Rattle.io_messages.specs.Protocols.{has_method, all_methods}
-use Rattle.io_messages.specs.Requests.{method_in}
+use Rattle.io_messages.specs.Requests.{asked_from, method_in}
 use Rattle.io_messages.specs.Replies.{method_with}
 
 abbrev Among : Method → List Method → Type 0
@@ -145,3 +147,26 @@ method_with-has ordinal m is only = sym (method_with-is (Some m) ordinal is only
 -- where each method has an ordinal of its own, one with an ordinal is the only one
 pub only_method : MethodsHaveTheirOwn → (m : Method) (ordinal : ℕ) → method_ordinal m ≡ ordinal → (n : Method) → method_ordinal n ≡ ordinal → Some m ≡ Some n
 only_method apart m ordinal h n k = ap (λ (v : Method). Some v) (apart m n (h ∙ sym k))
+
+-- a request's method is that of its fields
+pub method_read : (m : Method) (items : List Item) → method_of (asked_from m items) ≡ m
+method_read method.Clone items = refl
+method_read method.Close items = refl
+method_read method.Query items = refl
+method_read method.GetAttributes items = refl
+method_read method.Sync items = refl
+method_read method.OpenPath items = refl
+method_read method.ReadDirents items = refl
+method_read method.Rewind items = refl
+method_read method.GetToken items = refl
+method_read method.Rename items = refl
+method_read method.Link items = refl
+method_read method.Unlink items = refl
+method_read method.Watch items = refl
+method_read method.Read items = refl
+method_read method.ReadAt items = refl
+method_read method.Write items = refl
+method_read method.WriteAt items = refl
+method_read method.Seek items = refl
+method_read method.Resize items = refl
+method_read method.EchoString items = refl

@@ -9,7 +9,6 @@ use Rattle.fidl_names.specs.declared.statuses.Status.{Status}
 use Rattle.fidl_names.specs.declared.statuses.Status.TheVariants as status
 use Rattle.fidl_names.specs.HandleNumber.{handle_with}
 use Rattle.wire_laws.specs.Laws.{SpelledWhereRead}
-use Rattle.fidl_wire.specs.Layout.{Item}
 use Rattle.io_flags.specs.Grants.{asked_rights, explicit_rights}
 use Rattle.io_flags.specs.Words.{has}
 use Rattle.io_flags.specs.declared.names.Flag.TheVariants as flag
@@ -18,13 +17,13 @@ use Rattle.io_messages.specs.Asked as asks
 use Rattle.io_messages.specs.Protocols.{has_method, home_of, has as has_home}
 use Rattle.io_messages.specs.Replies.{Answered, done, fails, settled}
 use Rattle.io_messages.specs.Replies as answered
-use Rattle.io_messages.specs.Requests.{asked_from}
 use Rattle.io_messages.specs.Shapes.{is_one_way}
 use Rattle.io_messages.specs.declared.protocols.Home.{Home}
 use Rattle.io_messages.specs.declared.protocols.Home.TheVariants as homes
 use Rattle.io_messages.specs.declared.protocols.Protocol.{Protocol}
 use Rattle.io_messages.specs.declared.protocols.Protocol.TheVariants as protocol
 use Rattle.io_messages.specs.declared.requests.RequestFault.TheVariants.{Malformed, UnknownStrict, UnknownOneWay, UnknownTwoWay}
+use Rattle.io_messages.proofs.Known.{method_read}
 use Rattle.request_reader.proofs.RequestLaws.{what_is_read}
 use Rattle.io_rights.specs.Operations.{OperationSet, is_within}
 use Rattle.node_graph.specs.Graph.{resize_refusal, write_change}
@@ -369,28 +368,6 @@ placed_outcome tree bound txid object act h = record {
 }
 
 -- a request is of a method that its protocol has
-method_read : (m : Method) (items : List Item) → method_of (asked_from m items) ≡ m
-method_read method.Clone items = refl
-method_read method.Close items = refl
-method_read method.Query items = refl
-method_read method.GetAttributes items = refl
-method_read method.Sync items = refl
-method_read method.OpenPath items = refl
-method_read method.ReadDirents items = refl
-method_read method.Rewind items = refl
-method_read method.GetToken items = refl
-method_read method.Rename items = refl
-method_read method.Link items = refl
-method_read method.Unlink items = refl
-method_read method.Watch items = refl
-method_read method.Read items = refl
-method_read method.ReadAt items = refl
-method_read method.Write items = refl
-method_read method.WriteAt items = refl
-method_read method.Seek items = refl
-method_read method.Resize items = refl
-method_read method.EchoString items = refl
-
 pub has_read : SpelledWhereRead → (p : Protocol) (bytes handles : List ℕ) (txid : ℕ) (a : Asked) → read_by p bytes handles ≡ Ok (txid, a) → has_method p (method_of a) ≡ true
 has_read law p bytes handles txid a read =
     let r = what_is_read law p bytes (map handle_with handles) txid a read in

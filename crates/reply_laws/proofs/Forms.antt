@@ -3,13 +3,12 @@ use Rattle.std.proofs.Common.{◌≡◌, ℕ, ◌==◌, ◌∙◌, nat_lt, lengt
 use Rattle.std.specs.Prelude.{slice_index}
 use Rattle.fidl_names.specs.declared.methods.Handle.{Handle}
 use Rattle.fidl_names.specs.declared.methods.Method.{Method}
-use Rattle.fidl_names.specs.declared.methods.Method.TheVariants as method
 use Rattle.fidl_wire.specs.declared.faults.WireFault.{WireFault}
 use Rattle.fidl_wire.specs.declared.headers.Header.{Header}
 use Rattle.fidl_wire.specs.declared.faults.WireWhat.TheVariants.{Short, Magic, Version, Overflow}
 use Rattle.fidl_wire.specs.Numbers.{has_bit}
 use Rattle.fidl_wire.specs.Headers.{fault, fields_of, header_of}
-use Rattle.fidl_wire.specs.Layout.{Content, Item, struct}
+use Rattle.fidl_wire.specs.Layout.{Content, struct}
 use Rattle.fidl_wire.specs.Reading.{◌>>=◌, body_of}
 use Rattle.io_messages.specs.Asked.{method_of}
 use Rattle.io_messages.specs.declared.protocols.Protocol.{Protocol}
@@ -17,6 +16,7 @@ use Rattle.io_messages.specs.declared.requests.RequestFault.TheVariants.{Malform
 use Rattle.io_messages.specs.Requests.{asked_from, behind_header, has_txid, items_in, known_request, method_in, or_malformed, request_cells, request_of, with_txid}
 use Rattle.io_messages.specs.Requests as requests
 use Rattle.io_messages.specs.Shapes.{is_one_way}
+use Rattle.io_messages.proofs.Known.{method_read}
 use Rattle.vfs_journal.specs.Serving.{Read}
 use Rattle.reply_laws.specs.Pipelined.{txid_in}
 
@@ -33,29 +33,6 @@ header_fields : (bytes : List ℕ) (h : Header) → header_of bytes ≡ Ok h →
 header_fields bytes h e =
     header_by (nat_lt (length bytes) 16) (slice_index bytes 7 == 1) (has_bit 0x02 (slice_index bytes 4)) (has_bit 0x40 (slice_index bytes 6))
     (fault (length bytes) Short) (fault 7 Magic) (fault 4 Version) (fault 6 Overflow) (fields_of bytes) h e
-
--- a request's method is that of its fields
-method_read : (m : Method) (items : List Item) → method_of (asked_from m items) ≡ m
-method_read method.Clone items = refl
-method_read method.Close items = refl
-method_read method.Query items = refl
-method_read method.GetAttributes items = refl
-method_read method.Sync items = refl
-method_read method.OpenPath items = refl
-method_read method.ReadDirents items = refl
-method_read method.Rewind items = refl
-method_read method.GetToken items = refl
-method_read method.Rename items = refl
-method_read method.Link items = refl
-method_read method.Unlink items = refl
-method_read method.Watch items = refl
-method_read method.Read items = refl
-method_read method.ReadAt items = refl
-method_read method.Write items = refl
-method_read method.WriteAt items = refl
-method_read method.Seek items = refl
-method_read method.Resize items = refl
-method_read method.EchoString items = refl
 
 -- what a message with a transaction id is read as: a request has this id, none where its method is one-way; an unknown method that asks for
 -- a reply has it too, and one that doesn't has none

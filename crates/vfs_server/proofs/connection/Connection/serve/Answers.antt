@@ -1,14 +1,12 @@
-use Rattle.std.proofs.Common.{◌≡◌, ◌∙◌, ℕ, List, true, IfOk, ap, refl, subst, sym}
+use Rattle.std.proofs.Common.{◌≡◌, ◌∙◌, ℕ, List, true, IfOk, ap, subst, sym}
 use Rattle.fidl_names.specs.declared.methods.Handle.{Handle}
-use Rattle.fidl_names.specs.declared.methods.Method.{Method}
-use Rattle.fidl_names.specs.declared.methods.Method.TheVariants as method
-use Rattle.fidl_wire.specs.Layout.{Item}
 use Rattle.io_messages.specs.Asked.{Asked, asked, method_of}
 use Rattle.io_messages.specs.Protocols.{has_method}
 use Rattle.io_messages.specs.declared.protocols.Protocol.{Protocol}
 use Rattle.io_messages.specs.declared.protocols.Protocol.TheVariants as protocol
-use Rattle.io_messages.specs.Requests.{Reads, asked_from, has_txid, request_of}
+use Rattle.io_messages.specs.Requests.{Reads, has_txid, request_of}
 use Rattle.io_messages.specs.Shapes.{is_one_way}
+use Rattle.io_messages.proofs.Known.{method_read}
 use Rattle.node_conn.proofs.Echoes.{read_text}
 use Rattle.vfs_journal.specs.Serving.{outcome_of_read}
 use Rattle.vfs_server.specs.Steps.{Answers, done_with}
@@ -18,28 +16,6 @@ use Rattle.vfs_server.proofs.Giving.{all_kept}
 use Rattle.vfs_server.proofs.connection.Connection.serve.Goals as goal
 
 -- what is read is a request of the method that its fields are of
-method_read : (m : Method) (items : List Item) → method_of (asked_from m items) ≡ m
-method_read method.Clone items = refl
-method_read method.Close items = refl
-method_read method.Query items = refl
-method_read method.GetAttributes items = refl
-method_read method.Sync items = refl
-method_read method.OpenPath items = refl
-method_read method.ReadDirents items = refl
-method_read method.Rewind items = refl
-method_read method.GetToken items = refl
-method_read method.Rename items = refl
-method_read method.Link items = refl
-method_read method.Unlink items = refl
-method_read method.Watch items = refl
-method_read method.Read items = refl
-method_read method.ReadAt items = refl
-method_read method.Write items = refl
-method_read method.WriteAt items = refl
-method_read method.Seek items = refl
-method_read method.Resize items = refl
-method_read method.EchoString items = refl
-
 method_is : (p : Protocol) (bytes : List ℕ) (handles : List Handle) (txid : ℕ) (a : Asked) (r : Reads p bytes handles txid a) → method_of a ≡ r.method
 method_is p bytes handles txid a r = ap method_of (sym r.fields_are) ∙ method_read r.method r.items
 
