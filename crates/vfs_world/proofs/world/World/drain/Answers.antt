@@ -2,6 +2,7 @@ use Rattle.std.proofs.Common.{◌*◌, ◌∙◌, refl, sym}
 use Rattle.std.proofs.lemmas.Bool.{true≢false}
 use Rattle.vfs_session.specs.Running.{whole}
 use Rattle.vfs_session.proofs.Serves.{drain_leads}
+use Rattle.vfs_world.proofs.Answered.{not_err, not_spent}
 use Rattle.vfs_world.proofs.Worlds.{leads_inside, nothing_waits, runs_inside, stands_inside, taken_back}
 use Rattle.vfs_world.proofs.world.World.drain.Goals as goal
 
@@ -43,20 +44,20 @@ pub returns-in-Err-drain-clause-idle : goal.returns-in-Err-drain-clause-idle
 returns-in-Err-drain-clause-idle c =
     λ start journal stands none.
     let told = c.in-Err-drain.ensures.idle (nothing_waits start (whole c.self.inside.session) journal (stands_inside c.self.inside c.self.view_is start journal stands) none) in
-    absurd (cc)
+    absurd (not_err _ _ (sym told))
 
 pub returns-clause-idle : goal.returns-clause-idle
 returns-clause-idle c = λ start journal stands none. refl
 
 pub returns-in-Err-drain-clause-only_spent : goal.returns-in-Err-drain-clause-only_spent
-returns-in-Err-drain-clause-only_spent c = λ is. absurd (let fault = c.take_back.ensures.fault in cc)
+returns-in-Err-drain-clause-only_spent c = λ is. absurd (not_spent _ c.take_back.ensures.fault is)
 
 -- what was done was done by a world that wasn't spent
 pub returns-clause-memory : goal.returns-clause-memory
-returns-clause-memory c = λ is. absurd (cc)
+returns-clause-memory c = λ is. absurd (not_err _ _ is)
 
 pub returns-clause-spent : goal.returns-clause-spent
 returns-clause-spent c = λ spent. absurd (true≢false (sym spent ∙ c.in_default.ensures.able))
 
 pub returns-clause-only_spent : goal.returns-clause-only_spent
-returns-clause-only_spent c = λ is. absurd (cc)
+returns-clause-only_spent c = λ is. absurd (not_err _ _ is)

@@ -3,6 +3,7 @@ use Rattle.std.proofs.lemmas.Bool.{true≢false}
 use Rattle.vfs_session.specs.Running.{whole}
 use Rattle.vfs_session.specs.World.{World}
 use Rattle.vfs_session.proofs.Lasting.{lasts_more}
+use Rattle.vfs_world.proofs.Answered.{not_err, not_spent}
 use Rattle.vfs_world.proofs.Worlds.{leads_inside, stands_inside, taken_back, within_more}
 use Rattle.vfs_world.proofs.world.World.hear.Goals as goal
 
@@ -47,14 +48,14 @@ pub returns-in-Err-hear-clause-silent : goal.returns-in-Err-hear-clause-silent
 returns-in-Err-hear-clause-silent c = c.take_back.ensures.back ∙ taken_back c.args.outbox.now c.hear.new.outbox c.len-begun.result c.len-begun.ensures c.hear.ensures.begins
 
 pub returns-in-Err-hear-clause-only_spent : goal.returns-in-Err-hear-clause-only_spent
-returns-in-Err-hear-clause-only_spent c = λ is. absurd (let fault = c.take_back.ensures.fault in cc)
+returns-in-Err-hear-clause-only_spent c = λ is. absurd (not_spent _ c.take_back.ensures.fault is)
 
 -- what was done was done by a world that wasn't spent
 pub returns-clause-memory : goal.returns-clause-memory
-returns-clause-memory c = λ is. absurd (cc)
+returns-clause-memory c = λ is. absurd (not_err _ _ is)
 
 pub returns-clause-spent : goal.returns-clause-spent
 returns-clause-spent c = λ spent. absurd (true≢false (sym spent ∙ c.in_default.ensures.able))
 
 pub returns-clause-only_spent : goal.returns-clause-only_spent
-returns-clause-only_spent c = λ is. absurd (cc)
+returns-clause-only_spent c = λ is. absurd (not_err _ _ is)

@@ -2,6 +2,7 @@ use Rattle.std.proofs.Common.{Ok, ap, ◌∙◌, sym}
 use Rattle.std.proofs.lemmas.Bool.{true≢false}
 use Rattle.vfs_session.specs.Running.{whole}
 use Rattle.vfs_session.proofs.Serves.{head_none, pick_idle, pick_leads}
+use Rattle.vfs_world.proofs.Answered.{not_err, not_spent, same_ok}
 use Rattle.vfs_world.proofs.Worlds.{leads_inside, runs_inside, stands_inside, taken_back}
 use Rattle.vfs_world.proofs.world.World.pick.Goals as goal
 
@@ -20,20 +21,20 @@ pub returns-in-Ok-clause-idle : goal.returns-in-Ok-clause-idle
 returns-in-Ok-clause-idle c =
     λ start journal stands none.
     let none_served = c.in-Ok.ensures.idle (pick_idle start journal (whole c.self.inside.session) c.args.endpoint (stands_inside c.self.inside c.self.view_is start journal stands) none) in
-    ap Ok (c.told.ensures.idle (cc))
+    ap Ok (c.told.ensures.idle (same_ok _ _ none_served))
 
 pub returns-in-Err-pick-clause-idle : goal.returns-in-Err-pick-clause-idle
 returns-in-Err-pick-clause-idle c =
     λ start journal stands none.
     let told = c.in-Err-pick.ensures.idle (pick_idle start journal (whole c.self.inside.session) c.args.endpoint (stands_inside c.self.inside c.self.view_is start journal stands) none) in
-    absurd (cc)
+    absurd (not_err _ _ (sym told))
 
 pub returns-in-Ok-clause-only_idle : goal.returns-in-Ok-clause-only_idle
 returns-in-Ok-clause-only_idle c =
     λ start journal stands is.
     head_none (runs_inside c.self.inside c.self.view_is c.self.invariant stands.able).apart start journal (whole c.self.inside.session) c.args.endpoint
     (stands_inside c.self.inside c.self.view_is start journal stands)
-    (c.in-Ok.ensures.only_idle (ap Ok (c.told.ensures.only_idle (cc))))
+    (c.in-Ok.ensures.only_idle (ap Ok (c.told.ensures.only_idle (same_ok _ _ is))))
 
 -- for want of memory what was written is taken back
 pub returns-in-Err-pick-clause-memory : goal.returns-in-Err-pick-clause-memory
@@ -46,14 +47,14 @@ pub returns-in-Err-pick-clause-silent : goal.returns-in-Err-pick-clause-silent
 returns-in-Err-pick-clause-silent c = c.take_back.ensures.back ∙ taken_back c.args.outbox.now c.pick.new.outbox c.len-begun.result c.len-begun.ensures c.pick.ensures.begins
 
 pub returns-in-Err-pick-clause-only_spent : goal.returns-in-Err-pick-clause-only_spent
-returns-in-Err-pick-clause-only_spent c = λ is. absurd (let fault = c.take_back.ensures.fault in cc)
+returns-in-Err-pick-clause-only_spent c = λ is. absurd (not_spent _ c.take_back.ensures.fault is)
 
 -- what was done was done by a world that wasn't spent
 pub returns-in-Ok-clause-memory : goal.returns-in-Ok-clause-memory
-returns-in-Ok-clause-memory c = λ is. absurd (cc)
+returns-in-Ok-clause-memory c = λ is. absurd (not_err _ _ is)
 
 pub returns-in-Ok-clause-spent : goal.returns-in-Ok-clause-spent
 returns-in-Ok-clause-spent c = λ spent. absurd (true≢false (sym spent ∙ c.in_default.ensures.able))
 
 pub returns-in-Ok-clause-only_spent : goal.returns-in-Ok-clause-only_spent
-returns-in-Ok-clause-only_spent c = λ is. absurd (cc)
+returns-in-Ok-clause-only_spent c = λ is. absurd (not_err _ _ is)

@@ -2,6 +2,7 @@ use Rattle.std.proofs.Common.{◌∙◌, sym}
 use Rattle.std.proofs.lemmas.Bool.{true≢false}
 use Rattle.vfs_session.specs.Running.{whole}
 use Rattle.vfs_session.proofs.Serves.{turn_counts, turn_ends, turn_idle, turn_leads}
+use Rattle.vfs_world.proofs.Answered.{not_err, not_spent, same_count}
 use Rattle.vfs_world.proofs.Worlds.{leads_inside, runs_inside, stands_inside, taken_back}
 use Rattle.vfs_world.proofs.world.World.turn.Goals as goal
 
@@ -34,13 +35,13 @@ pub returns-in-Ok-clause-idle : goal.returns-in-Ok-clause-idle
 returns-in-Ok-clause-idle c =
     λ start journal stands none.
     let told = c.in-Ok.ensures.idle (turn_idle start journal (whole c.self.inside.session) c.args.server (stands_inside c.self.inside c.self.view_is start journal stands) none) in
-    cc
+    same_count _ _ told
 
 pub returns-in-Err-turn-clause-idle : goal.returns-in-Err-turn-clause-idle
 returns-in-Err-turn-clause-idle c =
     λ start journal stands none.
     let told = c.in-Err-turn.ensures.idle (turn_idle start journal (whole c.self.inside.session) c.args.server (stands_inside c.self.inside c.self.view_is start journal stands) none) in
-    absurd (cc)
+    absurd (not_err _ _ (sym told))
 
 -- for want of memory what was written is taken back
 pub returns-in-Err-turn-clause-memory : goal.returns-in-Err-turn-clause-memory
@@ -53,14 +54,14 @@ pub returns-in-Err-turn-clause-silent : goal.returns-in-Err-turn-clause-silent
 returns-in-Err-turn-clause-silent c = c.take_back.ensures.back ∙ taken_back c.args.outbox.now c.turn.new.outbox c.len-begun.result c.len-begun.ensures c.turn.ensures.begins
 
 pub returns-in-Err-turn-clause-only_spent : goal.returns-in-Err-turn-clause-only_spent
-returns-in-Err-turn-clause-only_spent c = λ is. absurd (let fault = c.take_back.ensures.fault in cc)
+returns-in-Err-turn-clause-only_spent c = λ is. absurd (not_spent _ c.take_back.ensures.fault is)
 
 -- what was done was done by a world that wasn't spent
 pub returns-in-Ok-clause-memory : goal.returns-in-Ok-clause-memory
-returns-in-Ok-clause-memory c = λ is. absurd (cc)
+returns-in-Ok-clause-memory c = λ is. absurd (not_err _ _ is)
 
 pub returns-in-Ok-clause-spent : goal.returns-in-Ok-clause-spent
 returns-in-Ok-clause-spent c = λ spent. absurd (true≢false (sym spent ∙ c.in_default.ensures.able))
 
 pub returns-in-Ok-clause-only_spent : goal.returns-in-Ok-clause-only_spent
-returns-in-Ok-clause-only_spent c = λ is. absurd (cc)
+returns-in-Ok-clause-only_spent c = λ is. absurd (not_err _ _ is)
