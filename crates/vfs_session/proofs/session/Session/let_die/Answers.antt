@@ -1,4 +1,4 @@
-use Rattle.std.proofs.Common.{◌∙◌, ◌++◌, ℕ, List, Option, refl, sym, ap, subst}
+use Rattle.std.proofs.Common.{◌∙◌, ◌++◌, [], ℕ, List, Option, append-nil, refl, sym, ap, subst}
 use Rattle.endpoint_link.specs.Frames.{spellings}
 use Rattle.vfs_journal.specs.Entries.{Sent}
 use Rattle.message_queues.specs.Dying.{AreDeaths}
@@ -32,3 +32,36 @@ returns-clause-dead c =
       count = c.in_ok-buried.ensures.count;
       places = refl;
     }
+
+pub bury-requires-clause-counted : goal.bury-requires-clause-counted
+bury-requires-clause-counted c = c.requires.counted
+
+pub returns-in_err-list_first_deaths-clause-out : goal.returns-in_err-list_first_deaths-clause-out
+returns-in_err-list_first_deaths-clause-out c = refl
+
+pub returns-in_err-list_first_deaths-clause-begins : goal.returns-in_err-list_first_deaths-clause-begins
+returns-in_err-list_first_deaths-clause-begins c = ([], sym (append-nil c.args.outbox.now))
+
+pub returns-then-is_empty-clause-out : goal.returns-then-is_empty-clause-out
+returns-then-is_empty-clause-out c = refl
+
+pub returns-then-is_empty-clause-begins : goal.returns-then-is_empty-clause-begins
+returns-then-is_empty-clause-begins c = ([], sym (append-nil c.args.outbox.now))
+
+pub returns-in_err-buried-clause-out : goal.returns-in_err-buried-clause-out
+returns-in_err-buried-clause-out c = refl
+
+pub returns-in_err-buried-clause-begins : goal.returns-in_err-buried-clause-begins
+returns-in_err-buried-clause-begins c = ([], sym (append-nil c.args.outbox.now))
+
+pub returns-in_err-close_others-clause-out : goal.returns-in_err-close_others-clause-out
+returns-in_err-close_others-clause-out c = refl
+
+pub returns-in_err-close_others-clause-begins : goal.returns-in_err-close_others-clause-begins
+returns-in_err-close_others-clause-begins c = c.close_others.ensures.begins
+
+pub returns-clause-out : goal.returns-clause-out
+returns-clause-out c = refl
+
+pub returns-clause-begins : goal.returns-clause-begins
+returns-clause-begins c = c.close_others.ensures.begins

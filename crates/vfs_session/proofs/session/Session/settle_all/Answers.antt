@@ -58,3 +58,30 @@ returns-clause-settled c =
           c.in_ok-more.ensures.known;
       places = let p = died.places in let a = c.in_ok-more.ensures.count in omega (arith, p, a);
     }
+
+pub let_die-requires-clause-live : goal.let_die-requires-clause-live
+let_die-requires-clause-live c = c.requires.can.live
+
+pub let_die-requires-clause-counted : goal.let_die-requires-clause-counted
+let_die-requires-clause-counted c = c.requires.can.counted
+
+pub send_on-requires-clause-low : goal.send_on-requires-clause-low
+send_on-requires-clause-low c = c.requires.can.low
+
+pub send_on-requires-clause-few : goal.send_on-requires-clause-few
+send_on-requires-clause-few c = let fewer = c.in_ok-dropped.ensures.dead.count in let few = c.requires.can.few in omega (arith, fewer, few)
+
+pub overflow_add-place : goal.overflow_add-place
+overflow_add-place c = let few = c.requires.can.places in let p = c.in_ok-dropped.ensures.dead.places in omega (arith, few, p)
+
+pub returns-in_err-dropped-clause-begins : goal.returns-in_err-dropped-clause-begins
+returns-in_err-dropped-clause-begins c = c.let_die.ensures.begins
+
+pub returns-in_err-give-clause-begins : goal.returns-in_err-give-clause-begins
+returns-in_err-give-clause-begins c = c.let_die.ensures.begins
+
+pub returns-in_err-more-clause-begins : goal.returns-in_err-more-clause-begins
+returns-in_err-more-clause-begins c = c.let_die.ensures.begins
+
+pub returns-clause-begins : goal.returns-clause-begins
+returns-clause-begins c = c.let_die.ensures.begins
