@@ -1,9 +1,7 @@
-//! Outside values of the wire format, of the methods' messages, of reads and writes, and of the cells of rows, and the tests that read them.
+//! Outside values of the wire format, of the methods' messages, and of reads and writes, and the tests that read them.
 //! They stand in a crate of their own, since a crate with tests is proved a second time with them.
 #![tactic(auto)]
 
-#[cfg(test)]
-mod cells;
 #[cfg(test)]
 mod messages;
 #[cfg(test)]
