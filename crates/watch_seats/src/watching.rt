@@ -8,7 +8,7 @@ ghost use Rattle.node_graph.specs.Graph.{Names, number_of};
 ghost use Rattle.conn_rules.specs.Served.{told_by};
 ghost use Rattle.watch_events.specs.Messages as messages;
 ghost use Rattle.node_graph.specs.Tree.{HasNameLength};
-ghost use Rattle.vfs_journal.specs.Output.{Begins};
+ghost use Rattle.endpoint_link.specs.Fronts.{Begins};
 ghost use Rattle.watch_seats.specs.declared.watching.Seat.{Seat};
 ghost use Rattle.watch_seats.specs.Seats.{is_at, seat_at, without};
 ghost use Rattle.watch_seats.specs.Telling.{IsShort, gone_told, name_told, told_of};
