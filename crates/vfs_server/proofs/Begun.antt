@@ -104,8 +104,9 @@ module _ (lists : Lists) (index endpoint : ℕ) (path : Bor (List ℕ)) (rights 
         named_kind server.graph (tree_of lists index) node next.holds.tree (next.holds.kept path node leads)
         ∙ ap (kind_of (tree_of lists index)) number_is ∙ directory
 
-    pub has_place : HasPlace server (record { node = node; rights = rights; protocol = protocol.Directory; append = false; announce = false })
-    has_place = record {
+    -- whatever its rights are
+    pub has_place : (given : OperationSet) → HasPlace server (record { node = node; rights = given; protocol = protocol.Directory; append = false; announce = false })
+    has_place given = record {
       node = record {
         named = next.holds.kept path node leads;
         spoken = ap (λ o. option_map_or (is_spoken_at protocol.Directory) o false) kind_is;

@@ -14,7 +14,7 @@ bind-requires-clause-free c = unbound c.requires.next.0 c.requires.next.1 c.args
 
 pub bind-requires-clause-place : goal.bind-requires-clause-place
 bind-requires-clause-place c =
-    has_place c.requires.next.0 c.requires.next.1 c.args.endpoint c.args.path c.args.rights c.requires.next.2 c.args.server.now c.args.places.now c.requires.next.3 c.node_at.result c.node_at.ensures
+    has_place c.requires.next.0 c.requires.next.1 c.args.endpoint c.args.path c.args.rights c.requires.next.2 c.args.server.now c.args.places.now c.requires.next.3 c.node_at.result c.node_at.ensures _
 
 pub returns : goal.returns
 returns c lists index bounds next =

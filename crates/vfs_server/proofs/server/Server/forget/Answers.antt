@@ -13,19 +13,19 @@ use Rattle.vfs_server.proofs.server.Server.forget.Goals as goal
 
 pub release-requires-clause-held : goal.release-requires-clause-held
 release-requires-clause-held c =
-    held_by_token c.self.inside.graph c.self.inside.connections c.self.inside.watching c.self.inside.tokens c.self.invariant c.args.token c.in-Some.directory (sym c.remove.ensures.named ∙ c.in-Some.is)
+    held_by_token c.self.inside.graph c.self.inside.connections c.self.inside.watching c.self.inside.tokens c.self.invariant _ c.in-Some.directory (sym c.remove.ensures.named ∙ c.in-Some.is)
 
 pub invariant_of-self : goal.invariant_of-self
 invariant_of-self c =
     subst (λ (tokens : Tokens). IsSound c.release.new.self c.self.inside.connections c.self.inside.watching tokens) (sym c.remove.ensures.removed)
-    (sound_forgotten c.self.inside.graph c.release.new.self c.self.inside.connections c.self.inside.watching c.self.inside.tokens c.args.token c.in-Some.directory c.self.invariant
+    (sound_forgotten c.self.inside.graph c.release.new.self c.self.inside.connections c.self.inside.watching c.self.inside.tokens _ c.in-Some.directory c.self.invariant
     (sym c.remove.ensures.named ∙ c.in-Some.is) c.release.ensures.released c.release.ensures.names
     (leads_on c.self.inside.graph c.release.new.self stay c.release.ensures.tree c.self.invariant.tree))
 
 pub invariant_of-self-in_default : goal.invariant_of-self-in_default
 invariant_of-self-in_default c =
     subst (λ (tokens : Tokens). IsSound c.self.inside.graph c.self.inside.connections c.self.inside.watching tokens)
-    (sym (c.remove.ensures.removed ∙ nothing_cut c.self.inside.tokens c.args.token (sym c.remove.ensures.named ∙ c.in_default.is))) c.self.invariant
+    (sym (c.remove.ensures.removed ∙ nothing_cut c.self.inside.tokens _ (sym c.remove.ensures.named ∙ c.in_default.is))) c.self.invariant
 
 pub returns-in-Some : goal.returns-in-Some
 returns-in-Some c =
