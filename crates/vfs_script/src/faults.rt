@@ -2,12 +2,15 @@ ghost use Rattle.std.specs.Prelude.{◌≡◌};
 
 use fidl_names::NoMemory;
 use std::alloc::AllocFailed;
+use thiserror::Error;
 
 /// Why a text is no script: its first bad line, counted from 1, or 0 where no line says the mode; or
 /// want of memory.
-#[derive(Clone, Copy)]
+#[derive(Clone, Copy, Debug, Error)]
 pub enum ScriptFault {
+    #[error("script refused: line {0}")]
     Line(u64),
+    #[error("out of memory")]
     NoMemory,
 }
 
