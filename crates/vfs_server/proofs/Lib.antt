@@ -21,3 +21,4 @@ pub mod Naming
 pub mod Servings
 pub mod Begins
 pub mod Begun
+mod ReadAsked
