@@ -1,18 +1,19 @@
 -- Bytes, handles and labels as text.
-use Rattle.std.proofs.Common.{◌≡◌, ℕ, zero, suc, ◌+◌, ◌<◌, ◌==◌, Bool, true, false, List, [], ◌∷◌, ◌++◌, length, map, get_or, take, drop, Option, Some, None, refl, sym, ap, ◌∙◌, inl, inr, arith, append_assoc}
+use Rattle.std.proofs.Common.{◌≡◌, ℕ, zero, suc, ◌+◌, ◌<◌, ◌≤◌, ◌==◌, Bool, true, false, List, [], ◌∷◌, ◌++◌, length, map, get_or, take, drop, Option, Some, None, refl, sym, ap, ◌∙◌, inl, inr, arith, append_assoc}
 use Rattle.std.specs.Prelude.{decimal, slice_get}
 use Rattle.std.specs.List.{find, join_with_byte}
-use Rattle.std.proofs.lemmas.Bool.{cases_Bool, eq-eqb, eqb-true, ne_eqb}
+use Rattle.std.proofs.lemmas.Bool.{cases_Bool, eq-eqb, eqb-true, le-ltb, ne_eqb}
 use Rattle.std.proofs.lemmas.List.{take_more}
 use Rattle.std.proofs.lemmas.Option.{same_Some}
 use Rattle.hex.specs.Hex.{encode_lower}
+use Rattle.fidl_names.specs.Numbers.{number_at}
 use Rattle.fidl_names.specs.declared.methods.Method.{Method}
 use Rattle.fidl_names.specs.declared.methods.Method.TheVariants as method
 use Rattle.fidl_wire.specs.Names.{event_ordinal, method_ordinal, row_of}
 use Rattle.fidl_wire.specs.Epitaphs.{epitaph_ordinal}
 use Rattle.io_messages.specs.Protocols.{all_methods}
 use Rattle.io_messages.specs.Replies.{method_with}
-use Rattle.vfs_script.specs.Transcripts.{bytes_text, handles_text, label_or_raw, label_with}
+use Rattle.vfs_script.specs.Transcripts.{bytes_text, handles_text, label_of, label_or_raw, label_with}
 use Rattle.vfs_script.specs.Words.{comma, none_word}
 
 -- ---- texts that grow
@@ -24,6 +25,11 @@ grown (x ∷ a) [] c h k = cc
 grown (x ∷ a) (y ∷ b) [] h k = cc
 grown (x ∷ a) (y ∷ b) (z ∷ c) h k =
     ap (λ t. z ∷ t) (grown a b c (ap (drop 1) h) (ap (drop 1) k)) ∙ ap (λ first. first ∷ a) (ap (λ l. get_or l 0 0) k ∙ ap (λ l. get_or l 0 0) h)
+
+-- what stood there stands in front of what is put behind it
+pub front_kept : (a b : List ℕ) → take (length a) (a ++ b) ≡ a
+front_kept [] b = refl
+front_kept (x ∷ a) b = ap (λ t. x ∷ t) (front_kept a b)
 
 -- one text behind another
 pub three_put : (a b c d x y z : List ℕ) → b ≡ a ++ x → c ≡ b ++ y → d ≡ c ++ z → d ≡ a ++ (x ++ y ++ z)
@@ -85,10 +91,10 @@ handles_step i numbers some lt =
     ap handles_text (take_more numbers i 0 lt) ∙ handles_text-more (take i numbers) (get_or numbers i 0) (some_taken i numbers some lt)
 
 -- a comma and one handle more
-pub handles_grow : (a to put new : List ℕ) (i n : ℕ) (numbers : List ℕ) → to ≡ a ++ handles_text (take i numbers) → put ≡ to ++ comma ∷ [] → n ≡ get_or numbers i 0 → new ≡ put ++ decimal n →
+pub handles_grow : (a to new : List ℕ) (i n : ℕ) (numbers : List ℕ) → to ≡ a ++ handles_text (take i numbers) → n ≡ get_or numbers i 0 → new ≡ (to ++ comma ∷ []) ++ decimal n →
     0 < i → i < length numbers → new ≡ a ++ handles_text (take (i + 1) numbers)
-handles_grow a to put new i n numbers e1 e2 e3 e4 some lt =
-    rw (e4, e2, e1, e3, handles_step i numbers some lt)
+handles_grow a to new i n numbers e1 e2 e3 some lt =
+    rw (e3, e1, e2, handles_step i numbers some lt)
     (append_assoc (a ++ handles_text (take i numbers)) (comma ∷ []) (decimal (get_or numbers i 0))
     ∙ append_assoc a (handles_text (take i numbers)) (comma ∷ decimal (get_or numbers i 0)))
 
@@ -154,3 +160,8 @@ pub label_with-other : (ordinal event : ℕ) (found : Option Method) → (ordina
     label_with ordinal ≡ label_or_raw found
 label_with-other ordinal event found no_epitaph is no_event e =
     rw (ne_eqb ordinal epitaph_ordinal no_epitaph, ne_eqb ordinal event_ordinal (λ same. no_event (same ∙ sym is)), e) refl
+
+-- the label of a message with a header
+pub label_read : (bytes : List ℕ) (ordinal : ℕ) → 16 ≤ length bytes → get_or bytes 7 0 ≡ 1 → ordinal ≡ number_at 8 8 bytes → label_with ordinal ≡ label_of bytes
+unfolding label_of
+label_read bytes ordinal long magic e = rw (le-ltb (length bytes) 16 long, magic) (ap label_with e)

@@ -3,10 +3,10 @@
 ghost use Rattle.std.specs.Prelude.{◌≡◌, IfSome, Some};
 ghost use Rattle.std.specs.Option.{option_map};
 ghost use Rattle.std.specs.Str.{IsUtf8};
-ghost use Rattle.vfs_script.specs.Lines.{Line, line_of, three, two};
-ghost use Rattle.vfs_script.specs.Parsed.{AreTexts, Forms, IsText, alone, behind, finished, names_and_token, text_and_long};
+ghost use Rattle.vfs_script.specs.Lines.{Line, line_of, three};
+ghost use Rattle.vfs_script.specs.Parsed.{AreTexts, Forms, IsText, alone, behind, finished, names_and_token};
 
-use crate::numbers::{long, short, signed};
+use crate::numbers::signed;
 use crate::pieces::Pieces;
 use crate::verbs::{Verb, verb_of};
 use io_messages::Request;
@@ -53,33 +53,26 @@ fn alone<'a>(parsed: Parsed<'a>, fields: Pieces<'a>) -> Option<Parsed<'a>>
     fields.is_empty().then_some(parsed)
 }
 
-// A text and a number of 64 bits.
-fn text_and_long<'a>(fields: Pieces<'a>) -> Option<(&'a [u8], u64)>
-    ensures read { option_map (λ r. (r.0.now, r.1)) result ≡ two fields.entry text_and_long }
-    ensures text { AreTexts fields.entry → IfSome result (λ r. IsUtf8 r.0.now) }
-{
-    let (text, number) = fields.two()?;
-    Some((text, long(number)?))
-}
-
 // SRC T DST
-fn names_and_token<'a>(fields: Pieces<'a>) -> Option<(&'a [u8], u32, &'a [u8])>
+fn names_and_token<'a>(mut fields: Pieces<'a>) -> Option<(&'a [u8], u32, &'a [u8])>
     requires { AreTexts fields }
     ensures read { option_map (λ r. (r.0.now, r.1, r.2.now)) result ≡ three fields.entry names_and_token }
     ensures texts { IfSome result (λ r. IsUtf8 r.0.now × IsUtf8 r.2.now) }
 {
-    let (src, token, dst) = fields.three()?;
-    Some((src, short(token)?, dst))
+    let src = fields.next()?;
+    let token = fields.short()?;
+    let dst = fields.one()?;
+    Some((src, token, dst))
 }
 
 // Behind `open E`: PATH FLAGS N
-fn open_form<'a>(endpoint: u32, fields: Pieces<'a>) -> Option<Parsed<'a>>
+fn open_form<'a>(endpoint: u32, mut fields: Pieces<'a>) -> Option<Parsed<'a>>
     requires { AreTexts fields }
     ensures { Forms (behind Verb.Open endpoint fields.entry) result }
 {
-    let (path, flags, object) = fields.three()?;
-    let flags = long(flags)?;
-    let object = short(object)?;
+    let path = fields.next()?;
+    let flags = fields.long()?;
+    let object = fields.only_short()?;
     let request = Request::OpenPath {
         path,
         flags,
@@ -132,11 +125,12 @@ fn link_form<'a>(endpoint: u32, fields: Pieces<'a>) -> Option<Parsed<'a>>
 }
 
 // Behind `unlink E`: NAME FLAGS
-fn unlink_form<'a>(endpoint: u32, fields: Pieces<'a>) -> Option<Parsed<'a>>
+fn unlink_form<'a>(endpoint: u32, mut fields: Pieces<'a>) -> Option<Parsed<'a>>
     requires { AreTexts fields }
     ensures { Forms (behind Verb.Unlink endpoint fields.entry) result }
 {
-    let (name, flags) = text_and_long(fields)?;
+    let name = fields.next()?;
+    let flags = fields.only_long()?;
     Some(Parsed::Request(endpoint, Request::Unlink { name, flags }))
 }
 
@@ -180,10 +174,11 @@ fn write_form<'a>(endpoint: u32, fields: Pieces<'a>) -> Option<Parsed<'a>>
 }
 
 // Behind `writeat E`: HEX OFFSET
-fn write_at_form<'a>(endpoint: u32, fields: Pieces<'a>) -> Option<Parsed<'a>>
+fn write_at_form<'a>(endpoint: u32, mut fields: Pieces<'a>) -> Option<Parsed<'a>>
     ensures { Forms (behind Verb.WriteAt endpoint fields.entry) result }
 {
-    let (hex, offset) = text_and_long(fields)?;
+    let hex = fields.next()?;
+    let offset = fields.only_long()?;
     Some(Parsed::WriteAt {
         endpoint,
         offset,
@@ -235,10 +230,11 @@ fn turn_form<'a>(endpoint: u32, fields: Pieces<'a>) -> Option<Parsed<'a>>
 }
 
 // Behind `raw E`: HANDLES HEX
-fn raw_form<'a>(endpoint: u32, fields: Pieces<'a>) -> Option<Parsed<'a>>
+fn raw_form<'a>(endpoint: u32, mut fields: Pieces<'a>) -> Option<Parsed<'a>>
     ensures { Forms (behind Verb.Raw endpoint fields.entry) result }
 {
-    let (handles, hex) = fields.two()?;
+    let handles = fields.next()?;
+    let hex = fields.one()?;
     Some(Parsed::Raw {
         endpoint,
         handles,

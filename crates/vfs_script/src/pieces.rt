@@ -165,24 +165,4 @@ impl<'a> Pieces<'a> {
         let number = self.long()?;
         if self.is_empty() { Some(number) } else { None }
     }
-
-    /// The pieces, if there are exactly two.
-    pub(crate) fn two(mut self) -> Option<(&'a [u8], &'a [u8])>
-        ensures found { IfSome result (λ both. self.entry ≡ both.0.now ∷ both.1.now ∷ []) }
-        ensures none { IfNone result (length self.entry ≢ 2) }
-    {
-        let first = self.next()?;
-        let second = self.one()?;
-        Some((first, second))
-    }
-
-    /// The pieces, if there are exactly three.
-    pub(crate) fn three(mut self) -> Option<(&'a [u8], &'a [u8], &'a [u8])>
-        ensures found { IfSome result (λ all. self.entry ≡ all.0.now ∷ all.1.now ∷ all.2.now ∷ []) }
-        ensures none { IfNone result (length self.entry ≢ 3) }
-    {
-        let first = self.next()?;
-        let (second, third) = self.two()?;
-        Some((first, second, third))
-    }
 }

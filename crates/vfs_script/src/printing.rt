@@ -160,8 +160,7 @@ fn put_handles(handles: HandleBytes<'_>, to: &mut Outtext) -> Result<(), NoMemor
     }
     put_number(handles.at(0), to)?;
     for place in 1..handles.len() {
-        to.put_byte(b',')?;
-        put_number(handles.at(place), to)?;
+        put_labelled(b",", handles.at(place), to)?;
     }
     Ok(())
 }

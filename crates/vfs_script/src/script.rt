@@ -25,7 +25,6 @@ pub struct Script {
     mode: Mode,
     frames: Outbox,
     calls: Vec<Option<Call>>,
-    count: u32,
 }
 
 // Who owns a script lets go of it by one call, and not of each part by another.
@@ -35,7 +34,6 @@ impl Drop for Script {
             mode: _mode,
             frames: _frames,
             calls: _calls,
-            count: _count,
         } = self;
     }
 }
@@ -44,13 +42,13 @@ impl Model for Script {
     ghost use Rattle.std.specs.Prelude.{◌≡◌, ◌≤◌, ◌+◌, length};
     ghost use Rattle.fidl_names.specs.declared.limits.TheConstants as limit;
     ghost use Rattle.vfs_script.specs.Kept.{ScriptValue};
-    ghost use Rattle.vfs_script.specs.Scripts.{AreCalls, count_calls};
+    ghost use Rattle.vfs_script.specs.Scripts.{AreCalls};
 
     ghost Value = { ScriptValue };
 
     ghost view = { λ s. record { mode = s.mode; bytes = s.frames; calls = s.calls.items } };
 
-    ghost invariant = { λ s. (s.count ≡ count_calls s.calls.items) × AreCalls 0 s.calls.items × (length s.calls.items ≤ limit.MAX_TEXT + 1) };
+    ghost invariant = { λ s. AreCalls 0 s.calls.items × (length s.calls.items ≤ limit.MAX_TEXT + 1) };
 }
 
 impl Script {
@@ -86,7 +84,7 @@ impl Script {
     pub fn calls(&self) -> u32
         ensures { result ≡ count_calls self.now.calls }
     {
-        self.count
+        count_calls(&self.calls)
     }
 
     /// Lets a client wait for the call that frame `i` makes, counted from 0, if it makes one. For want of
@@ -135,15 +133,12 @@ pub fn script_of(alloc: Global, ordinals: &Ordinals, text: &[u8]) -> Result<Scri
 {
     let mut lines = Lines::new(text);
     let mode = read_mode(&mut lines)?;
-    let mut frames = Frames::new(alloc, ordinals)?;
-    read_lines(&mut lines, &mut frames)?;
-    let (frames, calls) = frames.into_parts();
-    let count = count_calls(&calls);
+    let kept = read_lines(alloc, ordinals, &mut lines)?;
+    let (frames, calls) = kept.into_parts();
     Ok(Script {
         mode,
         frames,
         calls,
-        count,
     })
 }
 
@@ -282,15 +277,20 @@ fn said_mode(mode: Option<Mode>, bad: Option<u32>) -> Result<Mode, ScriptFault>
 }
 
 // Reads the lines behind the mode line.
-fn read_lines(lines: &mut Lines<'_>, frames: &mut Frames) -> Result<(), ScriptFault>
+fn read_lines(
+    alloc: Global,
+    ordinals: &Ordinals,
+    lines: &mut Lines<'_>,
+) -> Result<Frames, ScriptFault>
     ensures good { OnOk result (bad_lines lines.old ≡ None) }
-    ensures kept { OnOk result (frames.new ≡ kept_with frames.old (spoken_in lines.old)) }
+    ensures kept { IfOk result (λ frames. frames ≡ kept_with (record { bytes = []; calls = [] }) (spoken_in lines.old)) }
     ensures refused { IfErr result (IsFirstBad (bad_lines lines.old)) }
 {
+    let mut frames = Frames::new(alloc, ordinals)?;
     while let Some((number, line, is_text)) = lines.next() {
-        read_line(number, line, is_text, frames)?;
+        read_line(number, line, is_text, &mut frames)?;
     }
-    Ok(())
+    Ok(frames)
 }
 
 // Reads a line behind the mode line, of which is known whether it is UTF-8.

@@ -3,11 +3,8 @@ use Rattle.endpoint_link.specs.Views.{handle_numbers}
 use Rattle.vfs_script.proofs.PrintLemmas.{grown, handles_grow}
 use Rattle.vfs_script.proofs.printing.put_handles.Goals as goal
 
-pub returns-in_err-put_number-2-clause-grows : goal.returns-in_err-put_number-2-clause-grows
-returns-in_err-put_number-2-clause-grows c =
-    grown c.args.to.now c.put_byte-in-loop-place.new.self c.put_number-in-loop-place.new.to
-    (grown c.args.to.now c.loop-place.to c.put_byte-in-loop-place.new.self c.loop-place.invariant.grown c.in_ok-put_byte.ensures.grows)
-    c.in_err-put_number-2.ensures.grows
+pub returns-in_err-put_labelled-clause-grows : goal.returns-in_err-put_labelled-clause-grows
+returns-in_err-put_labelled-clause-grows c = grown c.args.to.now c.loop-place.to c.put_labelled.new.to c.loop-place.invariant.grown c.in_err-put_labelled.ensures.grows
 
 pub loop-place-preserved : goal.loop-place-preserved
 loop-place-preserved c =
@@ -16,11 +13,7 @@ loop-place-preserved c =
     let below = c.loop-place-test.true in
     record {
       put =
-          handles_grow c.args.to.now c.loop-place.to c.put_byte-in-loop-place.new.self c.put_number-in-loop-place.new.to c.loop-place.place c.at-in-loop-place.result (handle_numbers c.args.handles)
-          c.loop-place.invariant.put c.in_ok-put_byte.ensures.put c.at-in-loop-place.ensures c.in_ok-put_number-2.ensures.put
-          (omega (arith, low)) (omega (arith, size, below));
-      grown =
-          grown c.args.to.now c.put_byte-in-loop-place.new.self c.put_number-in-loop-place.new.to
-          (grown c.args.to.now c.loop-place.to c.put_byte-in-loop-place.new.self c.loop-place.invariant.grown c.in_ok-put_byte.ensures.grows)
-          c.in_ok-put_number-2.ensures.grows;
+          handles_grow c.args.to.now c.loop-place.to c.put_labelled.new.to c.loop-place.place c.at-in-loop-place.result (handle_numbers c.args.handles)
+          c.loop-place.invariant.put c.at-in-loop-place.ensures c.in_ok-put_labelled.ensures.put (omega (arith, low)) (omega (arith, size, below));
+      grown = grown c.args.to.now c.loop-place.to c.put_labelled.new.to c.loop-place.invariant.grown c.in_ok-put_labelled.ensures.grows;
     }

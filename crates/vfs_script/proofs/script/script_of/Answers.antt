@@ -1,6 +1,6 @@
-use Rattle.std.proofs.Common.{◌≡◌, ◌≤◌, length, sym, ap, ◌∙◌, subst, arith}
+use Rattle.std.proofs.Common.{◌≡◌, ◌≤◌, length, refl, sym, ap, ◌∙◌, subst, arith}
 use Rattle.std.proofs.lemmas.Result.{err_from_is_err_and}
-use Rattle.vfs_script.specs.Scripts.{AreCalls, IsFirstBad, count_calls}
+use Rattle.vfs_script.specs.Scripts.{AreCalls, IsFirstBad}
 use Rattle.vfs_script.proofs.ScriptLemmas.{all_bytes, all_calls, bad_line-behind, bad_line-is, calls_are, calls_few, mode-is}
 use Rattle.vfs_script.proofs.script.script_of.Goals as goal
 
@@ -10,28 +10,19 @@ returns-in_err-mode-clause-refused c =
     rw (p.1, p.2)
     (subst (λ bad. IsFirstBad bad c.in_err-mode.field-0.0) (bad_line-is c.args.text.now c.new-lines.result c.new-lines.ensures.lines) c.in_err-mode.ensures.refused)
 
-pub returns-in_err-read_lines-clause-refused : goal.returns-in_err-read_lines-clause-refused
-returns-in_err-read_lines-clause-refused c =
-    let p = err_from_is_err_and c.from_residual-in_err-read_lines.result c.from_residual-in_err-read_lines.ensures.1 in
+pub returns-in_err-kept-clause-refused : goal.returns-in_err-kept-clause-refused
+returns-in_err-kept-clause-refused c =
+    let p = err_from_is_err_and c.from_residual-in_err-kept.result c.from_residual-in_err-kept.ensures.1 in
     rw (p.1, p.2)
-    (subst (λ bad. IsFirstBad bad c.in_err-read_lines.field-0.0)
+    (subst (λ bad. IsFirstBad bad c.in_err-kept.field-0.0)
     (sym (bad_line-behind c.args.text.now c.new-lines.result c.read_mode.new.lines c.in_ok-mode.mode c.new-lines.ensures.lines c.in_ok-mode.ensures.left c.in_ok-mode.ensures.mode c.in_ok-mode.ensures.heads))
-    c.in_err-read_lines.ensures.refused)
-
-pub count_calls-count-requires : goal.count_calls-count-requires
-count_calls-count-requires c =
-    let calls = c.into_parts-frames.ensures.calls
-    ∙ all_calls c.args.text.now c.new-lines.result c.read_mode.new.lines _ _ c.new-lines.ensures.lines c.in_ok-mode.ensures.left c.in_ok-frames.ensures c.in_ok-read_lines.ensures.kept in
-    let few = calls_few c.args.text.now c.new-lines.result c.read_mode.new.lines c.into_parts-frames.result.1.items c.new-lines.ensures.lines c.in_ok-mode.ensures.left calls in
-    let size = ap length c.deref.ensures.value in
-    omega (arith, few, size, c.new-lines.ensures.few)
+    c.in_err-kept.ensures.refused)
 
 pub invariant_of-result : goal.invariant_of-result
 invariant_of-result c =
     let calls = c.into_parts-frames.ensures.calls
-    ∙ all_calls c.args.text.now c.new-lines.result c.read_mode.new.lines _ _ c.new-lines.ensures.lines c.in_ok-mode.ensures.left c.in_ok-frames.ensures c.in_ok-read_lines.ensures.kept in
+    ∙ all_calls c.args.text.now c.new-lines.result c.read_mode.new.lines _ _ c.new-lines.ensures.lines c.in_ok-mode.ensures.left refl c.in_ok-kept.ensures.kept in
     let few = calls_few c.args.text.now c.new-lines.result c.read_mode.new.lines c.into_parts-frames.result.1.items c.new-lines.ensures.lines c.in_ok-mode.ensures.left calls in (
-      c.count_calls-count.ensures ∙ ap count_calls c.deref.ensures.value,
       subst (AreCalls 0) (sym calls) (calls_are c.args.text.now),
       omega (arith, few, c.new-lines.ensures.few),
     )
@@ -42,14 +33,14 @@ returns-clause-mode c = sym (mode-is c.args.text.now c.new-lines.result c.new-li
 pub returns-clause-frames : goal.returns-clause-frames
 returns-clause-frames c =
     c.into_parts-frames.ensures.frames
-    ∙ all_bytes c.args.text.now c.new-lines.result c.read_mode.new.lines _ _ c.new-lines.ensures.lines c.in_ok-mode.ensures.left c.in_ok-frames.ensures c.in_ok-read_lines.ensures.kept
+    ∙ all_bytes c.args.text.now c.new-lines.result c.read_mode.new.lines _ _ c.new-lines.ensures.lines c.in_ok-mode.ensures.left refl c.in_ok-kept.ensures.kept
 
 pub returns-clause-calls : goal.returns-clause-calls
 returns-clause-calls c =
     c.into_parts-frames.ensures.calls
-    ∙ all_calls c.args.text.now c.new-lines.result c.read_mode.new.lines _ _ c.new-lines.ensures.lines c.in_ok-mode.ensures.left c.in_ok-frames.ensures c.in_ok-read_lines.ensures.kept
+    ∙ all_calls c.args.text.now c.new-lines.result c.read_mode.new.lines _ _ c.new-lines.ensures.lines c.in_ok-mode.ensures.left refl c.in_ok-kept.ensures.kept
 
 pub returns-clause-good : goal.returns-clause-good
 returns-clause-good c =
     bad_line-behind c.args.text.now c.new-lines.result c.read_mode.new.lines c.in_ok-mode.mode c.new-lines.ensures.lines c.in_ok-mode.ensures.left c.in_ok-mode.ensures.mode c.in_ok-mode.ensures.heads
-    ∙ c.in_ok-read_lines.ensures.good
+    ∙ c.in_ok-kept.ensures.good

@@ -16,7 +16,7 @@ pub returns-clause-found : goal.returns-clause-found
 returns-clause-found c = ap (λ (s : ScriptValue). slice_get s.calls c.args.i) (sym c.self.view_is) ∙ stands c
 
 pub returns-clause-txid : goal.returns-clause-txid
-returns-clause-txid c = (given_call c.self.inside.calls.items c.args.i c.index.result.now c.self.invariant.1 (stands c)).0
+returns-clause-txid c = (given_call c.self.inside.calls.items c.args.i c.index.result.now c.self.invariant.0 (stands c)).0
 
 pub returns-clause-two_way : goal.returns-clause-two_way
-returns-clause-two_way c = (given_call c.self.inside.calls.items c.args.i c.index.result.now c.self.invariant.1 (stands c)).1
+returns-clause-two_way c = (given_call c.self.inside.calls.items c.args.i c.index.result.now c.self.invariant.0 (stands c)).1
