@@ -1,18 +1,17 @@
 -- What a script stands for are frames that may go to the servers.
-use Rattle.std.proofs.Common.{◌≡◌, ℕ, ◌<◌, ◌≤◌, ◌^◌, Bool, true, false, not, cond, List, [], ◌∷◌, ◌++◌, length, map, drop, Option, Some, None, refl, sym, ap, ◌∙◌, subst, arith, lit<, lit≤}
+use Rattle.std.proofs.Common.{◌≡◌, ℕ, ◌<◌, ◌≤◌, ◌^◌, Bool, true, false, not, cond, List, [], ◌∷◌, ◌++◌, length, map, Option, Some, None, refl, ap, subst, lit≤}
 use Rattle.std.specs.Prelude.{IfSome, All, IsTrue, nat_lt, nat_le, filter, filter_map}
 use Rattle.std.specs.List.{cons_option, flat_map}
 use Rattle.std.specs.Str.{bytes_eq, is_utf8}
 use Rattle.std.proofs.Math.Seq.{drop-append_seam, take-append_seam}
 use Rattle.std.proofs.lemmas.Bool.{ltb-true, leb-true, eq-eqb}
-use Rattle.std.proofs.lemmas.List.{length-map}
 use Rattle.std.proofs.lemmas.List.Elements.{All-nil, All-cons, All-head, All-tail, All-drop, All-take}
 use Rattle.std.proofs.lemmas.Option.{same_Some}
 use Rattle.fidl_names.specs.HandleNumber.{number_of_handle}
 use Rattle.fidl_names.specs.Numbers.{AreBytes}
 use Rattle.fidl_names.specs.declared.limits.TheConstants as limit
 use Rattle.endpoint_link.proofs.Words.{length-word_of}
-use Rattle.endpoint_link.specs.Frames.{Frame, HasShape, IsFrame, fixed_part, goes_to, keeps_shape, spelling, spellings}
+use Rattle.endpoint_link.specs.Frames.{Frame, HasShape, IsFrame, fixed_part, goes_to, spelling, spellings}
 use Rattle.endpoint_link.specs.Numbers.{word_of}
 use Rattle.endpoint_link.specs.declared.kinds.FrameKind.TheVariants as kind
 use Rattle.endpoint_link.specs.declared.kinds.Side.TheVariants as side
@@ -26,7 +25,7 @@ use Rattle.io_messages.specs.Writing.{request_handles}
 use Rattle.vfs_script.specs.declared.verbs.Verb.{Verb}
 use Rattle.vfs_script.specs.declared.verbs.Verb.TheVariants as verb
 use Rattle.vfs_script.specs.Lines.{Line, request, raw, hang_up, turn, pick, one, two, three, four, plain_form, short_form, long_form, open_form, names_form, unlink_form, watch_form, read_at_form, write_form, write_at_form, echo_form, seek_form, hang_up_form, turn_form, pick_form, raw_form, form_of, line_in, line_of, verb_of, frame_at, fits_at}
-use Rattle.vfs_script.specs.Scripts.{Numbered, Spoken, behind_mode, frame_of, frames_of, is_skipped, lines_of, said_at, script_lines, spoken, spoken_in}
+use Rattle.vfs_script.specs.Scripts.{Numbered, Spoken, behind_mode, frame_of, frames_of, is_skipped, lines_of, said_at, script_lines, spoken}
 use Rattle.vfs_script.specs.Words.{◌>>=◌, given, all_given, bytes_of, comma, handles_of, none_word, number_in, number_of, numbers_of, pieces, signed_of, space}
 
 -- ---- words

@@ -165,6 +165,10 @@ numeral_read (Err f) word P Q h utf8 e = h.0 utf8
 
 -- ---- a number in front of others
 
+and_false : (a : Bool) → a && false ≡ false
+and_false true = refl
+and_false false = refl
+
 or_true : (a : Bool) → a || true ≡ true
 or_true true = refl
 or_true false = refl
@@ -272,3 +276,16 @@ so_far-bad numbers word words e = rw e refl
 
 pub so_far-end : (numbers : List ℕ) → so_far numbers [] ≡ Some numbers
 so_far-end numbers = ap Some (append-nil numbers)
+
+-- ---- a test of each byte
+
+pub fails_at : (test : ℕ → Bool) (word : List ℕ) (i : ℕ) → i < length word → test (get_or word i 0) ≡ false → list_all test word ≡ false
+fails_at test [] i within fails = absurd (omega (arith, within))
+fails_at test (c ∷ word) zero within fails = rw fails refl
+fails_at test (c ∷ word) (suc i) within fails = rw (fails_at test word i (omega (arith, within)) fails) (and_false (test c))
+
+pub passes_more : (test : ℕ → Bool) (word : List ℕ) (i : ℕ) → i < length word → list_all test (take i word) ≡ true → test (get_or word i 0) ≡ true → list_all test (take (i + 1) word) ≡ true
+passes_more test word i within before here = list_all_more test word i 0 within ∙ rw (before, here) refl
+
+pub all_passed : (test : ℕ → Bool) (word : List ℕ) (i : ℕ) → length word ≤ i → list_all test (take i word) ≡ true → list_all test word ≡ true
+all_passed test word i over before = ap (list_all test) (sym (take_all i word over)) ∙ before

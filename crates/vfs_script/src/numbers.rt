@@ -59,7 +59,12 @@ pub(crate) fn is_text(bytes: &[u8]) -> bool
 fn all_decimal(word: &[u8]) -> bool
     ensures { result ≡ list_all is_decimal_digit word.now }
 {
-    word.iter().all(|byte| is_decimal_digit(*byte))
+    for byte in word {
+        if !is_decimal_digit(*byte) {
+            return false;
+        }
+    }
+    true
 }
 
 // Whether the first digit is no zero in front of others.
@@ -79,7 +84,12 @@ fn is_led(word: &[u8]) -> bool
 fn all_digits(word: &[u8]) -> bool
     ensures { result ≡ list_all is_digit word.now }
 {
-    word.iter().all(|byte| is_digit(*byte))
+    for byte in word {
+        if !is_digit(*byte) {
+            return false;
+        }
+    }
+    true
 }
 
 // Whether the word begins with `0x`.

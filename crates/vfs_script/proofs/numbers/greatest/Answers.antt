@@ -1,4 +1,4 @@
-use Rattle.std.proofs.Common.{ℕ, arith}
+use Rattle.std.proofs.Common.{arith}
 use Rattle.vfs_script.proofs.NumberLemmas.{greatest_more}
 use Rattle.vfs_script.proofs.numbers.greatest.Goals as goal
 

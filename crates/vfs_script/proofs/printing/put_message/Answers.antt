@@ -20,3 +20,12 @@ returns-clause-grows c =
     (grown c.args.to.now c.put.new.self c.put_handles.new.to c.in_ok-put.ensures.grows c.in_ok-put_handles.ensures.grows)
     c.in_ok-put_byte.ensures.grows)
     c.put_bytes.ensures.grows
+
+pub returns-in_err-put_handles-clause-grows : goal.returns-in_err-put_handles-clause-grows
+returns-in_err-put_handles-clause-grows c = grown c.args.to.now c.put.new.self c.put_handles.new.to c.in_ok-put.ensures.grows c.in_err-put_handles.ensures.grows
+
+pub returns-in_err-put_byte-clause-grows : goal.returns-in_err-put_byte-clause-grows
+returns-in_err-put_byte-clause-grows c =
+    grown c.args.to.now c.put_handles.new.to c.put_byte.new.self
+    (grown c.args.to.now c.put.new.self c.put_handles.new.to c.in_ok-put.ensures.grows c.in_ok-put_handles.ensures.grows)
+    c.in_err-put_byte.ensures.grows

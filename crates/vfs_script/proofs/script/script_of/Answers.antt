@@ -1,4 +1,4 @@
-use Rattle.std.proofs.Common.{◌≡◌, ◌≤◌, length, refl, sym, ap, ◌∙◌, subst, arith}
+use Rattle.std.proofs.Common.{refl, sym, ◌∙◌, subst, arith}
 use Rattle.std.proofs.lemmas.Result.{err_from_is_err_and}
 use Rattle.vfs_script.specs.Scripts.{AreCalls, IsFirstBad}
 use Rattle.vfs_script.proofs.ScriptLemmas.{all_bytes, all_calls, bad_line-behind, bad_line-is, calls_are, calls_few, mode-is}
