@@ -1,10 +1,12 @@
 // The forms of lines.
 
-ghost use Rattle.std.specs.Prelude.{◌≡◌, IfSome, Some};
-ghost use Rattle.std.specs.Option.{option_map};
+ghost use Rattle.std.specs.Prelude.{◌≡◌, Some};
 ghost use Rattle.std.specs.Str.{IsUtf8};
-ghost use Rattle.vfs_script.specs.Lines.{Line, line_of, three};
-ghost use Rattle.vfs_script.specs.Parsed.{AreTexts, Forms, IsText, alone, behind, finished, names_and_token};
+ghost use Rattle.io_messages.specs.Asked.{asked};
+ghost use Rattle.io_messages.specs.Writing.{HasTexts};
+ghost use Rattle.vfs_script.specs.Lines.{Line, line_of};
+ghost use Rattle.vfs_script.specs.Lines as lines;
+ghost use Rattle.vfs_script.specs.Parsed.{AreTexts, Forms, IsText, alone, behind, finished};
 
 use crate::numbers::signed;
 use crate::pieces::Pieces;
@@ -53,16 +55,12 @@ fn alone<'a>(parsed: Parsed<'a>, fields: Pieces<'a>) -> Option<Parsed<'a>>
     fields.is_empty().then_some(parsed)
 }
 
-// SRC T DST
-fn names_and_token<'a>(mut fields: Pieces<'a>) -> Option<(&'a [u8], u32, &'a [u8])>
-    requires { AreTexts fields }
-    ensures read { option_map (λ r. (r.0.now, r.1, r.2.now)) result ≡ three fields.entry names_and_token }
-    ensures texts { IfSome result (λ r. IsUtf8 r.0.now × IsUtf8 r.2.now) }
+// A request without fields.
+fn plain_form<'a>(endpoint: u32, request: Request<'a>, fields: Pieces<'a>) -> Option<Parsed<'a>>
+    requires { HasTexts (asked request) }
+    ensures { Forms (alone fields.entry (lines.request endpoint (asked request.entry))) result }
 {
-    let src = fields.next()?;
-    let token = fields.short()?;
-    let dst = fields.one()?;
-    Some((src, token, dst))
+    alone(Parsed::Request(endpoint, request), fields)
 }
 
 // Behind `open E`: PATH FLAGS N
@@ -107,20 +105,24 @@ fn list_form<'a>(endpoint: u32, fields: Pieces<'a>) -> Option<Parsed<'a>>
 }
 
 // Behind `rename E`: SRC T DST
-fn rename_form<'a>(endpoint: u32, fields: Pieces<'a>) -> Option<Parsed<'a>>
+fn rename_form<'a>(endpoint: u32, mut fields: Pieces<'a>) -> Option<Parsed<'a>>
     requires { AreTexts fields }
     ensures { Forms (behind Verb.Rename endpoint fields.entry) result }
 {
-    let (src, token, dst) = names_and_token(fields)?;
+    let src = fields.next()?;
+    let token = fields.short()?;
+    let dst = fields.one()?;
     Some(Parsed::Request(endpoint, Request::Rename { src, token, dst }))
 }
 
 // Behind `link E`: SRC T DST
-fn link_form<'a>(endpoint: u32, fields: Pieces<'a>) -> Option<Parsed<'a>>
+fn link_form<'a>(endpoint: u32, mut fields: Pieces<'a>) -> Option<Parsed<'a>>
     requires { AreTexts fields }
     ensures { Forms (behind Verb.Link endpoint fields.entry) result }
 {
-    let (src, token, dst) = names_and_token(fields)?;
+    let src = fields.next()?;
+    let token = fields.short()?;
+    let dst = fields.one()?;
     Some(Parsed::Request(endpoint, Request::Link { src, token, dst }))
 }
 
@@ -250,11 +252,11 @@ fn form_of<'a>(verb: Verb, endpoint: u32, fields: Pieces<'a>) -> Option<Parsed<'
     match verb {
         Verb::Open => open_form(endpoint, fields),
         Verb::Clone => clone_form(endpoint, fields),
-        Verb::Close => alone(Parsed::Request(endpoint, Request::Close), fields),
-        Verb::Query => alone(Parsed::Request(endpoint, Request::Query), fields),
-        Verb::Sync => alone(Parsed::Request(endpoint, Request::Sync), fields),
-        Verb::Rewind => alone(Parsed::Request(endpoint, Request::Rewind), fields),
-        Verb::Token => alone(Parsed::Request(endpoint, Request::GetToken), fields),
+        Verb::Close => plain_form(endpoint, Request::Close, fields),
+        Verb::Query => plain_form(endpoint, Request::Query, fields),
+        Verb::Sync => plain_form(endpoint, Request::Sync, fields),
+        Verb::Rewind => plain_form(endpoint, Request::Rewind, fields),
+        Verb::Token => plain_form(endpoint, Request::GetToken, fields),
         Verb::Attributes => attributes_form(endpoint, fields),
         Verb::List => list_form(endpoint, fields),
         Verb::Rename => rename_form(endpoint, fields),
