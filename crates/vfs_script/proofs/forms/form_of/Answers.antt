@@ -1,0 +1,56 @@
+-- The words behind a verb say what its form says.
+use Rattle.vfs_script.proofs.forms.form_of.Goals as goal
+
+pub returns-in-Open : goal.returns-in-Open
+returns-in-Open c = rw c.in-Open.is c.open_form.ensures
+
+pub returns-in-Clone : goal.returns-in-Clone
+returns-in-Clone c = rw c.in-Clone.is c.clone_form.ensures
+
+pub returns-in-Attributes : goal.returns-in-Attributes
+returns-in-Attributes c = rw c.in-Attributes.is c.attributes_form.ensures
+
+pub returns-in-List : goal.returns-in-List
+returns-in-List c = rw c.in-List.is c.list_form.ensures
+
+pub returns-in-Rename : goal.returns-in-Rename
+returns-in-Rename c = rw c.in-Rename.is c.rename_form.ensures
+
+pub returns-in-Link : goal.returns-in-Link
+returns-in-Link c = rw c.in-Link.is c.link_form.ensures
+
+pub returns-in-Unlink : goal.returns-in-Unlink
+returns-in-Unlink c = rw c.in-Unlink.is c.unlink_form.ensures
+
+pub returns-in-Watch : goal.returns-in-Watch
+returns-in-Watch c = rw c.in-Watch.is c.watch_form.ensures
+
+pub returns-in-Read : goal.returns-in-Read
+returns-in-Read c = rw c.in-Read.is c.read_form.ensures
+
+pub returns-in-ReadAt : goal.returns-in-ReadAt
+returns-in-ReadAt c = rw c.in-ReadAt.is c.read_at_form.ensures
+
+pub returns-in-Write : goal.returns-in-Write
+returns-in-Write c = rw c.in-Write.is c.write_form.ensures
+
+pub returns-in-WriteAt : goal.returns-in-WriteAt
+returns-in-WriteAt c = rw c.in-WriteAt.is c.write_at_form.ensures
+
+pub returns-in-Seek : goal.returns-in-Seek
+returns-in-Seek c = rw c.in-Seek.is c.seek_form.ensures
+
+pub returns-in-Resize : goal.returns-in-Resize
+returns-in-Resize c = rw c.in-Resize.is c.resize_form.ensures
+
+pub returns-in-Echo : goal.returns-in-Echo
+returns-in-Echo c = rw c.in-Echo.is c.echo_form.ensures
+
+pub returns-in-HangUp : goal.returns-in-HangUp
+returns-in-HangUp c = rw c.in-HangUp.is c.hang_up_form.ensures
+
+pub returns-in-Turn : goal.returns-in-Turn
+returns-in-Turn c = rw c.in-Turn.is c.turn_form.ensures
+
+pub returns-in-Raw : goal.returns-in-Raw
+returns-in-Raw c = rw c.in-Raw.is c.raw_form.ensures
