@@ -27,11 +27,6 @@ abbrev pub kept_with : Kept → List Spoken → Kept
 kept_with kept [] = kept
 kept_with kept (said ∷ others) = kept_with (kept_and kept (frame_of said) (call_in said)) others
 
--- a word of the line with this number says nothing; want of memory is free
-abbrev pub IsUnsaid : {A : Type 0} → ℕ → Option A → ScriptFault → Type 0
-IsUnsaid number said (fault.Line line) = (line ≡ number) × (said ≡ None)
-IsUnsaid number said fault.NoMemory = ⊤
-
 abbrev pub Took : Option Spoken → Kept → Kept → Type 0
 Took None old new = ⊥
 Took (Some said) old new = new ≡ kept_and old (frame_of said) (call_in said)

@@ -1,5 +1,4 @@
 ghost use Rattle.std.specs.Prelude.{◌≡◌};
-ghost use Rattle.vfs_script.specs.declared.faults.ScriptFault.TheVariants as fault;
 
 use fidl_names::NoMemory;
 use std::alloc::AllocFailed;
@@ -13,13 +12,6 @@ pub enum ScriptFault {
     Line(u64),
     #[error("out of memory")]
     NoMemory,
-}
-
-/// The fault of a bad line.
-pub(crate) fn bad(line: u32) -> ScriptFault
-    ensures { result ≡ fault.Line line }
-{
-    ScriptFault::Line(u64::from(line))
 }
 
 impl From<NoMemory> for ScriptFault {

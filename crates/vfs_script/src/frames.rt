@@ -14,7 +14,7 @@ ghost use Rattle.vfs_script.specs.Parsed.{echo_line, raw_line, write_at_line, wr
 ghost use Rattle.vfs_script.specs.Scripts.{said_at, spoken};
 
 use crate::calls::Call;
-use crate::faults::{ScriptFault, bad};
+use crate::faults::ScriptFault;
 use crate::forms::{Parsed, line_of};
 use crate::numbers::{bytes, handles, is_text};
 use byteorder::{ByteOrder, LittleEndian};
@@ -101,8 +101,10 @@ impl Frames {
         requires { 0 < number }
         ensures { Takes number (said_at number (write_line endpoint hex.now)) self.old self.new result }
     {
-        let bytes = bytes(self.alloc, number, hex)?;
-        self.ask(number, endpoint, Request::Write { bytes: &bytes })
+        match bytes(self.alloc, hex)? {
+            Some(bytes) => self.ask(number, endpoint, Request::Write { bytes: &bytes }),
+            None => Err(bad(number)),
+        }
     }
 
     fn write_at(
@@ -115,19 +117,25 @@ impl Frames {
         requires { 0 < number }
         ensures { Takes number (said_at number (write_at_line endpoint offset hex.now)) self.old self.new result }
     {
-        let bytes = bytes(self.alloc, number, hex)?;
-        let request = Request::WriteAt {
-            bytes: &bytes,
-            offset,
-        };
-        self.ask(number, endpoint, request)
+        match bytes(self.alloc, hex)? {
+            Some(bytes) => {
+                let request = Request::WriteAt {
+                    bytes: &bytes,
+                    offset,
+                };
+                self.ask(number, endpoint, request)
+            }
+            None => Err(bad(number)),
+        }
     }
 
     fn echo(&mut self, number: u32, endpoint: u32, hex: &[u8]) -> Result<(), ScriptFault>
         requires { 0 < number }
         ensures { Takes number (said_at number (echo_line endpoint hex.now)) self.old self.new result }
     {
-        let bytes = bytes(self.alloc, number, hex)?;
+        let Some(bytes) = bytes(self.alloc, hex)? else {
+            return Err(bad(number));
+        };
         if !is_text(&bytes) {
             return Err(bad(number));
         }
@@ -143,8 +151,12 @@ impl Frames {
     ) -> Result<(), ScriptFault>
         ensures { Takes number (said_at number (raw_line endpoint words.now hex.now)) self.old self.new result }
     {
-        let handles = handles(self.alloc, number, words)?;
-        let bytes = bytes(self.alloc, number, hex)?;
+        let Some(handles) = handles(self.alloc, words)? else {
+            return Err(bad(number));
+        };
+        let Some(bytes) = bytes(self.alloc, hex)? else {
+            return Err(bad(number));
+        };
         if bytes.len() > MAX_BYTES {
             return Err(bad(number));
         }
@@ -186,9 +198,9 @@ impl Frames {
     {
         let txid = txid_of(number, request.method());
         self.out.clear();
-        let Ok(()) = write_request(&self.ordinals, txid, request, &mut self.out) else {
+        if write_request(&self.ordinals, txid, request, &mut self.out).is_err() {
             return Err(bad(number));
-        };
+        }
         write_message(
             &mut self.frames,
             endpoint,
@@ -205,6 +217,13 @@ fn txid_of(number: u32, method: Method) -> u32
     ensures { result ≡ if is_one_way method then 0 else number }
 {
     if is_one_way(method) { 0 } else { number }
+}
+
+// The fault of a bad line.
+fn bad(number: u32) -> ScriptFault
+    ensures { result ≡ fault.Line number }
+{
+    ScriptFault::Line(u64::from(number))
 }
 
 // The call that a request makes.

@@ -1,18 +1,17 @@
 // The words of a line: numbers, bytes as hexadecimal digits, handles.
 
-ghost use Rattle.std.specs.Prelude.{◌≡◌, ◌^◌, ◌<◌, ◌≤◌, ◌&&◌, ℕ, true, length, nat_lt, slice_index, Some, IfErr, IfOk, IfSome, IsTrue};
+ghost use Rattle.std.specs.Prelude.{◌≡◌, ◌^◌, ◌<◌, ◌≤◌, ◌&&◌, ℕ, true, length, nat_lt, slice_index, Some, IfOk, IfSome, IsTrue};
 ghost use Rattle.std.specs.List.{list_all};
+ghost use Rattle.std.specs.Option.{option_map};
 ghost use Rattle.std.specs.Str.{IsUtf8, is_utf8};
 ghost use Rattle.memchr.specs.Find.{IsFirstByte, is_byte};
 ghost use Rattle.std.specs.Char.{digit_value};
 ghost use Rattle.std.specs.Str.Parse.{IsNumeral, digits_value};
-ghost use Rattle.vfs_script.specs.Kept.{IsUnsaid};
 ghost use Rattle.vfs_script.specs.Parsed.{piece_at};
 ghost use Rattle.vfs_script.specs.Words.{bytes_of, given, handles_of, has_prefix, is_decimal, is_decimal_digit, is_digit, is_hexadecimal, is_led, negative_of, number_in, numbers_of, signed_of};
 
-use crate::faults::{ScriptFault, bad};
 use crate::pieces::Pieces;
-use fidl_names::MAX_HANDLES;
+use fidl_names::{MAX_HANDLES, NoMemory};
 use hex::FromHexError;
 use std::alloc::Global;
 
@@ -223,54 +222,53 @@ pub(crate) fn signed(word: &[u8]) -> Option<i64>
     }
 }
 
-/// The bytes that pairs of hexadecimal digits say, and none for `-`, in the line with this number.
+/// Bytes as pairs of hexadecimal digits, and `-` for none.
 #[tactic(auto, unfolding(crate::specs::Words::bytes_of))]
-pub(crate) fn bytes(alloc: Global, line: u32, word: &[u8]) -> Result<Vec<u8>, ScriptFault>
-    ensures said { IfOk result (λ bytes. bytes_of word.now ≡ Some bytes.items) }
-    ensures unsaid { IfErr result (IsUnsaid line (bytes_of word.now)) }
+pub(crate) fn bytes(alloc: Global, word: &[u8]) -> Result<Option<Vec<u8>>, NoMemory>
+    ensures { IfOk result (λ found. option_map (λ bytes. bytes.items) found ≡ bytes_of word.now) }
 {
     if word == NONE {
-        return Ok(Vec::new(alloc));
+        return Ok(Some(Vec::new(alloc)));
     }
     if !all_digits(word) || word.is_empty() {
-        return Err(bad(line));
+        return Ok(None);
     }
     match hex::decode(alloc, word) {
-        Ok(bytes) => Ok(bytes),
-        Err(FromHexError::OutOfMemory) => Err(ScriptFault::NoMemory),
-        Err(_) => Err(bad(line)),
+        Ok(bytes) => Ok(Some(bytes)),
+        Err(FromHexError::OutOfMemory) => Err(NoMemory),
+        Err(_) => Ok(None),
     }
 }
 
-/// At most 64 numbers of 32 bits, joined by commas, and none for `-`, in the line with this number.
+/// At most 64 numbers of 32 bits, joined by commas, and `-` for none.
 #[tactic(auto, unfolding(crate::specs::Words::handles_of))]
-pub(crate) fn handles(alloc: Global, line: u32, word: &[u8]) -> Result<Vec<u32>, ScriptFault>
-    ensures said { IfOk result (λ numbers. handles_of word.now ≡ Some numbers.items) }
-    ensures unsaid { IfErr result (IsUnsaid line (handles_of word.now)) }
-    ensures few { IfOk result (λ numbers. length numbers.items ≤ MAX_HANDLES) }
+pub(crate) fn handles(alloc: Global, word: &[u8]) -> Result<Option<Vec<u32>>, NoMemory>
+    ensures handles { IfOk result (λ found. option_map (λ numbers. numbers.items) found ≡ handles_of word.now) }
+    ensures few { IfOk result (λ found. IfSome found (λ numbers. length numbers.items ≤ MAX_HANDLES)) }
 {
     if word == NONE {
-        return Ok(Vec::new(alloc));
+        return Ok(Some(Vec::new(alloc)));
     }
-    let numbers = numbers(alloc, line, word)?;
+    let Some(numbers) = numbers(alloc, word)? else {
+        return Ok(None);
+    };
     if numbers.len() > MAX_HANDLES {
-        return Err(bad(line));
+        return Ok(None);
     }
-    Ok(numbers)
+    Ok(Some(numbers))
 }
 
-// Numbers of 32 bits, joined by commas, in the line with this number.
-fn numbers(alloc: Global, line: u32, word: &[u8]) -> Result<Vec<u32>, ScriptFault>
-    ensures said { IfOk result (λ numbers. numbers_of word.now ≡ Some numbers.items) }
-    ensures unsaid { IfErr result (IsUnsaid line (numbers_of word.now)) }
+// Numbers of 32 bits, joined by commas.
+fn numbers(alloc: Global, word: &[u8]) -> Result<Option<Vec<u32>>, NoMemory>
+    ensures { IfOk result (λ found. option_map (λ numbers. numbers.items) found ≡ numbers_of word.now) }
 {
     let mut numbers = Vec::new(alloc);
     let mut pieces = Pieces::new(b',', word);
     while let Some(piece) = pieces.next() {
         let Some(number) = short(piece) else {
-            return Err(bad(line));
+            return Ok(None);
         };
         numbers.push(number)?;
     }
-    Ok(numbers)
+    Ok(Some(numbers))
 }
