@@ -94,6 +94,15 @@ pub first_length : (k p k1 : List ℕ) (a : ℕ) → a ≡ min (12 - length k) (
 first_length k p k1 a ea e =
     omega (arith, ap length e, length-append k (take a p), length-take a p, ea)
 
+-- a fixed part of which more is to come
+pub feed_short : (s : Side) (k p k1 : List ℕ) (a : ℕ) → a ≡ min (12 - length k) (length p) → k1 ≡ k ++ take a p → length k1 < 12 → (k1 ≡ front s (k ++ p)) × (flaw s k1 ≡ None) × (length k1 ≡ length k + a)
+feed_short s k p k1 a ea e short =
+    let n = first_length k p k1 a ea e in
+    let whole : k1 ≡ k ++ p = e ∙ ap (λ (l : List ℕ). k ++ l) (take_all a p (omega arith)) in
+    let end : end_of s (k ++ p) ≡ 12 = ap (end_of s) (sym whole) ∙ end_short s k1 short in
+    let top : k1 ≡ take 12 (k ++ p) = sym (take_all 12 k1 (omega arith)) ∙ ap (λ (l : List ℕ). take 12 l) whole in
+    (top ∙ ap (λ (m : ℕ). take m (k ++ p)) (sym end), flaw_short s k1 short, n)
+
 -- a fixed part that is in and bad
 pub feed_bad : (s : Side) (k p k1 : List ℕ) (a : ℕ) (why : FrameReason) → length k ≤ end_of s k → a ≡ min (12 - length k) (length p) → k1 ≡ k ++ take a p → 12 ≤ length k1 → first_reason s k1 ≡ Some why → (k1 ≡ front s (k ++ p)) × (flaw s k1 ≡ Some why)
 feed_bad s k p k1 a why within ea e long bad =

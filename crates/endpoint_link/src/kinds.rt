@@ -17,7 +17,7 @@ pub enum FrameKind {
 }
 
 /// Why a fixed part is bad.
-#[derive(Clone, Copy, Debug, PartialEq, Eq)]
+#[derive(Clone, Copy, Debug)]
 pub enum FrameReason {
     /// No kind of this side has that number.
     Kind,

@@ -1,6 +1,6 @@
 use Rattle.std.proofs.Common.{◌≡◌, ◌∙◌, ◌+◌, ℕ, Bool, true, false, List, [], ◌∷◌, ap, arith, cond, refl, sym, take}
 use Rattle.std.specs.Prelude.{count_by, slice_index}
-use Rattle.std.proofs.lemmas.List.{take_more}
+use Rattle.std.proofs.lemmas.List.{take_all, take_more}
 use Rattle.fidl_names.specs.HandleNumber.{is_client}
 use Rattle.endpoint_link.specs.Views.{handle_numbers}
 use Rattle.endpoint_link.proofs.Made.{count_by-append}
@@ -24,3 +24,6 @@ loop-i-preserved c =
       | then-is_client w ↦ omega (arith, w.count-is, c.loop-i.invariant, all, counted (slice_index numbers i) true (sym client ∙ w.if-is_client.true))
       | else-is_client w ↦ omega (arith, w.count-is, c.loop-i.invariant, all, counted (slice_index numbers i) false (sym client ∙ w.if-is_client.false))
     ]
+
+pub returns : goal.returns
+returns c = c.loop-i.invariant ∙ ap (λ (numbers : List ℕ). count_by is_client numbers) (take_all c.loop-i.i (handle_numbers c.args.handles) (omega (arith, c.loop-i-test.false, c.len-i-end.ensures)))

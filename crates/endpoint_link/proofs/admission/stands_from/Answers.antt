@@ -2,7 +2,7 @@
 use Rattle.std.proofs.Common.{◌≡◌, ◌∙◌, ℕ, ◌+◌, ◌<◌, ◌||◌, true, List, length, drop, ap, sym, arith}
 use Rattle.std.specs.Prelude.{slice_index}
 use Rattle.std.proofs.lemmas.Bool.{eq-eqb}
-use Rattle.std.proofs.lemmas.List.{at_drop_more}
+use Rattle.std.proofs.lemmas.List.{at_drop_all, at_drop_more}
 use Rattle.endpoint_link.specs.Numbering.{among}
 use Rattle.endpoint_link.specs.Views.{handle_numbers}
 use Rattle.endpoint_link.proofs.admission.stands_from.Goals as goal
@@ -14,3 +14,6 @@ found numbers number i within is =
 pub returns-then-at-number : goal.returns-then-at-number
 returns-then-at-number c =
     sym (found (handle_numbers c.args.handles) c.args.number c.loop-i.i (omega (arith, c.len-i-end.ensures, c.loop-i-test.true)) (sym c.at.ensures ∙ c.if-at-number.true)) ∙ c.loop-i.invariant
+
+pub returns : goal.returns
+returns c = sym (at_drop_all (among c.args.number) (handle_numbers c.args.handles) c.loop-i.i (omega (arith, c.len-i-end.ensures, c.loop-i-test.false))) ∙ c.loop-i.invariant

@@ -1,12 +1,52 @@
-use Rattle.std.proofs.Common.{◌≡◌, ◌+◌, ◌-◌, ◌^◌, ◌≤◌, ℕ, length, take, drop, min, sym, ap, ◌∙◌, subst, arith, refl}
+use Rattle.std.proofs.Common.{◌≡◌, ◌+◌, ◌-◌, ◌^◌, ◌<◌, ◌≤◌, ℕ, length, take, drop, min, sym, ap, ◌∙◌, subst, arith, refl}
 use Rattle.std.proofs.lemmas.List.{take_rest}
 use Rattle.std.specs.Prelude.{None, Some, Result, Ok, Err, MatchOption, vec_capacity}
 use Rattle.endpoint_link.specs.declared.kinds.LinkFault.{LinkFault}
 use Rattle.endpoint_link.specs.Frames.{first_reason, size_of}
 use Rattle.endpoint_link.specs.Deframing.{Deframing, flaw, Fed}
 use Rattle.endpoint_link.proofs.Words.{are_bytes}
-use Rattle.endpoint_link.proofs.Feeding.{feed_bad, feed_sound, size_of-small, fed_by, kept_after}
+use Rattle.endpoint_link.proofs.Feeding.{feed_bad, feed_short, feed_sound, size_of-small, fed_by, kept_after}
 use Rattle.endpoint_link.proofs.deframer.Deframer.feed.Goals as goal
+
+pub invariant_of-self : goal.invariant_of-self
+invariant_of-self c =
+    let s = c.self.inside.side in
+    let k = c.self.inside.kept in
+    let p = c.args.piece.now in
+    let k1 = c.top_up-first.new.kept.items in
+    let a : c.top_up-first.result ≡ min (12 - length k.items) (length p) = c.top_up-first.ensures.count ∙ ap (λ (n : ℕ). min (12 - n) (length p)) k.ok.0 in
+    let short : length k1 < 12 = omega (arith, c.top_up-first.new.kept.ok.0, c.len.ensures) in
+    let fed = feed_short s k.items p k1 c.top_up-first.result a c.top_up-first.ensures.kept short in
+    let asked = subst (λ (d : Deframing). d.start + length d.kept + length p ≤ 2 ^ 63) (sym c.self.view_is) c.requires in
+    kept_after s c.self.inside.start k.items p k1 (vec_capacity k) (vec_capacity c.top_up-first.new.kept) c.self.invariant c.top_up-first.ensures.room (are_bytes p c.type_inv.piece) fed.0 asked
+
+pub returns-then-len-lt-FIXED_LEN : goal.returns-then-len-lt-FIXED_LEN
+returns-then-len-lt-FIXED_LEN c =
+    let s = c.self.inside.side in
+    let k = c.self.inside.kept in
+    let p = c.args.piece.now in
+    let k1 = c.top_up-first.new.kept.items in
+    let answer : Result ℕ LinkFault = Ok c.top_up-first.result in
+    let a : c.top_up-first.result ≡ min (12 - length k.items) (length p) = c.top_up-first.ensures.count ∙ ap (λ (n : ℕ). min (12 - n) (length p)) k.ok.0 in
+    let short : length k1 < 12 = omega (arith, c.top_up-first.new.kept.ok.0, c.len.ensures) in
+    let fed = feed_short s k.items p k1 c.top_up-first.result a c.top_up-first.ensures.kept short in
+    let count : c.top_up-first.result ≡ length k1 - length k.items = omega (arith, fed.2) in
+    let said : MatchOption (flaw s k1) (answer ≡ Ok (length k1 - length k.items)) (λ w. answer ≡ Err (record { at = c.self.inside.start; reason = w })) = rw fed.1 (ap (λ (n : ℕ). let r : Result ℕ LinkFault = Ok n in r) count) in
+    let done = fed_by s c.self.inside.start k.items p k1 answer c.self.invariant.no_further fed.0 said in
+    subst (λ (d : Deframing). Fed d (take (length k1 - length d.kept) p) (drop (length k1 - length d.kept) p) answer (record { side = s; start = c.self.inside.start; kept = k1 })) c.self.view_is done
+
+pub invariant_of-self-in-Some : goal.invariant_of-self-in-Some
+invariant_of-self-in-Some c =
+    let s = c.self.inside.side in
+    let k = c.self.inside.kept in
+    let p = c.args.piece.now in
+    let k1 = c.top_up-first.new.kept.items in
+    let a : c.top_up-first.result ≡ min (12 - length k.items) (length p) = c.top_up-first.ensures.count ∙ ap (λ (n : ℕ). min (12 - n) (length p)) k.ok.0 in
+    let long : 12 ≤ length k1 = omega (arith, c.top_up-first.new.kept.ok.0, c.len.ensures) in
+    let bad : first_reason s k1 ≡ Some c.in-Some.reason = ap (first_reason s) (sym c.deref.ensures.value) ∙ (sym c.first_reason.ensures ∙ c.in-Some.is) in
+    let fed = feed_bad s k.items p k1 c.top_up-first.result c.in-Some.reason c.self.invariant.no_further a c.top_up-first.ensures.kept long bad in
+    let asked = subst (λ (d : Deframing). d.start + length d.kept + length p ≤ 2 ^ 63) (sym c.self.view_is) c.requires in
+    kept_after s c.self.inside.start k.items p k1 (vec_capacity k) (vec_capacity c.top_up-first.new.kept) c.self.invariant c.top_up-first.ensures.room (are_bytes p c.type_inv.piece) fed.0 asked
 
 pub returns-in-Some : goal.returns-in-Some
 returns-in-Some c =

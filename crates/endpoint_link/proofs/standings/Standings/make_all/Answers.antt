@@ -1,5 +1,6 @@
-use Rattle.std.proofs.Common.{◌≡◌, ℕ, [], ◌∷◌, length, take, sym, ap, ◌∙◌, subst, arith}
+use Rattle.std.proofs.Common.{◌≡◌, ℕ, ◌+◌, List, [], ◌∷◌, length, take, refl, sym, ap, ◌∙◌, subst, arith}
 use Rattle.std.specs.Prelude.{count_by}
+use Rattle.std.proofs.lemmas.List.{take_all}
 use Rattle.endpoint_link.specs.Views.{handle_numbers}
 use Rattle.fidl_names.specs.HandleNumber.{is_client}
 use Rattle.endpoint_link.specs.Tables.{Counted, AreNew, Makes, TakesBack}
@@ -37,4 +38,14 @@ returns-in-Err c =
       live = tt;
       err = sym c.self-in-Err.view_is ∙ (both ∙ c.self.view_is);
       some = λ none. absurd (omega (arith, ap length none, c.len-i-end.ensures));
+    }
+
+pub returns : goal.returns
+returns c =
+    let all : take c.loop-i.i (handle_numbers c.args.handles) ≡ handle_numbers c.args.handles = take_all c.loop-i.i (handle_numbers c.args.handles) (omega (arith, c.loop-i-test.false, c.len-i-end.ensures)) in
+    record {
+      made = subst (λ (numbers : List ℕ). Makes numbers c.args.self.now.entries c.loop-i.self.entries) all c.loop-i.invariant.made;
+      live = c.loop-i.invariant.live ∙ ap (λ (numbers : List ℕ). c.args.self.now.live + count_by is_client numbers) all;
+      err = tt;
+      some = λ none. refl;
     }

@@ -1,4 +1,5 @@
-use Rattle.std.proofs.Common.{◌≡◌, ◌<◌, ◌∷◌, [], length, ap, sym, subst, ◌∙◌, arith, ℕ}
+use Rattle.std.proofs.Common.{◌≡◌, ◌<◌, ◌∷◌, [], length, ap, sym, subst, ◌∙◌, arith, List, ℕ}
+use Rattle.std.proofs.lemmas.List.{take_all}
 use Rattle.endpoint_link.specs.Tables.{Numbered, Travels}
 use Rattle.endpoint_link.specs.Views.{handle_numbers}
 use Rattle.endpoint_link.proofs.Made.{none_travels, one_travels, travels_more}
@@ -27,3 +28,10 @@ loop-i-preserved c =
       count = one.1 ∙ c.loop-i.invariant.count;
       next = one.2 ∙ c.loop-i.invariant.next;
     }
+
+pub returns : goal.returns
+returns c = record {
+  changed = subst (λ (numbers : List ℕ). Travels numbers c.args.self.now.entries c.loop-i.self.entries) (take_all c.loop-i.i (handle_numbers c.args.handles) (omega (arith, c.loop-i-test.false, c.len-i-end.ensures))) c.loop-i.invariant.changed;
+  count = c.loop-i.invariant.count;
+  next = c.loop-i.invariant.next;
+}
