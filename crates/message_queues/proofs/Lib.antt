@@ -10,6 +10,7 @@ mod Above
 mod Served
 mod Spread
 mod PutBehind
+mod Gathered
 mod Listed
 mod Placed
 mod Least

@@ -1,6 +1,7 @@
 -- A list of numbers, each once, beside the set of them.
 use Rattle.std.proofs.Common.{◌≡◌, ◌≢◌, ℕ, None, Some, ◌<◌, ◌≤◌, ◌^◌, Bool, true, false, cond, eqb, List, [], ◌∷◌, ◌++◌, get_or, length, refl, sym, ap, ◌∙◌, subst, arith}
-use Rattle.std.specs.Prelude.{◌||◌, ◌==◌, AllPairs, not, slice_get, take}
+use Rattle.std.specs.Bool.{⊤, MatchBool}
+use Rattle.std.specs.Prelude.{◌||◌, ◌==◌, AllPairs, if◌then◌else◌, not, slice_get, take}
 use Rattle.std.specs.BTreeMap.{is_at}
 use Rattle.std.specs.List.{IsDistinct, list_any}
 use Rattle.std.specs.Ordering.{nat_cmp}
@@ -10,7 +11,7 @@ use Rattle.std.proofs.lemmas.Map.Keys.{IsDistinct-push}
 use Rattle.std.proofs.lemmas.Map.Made.{AllPairs-from_IsDistinct}
 use Rattle.std.proofs.lemmas.Map.Steps.{length-le_from_distinct_below}
 use Rattle.endpoint_link.specs.Numbering.{among}
-use Rattle.message_queues.specs.Steps.{IsListed}
+use Rattle.message_queues.specs.Steps.{IsListed, with_number}
 use Rattle.message_queues.proofs.Numbers.{among-append, among-one, same_number}
 
 flipped : (n : ℕ) (ms : List ℕ) → list_any (eqb n) ms ≡ among n ms
@@ -63,23 +64,57 @@ apart a b other = grind (other, arith, nat_tests)
 turned_about : (a b : ℕ) → (a == b) ≡ (b == a)
 turned_about a b = grind (arith, nat_tests)
 
+with_new : (found : List ℕ) (number : ℕ) → among number found ≡ false → with_number found number ≡ found ++ number ∷ []
+with_new found number new = ap (λ (b : Bool). if b then found else found ++ number ∷ []) new
+
+with_old : (found : List ℕ) (number : ℕ) → among number found ≡ true → with_number found number ≡ found
+with_old found number old = ap (λ (b : Bool). if b then found else found ++ number ∷ []) old
+
+pub not_false : (b : Bool) → false ≡ not b → b ≡ true
+not_false true h = refl
+not_false false h = absurd (cc)
+
+-- what is none of those behind the first, and not the first, is nowhere; what is one of those is there
+nowhere : (found keys : List ℕ) (first number : ℕ) → slice_get found 0 ≡ Some first → (first == number) ≡ false → list_any (is_at (nat_cmp number)) keys ≡ false → list_any (is_at (nat_cmp number)) (take 1 found ++ keys) ≡ false
+nowhere [] keys first number is other isnt = let wrong : None ≡ Some first = is in absurd (cc)
+nowhere (f ∷ fs) keys first number is other isnt =
+    let here : f ≡ first = let both : Some f ≡ Some first = is in cc in
+    ap (λ (b : Bool). b || list_any (is_at (nat_cmp number)) keys) (tested number f ∙ turned_about number f ∙ ap (λ (n : ℕ). n == number) here ∙ other) ∙ isnt
+
+behind : (found keys : List ℕ) (number : ℕ) → list_any (is_at (nat_cmp number)) keys ≡ true → list_any (is_at (nat_cmp number)) (take 1 found ++ keys) ≡ true
+behind [] keys number there = there
+behind (f ∷ fs) keys number there = ap (λ (b : Bool). is_at (nat_cmp number) f || b) there ∙ or_true (is_at (nat_cmp number) f)
+  where
+    or_true : (a : Bool) → (a || true) ≡ true
+    or_true true = refl
+    or_true false = refl
+
 -- the first one found, and a set of the others, in which the newest is
 pub listed_behind : (found keys now : List ℕ) (first number : ℕ) → slice_get found 0 ≡ Some first → IsListed found (take 1 found ++ keys) → number < 2 ^ 32 → (first == number) ≡ false → list_any (is_at (nat_cmp number)) keys ≡ false
     → ((q : ℕ) → list_any (is_at (nat_cmp q)) now ≡ cond (is_at (nat_cmp number) q) true (list_any (is_at (nat_cmp q)) keys)) → IsListed (found ++ number ∷ []) (take 1 (found ++ number ∷ []) ++ now)
 listed_behind [] keys now first number is listed low other isnt updates = let wrong : None ≡ Some first = is in absurd (cc)
 listed_behind (f ∷ fs) keys now first number is listed low other isnt updates =
     listed_push (f ∷ fs) (f ∷ keys) (f ∷ now) number listed low
-    (ap (λ (b : Bool). b || list_any (is_at (nat_cmp number)) keys) (tested number f ∙ turned_about number f ∙ ap (λ (n : ℕ). n == number) here ∙ other) ∙ isnt)
+    (nowhere (f ∷ fs) keys first number is other isnt)
     (λ q. ap (λ (b : Bool). is_at (nat_cmp q) f || b) (updates q) ∙ exchanged (is_at (nat_cmp q) f) (is_at (nat_cmp number) q) (list_any (is_at (nat_cmp q)) keys))
   where
-    here : f ≡ first
-    here = let both : Some f ≡ Some first = is in cc
-
     exchanged : (a b c : Bool) → (a || cond b true c) ≡ cond b true (a || c)
     exchanged true true c = refl
     exchanged true false c = refl
     exchanged false true c = refl
     exchanged false false c = refl
+
+-- one that isn't the first of them, behind the others if it wasn't there
+pub listed_told : (found keys now : List ℕ) (first number : ℕ) (added : Bool) → slice_get found 0 ≡ Some first → IsListed found (take 1 found ++ keys) → number < 2 ^ 32 → (first == number) ≡ false
+    → added ≡ not (list_any (is_at (nat_cmp number)) keys) → MatchBool added ⊤ (now ≡ keys)
+    → ((q : ℕ) → list_any (is_at (nat_cmp q)) now ≡ cond (is_at (nat_cmp number) q) true (list_any (is_at (nat_cmp q)) keys)) → IsListed (with_number found number) (take 1 (with_number found number) ++ now)
+listed_told found keys now first number true is listed low other added same updates =
+    let isnt : list_any (is_at (nat_cmp number)) keys ≡ false = not_true _ added in
+    subst (λ (ns : List ℕ). IsListed ns (take 1 ns ++ now)) (sym (with_new found number (sym (listed.same number) ∙ nowhere found keys first number is other isnt)))
+    (listed_behind found keys now first number is listed low other isnt updates)
+listed_told found keys now first number false is listed low other added same updates =
+    subst (λ (ns : List ℕ). IsListed ns (take 1 ns ++ now)) (sym (with_old found number (sym (listed.same number) ∙ behind found keys number (not_false _ added))))
+    (subst (λ (ks : List ℕ). IsListed found (take 1 found ++ ks)) (sym same) listed)
 
 -- the first one of all
 pub listed_first : (found keys : List ℕ) (number : ℕ) → slice_get found 0 ≡ None → IsListed found (take 1 found ++ keys) → number < 2 ^ 32 → IsListed (found ++ number ∷ []) (take 1 (found ++ number ∷ []) ++ keys)
@@ -90,6 +125,10 @@ listed_first [] keys number is listed low =
     in_words : (a b : Bool) → (a || b) ≡ cond a true b
     in_words true b = refl
     in_words false b = refl
+
+pub listed_new : (found keys : List ℕ) (number : ℕ) → slice_get found 0 ≡ None → IsListed found (take 1 found ++ keys) → number < 2 ^ 32 → IsListed (with_number found number) (take 1 (with_number found number) ++ keys)
+listed_new (f ∷ fs) keys number is listed low = let wrong : Some f ≡ None = is in absurd (cc)
+listed_new [] keys number is listed low = listed_first [] keys number is listed low
 
 -- a list of at most one
 pub listed_alone : (found keys : List ℕ) → length found ≤ 1 → (0 < length found → get_or found 0 0 < 2 ^ 32) → keys ≡ [] → IsListed found (take 1 found ++ keys)

@@ -1,6 +1,6 @@
 -- Who dies with the first ones, as it is found.
 use Rattle.std.proofs.Common.{◌≡◌, ◌≢◌, ℕ, zero, suc, ◌+◌, ◌<◌, ◌≤◌, Bool, true, false, cond, List, [], ◌∷◌, ◌++◌, get_or, length, take, refl, sym, ap, ◌∙◌, subst, arith, length-append}
-use Rattle.std.specs.Prelude.{◌||◌, ◌==◌, All, AllPairs, OnOk, Option, Some, None, Result, Ok, Err, if◌then◌else◌, filter, flat_map, option_to_list, slice_get}
+use Rattle.std.specs.Prelude.{◌||◌, ◌==◌, All, AllPairs, OnOk, Some, None, Result, Ok, Err, if◌then◌else◌, filter, flat_map, slice_get}
 use Rattle.std.proofs.lemmas.Bool.Decides.{nat_tests}
 use Rattle.std.proofs.lemmas.List.Elements.{All-cons, All-head, All-tail, All-nil, filter_more}
 use Rattle.std.proofs.Math.ListN.{get_or-map, length-map}
@@ -92,26 +92,6 @@ module _ (test : ℕ → Bool) (handles : List Handle) (i number : ℕ) (handle 
       subst (λ (ns : List ℕ). Adds ns old mid) (sym (numbers_more ∙ ap (λ (b : Bool). filter test (take i (numbers_of handles)) ++ cond b (number ∷ []) []) fails))
       (adds_skip (filter test (take i (numbers_of handles))) old mid before)
 
-flat_append : (one other : List Sent) → flat_map endpoints_in (one ++ other) ≡ flat_map endpoints_in one ++ flat_map endpoints_in other
-flat_append [] other = refl
-flat_append (sent ∷ one) other = ap (λ (ns : List ℕ). endpoints_in sent ++ ns) (flat_append one other) ∙ sym (append_both (endpoints_in sent) (flat_map endpoints_in one) (flat_map endpoints_in other))
-
--- what one more entry carries was added
-pub adds_entry : (entries : List Sent) (i : ℕ) (sent : Sent) (old mid new : List ℕ) → i < length entries → Adds (flat_map endpoints_in (take i entries)) old mid
-    → Adds (endpoints_in (get_or entries i sent)) mid new → Adds (flat_map endpoints_in (take (i + 1) entries)) old new
-adds_entry entries i sent old mid new low before now =
-    subst (λ (ns : List ℕ). Adds ns old new)
-    (sym (ap (flat_map endpoints_in) (take_more entries i sent low) ∙ flat_append (take i entries) (get_or entries i sent ∷ []) ∙ ap (λ (ns : List ℕ). flat_map endpoints_in (take i entries) ++ ns) (append_nil (endpoints_in (get_or entries i sent)))))
-    (adds_more (flat_map endpoints_in (take i entries)) (endpoints_in (get_or entries i sent)) old mid new before now)
-
--- what a first entry and two parts behind it carry was added
-pub adds_parts : (first front back : List Sent) (old one two new : List ℕ) → Adds (flat_map endpoints_in first) old one → Adds (flat_map endpoints_in front) one two → Adds (flat_map endpoints_in back) two new
-    → Adds (flat_map endpoints_in (first ++ (front ++ back))) old new
-adds_parts first front back old one two new a b c =
-    subst (λ (ns : List ℕ). Adds ns old new)
-    (sym (flat_append first (front ++ back) ∙ ap (λ (ns : List ℕ). flat_map endpoints_in first ++ ns) (flat_append front back)))
-    (adds_more (flat_map endpoints_in first) (flat_map endpoints_in front ++ flat_map endpoints_in back) old one new a (adds_more (flat_map endpoints_in front) (flat_map endpoints_in back) one two new b c))
-
 -- ---- places of a list
 
 pub place_below : (xs : List ℕ) (i x : ℕ) → slice_get xs i ≡ Some x → i < length xs
@@ -137,12 +117,12 @@ pub among_place : (xs : List ℕ) (x : ℕ) → among x xs ≡ true → (i : ℕ
 among_place [] x h = absurd (cc)
 among_place (y ∷ xs) x h = place_front y x xs (y == x) refl (λ e. among_place xs x (either (y == x) (among x xs) h e))
 
-place_append : (xs ys : List ℕ) (i : ℕ) → i < length xs → slice_get (xs ++ ys) i ≡ slice_get xs i
+pub place_append : (xs ys : List ℕ) (i : ℕ) → i < length xs → slice_get (xs ++ ys) i ≡ slice_get xs i
 place_append [] ys i low = absurd (omega arith)
 place_append (x ∷ xs) ys zero low = refl
 place_append (x ∷ xs) ys (suc i) low = place_append xs ys i (omega arith)
 
-beyond : (xs : List ℕ) (i : ℕ) → slice_get xs i ≡ None → length xs ≤ i
+pub beyond : (xs : List ℕ) (i : ℕ) → slice_get xs i ≡ None → length xs ≤ i
 beyond [] i h = omega arith
 beyond (x ∷ xs) zero h = absurd (cc)
 beyond (x ∷ xs) (suc i) h = let low = beyond xs i h in omega arith
@@ -239,13 +219,6 @@ spread_all q firsts found done spread none endpoint there =
 pub on_ok_more : {A E P Q : Type 0} (r : Result A E) → (P → Q) → OnOk r P → OnOk r Q
 on_ok_more (Ok v) more p = more p
 on_ok_more (Err e) more p = tt
-
--- what a first entry carries was added, if there is one
-pub adds_first : (first : Option Sent) (sent : Sent) (old new : List ℕ) → first ≡ Some sent → Adds (endpoints_in sent) old new → Adds (flat_map endpoints_in (option_to_list first)) old new
-adds_first first sent old new is adds = subst (λ (o : Option Sent). Adds (flat_map endpoints_in (option_to_list o)) old new) (sym is) (adds_skip (endpoints_in sent) old new adds)
-
-pub adds_no_first : (first : Option Sent) (old new : List ℕ) → first ≡ None → new ≡ old → Adds (flat_map endpoints_in (option_to_list first)) old new
-adds_no_first first old new is same = subst (λ (o : Option Sent). Adds (flat_map endpoints_in (option_to_list o)) old new) (sym is) (subst (λ (ns : List ℕ). Adds [] old ns) (sym same) (adds_none old))
 
 pub spread_deaths : (q : Queues) (firsts found dead : List ℕ) (done : ℕ) → IsSpread q firsts found done → slice_get found done ≡ None → dead ≡ found → AllPairs (λ one other. one ≢ other) dead → AreDeaths q firsts dead
 spread_deaths q firsts found dead done spread none is once =

@@ -1,5 +1,5 @@
 -- Words of the steps: which first entries are kept in order, and what every value keeps. No public clause cites them.
-use Rattle.std.specs.Prelude.{◌≡◌, ◌↔◌, ◌≤◌, ◌<◌, ◌^◌, ◌++◌, ◌||◌, ◌==◌, ℕ, true, false, List, [], ◌∷◌, IsSome, drop, filter, get_or, is_none, length, map, nat_eq, nat_lt, not, set, slice_get, Option, Some, None, if◌then◌else◌}
+use Rattle.std.specs.Prelude.{◌≡◌, ◌↔◌, ◌≤◌, ◌<◌, ◌^◌, ◌++◌, ◌||◌, ◌==◌, ℕ, true, false, List, [], ◌∷◌, IsSome, drop, filter, flat_map, get_or, is_none, length, map, nat_eq, nat_lt, not, set, slice_get, Option, Some, None, if◌then◌else◌}
 use Rattle.std.specs.FinMap as finite
 use Rattle.std.specs.List.{IsDistinct, list_any}
 use Rattle.std.specs.Map.{keys_of}
@@ -8,7 +8,7 @@ use Rattle.std.specs.Prelude.{eqb}
 use Rattle.std.specs.BTreeMap.{is_at}
 use Rattle.fidl_names.specs.declared.limits.TheConstants as limit
 use Rattle.endpoint_link.specs.Numbering.{among}
-use Rattle.vfs_journal.specs.Entries.{Sent}
+use Rattle.vfs_journal.specs.Entries.{Sent, endpoints_in, tokens_in}
 use Rattle.message_queues.specs.Queues.{Mailbox, Queues, count, head_of, queue_of, server_of}
 
 -- of one server, for a place the endpoint whose first entry stands there
@@ -72,6 +72,20 @@ pub record IsListed (found keys : List ℕ) : Type 0 where
 pub record Adds (numbers old new : List ℕ) : Type 0 where
   pub behind : (more : List ℕ) × (new ≡ old ++ more)
   pub members : (number : ℕ) → among number new ≡ (among number old || among number numbers)
+
+-- who was found to die, and the tokens that what waits on them carries
+pub record Doomed : Type 0 where
+  pub found : List ℕ
+  pub tokens : List ℕ
+
+-- what these entries carry was added: the endpoints where they weren't there, and the tokens behind all others
+pub record Gathers (entries : List Sent) (old new : Doomed) : Type 0 where
+  pub found : Adds (flat_map endpoints_in entries) old.found new.found
+  pub tokens : new.tokens ≡ old.tokens ++ flat_map tokens_in entries
+
+-- numbers with one more behind them, if it isn't there
+abbrev pub with_number : List ℕ → ℕ → List ℕ
+with_number numbers number = if among number numbers then numbers else numbers ++ number ∷ []
 
 -- of two first entries, each a place and an endpoint, the older one
 abbrev pub older : Option (ℕ × ℕ) → Option (ℕ × ℕ) → Option (ℕ × ℕ)

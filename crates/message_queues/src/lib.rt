@@ -8,7 +8,6 @@ mod lent;
 mod mailbox;
 mod parcel;
 mod queues;
-mod tokens;
 
 pub use dying::Buried;
 pub use laws::queues_count_their_list;

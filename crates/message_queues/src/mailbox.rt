@@ -1,13 +1,11 @@
 //! What is kept of one endpoint.
 
-ghost use Rattle.std.specs.Prelude.{◌≡◌, ◌↔◌, ◌≤◌, ◌<◌, ◌++◌, [], ◌∷◌, None, Some, IsOk, IsSome, IsTrue, OnOk, OnErr, drop, flat_map, length, option_to_list, slice_get};
+ghost use Rattle.std.specs.Prelude.{◌≡◌, ◌↔◌, ◌≤◌, ◌<◌, ◌++◌, [], ◌∷◌, None, Some, IsOk, IsSome, IsTrue, OnOk, OnErr, drop, length, option_to_list, slice_get};
 ghost use Rattle.std.specs.Option.{option_copied};
-ghost use Rattle.vfs_journal.specs.Entries.{endpoints_in, tokens_in};
-ghost use Rattle.message_queues.specs.Steps.{Adds};
+ghost use Rattle.message_queues.specs.Steps.{Gathers};
 
 use crate::dying::Dying;
 use crate::parcel::Sent;
-use crate::tokens::{push_all_carried, push_carried};
 use fidl_names::{MAX_WAITING, NoMemory};
 use std::alloc::Global;
 use std::collections::VecDeque;
@@ -118,9 +116,9 @@ impl Mailbox {
         }
     }
 
-    /// Adds the endpoints that the entries carry.
+    /// Adds what the entries carry.
     pub(crate) fn add_carried(&self, dying: &mut Dying) -> Result<(), NoMemory>
-        ensures { OnOk result (Adds (flat_map endpoints_in self.now.queue) dying.old dying.new) }
+        ensures { OnOk result (Gathers self.now.queue dying.old dying.new) }
     {
         if let Some(first) = &self.first {
             dying.add_carried(first)?;
@@ -128,17 +126,5 @@ impl Mailbox {
         let (front, back) = self.later.as_slices();
         dying.add_all_carried(front)?;
         dying.add_all_carried(back)
-    }
-
-    /// Puts the tokens behind these that the entries carry.
-    pub(crate) fn push_tokens(&self, tokens: &mut Vec<u32>) -> Result<(), NoMemory>
-        ensures { OnOk result (tokens.new.items ≡ tokens.old.items ++ flat_map tokens_in self.now.queue) }
-    {
-        if let Some(first) = &self.first {
-            push_carried(first, tokens)?;
-        }
-        let (front, back) = self.later.as_slices();
-        push_all_carried(front, tokens)?;
-        push_all_carried(back, tokens)
     }
 }

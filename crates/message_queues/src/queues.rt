@@ -1,13 +1,12 @@
 //! What waits, over all endpoints.
 
-ghost use Rattle.std.specs.Prelude.{◌≡◌, ◌≢◌, ◌↔◌, AllPairs, ◌≤◌, ◌<◌, ◌+◌, ◌++◌, ◌∷◌, [], true, false, Some, None, IfOk, IfSome, IsOk, IsSome, IsTrue, OnOk, OnErr, MatchOption, drop, flat_map, length, nat_eq, slice_get, sum_by, unwrap_or};
+ghost use Rattle.std.specs.Prelude.{◌≡◌, ◌≢◌, ◌↔◌, AllPairs, ◌≤◌, ◌<◌, ◌+◌, ◌++◌, ◌∷◌, [], true, false, Some, None, IfOk, IfSome, IsOk, IsSome, IsTrue, OnOk, OnErr, MatchOption, drop, length, nat_eq, slice_get, sum_by, unwrap_or};
 ghost use Rattle.std.specs.HashMap.{IsUnique, PutsEntry, Updates, get};
 ghost use Rattle.std.specs.List.Sorted.{IsPermutation};
-ghost use Rattle.vfs_journal.specs.Entries.{endpoints_in, tokens_in};
 ghost use Rattle.message_queues.specs.Queues.{Binds, IsAbove, IsNew, IsReady, Requeues, count, head_of, queue_of, server_of};
 ghost use Rattle.message_queues.specs.Oldest.{IsBound, IsBoundAt, IsOldest, NothingWaits};
 ghost use Rattle.message_queues.specs.Dying.{AreDeaths, Buries, tokens_on};
-ghost use Rattle.message_queues.specs.Steps.{Adds, bound_box, drop_turn, first_pushed, no_box, older, popped_box, pushed_box, put_turn, turn_by};
+ghost use Rattle.message_queues.specs.Steps.{Gathers, bound_box, drop_turn, first_pushed, no_box, older, popped_box, pushed_box, put_turn, turn_by};
 
 use crate::dying::{Buried, Dying};
 use crate::heads::{Heads, older};
@@ -194,10 +193,9 @@ impl Queues {
         ensures dropped { IfOk result (λ buried. count self.new + sum_by (λ endpoint. length (queue_of self.old endpoint)) buried.dead.items ≡ count self.old) }
         ensures err { OnErr result (self.new ≡ self.old) }
     {
-        let dead = self.deaths(alloc, dying)?;
-        let tokens = self.tokens_on(alloc, &dead)?;
-        self.close_all(&dead);
-        Ok(Buried { dead, tokens })
+        let buried = self.deaths(alloc, dying)?;
+        self.close_all(&buried.dead);
+        Ok(buried)
     }
 
     /// Buries an endpoint alone, where nothing waits: nobody dies with it, and nothing is dropped. Tells whether that is so; where
@@ -217,52 +215,29 @@ impl Queues {
         true
     }
 
-    /// Who dies with these.
-    fn deaths(&self, alloc: Global, firsts: Vec<u32>) -> Result<Vec<u32>, NoMemory>
-        ensures { IfOk result (λ dead. AreDeaths self.now firsts.items dead.items) }
+    /// Who dies with these, and the tokens that the entries carry which wait on them.
+    fn deaths(&self, alloc: Global, firsts: Vec<u32>) -> Result<Buried, NoMemory>
+        ensures died { IfOk result (λ buried. AreDeaths self.now firsts.items buried.dead.items) }
+        ensures tokens { IfOk result (λ buried. buried.tokens.items ≡ tokens_on self.now buried.dead.items) }
     {
         let mut dying = Dying::of(alloc, firsts)?;
         if self.count == 0 {
-            return Ok(dying.into_list());
+            return Ok(dying.into_buried());
         }
         let mut index = 0;
         while let Some(endpoint) = dying.get(index) {
             self.add_carried(endpoint, &mut dying)?;
             index += 1;
         }
-        Ok(dying.into_list())
+        Ok(dying.into_buried())
     }
 
-    /// Adds the endpoints that the entries carry which wait on one.
+    /// Adds what the entries carry that wait on one.
     fn add_carried(&self, endpoint: u32, dying: &mut Dying) -> Result<(), NoMemory>
-        ensures { OnOk result (Adds (flat_map endpoints_in (queue_of self.now endpoint)) dying.old dying.new) }
+        ensures { OnOk result (Gathers (queue_of self.now endpoint) dying.old dying.new) }
     {
         match self.boxes.get(&endpoint) {
             Some(mailbox) => mailbox.add_carried(dying),
-            None => Ok(()),
-        }
-    }
-
-    /// The tokens that the entries carry which wait on these.
-    fn tokens_on(&self, alloc: Global, endpoints: &[u32]) -> Result<Vec<u32>, NoMemory>
-        ensures { IfOk result (λ tokens. tokens.items ≡ tokens_on self.now endpoints.now) }
-    {
-        let mut tokens = Vec::new(alloc);
-        if self.count == 0 {
-            return Ok(tokens);
-        }
-        for endpoint in endpoints {
-            self.push_tokens(*endpoint, &mut tokens)?;
-        }
-        Ok(tokens)
-    }
-
-    /// Puts the tokens behind these that the entries carry which wait on one.
-    fn push_tokens(&self, endpoint: u32, tokens: &mut Vec<u32>) -> Result<(), NoMemory>
-        ensures { OnOk result (tokens.new.items ≡ tokens.old.items ++ flat_map tokens_in (queue_of self.now endpoint)) }
-    {
-        match self.boxes.get(&endpoint) {
-            Some(mailbox) => mailbox.push_tokens(tokens),
             None => Ok(()),
         }
     }

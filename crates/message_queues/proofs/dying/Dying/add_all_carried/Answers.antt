@@ -1,19 +1,17 @@
-use Rattle.std.proofs.Common.{subst, List}
-use Rattle.std.specs.Prelude.{flat_map}
+use Rattle.std.proofs.Common.{[], ◌∷◌, subst, List}
 use Rattle.std.proofs.lemmas.List.{take_all}
-use Rattle.vfs_journal.specs.Entries.{Sent, endpoints_in}
-use Rattle.message_queues.specs.Steps.{Adds}
-use Rattle.message_queues.proofs.Spread.{adds_none, adds_entry}
+use Rattle.vfs_journal.specs.Entries.{Sent}
+use Rattle.message_queues.specs.Steps.{Gathers}
+use Rattle.message_queues.proofs.Gathered.{gathers_none, gathers_step}
 use Rattle.message_queues.proofs.dying.Dying.add_all_carried.Goals as goal
 
 pub loop-sent-init : goal.loop-sent-init
-loop-sent-init c = adds_none c.args.self.now
+loop-sent-init c = gathers_none c.args.self.now
 
 pub loop-sent-preserved : goal.loop-sent-preserved
 loop-sent-preserved c =
-    adds_entry c.args.entries.now c.loop-sent.sent-index c.sent-item.result c.args.self.now c.loop-sent.self c.add_carried.new.self c.loop-sent-test.true c.loop-sent.invariant
-    (subst (λ (sent : Sent). Adds (endpoints_in sent) c.loop-sent.self c.add_carried.new.self) c.sent-item.is c.in_ok-add_carried.ensures)
+    gathers_step c.args.entries.now c.loop-sent.sent-index c.sent-item.result c.args.self.now c.loop-sent.self c.add_carried.new.self c.loop-sent-test.true c.loop-sent.invariant
+    (subst (λ (sent : Sent). Gathers (sent ∷ []) c.loop-sent.self c.add_carried.new.self) c.sent-item.is c.in_ok-add_carried.ensures)
 
 pub returns : goal.returns
-returns c =
-    subst (λ (entries : List Sent). Adds (flat_map endpoints_in entries) c.args.self.now c.loop-sent.self) (take_all c.loop-sent.sent-index c.args.entries.now c.loop-sent-test.false) c.loop-sent.invariant
+returns c = subst (λ (entries : List Sent). Gathers entries c.args.self.now c.loop-sent.self) (take_all c.loop-sent.sent-index c.args.entries.now c.loop-sent-test.false) c.loop-sent.invariant
