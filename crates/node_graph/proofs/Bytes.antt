@@ -1,10 +1,13 @@
 -- Bytes written over others.
-use Rattle.std.proofs.Common.{◌≡◌, ℕ, zero, suc, ◌+◌, ◌-◌, ◌<◌, ◌≤◌, ◌==◌, List, [], ◌∷◌, ◌++◌, length, take, drop, replicate, refl, ap, sym, ◌∙◌, arith, append_assoc, true, false, append-nil, max, nat_le, length-append, length-drop, Vec}
+use Rattle.std.proofs.Common.{◌≡◌, ℕ, zero, suc, ◌+◌, ◌-◌, ◌<◌, ◌≤◌, ◌==◌, List, [], ◌∷◌, ◌++◌, length, take, drop, replicate, refl, ap, sym, ◌∙◌, arith, append_assoc, Bool, true, false, not, nat_lt, append-nil, max, nat_le, length-append, length-drop, Vec}
 use Rattle.std.proofs.lemmas.List.{take_all, drop_all, take-replicate, length-replicate, length-take, drop-drop, with_items_is}
 use Rattle.std.specs.Vec.{with_items}
 use Rattle.std.proofs.lemmas.Bool.Decides.{nat_tests}
 use Rattle.node_graph.specs.Tree.{fill}
-use Rattle.node_graph.specs.Graph.{resized, overwritten, write_change}
+use Rattle.node_graph.specs.Graph.{resized, overwritten, write_change, write_refusal}
+use Rattle.fidl_names.specs.First.{cause_if}
+use Rattle.fidl_names.specs.declared.limits.TheConstants as limit
+use Rattle.node_graph.specs.declared.faults.GraphFault.TheVariants as fault
 
 -- what was grown with zeros past the offset is, up to it, what was resized to it
 grown : (old : List ℕ) (offset more : ℕ) → offset ≤ length old + more → take offset (old ++ replicate more 0) ≡ resized old offset
@@ -50,6 +53,18 @@ over_room old offset end most bytes room is most_is room_is =
     ∙ ap (λ back. resized old offset ++ (bytes ++ back)) back
     ∙ sym (append_assoc (resized old offset) bytes (drop end old))
     ∙ ap (λ e. (resized old offset ++ bytes) ++ drop e old) (sym is)
+
+pub no_bytes : (bytes : List ℕ) → length bytes == 0 ≡ true → bytes ≡ []
+no_bytes [] none = refl
+no_bytes (byte ∷ bytes) none = grind (arith, nat_tests)
+
+-- a length is refused exactly where it isn't within the longest one
+beyond : (size most : ℕ) → nat_lt most size ≡ not (nat_le size most)
+beyond size most = grind (arith, nat_tests)
+
+pub write_refusal-some : (offset : ℕ) (bytes : List ℕ) (fits : Bool) → length bytes == 0 ≡ false → fits ≡ nat_le (offset + length bytes) limit.MAX_FILE → write_refusal offset bytes ≡ cause_if (not fits) fault.FileBig
+write_refusal-some offset [] fits some is = absurd (cc)
+write_refusal-some offset (byte ∷ bytes) fits some is = ap (λ b. cause_if b fault.FileBig) (beyond (offset + length (byte ∷ bytes)) limit.MAX_FILE ∙ ap not (sym is))
 
 -- a write of some bytes fills the file
 pub write_change-some : (number : ℕ) (old : List ℕ) (offset : ℕ) (bytes : List ℕ) → length bytes == 0 ≡ false → write_change number old offset bytes ≡ fill number (overwritten old offset bytes)

@@ -4,6 +4,7 @@ use Rattle.std.specs.Prelude.{◌==◌, ◌||◌, ◌&&◌}
 use Rattle.std.specs.Option.{option_map, option_map_or}
 use Rattle.std.specs.FinMap as finite
 use Rattle.std.proofs.lemmas.Bool.Decides.{nat_tests}
+use Rattle.std.proofs.lemmas.Grind.{common_steps}
 use Rattle.slab.specs.Slab.{Slab, get, Updates, with_value}
 use Rattle.slab.proofs.SlabLemmas.{Updates-with_value}
 use Rattle.node_graph.specs.declared.nodes.NodeRef.{NodeRef}
@@ -18,6 +19,10 @@ use Rattle.node_graph.proofs.Linked.{linked_counted, get-edges_of}
 use Rattle.node_graph.proofs.Seats.{seat_at, here, present, seat_here, number_here, replaced_here}
 use Rattle.node_graph.proofs.Steps.{cell_changes, settle, forgotten, or_true}
 use Rattle.node_graph.proofs.Sheds.{Sheds, shed, sheds_holds, sheds_stands, shed_names}
+
+-- a cell that is put where it stood changes nothing
+pub stays : (nodes : Slab Cell) (place : ℕ) (value is : Cell) → get nodes place ≡ Some value → is ≡ value → with_value nodes place is ≡ nodes
+stays nodes place value is at same = grind (arith, common_steps)
 
 held_needed : (cell : Cell) (n : ℕ) → cell.holds ≡ n + 1 → is_needed cell ≡ true
 held_needed cell n e =

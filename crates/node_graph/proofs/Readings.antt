@@ -1,9 +1,9 @@
 -- What a graph tells of each tree that it stands for, and so which refusals hold.
-use Rattle.std.proofs.Common.{◌≡◌, nat_le, Result, Ok, Err, IsErrAnd, IfErr, ℕ, ◌<◌, [], ◌∷◌, Option, Some, None, refl, ap, sym, ◌∙◌, subst, arith, Bool, true, false, ◌&&◌, IfSome}
-use Rattle.std.specs.Prelude.{OnErr, is_some, is_none, if◌then◌else◌}
+use Rattle.std.proofs.Common.{◌≡◌, nat_le, Result, Ok, Err, IsErrAnd, IfErr, ℕ, ◌<◌, ◌-◌, ◌^◌, [], ◌∷◌, Option, Some, None, refl, ap, sym, ◌∙◌, subst, arith, Bool, true, false, ◌&&◌, IfSome}
+use Rattle.std.specs.Prelude.{OnErr, OnOk, IfOk, is_some, is_none, if◌then◌else◌}
 use Rattle.std.specs.Option.{option_map, option_map_or, option_or}
 use Rattle.std.specs.FinMap as finite
-use Rattle.slab.specs.Slab.{Slab, get}
+use Rattle.slab.specs.Slab.{Slab, get, ContainsKey}
 use Rattle.fidl_names.specs.First.{cause_if, first_of}
 use Rattle.fidl_names.specs.declared.limits.TheConstants as limit
 use Rattle.fidl_names.proofs.FirstLaws.{first_of-append}
@@ -15,7 +15,7 @@ use Rattle.node_graph.specs.declared.edges.Target.{Target}
 use Rattle.node_graph.specs.Cell.{Cell}
 use Rattle.node_graph.specs.Tree.{Tree, Edges, EdgeKey, EdgeTo, NodeRow, kind_of, link_count, is_removed, has_one_name, add, stay}
 use Rattle.node_graph.specs.Refusals.{is_directory, is_mount, is_no_directory, edge_at, leads_to, directory_behind, has_names, leads_to_names, unlink_refusal, link_refusal, link_change, is_same_name, replace_refusal, rename_refusal, is_loop, lies_within}
-use Rattle.node_graph.specs.Graph.{Kept, StandsFor, create_refusal}
+use Rattle.node_graph.specs.Graph.{Kept, Names, kind_at, holds_at, SameHolds, KeepsNames, StandsFor, create_refusal}
 use Rattle.node_graph.specs.Ends.{Ends, end_of, edges_of}
 use Rattle.node_graph.specs.Rows.{kept_of, AreRows}
 use Rattle.node_graph.proofs.Linked.{get-edges_of}
@@ -135,6 +135,24 @@ pub on_err : {T E P : Type 0} (result : Result T E) → P → OnErr result P
 on_err (Ok value) holds = tt
 on_err (Err found) holds = holds
 
+-- want of memory is no success
+pub not_ok : {T : Type 0} (P : Type 0) (result : Result T GraphFault) → IsErrAnd result (λ found. found ≡ fault.NoMemory) → OnOk result P
+not_ok P (Ok value) memory = absurd memory
+not_ok P (Err found) memory = tt
+
+pub not_if_ok : {T : Type 0} (P : T → Type 0) (result : Result T GraphFault) → IsErrAnd result (λ found. found ≡ fault.NoMemory) → IfOk result P
+not_if_ok P (Ok value) memory = absurd memory
+not_if_ok P (Err found) memory = tt
+
+-- what is as it was keeps its holds and names
+pub stays_held : {old new : Kept} → new ≡ old → SameHolds old new
+stays_held still number = ap (λ (g : Kept). holds_at g number) still
+
+pub stays_named : {old new : Kept} → new ≡ old → KeepsNames old new
+stays_named {old} {new} still node named kept =
+    let P : Kept → Type 0 = λ g. Names g node × (kind_at g node.number ≡ kind_at old node.number) in
+    subst P (sym still) (named, refl)
+
 -- ---- rename
 
 abbrev rename_causes : Bool → Bool → Bool → Bool → Option GraphFault → Option GraphFault
@@ -177,6 +195,32 @@ replace_bare false true no_file full e = absurd (let wrong : Some fault.NotDir �
 replace_bare false false true full e = absurd (let wrong : Some fault.NotFile ≡ None = e in cc)
 replace_bare false false false true e = absurd (let wrong : Some fault.NotEmpty ≡ None = e in cc)
 replace_bare false false false false e = refl
+
+-- why a node of this kind doesn't take the place of what is there
+abbrev pub replace_cause : Ends → NodeKind → Option Target → Option GraphFault
+replace_cause ends kind gone =
+    option_map_or (λ to. replace_causes (is_mount to.kind) (is_directory kind && is_no_directory to.kind) (is_no_directory kind && is_directory to.kind) (has_names (edges_of ends) to.node.number)) gone None
+
+pub replaced_bare : (ends : Ends) (kind : NodeKind) (gone : Option Target) → replace_cause ends kind gone ≡ None → IfSome gone (λ to. has_names (edges_of ends) to.node.number ≡ false)
+replaced_bare ends kind None free = tt
+replaced_bare ends kind (Some to) free = replace_bare _ _ _ _ free
+
+-- what is replaced is there, linked, and has a number that isn't the last one
+pub replaced_present : (nodes : Slab Cell) (ends : Ends) (made : ℕ) → AreRows nodes ends made → (key : EdgeKey) (gone : Option Target) → finite.get ends key ≡ gone → IfSome gone (λ to. ContainsKey nodes to.node.place)
+replaced_present nodes ends made rows key None is = tt
+replaced_present nodes ends made rows key (Some to) is = ap is_some (rows.children key to is).1
+
+pub replaced_linked : (nodes : Slab Cell) (ends : Ends) (made : ℕ) → AreRows nodes ends made → (key : EdgeKey) (gone : Option Target) → finite.get ends key ≡ gone → IfSome gone (λ to. IfSome (get nodes to.node.place) (λ cell. 0 < cell.links))
+replaced_linked nodes ends made rows key None is = tt
+replaced_linked nodes ends made rows key (Some to) is = linked_here nodes ends made rows key to is
+
+pub replaced_number : (nodes : Slab Cell) (ends : Ends) (made : ℕ) → AreRows nodes ends made → (key : EdgeKey) (gone : Option Target) → finite.get ends key ≡ gone → IfSome gone (λ to. to.node.number < 2 ^ 64 - 1)
+replaced_number nodes ends made rows key None is = tt
+replaced_number nodes ends made rows key (Some to) is =
+    let child = rows.children key to is in
+    let most = rows.numbers to.node.place child.0 child.1 in
+    let room = rows.room in
+    omega (arith, child.2, most.1, room)
 
 module _ (nodes : Slab Cell) (ends : Ends) (made : ℕ) (graph : Kept) (view : kept_of nodes ends made ≡ graph) (rows : AreRows nodes ends made) (tree : Tree) (stands : StandsFor graph tree) (from key : EdgeKey) where
   abbrev over : Option GraphFault
@@ -248,3 +292,11 @@ module _ (nodes : Slab Cell) (ends : Ends) (made : ℕ) (graph : Kept) (view : k
 
     pub behind_none : finite.get ends key ≡ None → directory_behind tree key ≡ None
     behind_none none = ap (λ b. if b then option_map (λ (t : EdgeTo). t.child) (edge_at tree key) else None) (absent_leads is_directory none)
+
+    pub replace_is : (gone : Option Target) → finite.get ends key ≡ gone → replace_refusal tree from key ≡ replace_cause ends to.kind gone
+    replace_is None absent = replace_none absent
+    replace_is (Some gone) taken = replace_some gone taken
+
+    pub behind_is : (gone : Option Target) → finite.get ends key ≡ gone → directory_behind tree key ≡ option_map_or (λ t. if is_directory t.kind then Some t.node.number else None) gone None
+    behind_is None absent = behind_none absent
+    behind_is (Some gone) taken = behind nodes ends made graph view rows tree stands key gone taken

@@ -1,6 +1,6 @@
 -- A name moves: what nodes and names are then, and what a graph keeps.
 use Rattle.std.proofs.Common.{◌≡◌, ◌≢◌, ℕ, zero, suc, ◌+◌, ◌-◌, ◌≤◌, Some, None, refl, ap, sym, ◌∙◌, subst, arith, cond, true, false, nat_lt, nat_eq}
-use Rattle.std.specs.Prelude.{◌==◌, ◌||◌, ◌&&◌, is_some, IsSome}
+use Rattle.std.specs.Prelude.{◌==◌, ◌||◌, ◌&&◌, is_some, IsSome, IfSome, Option}
 use Rattle.std.specs.Option.{option_map, option_map_or}
 use Rattle.std.specs.declared.cmp.Ordering.TheVariants.{Equal}
 use Rattle.std.specs.Ordering.{nat_cmp, is_eq, ordering_then}
@@ -339,6 +339,33 @@ module _ (nodes lost : Slab Cell) (ends ends_new : Ends) (made : ℕ) (graph : K
               let last = moved_names lost (with_value lost to.node.place is) ends_left made from key to dir was is rows_left there_left absent_left at updates_over is_it into up_left node mid.0 in
               (last.0, last.1 ∙ mid.1);
         })
+
+-- to any name
+module _ (nodes lost : Slab Cell) (ends ends_new : Ends) (made : ℕ) (graph : Kept) (from key : EdgeKey) (dir : NodeRef) (to : Target) (was is : Cell)
+    (view : kept_of nodes ends made ≡ graph) (rows : AreRows nodes ends made) (there : finite.get ends from ≡ Some to) (apart : ¬ (key ≡ from))
+    (up : Sits nodes dir.place dir.number (λ c. (c.kind ≡ Directory) × (is_reached c ≡ true))) (into : dir.number ≡ key.directory) where
+  pub present_after : (gone : Option Target) → finite.get ends key ≡ gone → IfSome gone (λ t. has_names (edges_of ends) t.node.number ≡ false)
+      → (gone ≡ None → lost ≡ nodes) → IfSome gone (λ t. LosesName nodes lost t.node.place) → IsSome (get lost to.node.place)
+  present_after None absent bare same_nodes loses = subst (λ (s : Slab Cell). IsSome (get s to.node.place)) (sym (same_nodes refl)) (ap is_some (rows.children from to there).1)
+  present_after (Some gone) taken bare same_nodes loses = present_left nodes lost ends ends_new made graph from key dir to gone was is view rows there taken apart up into bare loses
+
+  module _ (at : get lost to.node.place ≡ Some was) (is_it : is ≡ record was { parent = dir }) (put : ends_new ≡ finite.remove (finite.insert ends key to) from) where
+    pub rows_after : ((count : ℕ) → ¬ (Ways count (edges_of ends) key.directory to.node.number))
+        → (gone : Option Target) → finite.get ends key ≡ gone → IfSome gone (λ t. has_names (edges_of ends) t.node.number ≡ false)
+        → (gone ≡ None → lost ≡ nodes) → IfSome gone (λ t. LosesName nodes lost t.node.place) → AreRows (with_value lost to.node.place is) ends_new made
+    rows_after not_within None absent bare same_nodes loses =
+        let P : Slab Cell → Type 0 = λ s. AreRows (with_value s to.node.place is) ends_new made in
+        subst P (sym (same_nodes refl)) (rows_free nodes ends ends_new made graph from key dir to was is view rows there absent up into (ap (λ (s : Slab Cell). get s to.node.place) (sym (same_nodes refl)) ∙ at) is_it put not_within)
+    rows_after not_within (Some gone) taken bare same_nodes loses =
+        rows_over nodes lost ends ends_new made graph from key dir to gone was is view rows there taken apart up into bare loses at is_it put not_within
+
+    pub turns_after : (gone : Option Target) → finite.get ends key ≡ gone → IfSome gone (λ t. has_names (edges_of ends) t.node.number ≡ false)
+        → (gone ≡ None → lost ≡ nodes) → IfSome gone (λ t. LosesName nodes lost t.node.place) → Turns graph (kept_of (with_value lost to.node.place is) ends_new made) (move from key)
+    turns_after None absent bare same_nodes loses =
+        let P : Slab Cell → Type 0 = λ s. Turns graph (kept_of (with_value s to.node.place is) ends_new made) (move from key) in
+        subst P (sym (same_nodes refl)) (turns_free nodes ends ends_new made graph from key dir to was is view rows there absent up into (ap (λ (s : Slab Cell). get s to.node.place) (sym (same_nodes refl)) ∙ at) is_it put)
+    turns_after (Some gone) taken bare same_nodes loses =
+        turns_over nodes lost ends ends_new made graph from key dir to gone was is view rows there taken apart up into bare loses at is_it put
 
 -- ---- names that are one
 

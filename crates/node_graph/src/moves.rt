@@ -1,20 +1,24 @@
 ghost use Rattle.std.specs.Prelude.{◌≡◌, ◌∷◌, [], ◌&&◌, ◌≤◌, ◌<◌, ◌-◌, ◌^◌, ◌≢◌, true, not, length, OnOk, OnErr, IfOk, IfErr, IfSome, Some, None, if◌then◌else◌};
-ghost use Rattle.std.specs.Option.{option_map, option_to_list};
+ghost use Rattle.std.specs.Option.{option_map, option_map_or, option_to_list};
 ghost use Rattle.std.specs.FinMap as finite;
+ghost use Rattle.slab.specs.Slab.{ContainsKey, get};
 ghost use Rattle.fidl_names.specs.First.{cause_if, first_of};
 ghost use Rattle.node_graph.specs.declared.nodes.NodeKind.TheVariants.{Directory};
 ghost use Rattle.node_graph.specs.declared.faults.GraphFault.TheVariants as fault;
 ghost use Rattle.node_graph.specs.Tree.{Tree, is_removed};
 ghost use Rattle.node_graph.specs.Refusals.{is_directory, is_mount, is_no_directory, has_names, parents_of, lies_within, is_same_name, replaced_directory};
 ghost use Rattle.node_graph.specs.Ends.{edges_of};
+ghost use Rattle.node_graph.specs.Rows.{LosesName};
 ghost use Rattle.node_graph.specs.Graph.{number_of, Names, kind_at, StandsFor, Leads, SameHolds, KeepsNames, Answers, rename_refusal, rename_change};
 
 use crate::cuts::{directory_of, lose_name};
-use crate::edges::Edges;
+use crate::edges::{Edges, Target};
 use crate::faults::GraphFault;
 use crate::graph::Graph;
 use crate::nodes::{NodeKind, NodeRef};
+use crate::rows::Node;
 use fidl_names::MAX_NAME;
+use slab::Slab;
 
 /// What a rename did.
 #[derive(Clone, Copy)]
@@ -71,25 +75,15 @@ impl Graph {
                 replaced: None,
             });
         }
-        let Some(to) = self.edges.find(into.number, dst) else {
-            self.edges.shift(dir.number, src, into.number, dst, from)?;
-            let row = &mut self.nodes[node.place];
-            row.set_parent(into);
-            return Ok(Moved {
-                changed: true,
-                replaced: None,
-            });
-        };
-        let gone = to.node;
-        let gone_kind = to.kind;
-        if let Some(fault) = replace_fault(&self.edges, kind, gone, gone_kind) {
+        let gone = self.edges.find(into.number, dst);
+        if let Some(fault) = replace_fault(&self.edges, kind, &gone) {
             return Err(fault);
         }
         self.edges.shift(dir.number, src, into.number, dst, from)?;
-        lose_name(&mut self.nodes, gone.place);
+        lose_replaced(&mut self.nodes, &gone);
         let row = &mut self.nodes[node.place];
         row.set_parent(into);
-        Ok(moved_over(gone, gone_kind))
+        Ok(moved_over(&gone))
     }
 
     // Why a node isn't moved into a directory, whatever its name there.
@@ -155,13 +149,29 @@ impl Graph {
     }
 }
 
-// What a rename did that replaced this node.
-fn moved_over(gone: NodeRef, kind: NodeKind) -> Moved
-    ensures { result ≡ record { changed = true; replaced = if is_directory kind then Some gone.number else None } }
+// One name less leads to the node that is replaced, if one is.
+fn lose_replaced(nodes: &mut Slab<Node>, gone: &Option<Target>)
+    requires present { IfSome gone.now (λ to. ContainsKey nodes.old to.node.place) }
+    requires linked { IfSome gone.now (λ to. IfSome (get nodes.old to.node.place) (λ cell. 0 < cell.links)) }
+    ensures kept { gone.now ≡ None → nodes.new ≡ nodes.old }
+    ensures loses { IfSome gone.now (λ to. LosesName nodes.old nodes.new to.node.place) }
 {
+    if let Some(to) = gone {
+        lose_name(nodes, to.node.place);
+    }
+}
+
+// What a rename did that replaced what this name led to, if it was there.
+fn moved_over(gone: &Option<Target>) -> Moved
+    ensures { result ≡ record { changed = true; replaced = option_map_or (λ to. if is_directory to.kind then Some to.node.number else None) gone.now None } }
+{
+    let replaced = match gone {
+        Some(to) => directory_of(to.node, to.kind),
+        None => None,
+    };
     Moved {
         changed: true,
-        replaced: directory_of(gone, kind),
+        replaced,
     }
 }
 
@@ -172,26 +182,24 @@ fn is_same_name(dir: NodeRef, src: &[u8], into: NodeRef, dst: &[u8]) -> bool
     dir.number == into.number && src == dst
 }
 
-// Why a node of this kind doesn't take the place of that one.
-fn replace_fault(
-    edges: &Edges,
-    kind: NodeKind,
-    gone: NodeRef,
-    gone_kind: NodeKind,
-) -> Option<GraphFault>
-    requires { gone.number < 2 ^ 64 - 1 }
-    ensures { result ≡ first_of (cause_if (is_mount gone_kind) fault.Unsupported ∷ cause_if (is_directory kind && is_no_directory gone_kind) fault.NotDir ∷ cause_if (is_no_directory kind && is_directory gone_kind) fault.NotFile ∷ cause_if (has_names (edges_of edges.now) gone.number) fault.NotEmpty ∷ []) }
+// Why a node of this kind doesn't take the place of what is there, if something is.
+fn replace_fault(edges: &Edges, kind: NodeKind, gone: &Option<Target>) -> Option<GraphFault>
+    requires { IfSome gone.now (λ to. to.node.number < 2 ^ 64 - 1) }
+    ensures { result ≡ option_map_or (λ to. first_of (cause_if (is_mount to.kind) fault.Unsupported ∷ cause_if (is_directory kind && is_no_directory to.kind) fault.NotDir ∷ cause_if (is_no_directory kind && is_directory to.kind) fault.NotFile ∷ cause_if (has_names (edges_of edges.now) to.node.number) fault.NotEmpty ∷ [])) gone.now None }
 {
-    if gone_kind.is_mount() {
+    let Some(to) = gone else {
+        return None;
+    };
+    if to.kind.is_mount() {
         return Some(GraphFault::Unsupported);
     }
-    if kind.is_directory() && !gone_kind.is_directory() {
+    if kind.is_directory() && !to.kind.is_directory() {
         return Some(GraphFault::NotDir);
     }
-    if !kind.is_directory() && gone_kind.is_directory() {
+    if !kind.is_directory() && to.kind.is_directory() {
         return Some(GraphFault::NotFile);
     }
-    if edges.has_names(gone.number) {
+    if edges.has_names(to.node.number) {
         return Some(GraphFault::NotEmpty);
     }
     None

@@ -4,7 +4,7 @@ ghost use Rattle.node_graph.specs.Refusals.{is_directory, is_mount};
 use io_rights::Rights;
 
 /// What a node is.
-#[derive(Clone, Copy, Debug, PartialEq, Eq)]
+#[derive(Clone, Copy)]
 pub enum NodeKind {
     Directory,
     File,
@@ -29,7 +29,7 @@ impl NodeKind {
 
 /// The name of a node that a graph keeps. Numbers rise in the order of making and are never used
 /// again; places in memory may be.
-#[derive(Clone, Copy, Debug, PartialEq, Eq)]
+#[derive(Clone, Copy)]
 pub struct NodeRef {
     pub(crate) place: usize,
     pub(crate) number: u64,

@@ -12,17 +12,33 @@ use Rattle.node_graph.proofs.Readings.{linked_here, behind, unlink_none, unlink_
 use Rattle.node_graph.proofs.Losses.{Turns, rows_lost, turns_lost}
 use Rattle.node_graph.proofs.graph.Graph.unlink.Goals as goal
 
-pub returns-in_default-clause-answer : goal.returns-in_default-clause-answer
-returns-in_default-clause-answer c tree stands =
-    let is = unlink_none c.self.inside.nodes c.self.inside.edges c.self.inside.made c.args.self.now c.self.view_is c.self.invariant tree stands (name_in c.args.dir.number c.args.name.now) c.args.must_be_dir (sym c.find.ensures.found ∙ c.in_default.is) in
-    let P : Option GraphFault → Type 0 = λ r. Settles {T = Option ℕ} (Err fault.NotFound) r in
-    subst P (sym is) refl
+pub returns-in_default : goal.returns-in_default
+returns-in_default c = record {
+  answer = λ tree stands.
+      let is = unlink_none c.self.inside.nodes c.self.inside.edges c.self.inside.made c.args.self.now c.self.view_is c.self.invariant tree stands (name_in c.args.dir.number c.args.name.now) c.args.must_be_dir (sym c.find.ensures.found ∙ c.in_default.is) in
+      let P : Option GraphFault → Type 0 = λ r. Settles {T = Option ℕ} (Err fault.NotFound) r in
+      subst P (sym is) refl;
+  unchanged = refl;
+  unlinked = tt;
+  removed = tt;
+  made = refl;
+  holds = λ number. refl;
+  names = λ node named kept. (named, refl);
+}
 
-pub returns-in-Some-unlink_fault-clause-answer : goal.returns-in-Some-unlink_fault-clause-answer
-returns-in-Some-unlink_fault-clause-answer c tree stands =
-    let is = unlink_some c.self.inside.nodes c.self.inside.edges c.self.inside.made c.args.self.now c.self.view_is c.self.invariant tree stands (name_in c.args.dir.number c.args.name.now) c.args.must_be_dir c.in-Some.to (sym c.find.ensures.found ∙ c.in-Some.is) in
-    let P : Option GraphFault → Type 0 = λ r. Settles {T = Option ℕ} (Err c.in-Some-unlink_fault.fault) r in
-    subst P (sym (is ∙ sym c.unlink_fault.ensures ∙ c.in-Some-unlink_fault.is)) refl
+pub returns-in-Some-unlink_fault : goal.returns-in-Some-unlink_fault
+returns-in-Some-unlink_fault c = record {
+  answer = λ tree stands.
+      let is = unlink_some c.self.inside.nodes c.self.inside.edges c.self.inside.made c.args.self.now c.self.view_is c.self.invariant tree stands (name_in c.args.dir.number c.args.name.now) c.args.must_be_dir c.in-Some.to (sym c.find.ensures.found ∙ c.in-Some.is) in
+      let P : Option GraphFault → Type 0 = λ r. Settles {T = Option ℕ} (Err c.in-Some-unlink_fault.fault) r in
+      subst P (sym (is ∙ sym c.unlink_fault.ensures ∙ c.in-Some-unlink_fault.is)) refl;
+  unchanged = refl;
+  unlinked = tt;
+  removed = tt;
+  made = refl;
+  holds = λ number. refl;
+  names = λ node named kept. (named, refl);
+}
 
 pub cut-requires : goal.cut-requires
 cut-requires c = let P : Option Target → Type 0 = λ o. OnSome o (length c.args.name.now ≤ limit.MAX_NAME) in subst P c.in-Some.is c.find.ensures.few
