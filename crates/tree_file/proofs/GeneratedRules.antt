@@ -2,13 +2,11 @@
 use Rattle.std.proofs.Common.{◌≡◌, ◌≢◌, ◌<◌, ℕ, zero, suc, List, [], ◌∷◌, All, AllPairs, None, codes, slice_index, ap, refl, arith, inr}
 use Rattle.std.specs.Str.{is_utf8, chars}
 use lib.Utf8.{encode}
-use Rattle.fidl_names.specs.Numbers.{AreBytes}
 use Rattle.path_walk.specs.Names.{IsName, name_fault}
 use Rattle.path_walk.specs.Parts.{before_last_slash, parent_of}
 use Rattle.path_walk.specs.Paths.{path_fault, names_of}
 use Rattle.tree_file.specs.Accepted.{AreAccepted, AreItems, AreServers, IsAt, IsNode, IsMount, IsClient, OtherEndpoint}
 use Rattle.tree_file.specs.Generated.{directory_of, mount_of_second, client_of_first, generated_lists}
-use Rattle.tree_file.specs.Items.{NodeItem, MountItem, ClientItem}
 use Rattle.tree_file.specs.Rules.{first_failing, found_among, is_directory, first_broken, rules_on_lists}
 
 all_of_one : {X : Type 0} (P : X → Type 0) (x : X) → P x → All P (x ∷ [])
@@ -74,16 +72,3 @@ places_kept = refl
 
 pub generated_accepted : AreAccepted generated_lists
 generated_accepted = record { items = items_kept; placed = places_kept }
-
--- lists that are these, list by list
-pub same_accepted : (servers : List (List ℕ)) (nodes : List NodeItem) (mounts : List MountItem) (clients : List ClientItem)
-    → servers ≡ generated_lists.servers → nodes ≡ generated_lists.nodes → mounts ≡ generated_lists.mounts → clients ≡ generated_lists.clients
-    → AreAccepted (record { servers = servers; nodes = nodes; mounts = mounts; clients = clients })
-same_accepted servers nodes mounts clients s n m c = rw s (rw n (rw m (rw c generated_accepted)))
-
-no_bytes : AreBytes []
-no_bytes k d within = absurd (omega (arith, within))
-
--- nodes that are these have no bytes
-pub same_bytes : (nodes : List NodeItem) → nodes ≡ generated_lists.nodes → All (λ node. AreBytes node.bytes) nodes
-same_bytes nodes n = rw n (all_of_two (λ node. AreBytes node.bytes) (directory_of 0) (directory_of 1) no_bytes no_bytes)

@@ -7,6 +7,7 @@ pub mod First
 pub mod Read
 pub mod Accepted
 pub mod GeneratedRules
+mod GeneratedText
 pub mod Numbers
 pub mod Trees
 pub mod Standing

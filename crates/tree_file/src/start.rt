@@ -121,27 +121,6 @@ impl Start {
     }
 }
 
-// The start of lists that keep the rules, with bytes in their files.
-pub(crate) fn start_with(
-    servers: Vec<Bytes>,
-    nodes: Vec<Node>,
-    mounts: Vec<Mount>,
-    clients: Vec<Client>,
-) -> Start
-    requires accepted { AreAccepted (record { servers = servers.items; nodes = nodes.items; mounts = mounts.items; clients = clients.items }) }
-    requires bytes { HasFilesOfBytes (record { servers = servers.items; nodes = nodes.items; mounts = mounts.items; clients = clients.items }) }
-    ensures { result ≡ record { servers = servers.items; nodes = nodes.items; mounts = mounts.items; clients = clients.items } }
-{
-    Start {
-        parts: Parts {
-            servers,
-            nodes,
-            mounts,
-            clients,
-        },
-    }
-}
-
 // The document that a text is.
 fn read_document(alloc: Global, text: &[u8]) -> Result<Value, TreeFault>
     ensures read { IfOk result (λ document. document_of text.now ≡ Some (view document)) }

@@ -1,10 +1,10 @@
-use Rattle.tree_file.proofs.GeneratedRules.{same_accepted, same_bytes}
+use Rattle.std.proofs.Common.{sym, ◌∙◌}
+use Rattle.std.proofs.lemmas.Option.{same_Some}
+use Rattle.tree_file.proofs.GeneratedText.{generated_read, generated_kept}
 use Rattle.tree_file.proofs.generated.generated_start.Goals as goal
 
-pub start_with-requires-clause-accepted : goal.start_with-requires-clause-accepted
-start_with-requires-clause-accepted c =
-    same_accepted c.in_ok-servers.servers.items c.in_ok-nodes.nodes.items c.in_ok-mounts.mounts.items c.in_ok-clients.clients.items
-    c.in_ok-servers.ensures c.in_ok-nodes.ensures c.in_ok-mounts.ensures c.in_ok-clients.ensures
+pub unreachable-requires : goal.unreachable-requires
+unreachable-requires c = generated_kept c.in-Err-Rule.field-0 c.in-Err-Rule.field-0-0 c.in-Err-Rule.field-0-1 c.in-Err-Rule.field-0-is c.in-Err-Rule.ensures.refused
 
-pub start_with-requires-clause-bytes : goal.start_with-requires-clause-bytes
-start_with-requires-clause-bytes c = same_bytes c.in_ok-nodes.nodes.items c.in_ok-nodes.ensures
+pub returns-in-Ok-clause-start : goal.returns-in-Ok-clause-start
+returns-in-Ok-clause-start c = same_Some _ _ (sym c.in-Ok.ensures.start ∙ generated_read)
