@@ -1,10 +1,9 @@
 -- Lists: what is found in one, and what a filter keeps.
-use Rattle.std.proofs.Common.{◌≡◌, ℕ, zero, suc, ◌+◌, ◌≤◌, ◌==◌, Bool, true, false, not, cond, if◌then◌else◌, nat_lt, List, [], ◌∷◌, ◌++◌, length, map, filter, get_or, Option, Some, None, ◌⊎◌, All, Contains, refl, sym, ap, ◌∙◌, subst, inl, inr, arith}
+use Rattle.std.proofs.Common.{◌≡◌, ℕ, zero, suc, ◌+◌, ◌<◌, ◌≤◌, ◌==◌, Bool, true, false, not, cond, if◌then◌else◌, nat_lt, List, [], ◌∷◌, ◌++◌, length, map, filter, get_or, Option, Some, None, ◌⊎◌, All, Contains, refl, sym, ap, ◌∙◌, subst, inl, inr, arith}
 use Rattle.std.specs.Prelude.{slice_get}
 use Rattle.std.specs.List.{find, position, position_or_len, enumerate_from}
 use Rattle.std.specs.Option.{option_or, is_none}
-use Rattle.std.proofs.lemmas.Bool.Decides.{nat_tests}
-use Rattle.std.proofs.lemmas.Bool.{ltb-false}
+use Rattle.std.proofs.lemmas.Bool.{eqb-true, eqb-false, ltb-false, lt-ltb, le-ltb}
 use Rattle.std.proofs.lemmas.List.{length_push}
 use Rattle.std.proofs.lemmas.List.Elements.{All-nil, All-cons, All-contains}
 use Rattle.std.proofs.lemmas.List.Folds.{find_at, position_or_len_push}
@@ -27,8 +26,19 @@ position_there p (x ∷ xs) k h = let at = position-Some p (x ∷ xs) k x h in (
 
 last_cases : (last at count next : ℕ) (b : Bool) → at ≤ count → last ≡ cond (at == count) (count + cond b 0 1) at → next ≡ count + 1 →
     cond (nat_lt last next) (Some last) None ≡ option_or (cond (nat_lt at count) (Some at) None) (if b then Some count else None)
-last_cases last at count next true few is more = grind (arith, nat_tests)
-last_cases last at count next false few is more = grind (arith, nat_tests)
+last_cases last at count next b few is more = by_place (at == count) refl b is where
+  by_place : (same : Bool) → (at == count) ≡ same → (b : Bool) → last ≡ cond same (count + cond b 0 1) at →
+      cond (nat_lt last next) (Some last) None ≡ option_or (cond (nat_lt at count) (Some at) None) (if b then Some count else None)
+  by_place true end true last_is =
+      let here : at ≡ count = eqb-true at count end in
+      let last_here : last ≡ count = omega (arith, last_is) in
+      rw (lt-ltb last next (omega arith), le-ltb at count (omega arith)) (ap Some last_here)
+  by_place true end false last_is =
+      let here : at ≡ count = eqb-true at count end in
+      rw (le-ltb last next (omega (arith, last_is)), le-ltb at count (omega arith))
+  by_place false end b last_is =
+      let before : at < count = (let apart = eqb-false at count end in omega (arith, apart)) in
+      rw (lt-ltb last next (omega (arith, last_is)), lt-ltb at count before) (ap Some last_is)
 
 pub position_push : {X : Type 0} (p : X → Bool) (xs : List X) (y : X) → position p (xs ++ y ∷ []) ≡ option_or (position p xs) (if p y then Some (length xs) else None)
 position_push p xs y = last_cases (position_or_len p (xs ++ y ∷ [])) (position_or_len p xs) (length xs) (length (xs ++ y ∷ [])) (p y) (prefix_len-le-length (λ x. not (p x)) xs) (position_or_len_push p xs y) (length_push xs y)

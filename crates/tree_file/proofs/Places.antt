@@ -1,6 +1,6 @@
 -- The look-up of what stands at a path, and lists tried item by item.
 use Rattle.std.proofs.Common.{◌≡◌, ℕ, zero, suc, ◌+◌, ◌<◌, ◌≤◌, Bool, true, false, ◌&&◌, ◌==◌, cond, List, [], ◌∷◌, ◌++◌, length, map, get_or, take, drop, Option, Some, None, refl, ap, ◌∙◌, sym, arith, Bor}
-use Rattle.std.proofs.lemmas.List.{drop_more, drop_all, take_more, length-take-le}
+use Rattle.std.proofs.lemmas.List.{drop_more, drop_all, take_more, length-take-le, get_or_default}
 use Rattle.std.proofs.lemmas.Map.Text.{is_eq-slice_cmp}
 use Rattle.std.proofs.lemmas.Slice.Eq.{bytes_eq-Decides}
 use Rattle.std.specs.BTreeMap.{BTreeMap, get, is_at}
@@ -86,26 +86,16 @@ pub fail-end : {X : Type 0} (passes : List X → X → Bool) (xs : List X) (i : 
 unfolding first_failing
 fail-end passes xs i past = rw (drop_all i xs past)
 
-other_or : {X : Type 0} (xs : List X) (i : ℕ) (d e : X) → i < length xs → get_or xs i d ≡ get_or xs i e
-other_or [] i d e within = absurd (omega arith)
-other_or (x ∷ xs) zero d e within = refl
-other_or (x ∷ xs) (suc i) d e within = other_or xs i d e (omega arith)
-
-same_or : {X : Type 0} (xs : List X) (i : ℕ) (d : X) → i < length xs → get_or xs i d ≡ get_or xs i (get_or xs i d)
-same_or [] i d within = absurd (omega arith)
-same_or (x ∷ xs) zero d within = refl
-same_or (x ∷ xs) (suc i) d within = other_or xs i d (get_or xs i d) (omega arith)
-
 -- the same for a test that asks for the number of those before an item alone
 pub count-on : {X : Type 0} (few : ℕ → Bool) (xs : List X) (i : ℕ) (d : X) → i < length xs → few i ≡ true
     → first_failing (λ earlier _. few (length earlier)) (take i xs) (drop i xs) ≡ first_failing (λ earlier _. few (length earlier)) (take (i + 1) xs) (drop (i + 1) xs)
 count-on few xs i d within good =
-    fail-on (λ earlier _. few (length earlier)) xs i (get_or xs i d) within (same_or xs i d within) (ap few (length-take-le i xs (omega arith)) ∙ good)
+    fail-on (λ earlier _. few (length earlier)) xs i (get_or xs i d) within (get_or_default xs i d (get_or xs i d) within) (ap few (length-take-le i xs (omega arith)) ∙ good)
 
 pub count-stop : {X : Type 0} (few : ℕ → Bool) (xs : List X) (i : ℕ) (d : X) → i < length xs → few i ≡ false
     → first_failing (λ earlier _. few (length earlier)) (take i xs) (drop i xs) ≡ Some i
 count-stop few xs i d within bad =
-    fail-stop (λ earlier _. few (length earlier)) xs i (get_or xs i d) within (same_or xs i d within) (ap few (length-take-le i xs (omega arith)) ∙ bad)
+    fail-stop (λ earlier _. few (length earlier)) xs i (get_or xs i d) within (get_or_default xs i d (get_or xs i d) within) (ap few (length-take-le i xs (omega arith)) ∙ bad)
 
 map_push : {X Y : Type 0} (f : X → Y) (xs : List X) (x : X) → map f xs ++ f x ∷ [] ≡ map f (xs ++ x ∷ [])
 map_push f [] x = refl
