@@ -25,7 +25,12 @@ pub fn index_of(names: &[Bytes], name: &[u8]) -> Option<usize>
     ensures place { result ≡ index_of names.now name.now }
     ensures bound { IfSome result (λ place. place < length names.now) }
 {
-    names.iter().position(|known| known.as_slice() == name)
+    for (place, known) in names.iter().enumerate() {
+        if known.as_slice() == name {
+            return Some(place);
+        }
+    }
+    None
 }
 
 // The server that is named at a key.
@@ -135,14 +140,14 @@ fn hex_of(alloc: Global, text: &str) -> Result<Option<Bytes>, NoMemory>
 fn all_digits(text: &[u8]) -> bool
     ensures { result ≡ list_all is_digit text.now }
 {
-    text.iter().all(|byte| is_digit(*byte))
+    text.iter().all(is_digit)
 }
 
 // Whether the byte is one of 0 to 9 and a to f.
-fn is_digit(byte: u8) -> bool
-    ensures { result ≡ is_digit byte }
+fn is_digit(byte: &u8) -> bool
+    ensures { result ≡ is_digit byte.now }
 {
-    (byte >= b'0' && byte <= b'9') || (byte >= b'a' && byte <= b'f')
+    (*byte >= b'0' && *byte <= b'9') || (*byte >= b'a' && *byte <= b'f')
 }
 
 fn is_file(kind: NodeKind) -> bool

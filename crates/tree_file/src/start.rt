@@ -176,7 +176,7 @@ fn items_at<'a>(document: &'a Value, key: &str) -> &'a [Value]
 fn are_tables(values: &[Value]) -> bool
     ensures { result ≡ list_all (λ value. is_table (view value)) values.now }
 {
-    values.iter().all(|value| value.is_table())
+    values.iter().all(Value::is_table)
 }
 
 // Whether there is no value at the key, or an array of tables.
