@@ -1,15 +1,19 @@
 -- Items read one by one.
-use Rattle.std.proofs.Common.{◌≡◌, ℕ, ◌+◌, ◌<◌, ◌≤◌, Bool, true, false, ◌||◌, ◌==◌, cond, List, [], ◌∷◌, ◌++◌, length, map, get_or, drop, Option, Some, None, Ok, Err, refl, ap, ◌∙◌, sym, arith, codes, nat_lt}
+use Rattle.std.proofs.Common.{◌≡◌, ℕ, ◌+◌, ◌<◌, ◌≤◌, Bool, true, false, ◌||◌, ◌==◌, cond, List, [], ◌∷◌, ◌++◌, length, map, get_or, drop, Option, Some, None, Result, Ok, Err, refl, ap, ◌∙◌, sym, arith, codes, nat_lt}
 use Rattle.std.proofs.lemmas.List.{drop_more, drop_all, length-append}
 use Rattle.std.proofs.Common.{ltb-true}
 use Rattle.std.specs.BTreeSet.{BTreeSet, contains}
 use Rattle.std.specs.List.{list_any}
 use Rattle.std.specs.Ordering.{nat_cmp, is_eq}
+use Rattle.std.specs.Result.{result_err}
 use Rattle.std.specs.Cmp.{unsigned_tied}
 use Rattle.fidl_names.specs.declared.limits.TheConstants as limit
 use Rattle.toml.specs.Data.{Data}
 use Rattle.toml.specs.View.{view}
 use Rattle.toml.specs.declared.value.Value.{Value}
+use Rattle.tree_file.specs.declared.faults.TreeFault.{TreeFault}
+use Rattle.tree_file.specs.declared.faults.TreeFault.TheVariants.{Rule}
+use Rattle.tree_file.specs.Faults.{Breaks}
 use Rattle.tree_file.specs.Items.{ClientItem}
 use Rattle.tree_file.specs.Kept.{HasEndpoints}
 use Rattle.tree_file.specs.Fields.{has_only, text_at}
@@ -46,6 +50,17 @@ pub read-end : {Y : Type 0} (read : List Y → Data → Option Y) (earlier : Lis
     → length values ≤ i → read_all read earlier (map view (drop i values)) ≡ Ok earlier
 unfolding read_all
 read-end read earlier values i past = rw (drop_all i values past)
+
+-- what is told where an item stands for nothing
+pub read-breaks : {Y : Type 0} (rule : ℕ) (whole : Result (List Y) ℕ) (count item : ℕ) (fault : TreeFault)
+    → whole ≡ Err count → count ≡ item → fault ≡ Rule rule item → Breaks rule (result_err whole) fault
+read-breaks rule whole count item fault is same told = rw (told, is) (refl, ap Some same)
+
+-- a list of a document, read with the servers' names as they were read
+pub read-named : {Y : Type 0} (read : List (List ℕ) → List Y → Data → Option Y) (servers names : List (List ℕ)) (items values : List Data)
+    → servers ≡ names → values ≡ items → read_all (read servers) [] items ≡ read_all (read names) [] values
+read-named read servers names items values named same =
+    ap (λ (known : List (List ℕ)). read_all (read known) [] items) named ∙ ap (λ (listed : List Data). read_all (read names) [] listed) (sym same)
 
 joined : (at same old listed : Bool) → at ≡ same → old ≡ listed → cond at true old ≡ (listed || same)
 joined true true true true e f = refl

@@ -1,4 +1,5 @@
 ghost use Rattle.std.specs.Prelude.{◌≡◌};
+ghost use Rattle.tree_file.specs.declared.faults.TreeFault.TheVariants.{Rule};
 
 use fidl_names::NoMemory;
 use std::alloc::AllocFailed;
@@ -31,5 +32,15 @@ impl<T: Drop> From<AllocFailed<T>> for TreeFault {
 
     fn from(_e: AllocFailed<T>) -> TreeFault {
         TreeFault::NoMemory
+    }
+}
+
+// The fault of a rule at an item.
+pub(crate) fn broken(rule: u32, item: usize) -> TreeFault
+    ensures { result ≡ Rule rule item }
+{
+    TreeFault::Rule {
+        rule,
+        item: item as u64,
     }
 }

@@ -1,9 +1,11 @@
-ghost use Rattle.std.specs.Prelude.{◌≡◌};
+ghost use Rattle.std.specs.Prelude.{◌≡◌, IfOk};
 ghost use Rattle.tree_file.specs.Lent.{node_item, mount_item, client_item};
 
-use crate::items::{Client, Mount, Node};
+use crate::items::{Bytes, Client, Mount, Node};
+use fidl_names::NoMemory;
 use io_rights::Rights;
 use node_graph::NodeKind;
+use std::alloc::Global;
 
 /// A node of a start: its server's index, its path, its kind, the mask of its name, and the bytes of a
 /// file.
@@ -68,4 +70,29 @@ pub(crate) fn lend_client(client: &Client) -> StartClient<'_>
         path: client.path.as_slice(),
         rights: client.rights,
     }
+}
+
+pub(crate) fn keep_mount(alloc: Global, mount: &StartMount<'_>) -> Result<Mount, NoMemory>
+    ensures { IfOk result (λ kept. kept ≡ mount_item mount.now) }
+{
+    let path = Bytes::copy(alloc, mount.path)?;
+    let at = Bytes::copy(alloc, mount.at)?;
+    Ok(Mount {
+        server: mount.server,
+        path,
+        target: mount.target,
+        at,
+        rights: mount.rights,
+    })
+}
+
+pub(crate) fn keep_client(alloc: Global, client: &StartClient<'_>) -> Result<Client, NoMemory>
+    ensures { IfOk result (λ kept. kept ≡ client_item client.now) }
+{
+    Ok(Client {
+        endpoint: client.endpoint,
+        server: client.server,
+        path: Bytes::copy(alloc, client.path)?,
+        rights: client.rights,
+    })
 }

@@ -1,101 +1,121 @@
-ghost use Rattle.std.specs.Prelude.{◌≡◌, ◌≤◌, [], Ok, length, map, IfOk, IfErr};
-ghost use Rattle.std.specs.Result.{result_err};
+ghost use Rattle.std.specs.Prelude.{◌≡◌, ◌≤◌, [], Ok, length, map, OnOk, IfErr};
 ghost use Rattle.toml.specs.View.{view};
-ghost use Rattle.tree_file.specs.Reading.{read_all, server_of, node_of, mount_of, client_of};
+ghost use Rattle.tree_file.specs.Rules.{items_at, read_servers, read_nodes, read_mounts, read_clients, servers_of, rule_4, rule_5, rule_6, rule_7};
 ghost use Rattle.tree_file.specs.Faults.{Breaks};
 
-use crate::faults::TreeFault;
+use crate::faults::{TreeFault, broken};
 use crate::items::{Bytes, Client, Mount, Node};
-use crate::reading::{read_client, read_mount, read_node, read_server};
+use crate::lent::{keep_client, keep_mount};
+use crate::reading::{client_of, mount_of, read_node, read_server};
 use fidl_names::MAX_SERVERS;
 use std::alloc::Global;
 use std::collections::BTreeSet;
 use toml::Value;
 
-/// The servers' names.
-pub fn read_servers(alloc: Global, values: &[Value]) -> Result<Vec<Bytes>, TreeFault>
-    ensures read { IfOk result (λ names. read_all server_of [] (map view values.now) ≡ Ok names.items) }
-    ensures few { IfOk result (λ names. length names.items ≤ MAX_SERVERS) }
-    ensures refused { IfErr result (Breaks 4 (result_err (read_all server_of [] (map view values.now)))) }
+/// The items of the list at a key.
+#[tactic(auto, unfolding(crate::specs::Rules::items_at))]
+pub fn items_at<'a>(document: &'a Value, key: &str) -> &'a [Value]
+    ensures { map view result.now ≡ items_at key.now (view document.now) }
 {
-    let mut names = Vec::new(alloc);
-    for value in values {
-        match read_server(alloc, &names, value)? {
-            Some(name) => names.push(name)?,
-            None => return Err(TreeFault::Rule {
-                rule: 4,
-                item: names.len() as u64,
-            }),
-        }
+    let Some(value) = document.get(key) else {
+        return &[];
+    };
+    match value.as_array() {
+        Some(items) => items.as_slice(),
+        None => &[],
     }
-    Ok(names)
 }
 
-/// The nodes of all servers.
-pub fn read_nodes(alloc: Global, names: &[Bytes], values: &[Value]) -> Result<Vec<Node>, TreeFault>
-    requires { length names.now ≤ MAX_SERVERS }
-    ensures read { IfOk result (λ nodes. read_all (λ _. node_of names.now) [] (map view values.now) ≡ Ok nodes.items) }
-    ensures refused { IfErr result (Breaks 5 (result_err (read_all (λ _. node_of names.now) [] (map view values.now)))) }
+/// Puts the servers' names where there are none yet.
+pub fn read_servers(
+    alloc: Global,
+    document: &Value,
+    names: &mut Vec<Bytes>,
+) -> Result<(), TreeFault>
+    requires { names.old.items ≡ [] }
+    ensures read { OnOk result (read_servers (view document.now) ≡ Ok names.new.items) }
+    ensures few { OnOk result (length names.new.items ≤ MAX_SERVERS) }
+    ensures refused { IfErr result (Breaks 4 (rule_4 (view document.now))) }
 {
-    let mut nodes = Vec::new(alloc);
+    let values = items_at(document, "server");
+    for value in values {
+        match read_server(alloc, names, value)? {
+            Some(name) => names.push(name)?,
+            None => return Err(broken(4, names.len())),
+        }
+    }
+    Ok(())
+}
+
+/// Puts the nodes of all servers where there are none yet.
+pub fn read_nodes(
+    alloc: Global,
+    names: &[Bytes],
+    document: &Value,
+    nodes: &mut Vec<Node>,
+) -> Result<(), TreeFault>
+    requires servers { servers_of (view document.now) ≡ names.now }
+    requires few { length names.now ≤ MAX_SERVERS }
+    requires none { nodes.old.items ≡ [] }
+    ensures read { OnOk result (read_nodes (view document.now) ≡ Ok nodes.new.items) }
+    ensures refused { IfErr result (Breaks 5 (rule_5 (view document.now))) }
+{
+    let values = items_at(document, "node");
     for value in values {
         match read_node(alloc, names, value)? {
             Some(node) => nodes.push(node)?,
-            None => return Err(TreeFault::Rule {
-                rule: 5,
-                item: nodes.len() as u64,
-            }),
+            None => return Err(broken(5, nodes.len())),
         }
     }
-    Ok(nodes)
+    Ok(())
 }
 
-/// The mounts of all servers.
+/// Puts the mounts of all servers where there are none yet.
 pub fn read_mounts(
     alloc: Global,
     names: &[Bytes],
-    values: &[Value],
-) -> Result<Vec<Mount>, TreeFault>
-    requires { length names.now ≤ MAX_SERVERS }
-    ensures read { IfOk result (λ mounts. read_all (λ _. mount_of names.now) [] (map view values.now) ≡ Ok mounts.items) }
-    ensures refused { IfErr result (Breaks 6 (result_err (read_all (λ _. mount_of names.now) [] (map view values.now)))) }
+    document: &Value,
+    mounts: &mut Vec<Mount>,
+) -> Result<(), TreeFault>
+    requires servers { servers_of (view document.now) ≡ names.now }
+    requires few { length names.now ≤ MAX_SERVERS }
+    requires none { mounts.old.items ≡ [] }
+    ensures read { OnOk result (read_mounts (view document.now) ≡ Ok mounts.new.items) }
+    ensures refused { IfErr result (Breaks 6 (rule_6 (view document.now))) }
 {
-    let mut mounts = Vec::new(alloc);
+    let values = items_at(document, "mount");
     for value in values {
-        match read_mount(alloc, names, value)? {
-            Some(mount) => mounts.push(mount)?,
-            None => return Err(TreeFault::Rule {
-                rule: 6,
-                item: mounts.len() as u64,
-            }),
+        match mount_of(names, value) {
+            Some(mount) => mounts.push(keep_mount(alloc, &mount)?)?,
+            None => return Err(broken(6, mounts.len())),
         }
     }
-    Ok(mounts)
+    Ok(())
 }
 
-/// The first connections.
+/// Puts the first connections where there are none yet.
 pub fn read_clients(
     alloc: Global,
     names: &[Bytes],
-    values: &[Value],
-) -> Result<Vec<Client>, TreeFault>
-    requires { length names.now ≤ MAX_SERVERS }
-    ensures read { IfOk result (λ clients. read_all (client_of names.now) [] (map view values.now) ≡ Ok clients.items) }
-    ensures refused { IfErr result (Breaks 7 (result_err (read_all (client_of names.now) [] (map view values.now)))) }
+    document: &Value,
+    clients: &mut Vec<Client>,
+) -> Result<(), TreeFault>
+    requires servers { servers_of (view document.now) ≡ names.now }
+    requires few { length names.now ≤ MAX_SERVERS }
+    requires none { clients.old.items ≡ [] }
+    ensures read { OnOk result (read_clients (view document.now) ≡ Ok clients.new.items) }
+    ensures refused { IfErr result (Breaks 7 (rule_7 (view document.now))) }
 {
-    let mut clients = Vec::new(alloc);
+    let values = items_at(document, "client");
     let mut endpoints = BTreeSet::new(alloc);
     for value in values {
-        match read_client(alloc, names, &endpoints, value)? {
+        match client_of(names, &endpoints, value) {
             Some(client) => {
                 endpoints.insert(client.endpoint)?;
-                clients.push(client)?;
+                clients.push(keep_client(alloc, &client)?)?;
             }
-            None => return Err(TreeFault::Rule {
-                rule: 7,
-                item: clients.len() as u64,
-            }),
+            None => return Err(broken(7, clients.len())),
         }
     }
-    Ok(clients)
+    Ok(())
 }

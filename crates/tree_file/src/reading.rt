@@ -1,15 +1,17 @@
 ghost use Rattle.std.specs.Prelude.{◌≡◌, ◌<◌, ◌≤◌, List, length, if◌then◌else◌, None, IfOk, IfSome};
 ghost use Rattle.std.specs.List.{list_all};
-ghost use Rattle.std.specs.Option.{option_copied, option_and_then};
+ghost use Rattle.std.specs.Option.{option_copied, option_and_then, option_map};
 ghost use Rattle.toml.specs.Data.{as_str};
 ghost use Rattle.toml.specs.View.{view};
 ghost use Rattle.tree_file.specs.Texts.{only, kind_of, is_digit, hex_of};
 ghost use Rattle.tree_file.specs.Reading.{index_of, server_at, path_at, place_at, rights_at, is_new_name, server_of, kind_at, is_file, bytes_at, is_new_endpoint, endpoint_at, endpoint_from, node_of, mount_of, client_of};
 ghost use Rattle.tree_file.specs.Items.{ClientItem};
 ghost use Rattle.tree_file.specs.Kept.{HasEndpoints};
+ghost use Rattle.tree_file.specs.Lent.{mount_item, client_item};
 
 use crate::fields::{has_only, text_at};
-use crate::items::{Bytes, Client, Mount, Node};
+use crate::items::{Bytes, Node};
+use crate::lent::{StartClient, StartMount};
 use fidl_names::{MAX_SERVERS, NoMemory, is_client};
 use hex::FromHexError;
 use io_rights::{Rights, read_rights};
@@ -260,37 +262,20 @@ pub fn read_node(alloc: Global, names: &[Bytes], value: &Value) -> Result<Option
 
 /// The mount that an item stands for; `None` where it breaks the rule of mounts.
 #[tactic(auto, unfolding(crate::specs::Reading::mount_of))]
-pub fn read_mount(alloc: Global, names: &[Bytes], value: &Value) -> Result<Option<Mount>, NoMemory>
+pub fn mount_of<'a>(names: &[Bytes], value: &'a Value) -> Option<StartMount<'a>>
     requires { length names.now ≤ MAX_SERVERS }
-    ensures { IfOk result (λ found. found ≡ mount_of names.now (view value.now)) }
+    ensures { option_map mount_item result ≡ mount_of names.now (view value.now) }
 {
     if !has_only(value, &["server", "path", "target", "at", "rights"]) {
-        return Ok(None);
+        return None;
     }
-    let Some(server) = server_at(names, "server", value) else {
-        return Ok(None);
-    };
-    let Some(path) = place_at("path", value) else {
-        return Ok(None);
-    };
-    let Some(target) = server_at(names, "target", value) else {
-        return Ok(None);
-    };
-    let Some(at) = path_at("at", value) else {
-        return Ok(None);
-    };
-    let Some(rights) = rights_at(value) else {
-        return Ok(None);
-    };
-    let path = Bytes::copy(alloc, path)?;
-    let at = Bytes::copy(alloc, at)?;
-    Ok(Some(Mount {
-        server,
-        path,
-        target,
-        at,
-        rights,
-    }))
+    Some(StartMount {
+        server: server_at(names, "server", value)?,
+        path: place_at("path", value)?,
+        target: server_at(names, "target", value)?,
+        at: path_at("at", value)?,
+        rights: rights_at(value)?,
+    })
 }
 
 // The number of an endpoint that no earlier client has.
@@ -308,35 +293,21 @@ fn new_endpoint_at(taken: &BTreeSet<u32>, value: &Value) -> Option<u32>
 /// The first connection that an item stands for, where these are the endpoints of those before it;
 /// `None` where it breaks the rule of clients.
 #[tactic(auto, unfolding(crate::specs::Reading::client_of))]
-pub fn read_client(
-    alloc: Global,
+pub fn client_of<'a>(
     names: &[Bytes],
     taken: &BTreeSet<u32>,
-    value: &Value,
-) -> Result<Option<Client>, NoMemory>
+    value: &'a Value,
+) -> Option<StartClient<'a>>
     requires { length names.now ≤ MAX_SERVERS }
-    ensures { IfOk result (λ found. (earlier : List ClientItem) → HasEndpoints taken.now earlier → found ≡ client_of names.now earlier (view value.now)) }
+    ensures { (earlier : List ClientItem) → HasEndpoints taken.now earlier → option_map client_item result ≡ client_of names.now earlier (view value.now) }
 {
     if !has_only(value, &["endpoint", "server", "path", "rights"]) {
-        return Ok(None);
+        return None;
     }
-    let Some(endpoint) = new_endpoint_at(taken, value) else {
-        return Ok(None);
-    };
-    let Some(server) = server_at(names, "server", value) else {
-        return Ok(None);
-    };
-    let Some(path) = path_at("path", value) else {
-        return Ok(None);
-    };
-    let Some(rights) = rights_at(value) else {
-        return Ok(None);
-    };
-    let path = Bytes::copy(alloc, path)?;
-    Ok(Some(Client {
-        endpoint,
-        server,
-        path,
-        rights,
-    }))
+    Some(StartClient {
+        endpoint: new_endpoint_at(taken, value)?,
+        server: server_at(names, "server", value)?,
+        path: path_at("path", value)?,
+        rights: rights_at(value)?,
+    })
 }

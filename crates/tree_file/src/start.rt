@@ -1,15 +1,15 @@
-ghost use Rattle.std.specs.Prelude.{◌≡◌, ◌≤◌, ◌<◌, slice_get, Some, Ok, None, codes, length, map, IfOk, IfErr, OnOk};
+ghost use Rattle.std.specs.Prelude.{◌≡◌, ◌≤◌, ◌<◌, [], ◌∷◌, slice_get, Some, None, codes, length, IfOk, IfErr, OnOk};
 ghost use Rattle.std.specs.List.{list_all};
 ghost use Rattle.toml.specs.Data.{get};
 ghost use Rattle.toml.specs.View.{view};
 ghost use Rattle.tree_file.specs.Fields.{is_table};
-ghost use Rattle.tree_file.specs.declared.faults.TreeFault.TheVariants.{Rule};
 ghost use Rattle.tree_file.specs.Accepted.{AreAccepted, HasFilesOfBytes};
 ghost use Rattle.tree_file.specs.Lent.{node_item, mount_item, client_item};
-ghost use Rattle.tree_file.specs.Rules.{document_of, broken_in, is_versioned, is_version_one, has_lists, has_all_tables, has_items, has_tables, items_at, read_servers, read_nodes, read_mounts, read_clients, servers_of, lists_of, rule_4, rule_5, rule_6, rule_7, rules_on_counts, rules_on_form, rules_on_lists, rules_on_places, first_broken, first_failure, start_from};
-ghost use Rattle.tree_file.specs.Faults.{Breaks, IsFirst};
+ghost use Rattle.tree_file.specs.Rules.{document_of, broken_in, is_versioned, is_version_one, has_lists, has_all_tables, has_items, has_tables, lists_of, rule_2, rule_3, rules_on_counts, rules_on_form, rules_on_lists, rules_on_places, first_broken, first_failure, start_from};
+ghost use Rattle.tree_file.specs.Faults.{IsFirst};
+ghost use Rattle.tree_file.specs.Kept.{Stands};
 
-use crate::faults::TreeFault;
+use crate::faults::{TreeFault, broken};
 use crate::fields::has_only;
 use crate::items::{Bytes, Client, Mount, Node};
 use crate::lent::{StartClient, StartMount, StartNode, lend_client, lend_mount, lend_node};
@@ -36,6 +36,19 @@ impl Model for Parts {
     ghost Value = { Lists };
 
     ghost view = { λ parts. record { servers = parts.servers.items; nodes = parts.nodes.items; mounts = parts.mounts.items; clients = parts.clients.items } };
+}
+
+impl Parts {
+    fn new(alloc: Global) -> Parts
+        ensures { result ≡ record { servers = []; nodes = []; mounts = []; clients = [] } }
+    {
+        Parts {
+            servers: Vec::new(alloc),
+            nodes: Vec::new(alloc),
+            mounts: Vec::new(alloc),
+            clients: Vec::new(alloc),
+        }
+    }
 }
 
 /// What a session starts with: servers, nodes, mounts and first connections, each in the order of the
@@ -159,20 +172,6 @@ fn is_version_one(document: &Value) -> bool
     }
 }
 
-// The items of the list at a key.
-#[tactic(auto, unfolding(crate::specs::Rules::items_at))]
-fn items_at<'a>(document: &'a Value, key: &str) -> &'a [Value]
-    ensures { map view result.now ≡ items_at key.now (view document.now) }
-{
-    let Some(value) = document.get(key) else {
-        return &[];
-    };
-    match value.as_array() {
-        Some(items) => items.as_slice(),
-        None => &[],
-    }
-}
-
 fn are_tables(values: &[Value]) -> bool
     ensures { result ≡ list_all (λ value. is_table (view value)) values.now }
 {
@@ -205,7 +204,7 @@ fn has_all_tables(document: &Value) -> bool
 fn has_items(document: &Value, key: &str) -> bool
     ensures { result ≡ has_items key.now (view document.now) }
 {
-    !items_at(document, key).is_empty()
+    !lists::items_at(document, key).is_empty()
 }
 
 // Whether each list is one of tables, and those of servers and clients have some.
@@ -216,74 +215,33 @@ fn has_lists(document: &Value) -> bool
     has_all_tables(document) && has_items(document, "server") && has_items(document, "client")
 }
 
-fn servers_in(alloc: Global, document: &Value) -> Result<Vec<Bytes>, TreeFault>
-    ensures read { IfOk result (λ names. read_servers (view document.now) ≡ Ok names.items) }
-    ensures few { IfOk result (λ names. length names.items ≤ MAX_SERVERS) }
-    ensures refused { IfErr result (Breaks 4 (rule_4 (view document.now))) }
+// The rules on the document's keys and on what stands at them.
+fn check_form(document: &Value) -> Result<(), TreeFault>
+    ensures hold { OnOk result (first_broken 2 (rule_2 (view document.now) ∷ rule_3 (view document.now) ∷ []) ≡ None) }
+    ensures refused { IfErr result (IsFirst (first_broken 2 (rule_2 (view document.now) ∷ rule_3 (view document.now) ∷ []))) }
 {
-    lists::read_servers(alloc, items_at(document, "server"))
+    if !is_versioned(document) {
+        return Err(broken(2, 0));
+    }
+    if !has_lists(document) {
+        return Err(broken(3, 0));
+    }
+    Ok(())
 }
 
-fn nodes_in(alloc: Global, names: &[Bytes], document: &Value) -> Result<Vec<Node>, TreeFault>
-    requires servers { servers_of (view document.now) ≡ names.now }
-    requires few { length names.now ≤ MAX_SERVERS }
-    ensures read { IfOk result (λ nodes. read_nodes (view document.now) ≡ Ok nodes.items) }
-    ensures refused { IfErr result (Breaks 5 (rule_5 (view document.now))) }
-{
-    lists::read_nodes(alloc, names, items_at(document, "node"))
-}
-
-fn mounts_in(alloc: Global, names: &[Bytes], document: &Value) -> Result<Vec<Mount>, TreeFault>
-    requires servers { servers_of (view document.now) ≡ names.now }
-    requires few { length names.now ≤ MAX_SERVERS }
-    ensures read { IfOk result (λ mounts. read_mounts (view document.now) ≡ Ok mounts.items) }
-    ensures refused { IfErr result (Breaks 6 (rule_6 (view document.now))) }
-{
-    lists::read_mounts(alloc, names, items_at(document, "mount"))
-}
-
-fn clients_in(alloc: Global, names: &[Bytes], document: &Value) -> Result<Vec<Client>, TreeFault>
-    requires servers { servers_of (view document.now) ≡ names.now }
-    requires few { length names.now ≤ MAX_SERVERS }
-    ensures read { IfOk result (λ clients. read_clients (view document.now) ≡ Ok clients.items) }
-    ensures refused { IfErr result (Breaks 7 (rule_7 (view document.now))) }
-{
-    lists::read_clients(alloc, names, items_at(document, "client"))
-}
-
-// The lists of a document that keeps the rules on each item by itself.
-fn read_lists(alloc: Global, document: &Value) -> Result<Parts, TreeFault>
-    ensures lists { IfOk result (λ parts. parts ≡ lists_of (view document.now)) }
-    ensures few { IfOk result (λ parts. length parts.servers ≤ MAX_SERVERS) }
+// Puts the lists of a document that keeps the rules on each item by itself where there are none yet.
+fn read_lists(alloc: Global, document: &Value, parts: &mut Parts) -> Result<(), TreeFault>
+    requires { parts.old ≡ record { servers = []; nodes = []; mounts = []; clients = [] } }
+    ensures lists { OnOk result (parts.new ≡ lists_of (view document.now)) }
+    ensures few { OnOk result (length parts.new.servers ≤ MAX_SERVERS) }
     ensures hold { OnOk result (first_broken 2 (rules_on_form (view document.now)) ≡ None) }
     ensures refused { IfErr result (IsFirst (first_broken 2 (rules_on_form (view document.now)))) }
 {
-    if !is_versioned(document) {
-        return Err(TreeFault::Rule { rule: 2, item: 0 });
-    }
-    if !has_lists(document) {
-        return Err(TreeFault::Rule { rule: 3, item: 0 });
-    }
-    let servers = servers_in(alloc, document)?;
-    let nodes = nodes_in(alloc, &servers, document)?;
-    let mounts = mounts_in(alloc, &servers, document)?;
-    let clients = clients_in(alloc, &servers, document)?;
-    Ok(Parts {
-        servers,
-        nodes,
-        mounts,
-        clients,
-    })
-}
-
-// The fault of a rule at an item.
-fn broken(rule: u32, item: usize) -> TreeFault
-    ensures { result ≡ Rule rule item }
-{
-    TreeFault::Rule {
-        rule,
-        item: item as u64,
-    }
+    check_form(document)?;
+    lists::read_servers(alloc, document, &mut parts.servers)?;
+    lists::read_nodes(alloc, &parts.servers, document, &mut parts.nodes)?;
+    lists::read_mounts(alloc, &parts.servers, document, &mut parts.mounts)?;
+    lists::read_clients(alloc, &parts.servers, document, &mut parts.clients)
 }
 
 // The rules on where the items stand.
@@ -291,10 +249,19 @@ fn check_places(alloc: Global, parts: &Parts) -> Result<(), TreeFault>
     ensures hold { OnOk result (first_broken 8 (rules_on_places parts.now) ≡ None) }
     ensures refused { IfErr result (IsFirst (first_broken 8 (rules_on_places parts.now))) }
 {
-    let mut places: Places<'_> = BTreeMap::new(alloc);
-    rules::add_nodes(&mut places, &parts.nodes)?;
-    rules::add_mounts(&mut places, &parts.mounts)?;
-    match rules::misplaced_client(&places, &parts.clients) {
+    let mut places = BTreeMap::new(alloc);
+    check_placed(&mut places, parts)
+}
+
+// The same, with what stands at each path put where nothing does yet.
+fn check_placed<'a>(places: &mut Places<'a>, parts: &'a Parts) -> Result<(), TreeFault>
+    requires { Stands places.old [] }
+    ensures hold { OnOk result (first_broken 8 (rules_on_places parts.now) ≡ None) }
+    ensures refused { IfErr result (IsFirst (first_broken 8 (rules_on_places parts.now))) }
+{
+    rules::add_nodes(places, &parts.nodes)?;
+    rules::add_mounts(places, &parts.mounts)?;
+    match rules::misplaced_client(places, &parts.clients) {
         Some(item) => Err(broken(10, item)),
         None => Ok(()),
     }
@@ -337,7 +304,8 @@ fn start_in(alloc: Global, document: &Value) -> Result<Start, TreeFault>
     ensures accepted { IfOk result AreAccepted }
     ensures refused { IfErr result (IsFirst (broken_in (view document.now))) }
 {
-    let parts = read_lists(alloc, document)?;
+    let mut parts = Parts::new(alloc);
+    read_lists(alloc, document, &mut parts)?;
     check_lists(alloc, &parts)?;
     Ok(Start { parts })
 }

@@ -1,24 +1,28 @@
-use Rattle.std.proofs.Common.{◌≡◌, refl, ap, ◌∙◌, sym, arith, Some, length}
-use Rattle.std.specs.Result.{result_err}
-use Rattle.tree_file.specs.Reading.{node_of}
-use Rattle.tree_file.proofs.Passes.{read-on, read-stop, read-end}
+use Rattle.std.proofs.Common.{codes, map, ap, ◌∙◌, sym, arith, length}
+use Rattle.toml.specs.View.{view}
+use Rattle.tree_file.specs.Reading.{read_all, node_of}
+use Rattle.tree_file.specs.Rules.{items_at, read_nodes, servers_of}
+use Rattle.tree_file.proofs.Passes.{read-on, read-stop, read-end, read-breaks, read-named}
 use Rattle.tree_file.proofs.lists.read_nodes.Goals as goal
+
+pub loop-value-init : goal.loop-value-init
+loop-value-init c = ap (λ none. read_all (λ _. node_of c.args.names.now) none (map view c.items_at-values.result.now)) (sym c.requires.none)
 
 pub returns-in-None-clause-refused : goal.returns-in-None-clause-refused
 returns-in-None-clause-refused c =
-    let count : length c.loop-value.nodes.items ≡ c.len.result = omega (arith, c.loop-value.nodes.ok.0, c.len.ensures) in (
-      refl,
-      ap result_err (c.loop-value.invariant ∙ read-stop (λ _. node_of c.args.names.now) c.loop-value.nodes.items c.args.values.now c.loop-value.value-index c.value-item.result c.loop-value-test.true c.value-item.is (sym c.in_ok-node.ensures ∙ c.in-None.is))
-          ∙ ap Some count,
-    )
+    let document = view c.args.document.now in
+    let whole = read-named (λ names _. node_of names) (servers_of document) c.args.names.now (items_at (codes "node") document) (map view c.items_at-values.result.now) c.requires.servers c.items_at-values.ensures in
+    read-breaks 5 (read_nodes document) (length c.loop-value.nodes.items) c.len.result c.broken.result
+    (whole ∙ c.loop-value.invariant ∙ read-stop (λ _. node_of c.args.names.now) c.loop-value.nodes.items c.items_at-values.result.now c.loop-value.value-index c.value-item.result c.loop-value-test.true c.value-item.is (sym c.in_ok-node.ensures ∙ c.in-None.is))
+    (omega (arith, c.loop-value.nodes.ok.0, c.len.ensures)) c.broken.ensures
 
 pub loop-value-preserved : goal.loop-value-preserved
 loop-value-preserved c =
     let pushed = c.in_ok-push-in-Some.ensures.items in
-    let here =
-    c.loop-value.invariant ∙ read-on (λ _. node_of c.args.names.now) c.loop-value.nodes.items c.args.values.now c.loop-value.value-index c.value-item.result c.in-Some.node c.loop-value-test.true c.value-item.is (sym c.in_ok-node.ensures ∙ c.in-Some.is) in
-    rw pushed here
+    rw pushed (c.loop-value.invariant ∙ read-on (λ _. node_of c.args.names.now) c.loop-value.nodes.items c.items_at-values.result.now c.loop-value.value-index c.value-item.result c.in-Some.node c.loop-value-test.true c.value-item.is (sym c.in_ok-node.ensures ∙ c.in-Some.is))
 
 pub returns-clause-read : goal.returns-clause-read
 returns-clause-read c =
-    c.loop-value.invariant ∙ read-end (λ _. node_of c.args.names.now) c.loop-value.nodes.items c.args.values.now c.loop-value.value-index (omega (arith, c.loop-value-test.false))
+    let document = view c.args.document.now in
+    read-named (λ names _. node_of names) (servers_of document) c.args.names.now (items_at (codes "node") document) (map view c.items_at-values.result.now) c.requires.servers c.items_at-values.ensures
+    ∙ c.loop-value.invariant ∙ read-end (λ _. node_of c.args.names.now) c.loop-value.nodes.items c.items_at-values.result.now c.loop-value.value-index (omega (arith, c.loop-value-test.false))

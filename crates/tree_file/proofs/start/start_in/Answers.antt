@@ -8,7 +8,7 @@ use Rattle.tree_file.proofs.start.start_in.Goals as goal
 
 pub invariant_of-result : goal.invariant_of-result
 invariant_of-result c =
-    let same = c.in_ok-parts.ensures.lists in
+    let same = c.in_ok-read_lists.ensures.lists in
     record {
       accepted =
           subst AreAccepted (sym same)
@@ -18,6 +18,6 @@ invariant_of-result c =
 
 pub returns-clause-accepted : goal.returns-clause-accepted
 returns-clause-accepted c =
-    let same = c.in_ok-parts.ensures.lists in
+    let same = c.in_ok-read_lists.ensures.lists in
     subst AreAccepted (sym same)
     (accepted_of (view c.args.document.now) (subst (λ (l : Lists). first_broken 8 (rules_on_lists l) ≡ None) same c.in_ok-check_lists.ensures.hold))

@@ -4,7 +4,7 @@ use Rattle.toml.specs.View.{view}
 use Rattle.toml.specs.declared.value.Value.{Value}
 use Rattle.tree_file.specs.Rules.{items_at}
 use Rattle.tree_file.proofs.Views.{items-found}
-use Rattle.tree_file.proofs.start.items_at.Goals as goal
+use Rattle.tree_file.proofs.lists.items_at.Goals as goal
 
 pub returns-in-Some-as_array : goal.returns-in-Some-as_array
 unfolding items_at
