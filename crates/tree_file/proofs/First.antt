@@ -1,5 +1,6 @@
 -- The first rule that is broken.
-use Rattle.std.proofs.Common.{◌≡◌, ℕ, ◌+◌, List, [], ◌∷◌, ◌++◌, Option, Some, None, refl}
+use Rattle.std.proofs.Common.{◌≡◌, ℕ, ◌+◌, List, [], ◌∷◌, ◌++◌, Option, Some, None, Result, Ok, Err, IfErr, refl, sym, subst}
+use Rattle.std.specs.Result.{IsErrAnd}
 use Rattle.tree_file.specs.declared.faults.TreeFault.{TreeFault}
 use Rattle.tree_file.specs.declared.faults.TreeFault.TheVariants.{Rule, NoMemory}
 use Rattle.tree_file.specs.Faults.{Breaks, IsFirst}
@@ -20,6 +21,11 @@ first-before rule rules more NoMemory first = tt
 first-before rule [] more (Rule told item) first = cc
 first-before rule (None ∷ rules) more (Rule told item) first = first-before (rule + 1) rules more (Rule told item) first
 first-before rule (Some at ∷ rules) more (Rule told item) first = first
+
+-- what is told of a fault that a call passes on is told of the call's own
+pub passed-on : {X : Type 0} (result : Result X TreeFault) (fault : TreeFault) (P : TreeFault → Type 0) → IsErrAnd result (λ told. told ≡ fault) → P fault → IfErr result P
+passed-on (Ok x) fault P is h = tt
+passed-on (Err told) fault P is h = subst P (sym is) h
 
 -- six rules that hold are passed
 pub six-pass : (a b c d e f : Option ℕ) (more : List (Option ℕ)) → first_broken 2 (a ∷ b ∷ c ∷ d ∷ e ∷ f ∷ []) ≡ None → first_broken 2 ((a ∷ b ∷ c ∷ d ∷ e ∷ f ∷ []) ++ more) ≡ first_broken 8 more

@@ -16,3 +16,4 @@ pub mod Rising
 pub mod Edges
 pub mod Soundness
 pub mod Starts
+mod Counts

@@ -1,9 +1,12 @@
 -- What a text that is read stands for.
-use Rattle.std.proofs.Common.{◌≡◌, ℕ, List, Some, Result, Ok, Err, IfOk, ap, ◌∙◌, sym}
+use Rattle.std.proofs.Common.{◌≡◌, ℕ, List, [], ◌∷◌, Option, Some, None, Result, Ok, Err, IfOk, IfErr, OnOk, ap, ◌∙◌, sym}
+use Rattle.std.specs.Result.{result_err}
 use Rattle.toml.specs.Data.{Data}
 use Rattle.tree_file.specs.declared.faults.TreeFault.{TreeFault}
-use Rattle.tree_file.specs.Items.{Lists}
-use Rattle.tree_file.specs.Rules.{document_of, lists_of, broken_in, failure_of, first_failure, start_from}
+use Rattle.tree_file.specs.Faults.{Breaks, IsFirst}
+use Rattle.tree_file.specs.Items.{NodeItem, MountItem, ClientItem, Lists}
+use Rattle.tree_file.specs.Rules.{document_of, all_or_none, read_servers, read_nodes, read_mounts, read_clients, lists_of, rule_2, rule_3, rule_4, rule_5, rule_6, rule_7, first_broken, rules_on_form, broken_in, failure_of, first_failure, start_from}
+use Rattle.tree_file.proofs.First.{first-here}
 
 pub start-read : (text : List ℕ) (document : Data) → document_of text ≡ Some document → start_from text ≡ Some (lists_of document)
 unfolding start_from
@@ -16,3 +19,49 @@ failure-read text document read = ap failure_of read
 pub ok_start : (result : Result Lists TreeFault) (document : Data) (text : List ℕ) → start_from text ≡ Some (lists_of document) → IfOk result (λ start. start ≡ lists_of document) → IfOk result (λ start. start_from text ≡ Some start)
 ok_start (Ok start) document text read is = read ∙ ap Some (sym is)
 ok_start (Err fault) document text read is = is
+
+-- the lists of a document, list by list
+gathered : Result (List (List ℕ)) ℕ → Result (List NodeItem) ℕ → Result (List MountItem) ℕ → Result (List ClientItem) ℕ → Lists
+gathered servers nodes mounts clients = record { servers = all_or_none servers; nodes = all_or_none nodes; mounts = all_or_none mounts; clients = all_or_none clients }
+
+gathered-same : (s s' : Result (List (List ℕ)) ℕ) (n n' : Result (List NodeItem) ℕ) (m m' : Result (List MountItem) ℕ) (c c' : Result (List ClientItem) ℕ)
+    → s ≡ s' → n ≡ n' → m ≡ m' → c ≡ c' → gathered s n m c ≡ gathered s' n' m' c'
+gathered-same s s' n n' m m' c c' d e f g = cc
+
+pub lists-read : {X : Type 0} (result : Result X TreeFault) (document : Data) (servers : List (List ℕ)) (nodes : List NodeItem) (mounts : List MountItem) (clients : List ClientItem)
+    → read_servers document ≡ Ok servers → read_nodes document ≡ Ok nodes → read_mounts document ≡ Ok mounts → OnOk result (read_clients document ≡ Ok clients)
+    → OnOk result (record { servers = servers; nodes = nodes; mounts = mounts; clients = clients } ≡ lists_of document)
+unfolding gathered
+lists-read (Ok x) document servers nodes mounts clients s n m c =
+    sym (gathered-same (read_servers document) (Ok servers) (read_nodes document) (Ok nodes) (read_mounts document) (Ok mounts) (read_clients document) (Ok clients) s n m c)
+lists-read (Err fault) document servers nodes mounts clients s n m c = tt
+
+-- the rules on the form hold, or the last of them is broken first
+passed : (a b c d e f : Option ℕ) → first_broken 2 (a ∷ b ∷ []) ≡ None → c ≡ None → d ≡ None → e ≡ None → f ≡ None → first_broken 2 (a ∷ b ∷ c ∷ d ∷ e ∷ f ∷ []) ≡ None
+passed None None c d e f form third fourth fifth sixth = rw (third, fourth, fifth, sixth)
+passed (Some x) b c d e f form third fourth fifth sixth = absurd (cc)
+passed None (Some x) c d e f form third fourth fifth sixth = absurd (cc)
+
+last : (a b c d e f : Option ℕ) (fault : TreeFault) → first_broken 2 (a ∷ b ∷ []) ≡ None → c ≡ None → d ≡ None → e ≡ None → Breaks 7 f fault → IsFirst (first_broken 2 (a ∷ b ∷ c ∷ d ∷ e ∷ f ∷ [])) fault
+last None None c d e f fault form third fourth fifth breaks = rw (third, fourth, fifth) (first-here 7 f [] fault breaks)
+last (Some x) b c d e f fault form third fourth fifth breaks = absurd (cc)
+last None (Some x) c d e f fault form third fourth fifth breaks = absurd (cc)
+
+none_broken : {Y : Type 0} (whole : Result (List Y) ℕ) (ys : List Y) → whole ≡ Ok ys → result_err whole ≡ None
+none_broken whole ys is = rw is
+
+pub form-read : {X : Type 0} (result : Result X TreeFault) (document : Data) (servers : List (List ℕ)) (nodes : List NodeItem) (mounts : List MountItem) (clients : List ClientItem)
+    → first_broken 2 (rule_2 document ∷ rule_3 document ∷ []) ≡ None
+    → read_servers document ≡ Ok servers → read_nodes document ≡ Ok nodes → read_mounts document ≡ Ok mounts → OnOk result (read_clients document ≡ Ok clients)
+    → OnOk result (first_broken 2 (rules_on_form document) ≡ None)
+form-read (Ok x) document servers nodes mounts clients form s n m c =
+    passed (rule_2 document) (rule_3 document) (rule_4 document) (rule_5 document) (rule_6 document) (rule_7 document) form (none_broken (read_servers document) servers s) (none_broken (read_nodes document) nodes n) (none_broken (read_mounts document) mounts m) (none_broken (read_clients document) clients c)
+form-read (Err fault) document servers nodes mounts clients form s n m c = tt
+
+pub form-broken : {X : Type 0} (result : Result X TreeFault) (document : Data) (servers : List (List ℕ)) (nodes : List NodeItem) (mounts : List MountItem)
+    → first_broken 2 (rule_2 document ∷ rule_3 document ∷ []) ≡ None
+    → read_servers document ≡ Ok servers → read_nodes document ≡ Ok nodes → read_mounts document ≡ Ok mounts → IfErr result (Breaks 7 (rule_7 document))
+    → IfErr result (IsFirst (first_broken 2 (rules_on_form document)))
+form-broken (Ok x) document servers nodes mounts form s n m c = tt
+form-broken (Err fault) document servers nodes mounts form s n m breaks =
+    last (rule_2 document) (rule_3 document) (rule_4 document) (rule_5 document) (rule_6 document) (rule_7 document) fault form (none_broken (read_servers document) servers s) (none_broken (read_nodes document) nodes n) (none_broken (read_mounts document) mounts m) breaks

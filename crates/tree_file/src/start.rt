@@ -22,12 +22,23 @@ use std::marker::Model;
 use toml::Value;
 
 // The lists of a document, before the rules that look at several items.
-#[derive(Drop)]
 struct Parts {
     servers: Vec<Bytes>,
     nodes: Vec<Node>,
     mounts: Vec<Mount>,
     clients: Vec<Client>,
+}
+
+// Who owns the lists lets go of them by one call, and not of each by another.
+impl Drop for Parts {
+    fn drop(self) {
+        let Parts {
+            servers: _servers,
+            nodes: _nodes,
+            mounts: _mounts,
+            clients: _clients,
+        } = self;
+    }
 }
 
 impl Model for Parts {
@@ -58,7 +69,7 @@ pub struct Start {
     parts: Parts,
 }
 
-// Who owns a start lets go of it by one call, and not of each list by another.
+// Who owns a start lets go of it by one call.
 impl Drop for Start {
     fn drop(self) {
         let Start { parts: _parts } = self;
