@@ -6,7 +6,7 @@ use Rattle.tree_file.specs.declared.faults.TreeFault.{TreeFault}
 use Rattle.tree_file.specs.Faults.{Breaks, IsFirst}
 use Rattle.tree_file.specs.Items.{NodeItem, MountItem, ClientItem, Lists}
 use Rattle.tree_file.specs.Rules.{document_of, all_or_none, read_servers, read_nodes, read_mounts, read_clients, lists_of, rule_2, rule_3, rule_4, rule_5, rule_6, rule_7, first_broken, rules_on_form, broken_in, failure_of, first_failure, start_from}
-use Rattle.tree_file.proofs.First.{first-here}
+use Rattle.tree_file.proofs.First.{first-here, first-later}
 
 pub start-read : (text : List ℕ) (document : Data) → document_of text ≡ Some document → start_from text ≡ Some (lists_of document)
 unfolding start_from
@@ -36,16 +36,17 @@ lists-read (Ok x) document servers nodes mounts clients s n m c =
     sym (gathered-same (read_servers document) (Ok servers) (read_nodes document) (Ok nodes) (read_mounts document) (Ok mounts) (read_clients document) (Ok clients) s n m c)
 lists-read (Err fault) document servers nodes mounts clients s n m c = tt
 
--- the rules on the form hold, or the last of them is broken first
+-- the rules on the form hold
 passed : (a b c d e f : Option ℕ) → first_broken 2 (a ∷ b ∷ []) ≡ None → c ≡ None → d ≡ None → e ≡ None → f ≡ None → first_broken 2 (a ∷ b ∷ c ∷ d ∷ e ∷ f ∷ []) ≡ None
 passed None None c d e f form third fourth fifth sixth = rw (third, fourth, fifth, sixth)
 passed (Some x) b c d e f form third fourth fifth sixth = absurd (cc)
 passed None (Some x) c d e f form third fourth fifth sixth = absurd (cc)
 
-last : (a b c d e f : Option ℕ) (fault : TreeFault) → first_broken 2 (a ∷ b ∷ []) ≡ None → c ≡ None → d ≡ None → e ≡ None → Breaks 7 f fault → IsFirst (first_broken 2 (a ∷ b ∷ c ∷ d ∷ e ∷ f ∷ [])) fault
-last None None c d e f fault form third fourth fifth breaks = rw (third, fourth, fifth) (first-here 7 f [] fault breaks)
-last (Some x) b c d e f fault form third fourth fifth breaks = absurd (cc)
-last None (Some x) c d e f fault form third fourth fifth breaks = absurd (cc)
+-- what is broken first behind the rules on the document itself
+behind : (a b : Option ℕ) (rules : List (Option ℕ)) (fault : TreeFault) → first_broken 2 (a ∷ b ∷ []) ≡ None → IsFirst (first_broken 4 rules) fault → IsFirst (first_broken 2 (a ∷ b ∷ rules)) fault
+behind None None rules fault form first = first
+behind (Some x) b rules fault form first = absurd (cc)
+behind None (Some x) rules fault form first = absurd (cc)
 
 none_broken : {Y : Type 0} (whole : Result (List Y) ℕ) (ys : List Y) → whole ≡ Ok ys → result_err whole ≡ None
 none_broken whole ys is = rw is
@@ -58,10 +59,39 @@ form-read (Ok x) document servers nodes mounts clients form s n m c =
     passed (rule_2 document) (rule_3 document) (rule_4 document) (rule_5 document) (rule_6 document) (rule_7 document) form (none_broken (read_servers document) servers s) (none_broken (read_nodes document) nodes n) (none_broken (read_mounts document) mounts m) (none_broken (read_clients document) clients c)
 form-read (Err fault) document servers nodes mounts clients form s n m c = tt
 
+-- the rule on each list, where it is broken first
+module _ (document : Data) (fault : TreeFault) (form : first_broken 2 (rule_2 document ∷ rule_3 document ∷ []) ≡ None) where
+  pub servers-broken : Breaks 4 (rule_4 document) fault → IsFirst (first_broken 2 (rules_on_form document)) fault
+  servers-broken breaks =
+      behind (rule_2 document) (rule_3 document) (rule_4 document ∷ rule_5 document ∷ rule_6 document ∷ rule_7 document ∷ []) fault form
+      (first-here 4 (rule_4 document) (rule_5 document ∷ rule_6 document ∷ rule_7 document ∷ []) fault breaks)
+
+  module _ (servers : List (List ℕ)) (s : read_servers document ≡ Ok servers) where
+    pub nodes-broken : Breaks 5 (rule_5 document) fault → IsFirst (first_broken 2 (rules_on_form document)) fault
+    nodes-broken breaks =
+        behind (rule_2 document) (rule_3 document) (rule_4 document ∷ rule_5 document ∷ rule_6 document ∷ rule_7 document ∷ []) fault form
+        (first-later 4 (rule_4 document) (rule_5 document ∷ rule_6 document ∷ rule_7 document ∷ []) fault (none_broken (read_servers document) servers s)
+        (first-here 5 (rule_5 document) (rule_6 document ∷ rule_7 document ∷ []) fault breaks))
+
+    module _ (nodes : List NodeItem) (n : read_nodes document ≡ Ok nodes) where
+      pub mounts-broken : Breaks 6 (rule_6 document) fault → IsFirst (first_broken 2 (rules_on_form document)) fault
+      mounts-broken breaks =
+          behind (rule_2 document) (rule_3 document) (rule_4 document ∷ rule_5 document ∷ rule_6 document ∷ rule_7 document ∷ []) fault form
+          (first-later 4 (rule_4 document) (rule_5 document ∷ rule_6 document ∷ rule_7 document ∷ []) fault (none_broken (read_servers document) servers s)
+          (first-later 5 (rule_5 document) (rule_6 document ∷ rule_7 document ∷ []) fault (none_broken (read_nodes document) nodes n)
+          (first-here 6 (rule_6 document) (rule_7 document ∷ []) fault breaks)))
+
+      pub clients-broken : (mounts : List MountItem) → read_mounts document ≡ Ok mounts → Breaks 7 (rule_7 document) fault → IsFirst (first_broken 2 (rules_on_form document)) fault
+      clients-broken mounts m breaks =
+          behind (rule_2 document) (rule_3 document) (rule_4 document ∷ rule_5 document ∷ rule_6 document ∷ rule_7 document ∷ []) fault form
+          (first-later 4 (rule_4 document) (rule_5 document ∷ rule_6 document ∷ rule_7 document ∷ []) fault (none_broken (read_servers document) servers s)
+          (first-later 5 (rule_5 document) (rule_6 document ∷ rule_7 document ∷ []) fault (none_broken (read_nodes document) nodes n)
+          (first-later 6 (rule_6 document) (rule_7 document ∷ []) fault (none_broken (read_mounts document) mounts m)
+          (first-here 7 (rule_7 document) [] fault breaks))))
+
 pub form-broken : {X : Type 0} (result : Result X TreeFault) (document : Data) (servers : List (List ℕ)) (nodes : List NodeItem) (mounts : List MountItem)
     → first_broken 2 (rule_2 document ∷ rule_3 document ∷ []) ≡ None
     → read_servers document ≡ Ok servers → read_nodes document ≡ Ok nodes → read_mounts document ≡ Ok mounts → IfErr result (Breaks 7 (rule_7 document))
     → IfErr result (IsFirst (first_broken 2 (rules_on_form document)))
 form-broken (Ok x) document servers nodes mounts form s n m c = tt
-form-broken (Err fault) document servers nodes mounts form s n m breaks =
-    last (rule_2 document) (rule_3 document) (rule_4 document) (rule_5 document) (rule_6 document) (rule_7 document) fault form (none_broken (read_servers document) servers s) (none_broken (read_nodes document) nodes n) (none_broken (read_mounts document) mounts m) breaks
+form-broken (Err fault) document servers nodes mounts form s n m breaks = clients-broken document fault form servers s nodes n mounts m breaks
