@@ -1,5 +1,5 @@
 -- The look-up of what stands at a path, and lists tried item by item.
-use Rattle.std.proofs.Common.{◌≡◌, ℕ, zero, suc, ◌+◌, ◌<◌, ◌≤◌, Bool, true, false, ◌&&◌, ◌==◌, cond, List, [], ◌∷◌, ◌++◌, length, map, get_or, take, drop, Option, Some, None, refl, ap, ◌∙◌, sym, arith, Bor}
+use Rattle.std.proofs.Common.{◌≡◌, ℕ, zero, suc, ◌+◌, ◌<◌, ◌≤◌, Bool, true, false, ◌&&◌, ◌==◌, cond, List, [], ◌∷◌, ◌++◌, length, map, get_or, take, drop, Option, Some, None, Result, Ok, Err, IfOk, refl, ap, ◌∙◌, sym, arith, Bor}
 use Rattle.std.proofs.lemmas.List.{drop_more, drop_all, take_more, length-take-le, get_or_default}
 use Rattle.std.proofs.lemmas.Map.Text.{is_eq-slice_cmp}
 use Rattle.std.proofs.lemmas.Slice.Eq.{bytes_eq-Decides}
@@ -12,6 +12,12 @@ use Rattle.std.specs.Ordering.{nat_cmp, is_eq, ordering_then}
 use Rattle.std.specs.Str.{bytes_eq}
 use Rattle.std.specs.declared.cmp.Ordering.{Ordering}
 use Rattle.std.specs.declared.cmp.Ordering.TheVariants.{Less, Equal, Greater}
+use Rattle.node_graph.specs.Refusals as graph
+use Rattle.node_graph.specs.declared.nodes.NodeKind.{NodeKind}
+use Rattle.node_graph.specs.declared.nodes.NodeKind.TheVariants.{Directory, File, Service, Mount}
+use Rattle.tree_file.specs.declared.faults.TreeFault.{TreeFault}
+use Rattle.tree_file.specs.declared.faults.TreeFault.TheVariants.{Rule}
+use Rattle.tree_file.specs.Faults.{Breaks}
 use Rattle.tree_file.specs.Kept.{Stands, place_cmp}
 use Rattle.tree_file.specs.Rules.{Place, is_at_place, found_among, first_failing, is_directory, fits_in}
 use Rattle.path_walk.specs.Parts.{parent_of}
@@ -131,3 +137,32 @@ take_past [] zero past = refl
 take_past [] (suc i) past = refl
 take_past (x ∷ xs) zero past = absurd (omega arith)
 take_past (x ∷ xs) (suc i) past = ap (λ more. x ∷ more) (take_past xs i (omega arith))
+
+-- what is told where an item fails
+pub fail-breaks : (rule : ℕ) (found : Option ℕ) (item : ℕ) (fault : TreeFault) → found ≡ Some item → fault ≡ Rule rule item → Breaks rule found fault
+fail-breaks rule found item fault is told = rw told (refl, is)
+
+-- ---- what is placed where it fits
+
+abbrev pub IsPlacing : BTreeMap (ℕ × Bor (List ℕ)) Bool → BTreeMap (ℕ × Bor (List ℕ)) Bool → Place → Bool → Type 0
+IsPlacing old new place fits = (listed : List Place) → Stands old listed → (fits ≡ fits_in listed place.server place.path) × (fits ≡ true → Stands new (listed ++ place ∷ []))
+
+pub not_directory : (kind : NodeKind) → (kind ≡ Directory → ⊥) → graph.is_directory kind ≡ false
+not_directory Directory other = absurd (other refl)
+not_directory File other = refl
+not_directory Service other = refl
+not_directory (Mount index) other = refl
+
+and_true : (a b : Bool) → b ≡ true → a ≡ (a && b)
+and_true true b is = sym is
+and_true false b is = refl
+
+-- a mount whose target is a directory
+pub mount-placing : {E : Type 0} (result : Result Bool E) (old new : BTreeMap (ℕ × Bor (List ℕ)) Bool) (place : Place) (target : ℕ) (at : List ℕ)
+    → ((listed : List Place) → Stands old listed → is_directory listed target at ≡ true) → IfOk result (IsPlacing old new place)
+    → IfOk result (λ fits. (listed : List Place) → Stands old listed → (fits ≡ (fits_in listed place.server place.path && is_directory listed target at)) × (fits ≡ true → Stands new (listed ++ place ∷ [])))
+mount-placing (Ok fits) old new place target at goes placing = λ listed stands. (
+  (placing listed stands).0 ∙ and_true (fits_in listed place.server place.path) (is_directory listed target at) (goes listed stands),
+  (placing listed stands).1,
+)
+mount-placing (Err e) old new place target at goes placing = tt

@@ -1,11 +1,11 @@
-ghost use Rattle.std.specs.Prelude.{◌≡◌, ◌++◌, ◌&&◌, [], ◌∷◌, ◌==◌, None, List, map, length, count_by, nat_le, All, OnOk, IfErr, ◌≤◌};
+ghost use Rattle.std.specs.Prelude.{◌≡◌, ◌++◌, ◌&&◌, [], ◌∷◌, ◌==◌, None, List, map, length, count_by, nat_le, true, All, IfOk, OnOk, IfErr, ◌≤◌};
 ghost use Rattle.fidl_names.specs.Numbers.{AreBytes};
 ghost use Rattle.tree_file.specs.Items.{NodeItem};
 ghost use Rattle.tree_file.specs.Rules.{Place, found_among, is_directory, fits_in, node_place, mount_place, first_failing, node_fits, mount_fits, client_fits, bytes_fit, names_held, connections_held, names_fit, connections_fit};
 ghost use Rattle.tree_file.specs.Kept.{Stands};
 ghost use Rattle.tree_file.specs.Faults.{Breaks};
 
-use crate::faults::TreeFault;
+use crate::faults::{TreeFault, broken};
 use crate::items::{Bytes, Client, Mount, Node};
 use fidl_names::{MAX_CONNECTIONS, MAX_FILE, MAX_NAMES, MAX_SERVERS, NoMemory};
 use node_graph::NodeKind;
@@ -43,35 +43,30 @@ fn fits_in<'a>(places: &Places<'a>, server: u32, path: &'a [u8]) -> bool
     found_among(places, server, path).is_none()
 }
 
-// Puts what stands at a path where nothing does.
-fn add<'a>(
+// Puts what stands at a path where it fits, and tells whether it does.
+fn place<'a>(
     places: &mut Places<'a>,
     server: u32,
     path: &'a [u8],
     directory: bool,
-) -> Result<(), NoMemory>
-    ensures { OnOk result ((listed : List Place) → Stands places.old listed → found_among listed server path.now ≡ None
-        → Stands places.new (listed ++ record { server = server; path = path.now; directory = directory } ∷ [])) }
+) -> Result<bool, NoMemory>
+    ensures { IfOk result (λ fits. (listed : List Place) → Stands places.old listed → (fits ≡ fits_in listed server path.now)
+        × (fits ≡ true → Stands places.new (listed ++ record { server = server; path = path.now; directory = directory } ∷ []))) }
 {
+    if !fits_in(places, server, path) {
+        return Ok(false);
+    }
     places.insert((server, path), directory)?;
-    Ok(())
+    Ok(true)
 }
 
-// Whether a node fits among those before it.
-fn node_fits<'a>(places: &Places<'a>, node: &'a Node) -> bool
-    ensures { (listed : List Place) → Stands places.now listed → result ≡ fits_in listed node.now.server node.now.path }
-{
-    let path = node.path.as_slice();
-    fits_in(places, node.server, path)
-}
-
-fn add_node<'a>(places: &mut Places<'a>, node: &'a Node) -> Result<(), NoMemory>
-    ensures { OnOk result ((listed : List Place) → Stands places.old listed → found_among listed node.now.server node.now.path ≡ None
-        → Stands places.new (listed ++ node_place node.now ∷ [])) }
+fn place_node<'a>(places: &mut Places<'a>, node: &'a Node) -> Result<bool, NoMemory>
+    ensures { IfOk result (λ fits. (listed : List Place) → Stands places.old listed → (fits ≡ fits_in listed node.now.server node.now.path)
+        × (fits ≡ true → Stands places.new (listed ++ node_place node.now ∷ []))) }
 {
     let path = node.path.as_slice();
     let directory = matches!(node.kind, NodeKind::Directory);
-    add(places, node.server, path, directory)
+    place(places, node.server, path, directory)
 }
 
 /// Puts all nodes, each in a directory before it.
@@ -82,33 +77,25 @@ pub fn add_nodes<'a>(places: &mut Places<'a>, nodes: &'a [Node]) -> Result<(), T
     ensures refused { IfErr result (Breaks 8 (first_failing node_fits [] nodes.now)) }
 {
     for (item, node) in nodes.iter().enumerate() {
-        if !node_fits(places, node) {
-            return Err(TreeFault::Rule {
-                rule: 8,
-                item: item as u64,
-            });
+        if !place_node(places, node)? {
+            return Err(broken(8, item));
         }
-        add_node(places, node)?;
     }
     Ok(())
 }
 
-// Whether a mount fits among what stands there.
-fn mount_fits<'a>(places: &Places<'a>, mount: &'a Mount) -> bool
-    ensures { (listed : List Place) → Stands places.now listed
-        → result ≡ (fits_in listed mount.now.server mount.now.path && is_directory listed mount.now.target mount.now.at) }
+// A mount fits where what it goes on at is a directory, too.
+fn place_mount<'a>(places: &mut Places<'a>, mount: &'a Mount) -> Result<bool, NoMemory>
+    ensures { IfOk result (λ fits. (listed : List Place) → Stands places.old listed
+        → (fits ≡ (fits_in listed mount.now.server mount.now.path && is_directory listed mount.now.target mount.now.at))
+        × (fits ≡ true → Stands places.new (listed ++ mount_place mount.now ∷ []))) }
 {
     let path = mount.path.as_slice();
     let at = mount.at.as_slice();
-    is_directory(places, mount.target, at) && fits_in(places, mount.server, path)
-}
-
-fn add_mount<'a>(places: &mut Places<'a>, mount: &'a Mount) -> Result<(), NoMemory>
-    ensures { OnOk result ((listed : List Place) → Stands places.old listed → found_among listed mount.now.server mount.now.path ≡ None
-        → Stands places.new (listed ++ mount_place mount.now ∷ [])) }
-{
-    let path = mount.path.as_slice();
-    add(places, mount.server, path, false)
+    if !is_directory(places, mount.target, at) {
+        return Ok(false);
+    }
+    place(places, mount.server, path, false)
 }
 
 /// Puts all mounts among the nodes, each in a directory and on one.
@@ -120,13 +107,9 @@ pub fn add_mounts<'a>(places: &mut Places<'a>, mounts: &'a [Mount]) -> Result<()
         → Breaks 9 (first_failing (mount_fits nodes) [] mounts.now) fault) }
 {
     for (item, mount) in mounts.iter().enumerate() {
-        if !mount_fits(places, mount) {
-            return Err(TreeFault::Rule {
-                rule: 9,
-                item: item as u64,
-            });
+        if !place_mount(places, mount)? {
+            return Err(broken(9, item));
         }
-        add_mount(places, mount)?;
     }
     Ok(())
 }
