@@ -5,7 +5,7 @@ use Rattle.toml.specs.Data.{Data}
 use Rattle.tree_file.specs.declared.faults.TreeFault.{TreeFault}
 use Rattle.tree_file.specs.Faults.{Breaks, IsFirst}
 use Rattle.tree_file.specs.Items.{NodeItem, MountItem, ClientItem, Lists}
-use Rattle.tree_file.specs.Rules.{document_of, all_or_none, read_servers, read_nodes, read_mounts, read_clients, lists_of, rule_2, rule_3, rule_4, rule_5, rule_6, rule_7, first_broken, rules_on_form, broken_in, failure_of, first_failure, start_from}
+use Rattle.tree_file.specs.Rules.{document_of, all_or_none, servers_of, read_servers, read_nodes, read_mounts, read_clients, lists_of, rule_2, rule_3, rule_4, rule_5, rule_6, rule_7, first_broken, rules_on_form, broken_in, failure_of, first_failure, start_from}
 use Rattle.tree_file.proofs.First.{first-here, first-later}
 
 pub start-read : (text : List ℕ) (document : Data) → document_of text ≡ Some document → start_from text ≡ Some (lists_of document)
@@ -95,3 +95,12 @@ pub form-broken : {X : Type 0} (result : Result X TreeFault) (document : Data) (
     → IfErr result (IsFirst (first_broken 2 (rules_on_form document)))
 form-broken (Ok x) document servers nodes mounts form s n m c = tt
 form-broken (Err fault) document servers nodes mounts form s n m breaks = clients-broken document fault form servers s nodes n mounts m breaks
+
+-- what holds whatever a call answers
+pub anyway : {X P : Type 0} (result : Result X TreeFault) → P → OnOk result P
+anyway (Ok x) holds = holds
+anyway (Err fault) holds = tt
+
+-- the servers of a document whose list is read
+pub servers-are : (document : Data) (servers names : List (List ℕ)) → read_servers document ≡ Ok servers → names ≡ servers → servers_of document ≡ names
+servers-are document servers names read same = ap (λ (found : Result (List (List ℕ)) ℕ). all_or_none found) read ∙ sym same

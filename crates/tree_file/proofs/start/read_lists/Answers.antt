@@ -3,7 +3,7 @@ use Rattle.toml.specs.View.{view}
 use Rattle.tree_file.specs.Faults.{IsFirst}
 use Rattle.tree_file.specs.Rules.{first_broken, rule_2, rule_3, rule_4, rule_5, rule_6, rule_7, rules_on_form}
 use Rattle.tree_file.proofs.First.{first-before, passed-on}
-use Rattle.tree_file.proofs.Starts.{lists-read, form-read, servers-broken, nodes-broken, mounts-broken, form-broken}
+use Rattle.tree_file.proofs.Starts.{anyway, servers-are, lists-read, form-read, servers-broken, nodes-broken, mounts-broken, form-broken}
 use Rattle.tree_file.proofs.start.read_lists.Goals as goal
 
 pub returns-clause-lists : goal.returns-clause-lists
@@ -48,3 +48,15 @@ returns-in_err-read_mounts-clause-refused c =
     let fault = c.in_err-read_mounts.field-0.0 in
     passed-on c.from_residual-in_err-read_mounts.result fault (IsFirst (first_broken 2 (rules_on_form document))) c.from_residual-in_err-read_mounts.ensures.1
     (mounts-broken document fault c.in_ok-check_form.ensures.hold c.read_servers.new.names.items c.in_ok-read_servers.ensures.read c.read_nodes.new.nodes.items c.in_ok-read_nodes.ensures.read c.in_err-read_mounts.ensures.refused)
+
+pub returns-clause-few : goal.returns-clause-few
+returns-clause-few c = anyway c.read_clients.result c.in_ok-read_servers.ensures.few
+
+pub read_nodes-requires-clause-servers : goal.read_nodes-requires-clause-servers
+read_nodes-requires-clause-servers c = servers-are (view c.args.document.now) c.read_servers.new.names.items c.deref.result.now c.in_ok-read_servers.ensures.read c.deref.ensures.value
+
+pub read_mounts-requires-clause-servers : goal.read_mounts-requires-clause-servers
+read_mounts-requires-clause-servers c = servers-are (view c.args.document.now) c.read_servers.new.names.items c.deref-2.result.now c.in_ok-read_servers.ensures.read c.deref-2.ensures.value
+
+pub read_clients-requires-clause-servers : goal.read_clients-requires-clause-servers
+read_clients-requires-clause-servers c = servers-are (view c.args.document.now) c.read_servers.new.names.items c.deref-3.result.now c.in_ok-read_servers.ensures.read c.deref-3.ensures.value
