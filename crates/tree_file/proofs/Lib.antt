@@ -16,4 +16,3 @@ pub mod Rising
 pub mod Edges
 pub mod Soundness
 pub mod Starts
-mod Counts

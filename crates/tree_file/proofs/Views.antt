@@ -15,9 +15,9 @@ pub any_map : {X Y : Type 0} (f : X → Y) (p : Y → Bool) (xs : List X) → li
 any_map f p [] = refl
 any_map f p (x ∷ xs) = ap (λ b. p (f x) || b) (any_map f p xs)
 
-pub all_keys : (p : List ℕ → Bool) (es : List (String Global × Value)) → list_all p (fields.keys_of (members_view es)) ≡ list_all (λ key. p (string_bytes key)) (keys_of es)
-all_keys p [] = refl
-all_keys p (e ∷ es) = rw (all_keys p es)
+pub all_keys : (p q : List ℕ → Bool) (same : (key : List ℕ) → p key ≡ q key) (es : List (String Global × Value)) → list_all (λ key. p (string_bytes key)) (keys_of es) ≡ list_all q (fields.keys_of (members_view es))
+all_keys p q same [] = refl
+all_keys p q same (e ∷ es) = rw (same (string_bytes e.0), all_keys p q same es)
 
 pub list_of_view : (vs : List Value) → fields.list_of (items_view vs) ≡ map view vs
 list_of_view [] = refl

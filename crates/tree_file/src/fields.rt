@@ -1,24 +1,29 @@
-ghost use Rattle.std.specs.Prelude.{◌≡◌, map};
+ghost use Rattle.std.specs.Prelude.{◌≡◌, map, string_bytes};
+ghost use Rattle.std.specs.BTreeMap.{keys};
+ghost use Rattle.std.specs.List.{list_any, list_all};
 ghost use Rattle.std.specs.Option.{option_copied};
+ghost use Rattle.std.specs.Str.{bytes_eq};
 ghost use Rattle.toml.specs.View.{view};
 ghost use Rattle.tree_file.specs.Fields.{has_only, text_at};
 
-use toml::Value;
+use toml::{Table, Value};
+
+// Whether the table has no other keys than these.
+fn knows_all(table: &Table, known: &[&str]) -> bool
+    ensures { result ≡ list_all (λ key. list_any (λ one. bytes_eq one.now (string_bytes key)) known.now) (keys table.now) }
+{
+    table.keys().all(|key| known.contains(&key.as_str()))
+}
 
 /// Whether the value is a table with no other keys than these.
 #[tactic(auto, unfolding(crate::specs::Fields::has_only))]
-pub fn has_only<'a>(value: &'a Value, known: &[&'a str]) -> bool
+pub fn has_only(value: &Value, known: &[&str]) -> bool
     ensures { result ≡ has_only (map (λ one. one.now) known.now) (view value.now) }
 {
-    let Some(table) = value.as_table() else {
-        return false;
-    };
-    for key in table.keys() {
-        if !known.contains(&key.as_str()) {
-            return false;
-        }
+    match value.as_table() {
+        Some(table) => knows_all(table, known),
+        None => false,
     }
-    true
 }
 
 /// The string at a key of a table.

@@ -27,12 +27,7 @@ pub fn index_of(names: &[Bytes], name: &[u8]) -> Option<usize>
     ensures place { result ≡ index_of names.now name.now }
     ensures bound { IfSome result (λ place. place < length names.now) }
 {
-    for (place, known) in names.iter().enumerate() {
-        if known.as_slice() == name {
-            return Some(place);
-        }
-    }
-    None
+    names.iter().position(|known| known.as_slice() == name)
 }
 
 // The server that is named at a key.

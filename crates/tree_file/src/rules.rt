@@ -1,4 +1,4 @@
-ghost use Rattle.std.specs.Prelude.{◌≡◌, ◌++◌, ◌&&◌, [], ◌∷◌, ◌==◌, None, List, map, length, count_by, nat_le, true, All, IfOk, OnOk, IfErr, ◌≤◌};
+ghost use Rattle.std.specs.Prelude.{◌≡◌, ◌++◌, ◌&&◌, [], ◌∷◌, None, List, map, length, nat_le, true, All, IfOk, OnOk, IfErr, ◌≤◌};
 ghost use Rattle.fidl_names.specs.Numbers.{AreBytes};
 ghost use Rattle.tree_file.specs.Items.{NodeItem};
 ghost use Rattle.tree_file.specs.Rules.{Place, found_among, is_directory, fits_in, node_place, mount_place, first_failing, node_fits, mount_fits, client_fits, bytes_fit, names_held, connections_held, names_fit, connections_fit};
@@ -155,68 +155,35 @@ pub fn large_node(nodes: &[Node]) -> Option<usize>
     None
 }
 
-// How many nodes a server has.
-fn nodes_on(nodes: &[Node], server: u32) -> usize
-    ensures { result ≡ count_by (λ node. node.server == server) nodes.now }
+// How many nodes and mounts a server has.
+fn names_held(nodes: &[Node], mounts: &[Mount], server: u32) -> usize
+    ensures { result ≡ names_held nodes.now mounts.now server }
 {
-    let mut held = 0;
-    for node in nodes {
-        if node.server == server {
-            held += 1;
-        }
-    }
-    held
+    let held = nodes.iter().filter(|node| node.server == server).count();
+    held + mounts.iter().filter(|mount| mount.server == server).count()
 }
 
-// How many mounts a server has.
-fn mounts_on(mounts: &[Mount], server: u32) -> usize
-    ensures { result ≡ count_by (λ mount. mount.server == server) mounts.now }
+// How many connections a server has at the start.
+fn connections_held(mounts: &[Mount], clients: &[Client], server: u32) -> usize
+    ensures { result ≡ connections_held mounts.now clients.now server }
 {
-    let mut held = 0;
-    for mount in mounts {
-        if mount.server == server {
-            held += 1;
-        }
-    }
-    held
-}
-
-// How many mounts go on in a server.
-fn mounts_onto(mounts: &[Mount], server: u32) -> usize
-    ensures { result ≡ count_by (λ mount. mount.target == server) mounts.now }
-{
-    let mut held = 0;
-    for mount in mounts {
-        if mount.target == server {
-            held += 1;
-        }
-    }
-    held
-}
-
-// How many clients a server has.
-fn clients_on(clients: &[Client], server: u32) -> usize
-    ensures { result ≡ count_by (λ client. client.server == server) clients.now }
-{
-    let mut held = 0;
-    for client in clients {
-        if client.server == server {
-            held += 1;
-        }
-    }
-    held
+    let held = clients
+        .iter()
+        .filter(|client| client.server == server)
+        .count();
+    held + mounts.iter().filter(|mount| mount.target == server).count()
 }
 
 fn has_few_names(nodes: &[Node], mounts: &[Mount], server: u32) -> bool
     ensures { result ≡ nat_le (names_held nodes.now mounts.now server) MAX_NAMES }
 {
-    nodes_on(nodes, server) + mounts_on(mounts, server) <= MAX_NAMES
+    names_held(nodes, mounts, server) <= MAX_NAMES
 }
 
 fn has_few_connections(mounts: &[Mount], clients: &[Client], server: u32) -> bool
     ensures { result ≡ nat_le (connections_held mounts.now clients.now server) MAX_CONNECTIONS }
 {
-    clients_on(clients, server) + mounts_onto(mounts, server) <= MAX_CONNECTIONS as usize
+    connections_held(mounts, clients, server) <= MAX_CONNECTIONS as usize
 }
 
 /// The first server with more nodes and mounts than it may have.
