@@ -12,7 +12,7 @@ kit=$(dirname "$(rt doc)")
 started=$(date +%s)
 processors=$(nproc)
 by_memory=$(awk '/^MemAvailable:/ { print int($2 / 3000000) + 1 }' /proc/meminfo)
-at_once=$((by_memory < processors ? by_memory : processors))
+at_once=$((by_memory < processors + 1 ? by_memory : processors + 1))
 mkdir -p build
 awk -v program="$1" -v jobs=$(((processors + 1) / 2)) -f tools/rules.awk crates.txt > build/rules.mk
 making=(env -u MAKEFLAGS -u MFLAGS make -s -f build/rules.mk)
