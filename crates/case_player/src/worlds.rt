@@ -11,8 +11,9 @@ use crate::tally::{Tally, is_skipped};
 use anyhow::{Context, Result, bail, ensure};
 use endpoint_link::{Mode, Outbox, Reading, Side, frame_at};
 use fidl_wire::Ordinals;
+use session_start::Start;
 use std::alloc::Global;
-use tree_file::{Start, start_of};
+use tree_file::start_of;
 use vfs_world::{Picked, World};
 
 /// Plays the rows of a text.

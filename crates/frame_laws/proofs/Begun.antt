@@ -11,10 +11,10 @@ use Rattle.node_graph.specs.declared.nodes.NodeKind.TheVariants.{Directory}
 use Rattle.path_walk.specs.Parts.{last_name}
 use Rattle.path_walk.specs.Paths.{path_fault}
 use Rattle.path_walk.proofs.PathLemmas.{path_sound}
-use Rattle.tree_file.specs.Accepted.{AreAccepted, IsMount, IsNode}
-use Rattle.tree_file.specs.Items.{Lists, MountItem, NodeItem}
-use Rattle.tree_file.specs.Numbering.{Named, edge_of, mount_named, named_of, node_named, row_of_named, tree_from, tree_of}
-use Rattle.tree_file.proofs.Trees.{edges_total, equal_of, exact_edges}
+use Rattle.session_start.specs.Accepted.{AreAccepted, IsMount, IsNode}
+use Rattle.session_start.specs.Items.{Lists, MountItem, NodeItem}
+use Rattle.session_start.specs.Numbering.{Named, edge_of, mount_named, named_of, node_named, row_of_named, tree_from, tree_of}
+use Rattle.session_start.proofs.Trees.{edges_total, equal_of, exact_edges}
 use Rattle.frame_laws.proofs.Texts.{last_in_bytes, text_in_bytes}
 use Rattle.frame_laws.proofs.Trees.{both_hold}
 use Rattle.frame_laws.proofs.Written.{none_written}

@@ -14,7 +14,7 @@ use Rattle.std.proofs.lemmas.List.Elements.{All-nil, All-cons, All-head, All-tai
 use Rattle.fidl_names.specs.Numbers.{AreBytes}
 use Rattle.node_graph.specs.Graph.{comes_after, listed_after}
 use Rattle.node_graph.specs.Tree.{Change, EdgeKey, EdgeTo, Edges, IsSound, NodeRow, Tree, add, after, bare_tree, cut, edge_cmp, fill, filled, make, move, moved, names_in, row_of, stay}
-use Rattle.tree_file.proofs.Trees.{edges_total, equal_of, exact_edges}
+use Rattle.session_start.proofs.Trees.{edges_total, equal_of, exact_edges}
 use Rattle.conn_rules.specs.Nodes.{bytes_of}
 use Rattle.vfs_journal.specs.History.{changed, tree_at}
 use Rattle.frame_laws.proofs.Texts.{IsShortName}

@@ -4,8 +4,8 @@ use Rattle.endpoint_link.specs.Frames.{Bad, Frame, Frames, IsFrame}
 use Rattle.endpoint_link.specs.declared.kinds.FrameReason.{FrameReason}
 use Rattle.endpoint_link.specs.declared.kinds.Mode.{Mode}
 use Rattle.endpoint_link.specs.declared.kinds.Side.TheVariants.{Any, ToServers}
-use Rattle.tree_file.specs.Accepted.{AreAccepted, HasFilesOfBytes}
-use Rattle.tree_file.specs.Items.{Lists}
+use Rattle.session_start.specs.Accepted.{AreAccepted, HasFilesOfBytes}
+use Rattle.session_start.specs.Items.{Lists}
 use Rattle.vfs_journal.specs.Entries.{Journal}
 use Rattle.vfs_journal.specs.Lawful.{Lawful}
 use Rattle.vfs_journal.specs.Output.{frames_behind, output_of}

@@ -12,7 +12,7 @@ use Rattle.io_rights.specs.Operations.{OperationSet}
 use Rattle.node_graph.specs.Tree.{IsSound, NodeRow, Tree, Change, after, bare_tree, edge_cmp, kind_of, row_of}
 use Rattle.node_graph.specs.declared.nodes.NodeKind.{NodeKind}
 use Rattle.node_graph.specs.declared.nodes.NodeKind.TheVariants.{Directory, Mount}
-use Rattle.tree_file.specs.Sound.{HasOneEdge}
+use Rattle.session_start.specs.Sound.{HasOneEdge}
 use Rattle.vfs_journal.specs.Entries.{Journal, Sent, message, hang_up, sends, serves}
 use Rattle.vfs_journal.specs.History.{History, changed, is_dead, living, tree_at, trees_of}
 use Rattle.vfs_journal.specs.Lawful.{Lawful}

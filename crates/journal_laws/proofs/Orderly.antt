@@ -10,7 +10,7 @@ use Rattle.node_graph.specs.declared.nodes.NodeKind.TheVariants.{Directory, File
 use Rattle.node_graph.specs.Tree.{NodeRow, Tree, Edges, EdgeKey, EdgeTo, Change, make, add, cut, move, fill, stay, after, filled, kind_of, moved, row_of}
 use Rattle.node_graph.proofs.Ordered.{comes, fresh, known, get-cut_other, get-put_other, stays}
 use Rattle.node_graph.proofs.RowLists.{cases, same, other, filled_rows, mapped, row_of-push_same, row_of-push_other, row_of-set_same, row_of-set_other, row_within}
-use Rattle.tree_file.specs.Sound.{HasOneEdge}
+use Rattle.session_start.specs.Sound.{HasOneEdge}
 use Rattle.conn_rules.specs.Nodes.{is_mount, kind_here}
 use Rattle.journal_laws.proofs.Acts.{IsMade}
 

@@ -14,11 +14,11 @@ use Rattle.io_rights.specs.Operations.{OperationSet}
 use Rattle.node_graph.specs.Tree.{IsSound, Tree, bare_tree, kind_of}
 use Rattle.node_graph.specs.declared.nodes.NodeKind.{NodeKind}
 use Rattle.node_graph.specs.declared.nodes.NodeKind.TheVariants.{Directory, File, Service, Mount}
-use Rattle.tree_file.specs.Accepted.{AreAccepted, IsClient, IsNode, IsPlain}
-use Rattle.tree_file.specs.Items.{NodeItem, MountItem, ClientItem, Lists}
-use Rattle.tree_file.specs.Numbering.{Named, node_named, mount_named, named_of, number_in, row_of_named, tree_of, end_of_mount}
-use Rattle.tree_file.specs.Sound.{AreSound, HasOneEdge, IsDirectoryAt}
-use Rattle.tree_file.proofs.Soundness.{named_count, start_sound}
+use Rattle.session_start.specs.Accepted.{AreAccepted, IsClient, IsNode, IsPlain}
+use Rattle.session_start.specs.Items.{NodeItem, MountItem, ClientItem, Lists}
+use Rattle.session_start.specs.Numbering.{Named, node_named, mount_named, named_of, number_in, row_of_named, tree_of, end_of_mount}
+use Rattle.session_start.specs.Sound.{AreSound, HasOneEdge, IsDirectoryAt}
+use Rattle.session_start.proofs.Soundness.{named_count, start_sound}
 use Rattle.journal_laws.specs.Soundness.{IsStart, OtherEndpoint, HasEnd, HasRoom, AreMounted, AreMountedOnce, IsOnDirectory, mount_ends}
 use Rattle.vfs_journal.specs.History.{tree_at}
 use Rattle.vfs_journal.specs.Starts.{Bound, Start, start_of, directory_birth, first_of_client, end_of}

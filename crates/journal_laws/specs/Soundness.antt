@@ -5,10 +5,10 @@ use Rattle.fidl_names.specs.declared.limits.TheConstants as limit
 use Rattle.io_messages.specs.declared.protocols.Protocol.TheVariants as protocol
 use Rattle.node_graph.specs.declared.nodes.NodeKind.TheVariants.{Directory, Mount}
 use Rattle.node_graph.specs.Tree.{IsSound, NodeRow, Tree, kind_of}
-use Rattle.tree_file.specs.Accepted.{AreAccepted}
-use Rattle.tree_file.specs.Items.{Lists}
-use Rattle.tree_file.specs.Numbering.{end_of_mount}
-use Rattle.tree_file.specs.Sound.{HasOneEdge}
+use Rattle.session_start.specs.Accepted.{AreAccepted}
+use Rattle.session_start.specs.Items.{Lists}
+use Rattle.session_start.specs.Numbering.{end_of_mount}
+use Rattle.session_start.specs.Sound.{HasOneEdge}
 use Rattle.endpoint_link.specs.declared.kinds.Mode.{Mode}
 use Rattle.endpoint_link.specs.declared.kinds.Side.TheVariants.{ToServers}
 use Rattle.endpoint_link.specs.Frames.{Frame, IsFrame}

@@ -13,7 +13,7 @@ use Rattle.node_graph.specs.declared.nodes.NodeKind.TheVariants.{Directory, Moun
 use Rattle.path_walk.specs.Paths.{names_of}
 use Rattle.conn_rules.specs.Walks.{Walk, arrives, crosses, inner_step, last_step, walk}
 use Rattle.dir_conn.specs.Laws.{masks_of}
-use Rattle.tree_file.specs.Numbering.{end_of_mount}
+use Rattle.session_start.specs.Numbering.{end_of_mount}
 use Rattle.vfs_journal.specs.Serving.{Read, moment_of, read_by}
 use Rattle.rights_laws.specs.Lineage.{ancestors_of, end_rights, lineage_given, lineage_of, lines_of, masks_along, request_in, trail_given}
 use Rattle.lineage_rows.specs.Rows.{LineagesNameEachSet, all_served, end_of_m, end_of_n, is_sent, mask_of_d, mask_of_m, mask_of_n, of_client, of_first_opened, of_last_opened, on_d, on_root, once_served, opening, three_servers, thrice_served, tree_with, twice_served}

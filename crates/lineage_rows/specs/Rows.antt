@@ -8,7 +8,7 @@ use Rattle.io_rights.specs.Operations.{OperationSet}
 use Rattle.node_graph.specs.declared.nodes.NodeKind.{NodeKind}
 use Rattle.node_graph.specs.declared.nodes.NodeKind.TheVariants.{Directory, Mount}
 use Rattle.node_graph.specs.Tree.{Tree, edge_cmp, new_row}
-use Rattle.tree_file.specs.Numbering.{end_of_mount}
+use Rattle.session_start.specs.Numbering.{end_of_mount}
 use Rattle.vfs_journal.specs.Entries.{Sent, message, sends, serves}
 use Rattle.vfs_journal.specs.History.{Event, History}
 use Rattle.vfs_journal.specs.Outcomes.{no_outcome}

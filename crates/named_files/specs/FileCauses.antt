@@ -1,7 +1,7 @@
 -- Causes of a command that reads a file, in their order.
 use Rattle.std.specs.Prelude.{ℕ, List}
 use Rattle.fidl_names.specs.declared.limits.TheConstants as limit
-use Rattle.tree_file.specs.Items.{Lists}
+use Rattle.session_start.specs.Items.{Lists}
 use Rattle.run_status.specs.declared.statuses.Status.{Status}
 use Rattle.run_status.specs.declared.statuses.Status.TheVariants as status
 use Rattle.run_status.specs.Causes.{After}

@@ -2,8 +2,8 @@
 use Rattle.std.specs.Prelude.{◌≡◌, ℕ, List, ◌++◌, length, codes, decimal, Some, None}
 use Rattle.fidl_names.specs.declared.limits.TheConstants as limit
 use Rattle.host_io.specs.Told.{Told}
-use Rattle.tree_file.specs.Accepted.{HasFilesOfBytes}
-use Rattle.tree_file.specs.Items.{Lists}
+use Rattle.session_start.specs.Accepted.{HasFilesOfBytes}
+use Rattle.session_start.specs.Items.{Lists}
 use Rattle.tree_file.specs.Rules.{first_failure, start_from}
 use Rattle.named_files.specs.Files.{IsWithin}
 

@@ -2,15 +2,15 @@ ghost use Rattle.std.specs.Prelude.{◌≡◌, ◌∷◌, [], IfOk};
 ghost use Rattle.run_status.specs.Outside.{files_told, sink_told};
 ghost use Rattle.run_status.specs.Reads.{ReadsOnly};
 ghost use Rattle.run_status.specs.Texts.{WritesText};
-ghost use Rattle.tree_file.specs.Accepted.{HasFilesOfBytes};
+ghost use Rattle.session_start.specs.Accepted.{HasFilesOfBytes};
 ghost use Rattle.named_files.specs.FileCauses.{AfterTree};
 ghost use Rattle.named_files.specs.Trees.{line_of};
 
 use crate::trees::read_start;
 use host_io::{Failed, Files, Sink};
 use run_status::{Status, pass_on, put_number};
+use session_start::Start;
 use std::alloc::{AllocError, Global};
-use tree_file::Start;
 
 /// Tells how much the tree file of this name has, where it breaks no rule.
 pub fn check_tree<F: Files, K: Sink>(

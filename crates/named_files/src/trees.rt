@@ -8,8 +8,9 @@ use crate::files::read_file;
 use fidl_names::MAX_TEXT;
 use host_io::Files;
 use run_status::Status;
+use session_start::Start;
 use std::alloc::Global;
-use tree_file::{Start, TreeFault, start_of};
+use tree_file::{TreeFault, start_of};
 
 /// The start that the tree file of this name stands for.
 pub fn read_start<F: Files>(alloc: Global, name: &str, files: &mut F) -> Result<Start, Status>

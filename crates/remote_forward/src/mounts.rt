@@ -1,6 +1,6 @@
 ghost use Rattle.std.specs.Prelude.{◌≡◌, ◌<◌, ◌≤◌, true, length, slice_get, IfOk, Some};
 ghost use Rattle.fidl_names.specs.HandleNumber.{is_mount_end};
-ghost use Rattle.tree_file.specs.Numbering.{end_of_mount};
+ghost use Rattle.session_start.specs.Numbering.{end_of_mount};
 
 use fidl_names::{FIRST_MOUNT_END, MAX_LIVE, NoMemory};
 use std::alloc::Global;

@@ -15,7 +15,7 @@ use Rattle.node_graph.specs.declared.nodes.NodeKind.{NodeKind}
 use Rattle.node_graph.specs.declared.nodes.NodeKind.TheVariants.{Directory, Mount}
 use Rattle.node_graph.specs.Tree.{EdgeTo, Tree, kind_of}
 use Rattle.path_walk.specs.Paths.{names_of}
-use Rattle.tree_file.specs.Sound.{HasOneEdge}
+use Rattle.session_start.specs.Sound.{HasOneEdge}
 use Rattle.conn_rules.specs.Acts.{act_of, method_refusals}
 use Rattle.conn_rules.specs.Answers.{Act, Answer, only, binds, forwards}
 use Rattle.conn_rules.specs.Births.{Birth}

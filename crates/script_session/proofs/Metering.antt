@@ -9,8 +9,8 @@ use Rattle.endpoint_link.specs.declared.kinds.Side.TheVariants as side
 use Rattle.fidl_names.specs.Numbers.{AreBytes}
 use Rattle.fidl_wire.specs.Names.{AreDistinct}
 use Rattle.frame_laws.proofs.Begun.{starts_have_bytes}
-use Rattle.tree_file.specs.Accepted.{AreAccepted, HasFilesOfBytes}
-use Rattle.tree_file.specs.Items.{Lists}
+use Rattle.session_start.specs.Accepted.{AreAccepted, HasFilesOfBytes}
+use Rattle.session_start.specs.Items.{Lists}
 use Rattle.vfs_journal.specs.Entries.{Journal}
 use Rattle.vfs_journal.specs.Output.{frames_behind}
 use Rattle.vfs_journal.specs.Past.{history_of}

@@ -9,8 +9,8 @@ use Rattle.fidl_names.specs.declared.methods.Method.{Method}
 use Rattle.fidl_wire.specs.Names.{AreDistinct}
 use Rattle.frame_laws.proofs.Begun.{starts_have_bytes}
 use Rattle.io_client.specs.Calls.{call_cmp, none_yet}
-use Rattle.tree_file.specs.Accepted.{AreAccepted, HasFilesOfBytes}
-use Rattle.tree_file.specs.Items.{Lists}
+use Rattle.session_start.specs.Accepted.{AreAccepted, HasFilesOfBytes}
+use Rattle.session_start.specs.Items.{Lists}
 use Rattle.vfs_journal.specs.Starts.{Start, start_of}
 use Rattle.vfs_script.specs.Kept.{ScriptValue}
 use Rattle.vfs_script.specs.Scripts.{count_calls, script_lines}

@@ -10,8 +10,8 @@ use Rattle.vfs_script.specs.Scripts.{call_in, calls_of, frame_of, frames_of, scr
 use Rattle.vfs_script.specs.declared.calls.Call.{Call}
 use Rattle.script_session.specs.Measured.{Measures, output_frames}
 use Rattle.script_session.specs.declared.measuring.Measured.{Measured}
+use Rattle.session_start.specs.Items.{Lists}
 use Rattle.tree_file.specs.Generated.{generated_lists}
-use Rattle.tree_file.specs.Items.{Lists}
 use Rattle.vfs_journal.specs.Starts.{start_of}
 use Rattle.workload.specs.Laws.{IsGoodScript}
 use Rattle.workload.specs.Workload.{IsRounds, workload}

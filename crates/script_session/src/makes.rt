@@ -18,8 +18,9 @@ use fidl_names::NoMemory;
 use fidl_wire::{OrdinalFault, Ordinals};
 use host_io::{Failed, Sink};
 use run_status::{Status, pass_on, put_number};
+use session_start::Start;
 use std::alloc::{AllocError, Global};
-use tree_file::{Start, generated_start};
+use tree_file::generated_start;
 use vfs_script::{Script, ScriptFault, script_of};
 use workload::generated;
 

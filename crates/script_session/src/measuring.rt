@@ -11,8 +11,8 @@ ghost use Rattle.script_session.specs.Steps.{IsScript};
 use crate::meter::Meter;
 use fidl_names::NoMemory;
 use fidl_wire::Ordinals;
+use session_start::Start;
 use std::alloc::Global;
-use tree_file::Start;
 use vfs_script::Script;
 
 /// What is told of output frames: how many there are, how many bytes they have, and the SHA-256 of these. The sums are wider than 64 bits,

@@ -4,7 +4,7 @@ ghost use Rattle.std.specs.Prelude.{◌≡◌, ◌<◌, ◌≤◌, ◌+◌, ◌*
 ghost use Rattle.endpoint_link.specs.Frames.{IsFrame};
 ghost use Rattle.endpoint_link.specs.Views.{frame_of};
 ghost use Rattle.endpoint_link.specs.declared.kinds.Side.TheVariants as side;
-ghost use Rattle.tree_file.specs.Accepted.{AreAccepted, HasFilesOfBytes};
+ghost use Rattle.session_start.specs.Accepted.{AreAccepted, HasFilesOfBytes};
 ghost use Rattle.vfs_journal.specs.Entries.{Journal};
 ghost use Rattle.vfs_journal.specs.Output.{frames_behind};
 ghost use Rattle.vfs_journal.specs.Session.{drained, session, steps};
@@ -20,8 +20,8 @@ use crate::tally::Tally;
 use endpoint_link::{FrameView, Mode, Outbox, Reading, Side, frame_at};
 use fidl_names::NoMemory;
 use fidl_wire::Ordinals;
+use session_start::Start;
 use std::alloc::Global;
-use tree_file::Start;
 use vfs_script::Script;
 use vfs_world::World;
 

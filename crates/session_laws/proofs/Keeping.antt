@@ -1,8 +1,8 @@
 -- Each lawful journal keeps the laws.
 use Rattle.std.proofs.Common.{◌≡◌, ◌∷◌, ◌++◌, subst}
 use Rattle.fidl_wire.specs.Names.{AreDistinct}
-use Rattle.tree_file.specs.Accepted.{AreAccepted}
-use Rattle.tree_file.specs.Items.{Lists}
+use Rattle.session_start.specs.Accepted.{AreAccepted}
+use Rattle.session_start.specs.Items.{Lists}
 use Rattle.vfs_journal.specs.Entries.{Journal, serves}
 use Rattle.vfs_journal.specs.Lawful.{Lawful}
 use Rattle.vfs_journal.specs.Starts.{start_of}

@@ -1,7 +1,7 @@
 -- Which journals keep the laws: each lawful one, so that for which a world stands, and that behind what a run writes.
 use Rattle.std.specs.Prelude.{◌≡◌, ℕ, All, List, ◌++◌}
-use Rattle.tree_file.specs.Accepted.{AreAccepted}
-use Rattle.tree_file.specs.Items.{Lists}
+use Rattle.session_start.specs.Accepted.{AreAccepted}
+use Rattle.session_start.specs.Items.{Lists}
 use Rattle.vfs_journal.specs.Entries.{Journal}
 use Rattle.vfs_journal.specs.Lawful.{Lawful}
 use Rattle.vfs_journal.specs.Output.{output_of}

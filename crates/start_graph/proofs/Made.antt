@@ -9,10 +9,10 @@ use Rattle.node_graph.specs.declared.nodes.NodeKind.{NodeKind}
 use Rattle.node_graph.specs.declared.nodes.NodeRef.{NodeRef}
 use Rattle.node_graph.specs.Graph.{Kept, Names, number_of, bytes_at, holds_at, is_kept, StandsFor, Leads, SameHolds, KeepsNames, write_change, overwritten}
 use Rattle.node_graph.specs.Tree.{EdgeKey, EdgeTo, Edges, Tree, Change, make, new_row, filled, row_of, is_linked, after}
-use Rattle.tree_file.specs.Numbering.{with_node}
-use Rattle.tree_file.proofs.Rising.{filled_last, row_last}
-use Rattle.tree_file.proofs.Standing.{linked_by}
-use Rattle.tree_file.proofs.Trees.{edges_total}
+use Rattle.session_start.specs.Numbering.{with_node}
+use Rattle.session_start.proofs.Rising.{filled_last, row_last}
+use Rattle.session_start.proofs.Standing.{linked_by}
+use Rattle.session_start.proofs.Trees.{edges_total}
 use Rattle.start_graph.specs.Growing.{Makes}
 use Rattle.start_graph.proofs.NamedNodes.{named_bytes}
 

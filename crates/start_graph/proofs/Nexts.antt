@@ -10,15 +10,15 @@ use Rattle.std.proofs.lemmas.List.FromFn.{length-enumerate_from}
 use Rattle.fidl_names.specs.declared.limits.TheConstants as limit
 use Rattle.node_graph.specs.declared.nodes.NodeRef.{NodeRef}
 use Rattle.node_graph.specs.Graph.{Kept}
-use Rattle.tree_file.specs.Accepted.{AreAccepted}
-use Rattle.tree_file.specs.Items.{NodeItem, MountItem, Lists}
-use Rattle.tree_file.specs.Numbering.{Named, mount_named, named_of, node_named}
-use Rattle.tree_file.proofs.Accepted.{few_names}
-use Rattle.tree_file.proofs.Placing.{keeps_all}
-use Rattle.tree_file.proofs.Rising.{IsFilled}
-use Rattle.tree_file.proofs.Soundness.{all_filled, named_count}
-use Rattle.tree_file.proofs.Standing.{grows_at}
-use Rattle.tree_file.proofs.Trees.{Fits, Grows}
+use Rattle.session_start.specs.Accepted.{AreAccepted}
+use Rattle.session_start.specs.Items.{NodeItem, MountItem, Lists}
+use Rattle.session_start.specs.Numbering.{Named, mount_named, named_of, node_named}
+use Rattle.session_start.proofs.Accepted.{few_names}
+use Rattle.session_start.proofs.Placing.{keeps_all}
+use Rattle.session_start.proofs.Rising.{IsFilled}
+use Rattle.session_start.proofs.Soundness.{all_filled, named_count}
+use Rattle.session_start.proofs.Standing.{grows_at}
+use Rattle.session_start.proofs.Trees.{Fits, Grows}
 use Rattle.start_graph.specs.Growing.{IsNext, mounts_among, named_with, nodes_among}
 use Rattle.start_graph.specs.Places.{Stands}
 use Rattle.start_graph.proofs.Chosen.{chosen_more, chosen_same, chosen_split, enumerated, get_behind, get_or_behind, take_front, within_behind}

@@ -11,12 +11,12 @@ use Rattle.std.proofs.lemmas.Slice.Eq.{bytes_eq-Decides}
 use Rattle.node_graph.specs.declared.nodes.NodeRef.{NodeRef}
 use Rattle.node_graph.specs.Graph.{Kept, Names, number_of, kind_at, holds_at, is_kept, StandsFor}
 use Rattle.node_graph.specs.Tree.{Edges, bare_tree, kind_of, is_linked}
-use Rattle.tree_file.specs.Numbering.{Named, number_at, row_of_named, tree_from, with_node}
+use Rattle.session_start.specs.Numbering.{Named, number_at, row_of_named, tree_from, with_node}
 use Rattle.path_walk.specs.Names.{dot}
 use Rattle.path_walk.specs.Parts.{is_dot, parent_of}
-use Rattle.tree_file.proofs.Numbers.{at_path, number_push, number_kept}
-use Rattle.tree_file.proofs.Standing.{kept_in}
-use Rattle.tree_file.proofs.Trees.{IsPlaced, Fits, Grows, more, placed, tree_push}
+use Rattle.session_start.proofs.Numbers.{at_path, number_push, number_kept}
+use Rattle.session_start.proofs.Standing.{kept_in}
+use Rattle.session_start.proofs.Trees.{IsPlaced, Fits, Grows, more, placed, tree_push}
 use Rattle.start_graph.specs.Growing.{Makes, key_in}
 use Rattle.start_graph.specs.Places.{path_cmp, IsNumbering, Stands}
 use Rattle.start_graph.proofs.NamedNodes.{named_kind, named_some}

@@ -9,9 +9,9 @@ use Rattle.node_graph.specs.declared.nodes.NodeRef.{NodeRef}
 use Rattle.node_graph.specs.Graph.{Kept, KeepsNames, Names, SameHolds, StandsFor, number_of}
 use Rattle.node_graph.specs.Tree.{EdgeKey, Tree}
 use Rattle.path_walk.specs.Parts.{last_name}
-use Rattle.tree_file.specs.Accepted.{AreAccepted}
-use Rattle.tree_file.specs.Items.{Lists}
-use Rattle.tree_file.specs.Numbering.{Named, mount_named, named_of, node_named, with_node}
+use Rattle.session_start.specs.Accepted.{AreAccepted}
+use Rattle.session_start.specs.Items.{Lists}
+use Rattle.session_start.specs.Numbering.{Named, mount_named, named_of, node_named, with_node}
 use Rattle.start_graph.specs.Places.{Stands}
 
 -- what a server has among the first so many nodes of a file, and then among the first so many mounts

@@ -8,7 +8,7 @@ use Rattle.std.specs.Ordering.{nat_cmp}
 use Rattle.std.specs.declared.cmp.Ordering.{Ordering}
 use Rattle.node_graph.specs.declared.nodes.NodeRef.{NodeRef}
 use Rattle.node_graph.specs.Graph.{Kept, Names, StandsFor, holds_at, number_of}
-use Rattle.tree_file.specs.Numbering.{Named, number_at, tree_from}
+use Rattle.session_start.specs.Numbering.{Named, number_at, tree_from}
 
 -- paths by their bytes
 abbrev pub path_cmp : Bor (List ℕ) → Bor (List ℕ) → Ordering

@@ -2,16 +2,16 @@
 
 ghost use Rattle.std.specs.Prelude.{◌<◌, IfOk, length};
 ghost use Rattle.start_graph.specs.Places.{Stands};
-ghost use Rattle.tree_file.specs.Accepted.{AreAccepted};
-ghost use Rattle.tree_file.specs.Numbering.{named_of};
+ghost use Rattle.session_start.specs.Accepted.{AreAccepted};
+ghost use Rattle.session_start.specs.Numbering.{named_of};
 
 use crate::making::{add_mounts, add_nodes};
 use crate::places::Places;
 use fidl_names::NoMemory;
 use node_graph::Graph;
+use session_start::Start;
 use std::alloc::Global;
 use std::collections::BTreeMap;
-use tree_file::Start;
 
 // The path of the root.
 const ROOT: &[u8] = b".";

@@ -6,10 +6,10 @@ ghost use Rattle.node_graph.specs.Graph.{KeepsNames, Leads, Names, SameHolds, St
 ghost use Rattle.node_graph.specs.Tree.{Tree, make, new_row};
 ghost use Rattle.path_walk.specs.Names.{IsName};
 ghost use Rattle.path_walk.specs.Parts.{is_dot, last_name};
-ghost use Rattle.tree_file.specs.Accepted.{AreAccepted};
-ghost use Rattle.tree_file.specs.Items.{Lists};
-ghost use Rattle.tree_file.specs.Lent.{node_item};
-ghost use Rattle.tree_file.specs.Numbering.{Named, named_of, node_named};
+ghost use Rattle.session_start.specs.Accepted.{AreAccepted};
+ghost use Rattle.session_start.specs.Items.{Lists};
+ghost use Rattle.session_start.specs.Lent.{node_item};
+ghost use Rattle.session_start.specs.Numbering.{Named, named_of, node_named};
 ghost use Rattle.start_graph.specs.Growing.{IsNext, Makes, key_in, named_with, nodes_among};
 ghost use Rattle.start_graph.specs.Places.{Stands};
 
@@ -18,7 +18,7 @@ use fidl_names::{MAX_FILE, MAX_NAME, NoMemory};
 use io_rights::Rights;
 use node_graph::{Graph, GraphFault, NodeKind, NodeRef};
 use path_walk::{last_name, parent_of};
-use tree_file::{Start, StartNode};
+use session_start::{Start, StartNode};
 
 // Makes a node with a name in a directory, where nothing refuses it.
 fn create(

@@ -1,10 +1,10 @@
 -- The first rule that is broken.
 use Rattle.std.proofs.Common.{◌≡◌, ℕ, ◌+◌, List, [], ◌∷◌, ◌++◌, Option, Some, None, Result, Ok, Err, IfErr, refl, sym, subst}
 use Rattle.std.specs.Result.{IsErrAnd}
+use Rattle.session_start.specs.RulesOnLists.{first_broken}
 use Rattle.tree_file.specs.declared.faults.TreeFault.{TreeFault}
 use Rattle.tree_file.specs.declared.faults.TreeFault.TheVariants.{Rule, NoMemory}
 use Rattle.tree_file.specs.Faults.{Breaks, IsFirst}
-use Rattle.tree_file.specs.Rules.{first_broken}
 
 -- a rule that is broken is the first of those from it on
 pub first-here : (rule : ℕ) (found : Option ℕ) (rules : List (Option ℕ)) (fault : TreeFault) → Breaks rule found fault → IsFirst (first_broken rule (found ∷ rules)) fault

@@ -5,9 +5,9 @@ use lib.Utf8.{encode}
 use Rattle.path_walk.specs.Names.{IsName, name_fault}
 use Rattle.path_walk.specs.Parts.{before_last_slash, parent_of}
 use Rattle.path_walk.specs.Paths.{path_fault, names_of}
-use Rattle.tree_file.specs.Accepted.{AreAccepted, AreItems, AreServers, IsAt, IsNode, IsMount, IsClient, OtherEndpoint}
+use Rattle.session_start.specs.Accepted.{AreAccepted, AreItems, AreServers, IsAt, IsNode, IsMount, IsClient, OtherEndpoint}
+use Rattle.session_start.specs.RulesOnLists.{first_failing, found_among, is_directory, first_broken, rules_on_lists}
 use Rattle.tree_file.specs.Generated.{directory_of, mount_of_second, client_of_first, generated_lists}
-use Rattle.tree_file.specs.Rules.{first_failing, found_among, is_directory, first_broken, rules_on_lists}
 
 all_of_one : {X : Type 0} (P : X → Type 0) (x : X) → P x → All P (x ∷ [])
 all_of_one P x here zero d within = here

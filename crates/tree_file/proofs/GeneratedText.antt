@@ -7,6 +7,7 @@ use Rattle.path_walk.specs.Names.{name_fault}
 use Rattle.path_walk.specs.Parts.{before_last_slash, parent_of}
 use Rattle.path_walk.specs.Paths.{path_fault, names_of}
 use Rattle.toml.proofs.OnLiterals.{toml_on_literals}
+use Rattle.session_start.specs.RulesOnLists.{first_failing, found_among, is_directory}
 use Rattle.tree_file.specs.declared.faults.TreeFault.{TreeFault}
 use Rattle.tree_file.specs.declared.faults.TreeFault.TheVariants.{Rule}
 use Rattle.tree_file.specs.declared.generated.TheConstants as constant
@@ -14,7 +15,7 @@ use Rattle.tree_file.specs.Faults.{IsFirst}
 use Rattle.tree_file.specs.Fields.{has_only, text_at}
 use Rattle.tree_file.specs.Generated.{generated_lists}
 use Rattle.tree_file.specs.Reading.{index_of, server_at, path_at, place_at, rights_at, server_of, kind_at, bytes_at, node_of, mount_of, endpoint_at, client_of, read_all}
-use Rattle.tree_file.specs.Rules.{is_versioned, items_at, has_tables, has_lists, first_failing, found_among, is_directory, start_from, first_failure}
+use Rattle.tree_file.specs.Rules.{is_versioned, items_at, has_tables, has_lists, start_from, first_failure}
 use Rattle.tree_file.specs.Texts.{kind_of}
 
 pub generated_read : start_from constant.TREE.now ≡ Some generated_lists

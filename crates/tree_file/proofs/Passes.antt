@@ -11,10 +11,10 @@ use Rattle.fidl_names.specs.declared.limits.TheConstants as limit
 use Rattle.toml.specs.Data.{Data}
 use Rattle.toml.specs.View.{view}
 use Rattle.toml.specs.declared.value.Value.{Value}
+use Rattle.session_start.specs.Items.{ClientItem}
 use Rattle.tree_file.specs.declared.faults.TreeFault.{TreeFault}
 use Rattle.tree_file.specs.declared.faults.TreeFault.TheVariants.{Rule}
 use Rattle.tree_file.specs.Faults.{Breaks}
-use Rattle.tree_file.specs.Items.{ClientItem}
 use Rattle.tree_file.specs.Kept.{HasEndpoints}
 use Rattle.tree_file.specs.Fields.{has_only, text_at}
 use Rattle.tree_file.specs.Texts.{only}

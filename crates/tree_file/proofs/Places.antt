@@ -6,8 +6,7 @@ use Rattle.std.proofs.lemmas.Slice.Eq.{bytes_eq-Decides}
 use Rattle.std.specs.BTreeMap.{BTreeMap, get, is_at}
 use Rattle.std.specs.Cmp.{unsigned_tied, unsigned_Decides}
 use Rattle.std.specs.Cmp.Lexicographic.{slice_cmp}
-use Rattle.std.specs.List.{find}
-use Rattle.std.specs.Option.{option_or, option_map, is_none}
+use Rattle.std.specs.Option.{option_or, is_none}
 use Rattle.std.specs.Ordering.{nat_cmp, is_eq, ordering_then}
 use Rattle.std.specs.Str.{bytes_eq}
 use Rattle.std.specs.declared.cmp.Ordering.{Ordering}
@@ -15,25 +14,13 @@ use Rattle.std.specs.declared.cmp.Ordering.TheVariants.{Less, Equal, Greater}
 use Rattle.node_graph.specs.Refusals as graph
 use Rattle.node_graph.specs.declared.nodes.NodeKind.{NodeKind}
 use Rattle.node_graph.specs.declared.nodes.NodeKind.TheVariants.{Directory, File, Service, Mount}
+use Rattle.session_start.specs.RulesOnLists.{Place, is_at_place, found_among, first_failing, is_directory, fits_in}
 use Rattle.tree_file.specs.declared.faults.TreeFault.{TreeFault}
 use Rattle.tree_file.specs.declared.faults.TreeFault.TheVariants.{Rule}
 use Rattle.tree_file.specs.Faults.{Breaks}
 use Rattle.tree_file.specs.Kept.{Stands, place_cmp}
-use Rattle.tree_file.specs.Rules.{Place, is_at_place, found_among, first_failing, is_directory, fits_in}
 use Rattle.path_walk.specs.Parts.{parent_of}
-use Rattle.tree_file.proofs.Found.{find_push}
-
-kind_of_or : (o : Option Place) (b : Bool) (x : Place) → option_map (λ place. place.directory) (option_or o (cond b (Some x) None)) ≡ option_or (option_map (λ place. place.directory) o) (cond b (Some x.directory) None)
-kind_of_or None true x = refl
-kind_of_or None false x = refl
-kind_of_or (Some y) b x = refl
-
-pub found_push : (listed : List Place) (place : Place) (server : ℕ) (path : List ℕ)
-    → found_among (listed ++ place ∷ []) server path ≡ option_or (found_among listed server path) (cond (is_at_place server path place) (Some place.directory) None)
-unfolding found_among
-found_push listed place server path =
-    ap (λ o. option_map (λ place. place.directory) o) (find_push (is_at_place server path) listed place)
-    ∙ kind_of_or (find (is_at_place server path) listed) (is_at_place server path place) place
+use Rattle.session_start.proofs.Places.{found_push, or_none}
 
 is_eq-then : (a b : Ordering) → is_eq (ordering_then a b) ≡ (is_eq a && is_eq b)
 is_eq-then Less b = refl
@@ -45,10 +32,6 @@ at_place place text key same =
     is_eq-then (nat_cmp place.server key.0) (slice_cmp nat_cmp text.now key.1.now)
     ∙ ap (λ b. b && is_eq (slice_cmp nat_cmp text.now key.1.now)) (unsigned_tied place.server key.0)
     ∙ ap (λ b. (place.server == key.0) && b) (is_eq-slice_cmp text.now key.1.now ∙ ap (λ t. bytes_eq t key.1.now) same)
-
-pub or_none : (o : Option Bool) → o ≡ option_or o None
-or_none None = refl
-or_none (Some kind) = refl
 
 both_true : (a b : Bool) → (a && b) ≡ true → (a ≡ true) × (b ≡ true)
 both_true true true h = (refl, refl)

@@ -15,13 +15,13 @@ use Rattle.path_walk.specs.Names.{name_fault, IsName}
 use Rattle.path_walk.specs.Parts.{is_dot}
 use Rattle.path_walk.specs.Paths.{path_fault}
 use Rattle.toml.specs.Data.{Data, get, as_str, as_integer}
-use Rattle.tree_file.specs.Accepted.{IsPlain, IsNode, IsMount, IsClient, AreServers}
+use Rattle.session_start.specs.Accepted.{IsPlain, IsNode, IsMount, IsClient, AreServers}
+use Rattle.session_start.specs.Items.{NodeItem, MountItem, ClientItem}
+use Rattle.session_start.proofs.Found.{same_some, from_none, found_none, none_pass}
 use Rattle.tree_file.specs.Fields.{◌>>=◌, has_only, text_at}
-use Rattle.tree_file.specs.Items.{NodeItem, MountItem, ClientItem}
 use Rattle.tree_file.specs.Reading.{index_of, server_at, path_at, place_at, kind_at, rights_at, is_file, bytes_from, bytes_at, node_keys, node_of, mount_keys, mount_of, client_keys, client_of, endpoint_from, endpoint_at, is_new_endpoint, is_new_name, server_of, read_all}
 use Rattle.tree_file.specs.Rules.{all_or_none}
 use Rattle.tree_file.specs.Texts.{only, is_name, is_path, kind_of, hex_of}
-use Rattle.tree_file.proofs.Found.{same_some, from_none, found_none, none_pass}
 use Rattle.tree_file.proofs.Passes.{server_few}
 
 -- ---- lists that are read

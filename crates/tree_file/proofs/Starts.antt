@@ -2,10 +2,11 @@
 use Rattle.std.proofs.Common.{◌≡◌, ℕ, List, [], ◌∷◌, Option, Some, None, Result, Ok, Err, IfOk, IfErr, OnOk, ap, ◌∙◌, sym}
 use Rattle.std.specs.Result.{result_err}
 use Rattle.toml.specs.Data.{Data}
+use Rattle.session_start.specs.Items.{NodeItem, MountItem, ClientItem, Lists}
+use Rattle.session_start.specs.RulesOnLists.{first_broken}
 use Rattle.tree_file.specs.declared.faults.TreeFault.{TreeFault}
 use Rattle.tree_file.specs.Faults.{Breaks, IsFirst}
-use Rattle.tree_file.specs.Items.{NodeItem, MountItem, ClientItem, Lists}
-use Rattle.tree_file.specs.Rules.{document_of, all_or_none, servers_of, read_servers, read_nodes, read_mounts, read_clients, lists_of, rule_2, rule_3, rule_4, rule_5, rule_6, rule_7, first_broken, rules_on_form, broken_in, failure_of, first_failure, start_from}
+use Rattle.tree_file.specs.Rules.{document_of, all_or_none, servers_of, read_servers, read_nodes, read_mounts, read_clients, lists_of, rule_2, rule_3, rule_4, rule_5, rule_6, rule_7, rules_on_form, broken_in, failure_of, first_failure, start_from}
 use Rattle.tree_file.proofs.First.{first-here, first-later}
 
 pub start-read : (text : List ℕ) (document : Data) → document_of text ≡ Some document → start_from text ≡ Some (lists_of document)

@@ -2,7 +2,7 @@
 use Rattle.std.specs.Prelude.{ℕ, [], ◌∷◌, codes}
 use Rattle.io_rights.specs.Operations.{all}
 use Rattle.node_graph.specs.declared.nodes.NodeKind.TheVariants.{Directory}
-use Rattle.tree_file.specs.Items.{NodeItem, MountItem, ClientItem, Lists}
+use Rattle.session_start.specs.Items.{NodeItem, MountItem, ClientItem, Lists}
 
 -- the directory `d` of a server
 abbrev pub directory_of : ℕ → NodeItem

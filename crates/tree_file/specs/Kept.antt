@@ -7,8 +7,8 @@ use Rattle.std.specs.Cmp.Lexicographic.{slice_cmp}
 use Rattle.std.specs.declared.cmp.Ordering.{Ordering}
 use Rattle.std.specs.List.{list_any}
 use Rattle.std.specs.Ordering.{nat_cmp, ordering_then}
-use Rattle.tree_file.specs.Items.{ClientItem}
-use Rattle.tree_file.specs.Rules.{Place, found_among}
+use Rattle.session_start.specs.Items.{ClientItem}
+use Rattle.session_start.specs.RulesOnLists.{Place, found_among}
 
 -- the set has the endpoints of these clients
 abbrev pub HasEndpoints : BTreeSet ℕ → List ClientItem → Type 0

@@ -1,13 +1,7 @@
 pub mod Fields
 pub mod Texts
-pub mod Items
 pub mod Reading
 pub mod Rules
-pub mod Accepted
 pub mod Generated
 pub mod Faults
 pub mod Kept
-pub mod Lent
-pub use Rattle.io_rights.specs.Operations
-pub mod Numbering
-pub mod Sound

@@ -11,8 +11,8 @@ use Rattle.node_graph.specs.declared.nodes.NodeKind.{NodeKind}
 use Rattle.node_graph.specs.declared.nodes.NodeKind.TheVariants.{File}
 use Rattle.tree_file.specs.Fields.{◌>>=◌, has_only, text_at}
 use Rattle.path_walk.specs.Parts.{is_dot}
+use Rattle.session_start.specs.Items.{NodeItem, MountItem, ClientItem}
 use Rattle.tree_file.specs.Texts.{only, is_name, is_path, kind_of, hex_of}
-use Rattle.tree_file.specs.Items.{NodeItem, MountItem, ClientItem}
 
 -- the index of a name among the servers' names
 unfoldable pub index_of : List (List ℕ) → List ℕ → Option ℕ

@@ -1,10 +1,11 @@
 ghost use Rattle.std.specs.Prelude.{◌≡◌, IfOk};
-ghost use Rattle.tree_file.specs.Accepted.{AreAccepted};
+ghost use Rattle.session_start.specs.Accepted.{AreAccepted};
 ghost use Rattle.tree_file.specs.Generated.{generated_lists};
 
 use crate::faults::TreeFault;
-use crate::start::{Start, start_of};
+use crate::start::start_of;
 use fidl_names::NoMemory;
+use session_start::Start;
 use std::alloc::Global;
 
 // The tree file of the generated workload.

@@ -4,9 +4,6 @@
 mod faults;
 mod fields;
 mod generated;
-mod items;
-mod laws;
-mod lent;
 mod lists;
 mod reading;
 mod rules;
@@ -14,6 +11,4 @@ mod start;
 
 pub use faults::TreeFault;
 pub use generated::generated_start;
-pub use laws::starts_are_sound;
-pub use lent::{StartClient, StartMount, StartNode};
-pub use start::{Start, start_of};
+pub use start::start_of;

@@ -1,13 +1,13 @@
-ghost use Rattle.std.specs.Prelude.{◌≡◌, ◌≤◌, [], Ok, length, map, OnOk, IfErr};
+ghost use Rattle.std.specs.Prelude.{◌≡◌, ◌≤◌, [], Ok, length, map, IfOk, OnOk, IfErr};
 ghost use Rattle.toml.specs.View.{view};
+ghost use Rattle.session_start.specs.Lent.{mount_item, client_item};
 ghost use Rattle.tree_file.specs.Rules.{items_at, read_servers, read_nodes, read_mounts, read_clients, servers_of, rule_4, rule_5, rule_6, rule_7};
 ghost use Rattle.tree_file.specs.Faults.{Breaks};
 
 use crate::faults::{TreeFault, broken};
-use crate::items::{Bytes, Client, Mount, Node};
-use crate::lent::{keep_client, keep_mount};
 use crate::reading::{client_of, mount_of, read_node, read_server};
-use fidl_names::MAX_SERVERS;
+use fidl_names::{MAX_SERVERS, NoMemory};
+use session_start::{Bytes, Client, Mount, Node, StartClient, StartMount};
 use std::alloc::Global;
 use std::collections::BTreeSet;
 use toml::Value;
@@ -68,6 +68,32 @@ pub fn read_nodes(
         }
     }
     Ok(())
+}
+
+// A lent mount, and below a lent first connection, as ones of their own.
+fn keep_mount(alloc: Global, mount: &StartMount<'_>) -> Result<Mount, NoMemory>
+    ensures { IfOk result (λ kept. kept ≡ mount_item mount.now) }
+{
+    let path = Bytes::copy(alloc, mount.path)?;
+    let at = Bytes::copy(alloc, mount.at)?;
+    Ok(Mount {
+        server: mount.server,
+        path,
+        target: mount.target,
+        at,
+        rights: mount.rights,
+    })
+}
+
+fn keep_client(alloc: Global, client: &StartClient<'_>) -> Result<Client, NoMemory>
+    ensures { IfOk result (λ kept. kept ≡ client_item client.now) }
+{
+    Ok(Client {
+        endpoint: client.endpoint,
+        server: client.server,
+        path: Bytes::copy(alloc, client.path)?,
+        rights: client.rights,
+    })
 }
 
 /// Puts the mounts of all servers where there are none yet.

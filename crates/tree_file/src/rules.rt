@@ -1,15 +1,15 @@
 ghost use Rattle.std.specs.Prelude.{◌≡◌, ◌++◌, ◌&&◌, [], ◌∷◌, None, List, map, length, nat_le, true, All, IfOk, OnOk, IfErr, ◌≤◌};
 ghost use Rattle.fidl_names.specs.Numbers.{AreBytes};
-ghost use Rattle.tree_file.specs.Items.{NodeItem};
-ghost use Rattle.tree_file.specs.Rules.{Place, found_among, is_directory, fits_in, node_place, mount_place, first_failing, node_fits, mount_fits, client_fits, bytes_fit, names_held, connections_held, names_fit, connections_fit};
+ghost use Rattle.session_start.specs.Items.{NodeItem};
+ghost use Rattle.session_start.specs.RulesOnLists.{Place, found_among, is_directory, fits_in, node_place, mount_place, first_failing, node_fits, mount_fits, client_fits, bytes_fit, names_held, connections_held, names_fit, connections_fit};
 ghost use Rattle.tree_file.specs.Kept.{Stands};
 ghost use Rattle.tree_file.specs.Faults.{Breaks};
 
 use crate::faults::{TreeFault, broken};
-use crate::items::{Bytes, Client, Mount, Node};
 use fidl_names::{MAX_CONNECTIONS, MAX_FILE, MAX_NAMES, MAX_SERVERS, NoMemory};
 use node_graph::NodeKind;
 use path_walk::{is_dot, parent_of};
+use session_start::{Bytes, Client, Mount, Node};
 use std::collections::BTreeMap;
 
 /// Whether a directory stands at each path of each server.
@@ -23,7 +23,7 @@ fn found_among<'a>(places: &Places<'a>, server: u32, path: &'a [u8]) -> Option<b
 }
 
 // Whether the path is that of a directory.
-#[tactic(auto, unfolding(crate::specs::Rules::is_directory))]
+#[tactic(auto, unfolding(session_start::specs::RulesOnLists::is_directory))]
 fn is_directory<'a>(places: &Places<'a>, server: u32, path: &'a [u8]) -> bool
     ensures { (listed : List Place) → Stands places.now listed → result ≡ is_directory listed server path.now }
 {

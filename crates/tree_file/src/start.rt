@@ -1,149 +1,23 @@
-ghost use Rattle.std.specs.Prelude.{◌≡◌, ◌≤◌, ◌<◌, [], ◌∷◌, slice_get, Some, None, codes, length, IfOk, IfErr, OnOk};
+ghost use Rattle.std.specs.Prelude.{◌≡◌, ◌≤◌, [], ◌∷◌, Some, None, codes, length, IfOk, IfErr, OnOk};
 ghost use Rattle.std.specs.List.{list_all};
 ghost use Rattle.toml.specs.Data.{get};
 ghost use Rattle.toml.specs.View.{view};
+ghost use Rattle.session_start.specs.Accepted.{AreAccepted, HasFilesOfBytes};
+ghost use Rattle.session_start.specs.RulesOnLists.{first_broken, rules_on_counts, rules_on_lists, rules_on_places};
 ghost use Rattle.tree_file.specs.Fields.{is_table};
-ghost use Rattle.tree_file.specs.Accepted.{AreAccepted, HasFilesOfBytes};
-ghost use Rattle.tree_file.specs.Lent.{node_item, mount_item, client_item};
-ghost use Rattle.tree_file.specs.Rules.{document_of, broken_in, is_versioned, is_version_one, has_lists, has_all_tables, has_items, has_tables, lists_of, rule_2, rule_3, rules_on_counts, rules_on_form, rules_on_lists, rules_on_places, first_broken, first_failure, start_from};
+ghost use Rattle.tree_file.specs.Rules.{document_of, broken_in, is_versioned, is_version_one, has_lists, has_all_tables, has_items, has_tables, lists_of, rule_2, rule_3, rules_on_form, first_failure, start_from};
 ghost use Rattle.tree_file.specs.Faults.{IsFirst};
 ghost use Rattle.tree_file.specs.Kept.{Stands};
 
 use crate::faults::{TreeFault, broken};
 use crate::fields::has_only;
-use crate::items::{Bytes, Client, Mount, Node};
-use crate::lent::{StartClient, StartMount, StartNode, lend_client, lend_mount, lend_node};
 use crate::lists;
 use crate::rules::{self, Places};
 use fidl_names::MAX_SERVERS;
+use session_start::{Start, StartLists};
 use std::alloc::Global;
 use std::collections::BTreeMap;
-use std::marker::Model;
 use toml::Value;
-
-// The lists of a document, before the rules that look at several items.
-struct Parts {
-    servers: Vec<Bytes>,
-    nodes: Vec<Node>,
-    mounts: Vec<Mount>,
-    clients: Vec<Client>,
-}
-
-// Who owns the lists lets go of them by one call, and not of each by another.
-impl Drop for Parts {
-    fn drop(self) {
-        let Parts {
-            servers: _servers,
-            nodes: _nodes,
-            mounts: _mounts,
-            clients: _clients,
-        } = self;
-    }
-}
-
-impl Model for Parts {
-    ghost use Rattle.tree_file.specs.Items.{Lists};
-
-    ghost Value = { Lists };
-
-    ghost view = { λ parts. record { servers = parts.servers.items; nodes = parts.nodes.items; mounts = parts.mounts.items; clients = parts.clients.items } };
-}
-
-impl Parts {
-    fn new(alloc: Global) -> Parts
-        ensures { result ≡ record { servers = []; nodes = []; mounts = []; clients = [] } }
-    {
-        Parts {
-            servers: Vec::new(alloc),
-            nodes: Vec::new(alloc),
-            mounts: Vec::new(alloc),
-            clients: Vec::new(alloc),
-        }
-    }
-}
-
-/// What a session starts with: servers, nodes, mounts and first connections, each in the order of the
-/// file. Contracts see it as these lists. They keep the rules of a tree, and what is in their files are
-/// bytes: the counts of servers and nodes say so.
-pub struct Start {
-    parts: Parts,
-}
-
-// Who owns a start lets go of it by one call.
-impl Drop for Start {
-    fn drop(self) {
-        let Start { parts: _parts } = self;
-    }
-}
-
-impl Model for Start {
-    ghost use Rattle.tree_file.specs.Accepted.{AreOfStart};
-    ghost use Rattle.tree_file.specs.Items.{Lists};
-
-    ghost Value = { Lists };
-
-    ghost view = { λ start. start.parts };
-
-    ghost invariant = { λ start. AreOfStart start.parts };
-}
-
-impl Start {
-    /// How many servers there are.
-    pub fn servers(&self) -> u32
-        ensures count { result ≡ length self.now.servers }
-        ensures accepted { AreAccepted self.now }
-        ensures bytes { HasFilesOfBytes self.now }
-    {
-        self.parts.servers.len() as u32
-    }
-
-    /// How many nodes all servers have, without their roots.
-    pub fn nodes(&self) -> u32
-        ensures count { result ≡ length self.now.nodes }
-        ensures accepted { AreAccepted self.now }
-        ensures bytes { HasFilesOfBytes self.now }
-    {
-        self.parts.nodes.len() as u32
-    }
-
-    /// How many mounts there are.
-    pub fn mounts(&self) -> u32
-        ensures { result ≡ length self.now.mounts }
-    {
-        self.parts.mounts.len() as u32
-    }
-
-    /// How many first connections there are.
-    pub fn clients(&self) -> u32
-        ensures { result ≡ length self.now.clients }
-    {
-        self.parts.clients.len() as u32
-    }
-
-    /// The node with this index over all servers.
-    pub fn node_at(&self, i: u32) -> StartNode<'_>
-        requires { i < length self.now.nodes }
-        ensures { slice_get self.now.nodes i ≡ Some (node_item result) }
-    {
-        lend_node(&self.parts.nodes[i as usize])
-    }
-
-    /// The mount with this index over all servers.
-    pub fn mount_at(&self, i: u32) -> StartMount<'_>
-        requires { i < length self.now.mounts }
-        ensures { slice_get self.now.mounts i ≡ Some (mount_item result) }
-    {
-        lend_mount(&self.parts.mounts[i as usize])
-    }
-
-    /// The first connection with this index.
-    pub fn client_at(&self, i: u32) -> StartClient<'_>
-        requires { i < length self.now.clients }
-        ensures { slice_get self.now.clients i ≡ Some (client_item result) }
-    {
-        lend_client(&self.parts.clients[i as usize])
-    }
-}
 
 // The document that a text is.
 fn read_document(alloc: Global, text: &[u8]) -> Result<Value, TreeFault>
@@ -241,7 +115,7 @@ fn check_form(document: &Value) -> Result<(), TreeFault>
 }
 
 // Puts the lists of a document that keeps the rules on each item by itself where there are none yet.
-fn read_lists(alloc: Global, document: &Value, parts: &mut Parts) -> Result<(), TreeFault>
+fn read_lists(alloc: Global, document: &Value, parts: &mut StartLists) -> Result<(), TreeFault>
     requires { parts.old ≡ record { servers = []; nodes = []; mounts = []; clients = [] } }
     ensures lists { OnOk result (parts.new ≡ lists_of (view document.now)) }
     ensures few { OnOk result (length parts.new.servers ≤ MAX_SERVERS) }
@@ -256,7 +130,7 @@ fn read_lists(alloc: Global, document: &Value, parts: &mut Parts) -> Result<(), 
 }
 
 // The rules on where the items stand.
-fn check_places(alloc: Global, parts: &Parts) -> Result<(), TreeFault>
+fn check_places(alloc: Global, parts: &StartLists) -> Result<(), TreeFault>
     ensures hold { OnOk result (first_broken 8 (rules_on_places parts.now) ≡ None) }
     ensures refused { IfErr result (IsFirst (first_broken 8 (rules_on_places parts.now))) }
 {
@@ -265,7 +139,7 @@ fn check_places(alloc: Global, parts: &Parts) -> Result<(), TreeFault>
 }
 
 // The same, with what stands at each path put where nothing does yet.
-fn check_placed<'a>(places: &mut Places<'a>, parts: &'a Parts) -> Result<(), TreeFault>
+fn check_placed<'a>(places: &mut Places<'a>, parts: &'a StartLists) -> Result<(), TreeFault>
     requires { Stands places.old [] }
     ensures hold { OnOk result (first_broken 8 (rules_on_places parts.now) ≡ None) }
     ensures refused { IfErr result (IsFirst (first_broken 8 (rules_on_places parts.now))) }
@@ -279,7 +153,7 @@ fn check_placed<'a>(places: &mut Places<'a>, parts: &'a Parts) -> Result<(), Tre
 }
 
 // The rules on how much there is.
-fn check_counts(parts: &Parts) -> Result<(), TreeFault>
+fn check_counts(parts: &StartLists) -> Result<(), TreeFault>
     requires { length parts.now.servers ≤ MAX_SERVERS }
     ensures bytes { OnOk result (HasFilesOfBytes parts.now) }
     ensures hold { OnOk result (first_broken 11 (rules_on_counts parts.now) ≡ None) }
@@ -298,7 +172,7 @@ fn check_counts(parts: &Parts) -> Result<(), TreeFault>
 }
 
 // The rules on the lists as a whole.
-fn check_lists(alloc: Global, parts: &Parts) -> Result<(), TreeFault>
+fn check_lists(alloc: Global, parts: &StartLists) -> Result<(), TreeFault>
     requires { length parts.now.servers ≤ MAX_SERVERS }
     ensures bytes { OnOk result (HasFilesOfBytes parts.now) }
     ensures hold { OnOk result (first_broken 8 (rules_on_lists parts.now) ≡ None) }
@@ -315,10 +189,10 @@ fn start_in(alloc: Global, document: &Value) -> Result<Start, TreeFault>
     ensures accepted { IfOk result AreAccepted }
     ensures refused { IfErr result (IsFirst (broken_in (view document.now))) }
 {
-    let mut parts = Parts::new(alloc);
+    let mut parts = StartLists::new(alloc);
     read_lists(alloc, document, &mut parts)?;
     check_lists(alloc, &parts)?;
-    Ok(Start { parts })
+    Ok(Start::new(parts))
 }
 
 /// The start that a tree file stands for, or the first rule that it breaks, with the first item that

@@ -2,7 +2,7 @@ ghost use Rattle.std.specs.Prelude.{◌≡◌, ◌<◌, ◌+◌, ◌^◌, List, 
 ghost use Rattle.endpoint_link.specs.Frames.{Frame, IsFrame};
 ghost use Rattle.endpoint_link.specs.Views.{frame_of};
 ghost use Rattle.endpoint_link.specs.declared.kinds.Side.TheVariants as side;
-ghost use Rattle.tree_file.specs.Accepted.{HasFilesOfBytes};
+ghost use Rattle.session_start.specs.Accepted.{HasFilesOfBytes};
 ghost use Rattle.vfs_journal.specs.Starts.{Start as TheStart, start_of};
 ghost use Rattle.run_status.specs.Causes.{AfterNames};
 ghost use Rattle.run_status.specs.Outside.{files_told, streams_told};
@@ -19,8 +19,8 @@ use host_io::{Files, Sink, Source};
 use link_session::{Input, Session, run};
 use named_files::read_start;
 use run_status::Status;
+use session_start::Start;
 use std::alloc::Global;
-use tree_file::Start;
 use vfs_world::World;
 
 /// Serves the tree of this name over source and sink, in this mode.

@@ -6,7 +6,7 @@ use Rattle.fidl_wire.specs.Names.{AreDistinct}
 use Rattle.host_io.specs.Causes.{Rose}
 use Rattle.host_io.specs.Streams.{AppendsPart}
 use Rattle.host_io.specs.Told.{Told, Holds, IsAllOf, IsLongerThan}
-use Rattle.tree_file.specs.Items.{Lists}
+use Rattle.session_start.specs.Items.{Lists}
 use Rattle.tree_file.specs.Rules.{first_failure}
 use Rattle.endpoint_link.specs.Frames.{Frames, Bad}
 use Rattle.endpoint_link.specs.declared.kinds.FrameReason.{FrameReason}

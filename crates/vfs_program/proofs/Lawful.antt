@@ -8,10 +8,11 @@ use Rattle.fidl_wire.specs.Names.{AreDistinct}
 use Rattle.host_io.specs.Streams.{AppendsPart}
 use Rattle.host_io.specs.Told.{Told}
 use Rattle.toml.specs.Data.{Data}
-use Rattle.tree_file.specs.Accepted.{AreAccepted, HasFilesOfBytes}
+use Rattle.session_start.specs.Accepted.{AreAccepted, HasFilesOfBytes}
+use Rattle.session_start.specs.Items.{Lists, NodeItem}
+use Rattle.session_start.specs.RulesOnLists.{first_broken, rules_on_lists}
 use Rattle.tree_file.specs.Generated.{directory_of, generated_lists}
-use Rattle.tree_file.specs.Items.{Lists, NodeItem}
-use Rattle.tree_file.specs.Rules.{document_of, failure_of, first_broken, first_failure, lists_of, rules_on_lists, start_from}
+use Rattle.tree_file.specs.Rules.{document_of, failure_of, first_failure, lists_of, start_from}
 use Rattle.tree_file.proofs.Accepted.{accepted_of}
 use Rattle.tree_file.proofs.GeneratedRules.{generated_accepted}
 use Rattle.endpoint_link.specs.Frames.{Frame, Frames, IsFrame, spellings}

@@ -7,8 +7,8 @@ use Rattle.endpoint_link.specs.Fronts.{Begins}
 use Rattle.endpoint_link.specs.declared.kinds.Mode.{Mode}
 use Rattle.endpoint_link.specs.declared.kinds.Mode.TheVariants.{Auto}
 use Rattle.endpoint_link.specs.declared.kinds.Side.TheVariants.{ToServers}
+use Rattle.session_start.specs.Items.{Lists}
 use Rattle.tree_file.specs.Generated.{generated_lists}
-use Rattle.tree_file.specs.Items.{Lists}
 use Rattle.vfs_journal.specs.Entries.{Journal}
 use Rattle.vfs_journal.specs.Output.{frames_behind}
 use Rattle.vfs_journal.specs.Session.{ended, session}

@@ -14,14 +14,14 @@ use Rattle.fidl_names.specs.declared.limits.TheConstants as limit
 use Rattle.io_messages.specs.declared.protocols.Protocol.TheVariants as protocol
 use Rattle.node_graph.specs.declared.nodes.NodeKind.TheVariants.{Directory}
 use Rattle.node_graph.specs.Tree.{kind_of}
-use Rattle.tree_file.specs.Accepted.{AreAccepted, IsClient}
-use Rattle.tree_file.specs.Items.{MountItem, ClientItem, Lists}
-use Rattle.tree_file.specs.Numbering.{end_of_mount, tree_of}
-use Rattle.tree_file.specs.Rules.{connections_held}
-use Rattle.tree_file.specs.Sound.{IsDirectoryAt}
-use Rattle.tree_file.proofs.Accepted.{few_connections}
-use Rattle.tree_file.proofs.Found.{enumerate_at}
-use Rattle.tree_file.proofs.Soundness.{clients_stand, targets_stand}
+use Rattle.session_start.specs.Accepted.{AreAccepted, IsClient}
+use Rattle.session_start.specs.Items.{MountItem, ClientItem, Lists}
+use Rattle.session_start.specs.Numbering.{end_of_mount, tree_of}
+use Rattle.session_start.specs.RulesOnLists.{connections_held}
+use Rattle.session_start.specs.Sound.{IsDirectoryAt}
+use Rattle.session_start.proofs.Accepted.{few_connections}
+use Rattle.session_start.proofs.Found.{enumerate_at}
+use Rattle.session_start.proofs.Soundness.{clients_stand, targets_stand}
 use Rattle.vfs_journal.specs.History.{is_watcher}
 use Rattle.vfs_journal.specs.Starts.{Bound, end_of, first_of_client}
 use Rattle.vfs_server.specs.Beginning.{begins_with, bound_among, clients_among, ends_among}

@@ -17,11 +17,11 @@ use Rattle.node_graph.specs.declared.nodes.NodeKind.TheVariants.{Directory}
 use Rattle.node_graph.specs.declared.nodes.NodeRef.{NodeRef}
 use Rattle.node_graph.specs.Graph.{Kept, Names, StandsFor, holds_at, is_kept, kind_at, number_of}
 use Rattle.node_graph.specs.Tree.{bare_tree, kind_of}
-use Rattle.tree_file.specs.Accepted.{AreAccepted}
-use Rattle.tree_file.specs.Items.{ClientItem, Lists, MountItem}
-use Rattle.tree_file.specs.Numbering.{end_of_mount, named_of, number_at, tree_of}
-use Rattle.tree_file.proofs.Found.{find_push}
-use Rattle.tree_file.proofs.Trees.{number_some, placed}
+use Rattle.session_start.specs.Accepted.{AreAccepted}
+use Rattle.session_start.specs.Items.{ClientItem, Lists, MountItem}
+use Rattle.session_start.specs.Numbering.{end_of_mount, named_of, number_at, tree_of}
+use Rattle.session_start.proofs.Found.{find_push}
+use Rattle.session_start.proofs.Trees.{number_some, placed}
 use Rattle.conn_rules.specs.declared.births.Birth as code
 use Rattle.conn_rules.specs.Births.{Connection, Position, fresh}
 use Rattle.conn_rules.specs.Shared.{is_spoken_at}

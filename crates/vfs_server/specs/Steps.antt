@@ -22,7 +22,7 @@ use Rattle.io_messages.specs.ReplyWriting.{PayloadFits}
 use Rattle.node_graph.specs.declared.nodes.NodeRef.{NodeRef}
 use Rattle.node_graph.specs.Graph.{Kept, Leads, StandsFor, number_of}
 use Rattle.node_graph.specs.Tree.{Change, stay}
-use Rattle.tree_file.specs.Numbering.{end_of_mount}
+use Rattle.session_start.specs.Numbering.{end_of_mount}
 use Rattle.conn_rules.specs.Answers.{Act, Answer, Happening, nothing_told, replies, closes, binds, watches, forwards, refuses, ends}
 use Rattle.conn_rules.specs.Births.{Connection, born, connection_with, fresh}
 use Rattle.conn_rules.specs.declared.births.Birth as code

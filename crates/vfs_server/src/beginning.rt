@@ -2,8 +2,8 @@
 
 ghost use Rattle.std.specs.Prelude.{◌≡◌, ◌<◌, [], IfOk, length};
 ghost use Rattle.start_graph.specs.Places.{Stands};
-ghost use Rattle.tree_file.specs.Accepted.{AreAccepted};
-ghost use Rattle.tree_file.specs.Numbering.{named_of};
+ghost use Rattle.session_start.specs.Accepted.{AreAccepted};
+ghost use Rattle.session_start.specs.Numbering.{named_of};
 ghost use Rattle.vfs_journal.specs.Starts.{start_of};
 ghost use Rattle.vfs_journal.specs.View.{view_of};
 ghost use Rattle.vfs_server.specs.Holding.{HoldsAt};
@@ -12,9 +12,9 @@ use crate::firsts::bind_firsts;
 use crate::server::Server;
 use fidl_names::NoMemory;
 use node_graph::Graph;
+use session_start::Start;
 use start_graph::{Grown, Places, grow};
 use std::alloc::Global;
-use tree_file::Start;
 
 /// Makes the server of an accepted start with this index.
 pub(crate) fn begin(alloc: Global, start: &Start, index: u32) -> Result<Server, NoMemory>

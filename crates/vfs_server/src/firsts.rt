@@ -1,8 +1,8 @@
 //! What is bound at a server when it begins.
 
 ghost use Rattle.std.specs.Prelude.{◌≡◌, ◌<◌, ◌+◌, ◌++◌, ◌∷◌, ℕ, List, [], OnOk, length};
-ghost use Rattle.tree_file.specs.Accepted.{AreAccepted};
-ghost use Rattle.tree_file.specs.Items.{Lists};
+ghost use Rattle.session_start.specs.Accepted.{AreAccepted};
+ghost use Rattle.session_start.specs.Items.{Lists};
 ghost use Rattle.vfs_journal.specs.Starts.{Bound};
 ghost use Rattle.vfs_server.specs.Beginning.{HoldsJust, IsNextBound, begins_with, begun, bound_among, clients_among};
 
@@ -11,8 +11,8 @@ use conn_rules::Birth;
 use fidl_names::{FIRST_MOUNT_END, NoMemory};
 use io_messages::Protocol;
 use io_rights::Rights;
+use session_start::Start;
 use start_graph::{Places, node_at};
-use tree_file::Start;
 
 // Binds an endpoint as the next one that a server begins with: at the directory of a path.
 fn bind_at<'a>(

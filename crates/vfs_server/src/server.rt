@@ -30,9 +30,9 @@ use fidl_names::{Handle, NoMemory};
 use fidl_wire::{Ordinals, Out};
 use io_messages::Protocol;
 use node_graph::{Graph, NodeRef};
+use session_start::Start;
 use std::alloc::Global;
 use std::marker::Model;
-use tree_file::Start;
 use watch_seats::Watching;
 
 /// One server: its tree, what is connected to it, who watches, and the tokens that name directories of it.

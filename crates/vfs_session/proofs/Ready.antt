@@ -9,7 +9,7 @@ use Rattle.endpoint_link.specs.Numbering.{among}
 use Rattle.endpoint_link.specs.Standings.{Known, is_live, next_token_of, standing_of}
 use Rattle.node_graph.specs.declared.nodes.NodeRef.{NodeRef}
 use Rattle.node_graph.specs.Graph.{number_of}
-use Rattle.tree_file.specs.Numbering.{end_of_mount}
+use Rattle.session_start.specs.Numbering.{end_of_mount}
 use Rattle.conn_rules.specs.Births.{Position}
 use Rattle.vfs_journal.specs.Entries.{Sent, handles_of}
 use Rattle.vfs_journal.specs.Fit.{IsFit}

@@ -13,10 +13,10 @@ use Rattle.fidl_names.specs.HandleNumber.{is_client}
 use Rattle.fidl_names.specs.declared.limits.TheConstants as limit
 use Rattle.endpoint_link.specs.Standings.{Known, Starts}
 use Rattle.endpoint_link.specs.Tables.{AreEachOnce}
-use Rattle.tree_file.specs.Accepted.{AreAccepted}
-use Rattle.tree_file.specs.Items.{ClientItem, Lists, MountItem}
-use Rattle.tree_file.specs.Numbering.{end_of_mount, tree_of}
-use Rattle.tree_file.proofs.Accepted.{few_of}
+use Rattle.session_start.specs.Accepted.{AreAccepted}
+use Rattle.session_start.specs.Items.{ClientItem, Lists, MountItem}
+use Rattle.session_start.specs.Numbering.{end_of_mount, tree_of}
+use Rattle.session_start.proofs.Accepted.{few_of}
 use Rattle.conn_rules.specs.Births.{Position}
 use Rattle.vfs_journal.specs.History.{living}
 use Rattle.vfs_journal.specs.Lawful as journals

@@ -1,7 +1,7 @@
 //! What a session begins with: the servers of a start, and what is bound from the first on.
 
 ghost use Rattle.std.specs.Prelude.{◌≡◌, ◌++◌, [], IfOk, OnOk, map};
-ghost use Rattle.tree_file.specs.Accepted.{AreAccepted, HasFilesOfBytes};
+ghost use Rattle.session_start.specs.Accepted.{AreAccepted, HasFilesOfBytes};
 ghost use Rattle.vfs_journal.specs.Starts.{start_of};
 ghost use Rattle.vfs_journal.specs.View.{view_of};
 ghost use Rattle.journal_laws.specs.Knowing.{Knows};
@@ -14,8 +14,8 @@ use endpoint_link::Endpoints;
 use fidl_names::{FIRST_MOUNT_END, NoMemory};
 use fidl_wire::{Ordinals, Out};
 use message_queues::Queues;
+use session_start::Start;
 use std::alloc::Global;
-use tree_file::Start;
 use vfs_server::Server;
 use vfs_session::Session;
 

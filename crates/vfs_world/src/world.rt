@@ -2,7 +2,7 @@ ghost use Rattle.std.specs.Prelude.{◌≡◌, ◌<◌, ◌+◌, ◌^◌, ℕ, t
 ghost use Rattle.endpoint_link.specs.Frames.{IsFrame};
 ghost use Rattle.endpoint_link.specs.declared.kinds.Side.TheVariants as side;
 ghost use Rattle.endpoint_link.specs.Views.{frame_of};
-ghost use Rattle.tree_file.specs.Accepted.{AreAccepted, HasFilesOfBytes};
+ghost use Rattle.session_start.specs.Accepted.{AreAccepted, HasFilesOfBytes};
 ghost use Rattle.vfs_journal.specs.Entries.{Journal};
 ghost use Rattle.vfs_journal.specs.History.{waiting};
 ghost use Rattle.vfs_journal.specs.Past.{history_of};
@@ -73,7 +73,7 @@ impl World {
     pub fn new(
         alloc: Global,
         ordinals: Ordinals,
-        start: &tree_file::Start,
+        start: &session_start::Start,
     ) -> Result<World, NoMemory>
         ensures accepted { AreAccepted start.now }
         ensures bytes { HasFilesOfBytes start.now }

@@ -12,9 +12,9 @@ use Rattle.path_walk.specs.Parts.{is_dot}
 use Rattle.path_walk.specs.Paths.{names_of}
 use Rattle.path_walk.proofs.PartLemmas.{last_valid}
 use Rattle.path_walk.proofs.PathLemmas.{path_sound}
-use Rattle.tree_file.specs.Accepted.{AreAccepted, IsAt, IsMount, IsNode}
-use Rattle.tree_file.specs.Items.{Lists, MountItem, NodeItem}
-use Rattle.tree_file.specs.Numbering.{Named, edge_of, mount_named, named_of, node_named, tree_of}
+use Rattle.session_start.specs.Accepted.{AreAccepted, IsAt, IsMount, IsNode}
+use Rattle.session_start.specs.Items.{Lists, MountItem, NodeItem}
+use Rattle.session_start.specs.Numbering.{Named, edge_of, mount_named, named_of, node_named, tree_of}
 use Rattle.watch_laws.specs.Laws.{HasNames, StartsHaveNames}
 
 -- ---- paths

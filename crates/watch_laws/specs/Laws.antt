@@ -4,8 +4,8 @@ use Rattle.std.specs.FinMap as finite
 use Rattle.endpoint_link.specs.Numbering.{among}
 use Rattle.node_graph.specs.Tree.{EdgeKey, EdgeTo, Tree, names_in}
 use Rattle.path_walk.specs.Names.{IsName}
-use Rattle.tree_file.specs.Accepted.{AreAccepted}
-use Rattle.tree_file.specs.Items.{Lists}
+use Rattle.session_start.specs.Accepted.{AreAccepted}
+use Rattle.session_start.specs.Items.{Lists}
 use Rattle.watch_events.specs.Events.{Event}
 use Rattle.watch_events.specs.Messages.{added, asks_for, existing, removed, watch_frame}
 use Rattle.watch_events.specs.NamesNow.{is_named_now}

@@ -2,12 +2,12 @@ use Rattle.std.proofs.Common.{◌≡◌, ◌≤◌, ◌∙◌, ℕ, List, ap, ar
 use Rattle.std.proofs.lemmas.List.{length-map}
 use Rattle.node_graph.specs.Graph.{create_refusal, number_of}
 use Rattle.node_graph.specs.Tree.{Edges, kind_of}
-use Rattle.tree_file.specs.Lent.{node_item}
-use Rattle.tree_file.specs.Numbering.{Named, node_named, number_at, row_of_named, tree_from}
+use Rattle.session_start.specs.Lent.{node_item}
+use Rattle.session_start.specs.Numbering.{Named, node_named, number_at, row_of_named, tree_from}
 use Rattle.path_walk.specs.Parts.{parent_of}
 use Rattle.path_walk.proofs.PartLemmas.{last_valid}
-use Rattle.tree_file.proofs.Standing.{free_in}
-use Rattle.tree_file.proofs.Trees.{parent_there}
+use Rattle.session_start.proofs.Standing.{free_in}
+use Rattle.session_start.proofs.Trees.{parent_there}
 use Rattle.start_graph.specs.Growing.{key_in}
 use Rattle.start_graph.proofs.Nexts.{few, filled, grown}
 use Rattle.start_graph.proofs.Standing.{place_there, leads_to, kind_there, stands_more}

@@ -1,6 +1,6 @@
 use Rattle.std.proofs.Common.{List, OnOk, subst, sym}
-use Rattle.tree_file.specs.Lent.{mount_item}
-use Rattle.tree_file.specs.Numbering.{Named}
+use Rattle.session_start.specs.Lent.{mount_item}
+use Rattle.session_start.specs.Numbering.{Named}
 use Rattle.start_graph.specs.Growing.{named_with}
 use Rattle.start_graph.specs.Places.{Stands}
 use Rattle.start_graph.proofs.Nexts.{mount_next, mounts_more, mounts_same}

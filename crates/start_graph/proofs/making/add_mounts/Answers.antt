@@ -1,5 +1,5 @@
 use Rattle.std.proofs.Common.{◌≡◌, ◌∙◌, ℕ, List, ap, arith, length, subst}
-use Rattle.tree_file.specs.Numbering.{Named}
+use Rattle.session_start.specs.Numbering.{Named}
 use Rattle.start_graph.specs.Growing.{named_with}
 use Rattle.start_graph.specs.Places.{Stands}
 use Rattle.start_graph.proofs.Nexts.{named_whole}

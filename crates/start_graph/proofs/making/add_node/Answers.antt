@@ -1,6 +1,6 @@
 use Rattle.std.proofs.Common.{List, OnOk, subst, sym}
-use Rattle.tree_file.specs.Lent.{node_item}
-use Rattle.tree_file.specs.Numbering.{Named}
+use Rattle.session_start.specs.Lent.{node_item}
+use Rattle.session_start.specs.Numbering.{Named}
 use Rattle.start_graph.specs.Growing.{nodes_among}
 use Rattle.start_graph.specs.Places.{Stands}
 use Rattle.start_graph.proofs.Nexts.{node_next, nodes_more, nodes_same}

@@ -2,7 +2,7 @@ use Rattle.std.proofs.Common.{codes, map, refl, ap, Some, ◌∙◌, sym, arith,
 use Rattle.std.specs.BTreeSet.{contains}
 use Rattle.std.specs.Ordering.{nat_cmp, is_eq}
 use Rattle.toml.specs.View.{view}
-use Rattle.tree_file.specs.Items.{ClientItem}
+use Rattle.session_start.specs.Items.{ClientItem}
 use Rattle.tree_file.specs.Reading.{client_of}
 use Rattle.tree_file.specs.Rules.{items_at, read_clients, servers_of}
 use Rattle.tree_file.proofs.Passes.{read-on, read-stop, read-end, read-breaks, read-named, endpoints-more}

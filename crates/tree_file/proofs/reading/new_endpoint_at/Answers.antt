@@ -1,7 +1,7 @@
 use Rattle.std.proofs.Common.{◌≡◌, ◌==◌, ◌∙◌, ℕ, Bool, true, false, cond, List, Option, Some, None, sym}
 use Rattle.std.specs.List.{list_any}
 use Rattle.toml.specs.View.{view}
-use Rattle.tree_file.specs.Items.{ClientItem}
+use Rattle.session_start.specs.Items.{ClientItem}
 use Rattle.tree_file.specs.Reading.{is_new_endpoint, endpoint_at}
 use Rattle.tree_file.specs.Texts.{only}
 use Rattle.tree_file.proofs.reading.new_endpoint_at.Goals as goal

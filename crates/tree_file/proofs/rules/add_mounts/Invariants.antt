@@ -1,7 +1,7 @@
 use Rattle.std.proofs.Common.{◌≡◌, List, [], ◌++◌, map, take, drop}
-use Rattle.tree_file.specs.Items.{NodeItem}
+use Rattle.session_start.specs.Items.{NodeItem}
+use Rattle.session_start.specs.RulesOnLists.{node_place, mount_place, first_failing, mount_fits}
 use Rattle.tree_file.specs.Kept.{Stands}
-use Rattle.tree_file.specs.Rules.{node_place, mount_place, first_failing, mount_fits}
 use Rattle.tree_file.proofs.rules.add_mounts.Given as goal
 
 abbrev pub invariant-loop-item : goal.invariant-loop-item

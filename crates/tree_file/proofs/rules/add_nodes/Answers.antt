@@ -1,5 +1,5 @@
 use Rattle.std.proofs.Common.{◌∙◌, sym, arith, map, take, []}
-use Rattle.tree_file.specs.Rules.{first_failing, node_place, node_fits}
+use Rattle.session_start.specs.RulesOnLists.{first_failing, node_place, node_fits}
 use Rattle.tree_file.proofs.Places.{fail-on, fail-stop, fail-end, fail-breaks, more_mapped}
 use Rattle.tree_file.proofs.rules.add_nodes.Goals as goal
 

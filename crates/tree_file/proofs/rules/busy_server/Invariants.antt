@@ -1,5 +1,5 @@
 use Rattle.std.proofs.Common.{◌≡◌, [], take, drop}
-use Rattle.tree_file.specs.Rules.{first_failing, connections_fit}
+use Rattle.session_start.specs.RulesOnLists.{first_failing, connections_fit}
 use Rattle.tree_file.proofs.rules.busy_server.Given as goal
 
 abbrev pub invariant-loop-server : goal.invariant-loop-server

@@ -1,7 +1,7 @@
 use Rattle.std.proofs.Common.{◌∙◌, sym, arith, []}
 use Rattle.std.specs.Prelude.{nat_le}
 use Rattle.fidl_names.specs.declared.limits.TheConstants as limit
-use Rattle.tree_file.specs.Rules.{names_fit, names_held}
+use Rattle.session_start.specs.RulesOnLists.{names_fit, names_held}
 use Rattle.tree_file.proofs.Places.{count-on, count-stop, fail-end}
 use Rattle.tree_file.proofs.rules.crowded_server.Goals as goal
 

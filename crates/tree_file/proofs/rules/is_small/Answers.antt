@@ -1,7 +1,7 @@
 use Rattle.std.proofs.Common.{ap, ◌∙◌, length, List, ℕ}
 use Rattle.std.specs.Prelude.{nat_le}
 use Rattle.fidl_names.specs.declared.limits.TheConstants as limit
-use Rattle.tree_file.specs.Items.{NodeItem}
+use Rattle.session_start.specs.Items.{NodeItem}
 use Rattle.tree_file.proofs.rules.is_small.Goals as goal
 
 pub returns-clause-small : goal.returns-clause-small

@@ -2,8 +2,8 @@ use Rattle.std.proofs.Common.{◌∙◌, sym, subst, All, length, ◌≤◌, ari
 use Rattle.std.proofs.lemmas.List.{take_all}
 use Rattle.std.proofs.lemmas.List.Elements.{All-more}
 use Rattle.fidl_names.specs.Numbers.{AreBytes}
-use Rattle.tree_file.specs.Items.{NodeItem}
-use Rattle.tree_file.specs.Rules.{bytes_fit}
+use Rattle.session_start.specs.Items.{NodeItem}
+use Rattle.session_start.specs.RulesOnLists.{bytes_fit}
 use Rattle.tree_file.proofs.Places.{fail-on, fail-stop, fail-end}
 use Rattle.tree_file.proofs.rules.large_node.Goals as goal
 

@@ -1,6 +1,6 @@
 use Rattle.std.proofs.Common.{◌≡◌, [], take, drop, All}
 use Rattle.fidl_names.specs.Numbers.{AreBytes}
-use Rattle.tree_file.specs.Rules.{first_failing, bytes_fit}
+use Rattle.session_start.specs.RulesOnLists.{first_failing, bytes_fit}
 use Rattle.tree_file.proofs.rules.large_node.Given as goal
 
 abbrev pub invariant-loop-item : goal.invariant-loop-item

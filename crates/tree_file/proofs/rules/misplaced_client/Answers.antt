@@ -1,5 +1,5 @@
 use Rattle.std.proofs.Common.{◌∙◌, sym, arith}
-use Rattle.tree_file.specs.Rules.{client_fits}
+use Rattle.session_start.specs.RulesOnLists.{client_fits}
 use Rattle.tree_file.proofs.Places.{fail-on, fail-stop, fail-end}
 use Rattle.tree_file.proofs.rules.misplaced_client.Goals as goal
 

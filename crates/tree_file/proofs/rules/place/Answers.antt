@@ -1,5 +1,4 @@
 use Rattle.std.proofs.Common.{refl, sym, ◌∙◌}
-use Rattle.tree_file.specs.Rules.{fits_in}
 use Rattle.tree_file.proofs.Places.{stands-more, free_where_fit}
 use Rattle.tree_file.proofs.rules.place.Goals as goal
 

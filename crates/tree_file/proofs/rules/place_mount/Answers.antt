@@ -1,6 +1,6 @@
 use Rattle.std.proofs.Common.{◌≡◌, false, List, ℕ, IfOk, ap, ◌∙◌, sym, subst}
-use Rattle.tree_file.specs.Items.{MountItem}
-use Rattle.tree_file.specs.Rules.{Place, mount_place, is_directory}
+use Rattle.session_start.specs.Items.{MountItem}
+use Rattle.session_start.specs.RulesOnLists.{Place, mount_place, is_directory}
 use Rattle.tree_file.proofs.Places.{IsPlacing, mount-placing}
 use Rattle.tree_file.proofs.rules.place_mount.Goals as goal
 

@@ -1,7 +1,7 @@
 use Rattle.std.proofs.Common.{◌≡◌, Bool, List, ℕ, IfOk, ap, sym, ◌∙◌, subst}
 use Rattle.node_graph.specs.Refusals as graph
-use Rattle.tree_file.specs.Items.{NodeItem}
-use Rattle.tree_file.specs.Rules.{Place}
+use Rattle.session_start.specs.Items.{NodeItem}
+use Rattle.session_start.specs.RulesOnLists.{Place}
 use Rattle.tree_file.proofs.Places.{IsPlacing, not_directory}
 use Rattle.tree_file.proofs.rules.place_node.Goals as goal
 use Rattle.tree_file.proofs.rules.place_node.Goals.{in-Directory, in_default}

@@ -1,6 +1,6 @@
 use Rattle.std.proofs.Common.{◌≡◌, ◌∙◌, [], List, ℕ, None, Some, ap, sym}
-use Rattle.tree_file.specs.Items.{NodeItem, MountItem, ClientItem, Lists}
-use Rattle.tree_file.specs.Rules.{first_failing, bytes_fit, names_fit, connections_fit, rule_11, rule_12, rule_13}
+use Rattle.session_start.specs.Items.{NodeItem, MountItem, ClientItem, Lists}
+use Rattle.session_start.specs.RulesOnLists.{first_failing, bytes_fit, names_fit, connections_fit, rule_11, rule_12, rule_13}
 use Rattle.tree_file.proofs.First.{third-broken}
 use Rattle.tree_file.proofs.start.check_counts.Goals as goal
 

@@ -1,6 +1,6 @@
 use Rattle.std.proofs.Common.{◌≡◌, ℕ, sym, subst, Option, None, IfErr, OnOk}
+use Rattle.session_start.specs.RulesOnLists.{rule_8, rule_9, rule_10, rules_on_counts}
 use Rattle.tree_file.specs.Faults.{IsFirst}
-use Rattle.tree_file.specs.Rules.{rule_8, rule_9, rule_10, rules_on_counts}
 use Rattle.tree_file.proofs.First.{three-pass}
 use Rattle.tree_file.proofs.start.check_lists.Goals as goal
 

@@ -1,7 +1,8 @@
 use Rattle.std.proofs.Common.{[], ◌∷◌}
 use Rattle.toml.specs.View.{view}
+use Rattle.session_start.specs.RulesOnLists.{first_broken}
 use Rattle.tree_file.specs.Faults.{IsFirst}
-use Rattle.tree_file.specs.Rules.{first_broken, rule_2, rule_3, rule_4, rule_5, rule_6, rule_7, rules_on_form}
+use Rattle.tree_file.specs.Rules.{rule_2, rule_3, rule_4, rule_5, rule_6, rule_7, rules_on_form}
 use Rattle.tree_file.proofs.First.{first-before, passed-on}
 use Rattle.tree_file.proofs.Starts.{anyway, servers-are, lists-read, form-read, servers-broken, nodes-broken, mounts-broken, form-broken}
 use Rattle.tree_file.proofs.start.read_lists.Goals as goal

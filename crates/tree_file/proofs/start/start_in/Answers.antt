@@ -1,15 +1,16 @@
 use Rattle.std.proofs.Common.{◌≡◌, ◌∙◌, ℕ, Option, None, sym, subst}
 use Rattle.toml.specs.View.{view}
-use Rattle.tree_file.specs.Accepted.{AreAccepted}
+use Rattle.session_start.specs.Accepted.{AreAccepted}
+use Rattle.session_start.specs.Items.{Lists}
+use Rattle.session_start.specs.RulesOnLists.{first_broken, rules_on_lists}
 use Rattle.tree_file.specs.Faults.{IsFirst}
-use Rattle.tree_file.specs.Items.{Lists}
-use Rattle.tree_file.specs.Rules.{broken_in, first_broken, lists_of, rule_2, rule_3, rule_4, rule_5, rule_6, rule_7, rules_on_form, rules_on_lists}
+use Rattle.tree_file.specs.Rules.{broken_in, lists_of, rule_2, rule_3, rule_4, rule_5, rule_6, rule_7, rules_on_form}
 use Rattle.tree_file.proofs.Accepted.{accepted_of}
 use Rattle.tree_file.proofs.First.{first-before, passed-on, six-pass}
 use Rattle.tree_file.proofs.start.start_in.Goals as goal
 
-pub invariant_of-result : goal.invariant_of-result
-invariant_of-result c =
+pub new-requires : goal.new-requires
+new-requires c =
     let same = c.in_ok-read_lists.ensures.lists in
     record {
       accepted =
@@ -20,12 +21,12 @@ invariant_of-result c =
 
 pub returns-clause-accepted : goal.returns-clause-accepted
 returns-clause-accepted c =
-    let same = c.in_ok-read_lists.ensures.lists in
+    let same = c.new.ensures ∙ c.in_ok-read_lists.ensures.lists in
     subst AreAccepted (sym same)
-    (accepted_of (view c.args.document.now) (subst (λ (l : Lists). first_broken 8 (rules_on_lists l) ≡ None) same c.in_ok-check_lists.ensures.hold))
+    (accepted_of (view c.args.document.now) (subst (λ (l : Lists). first_broken 8 (rules_on_lists l) ≡ None) c.in_ok-read_lists.ensures.lists c.in_ok-check_lists.ensures.hold))
 
 pub returns-clause-start : goal.returns-clause-start
-returns-clause-start c = c.in_ok-read_lists.ensures.lists
+returns-clause-start c = c.new.ensures ∙ c.in_ok-read_lists.ensures.lists
 
 pub returns-clause-sound : goal.returns-clause-sound
 returns-clause-sound c =

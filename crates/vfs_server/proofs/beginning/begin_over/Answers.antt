@@ -1,4 +1,4 @@
-use Rattle.tree_file.specs.Numbering.{tree_of}
+use Rattle.session_start.specs.Numbering.{tree_of}
 use Rattle.vfs_server.proofs.Begun.{holds_none, holds_start}
 use Rattle.vfs_server.proofs.beginning.begin_over.Goals as goal
 

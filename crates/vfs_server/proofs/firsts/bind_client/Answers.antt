@@ -1,5 +1,5 @@
 use Rattle.std.proofs.Common.{◌∙◌, ◌++◌, ◌∷◌, [], List, OnOk, ap, subst, sym}
-use Rattle.tree_file.specs.Lent.{client_item}
+use Rattle.session_start.specs.Lent.{client_item}
 use Rattle.vfs_journal.specs.Starts.{Bound}
 use Rattle.vfs_server.specs.Beginning.{HoldsJust, clients_among}
 use Rattle.vfs_server.proofs.Begins.{clients_more, clients_same}

@@ -1,6 +1,6 @@
 use Rattle.std.proofs.Common.{◌∙◌, ◌++◌, ◌∷◌, [], List, OnOk, ap, arith, subst, sym}
-use Rattle.tree_file.specs.Lent.{mount_item}
-use Rattle.tree_file.proofs.Accepted.{few_of}
+use Rattle.session_start.specs.Lent.{mount_item}
+use Rattle.session_start.proofs.Accepted.{few_of}
 use Rattle.vfs_journal.specs.Starts.{Bound}
 use Rattle.vfs_server.specs.Beginning.{HoldsJust, bound_among}
 use Rattle.vfs_server.proofs.Begins.{ends_more, ends_same}

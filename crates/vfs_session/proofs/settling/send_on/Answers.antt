@@ -1,6 +1,6 @@
 -- What goes on waits last on its mount's end.
 use Rattle.std.proofs.Common.{[], ◌∷◌, ◌++◌, ◌∙◌, ℕ, List, Some, ap, subst, sym}
-use Rattle.tree_file.specs.Numbering.{end_of_mount}
+use Rattle.session_start.specs.Numbering.{end_of_mount}
 use Rattle.vfs_journal.specs.Entries.{Sending, message}
 use Rattle.message_queues.specs.Queues.{Requeues, queue_of}
 use Rattle.vfs_server.specs.declared.fate.Fate.{Fate}

@@ -1,6 +1,6 @@
 use Rattle.std.proofs.Common.{◌≤◌, List, arith, length, subst}
 use Rattle.std.proofs.lemmas.List.{length-map, take_all}
-use Rattle.tree_file.specs.Lent.{client_item}
+use Rattle.session_start.specs.Lent.{client_item}
 use Rattle.vfs_journal.specs.Starts.{Bound, first_of_client, start_of}
 use Rattle.vfs_world.specs.Beginning.{BindsJust}
 use Rattle.vfs_world.proofs.Begun.{client_bound, client_one_of, client_unbound}

@@ -2,8 +2,8 @@ use Rattle.std.proofs.Common.{◌≤◌, ◌++◌, List, append-nil, arith, leng
 use Rattle.std.proofs.lemmas.List.{length-map, take_all}
 use Rattle.std.proofs.lemmas.List.FromFn.{length-enumerate_from}
 use Rattle.std.specs.List.{enumerate_from}
-use Rattle.tree_file.proofs.Accepted.{few_of}
-use Rattle.tree_file.specs.Lent.{mount_item}
+use Rattle.session_start.proofs.Accepted.{few_of}
+use Rattle.session_start.specs.Lent.{mount_item}
 use Rattle.vfs_journal.specs.Starts.{Bound, end_of, start_of}
 use Rattle.vfs_world.specs.Beginning.{BindsJust}
 use Rattle.vfs_world.proofs.Begun.{mount_bound, mount_one_of, mount_unbound}

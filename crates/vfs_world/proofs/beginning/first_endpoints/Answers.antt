@@ -1,6 +1,6 @@
 use Rattle.std.proofs.Common.{◌≤◌, ◌∙◌, ◌++◌, ◌∷◌, [], ap, arith, length, map, sym, take}
 use Rattle.std.proofs.lemmas.List.{length-map, map-append, take_all}
-use Rattle.tree_file.specs.Lent.{client_item}
+use Rattle.session_start.specs.Lent.{client_item}
 use Rattle.vfs_journal.specs.Starts.{Bound, first_of_client, start_of}
 use Rattle.vfs_world.proofs.Begun.{client_listed, one_more}
 use Rattle.vfs_world.proofs.beginning.first_endpoints.Goals as goal

@@ -1,0 +1,11 @@
+-- The lemmas of this crate. Soundness, Accepted and what they name are those that crates above cite.
+pub mod Found
+pub mod Places
+pub mod Accepted
+pub mod Numbers
+pub mod Trees
+pub mod Standing
+pub mod Placing
+pub mod Rising
+pub mod Edges
+pub mod Soundness
