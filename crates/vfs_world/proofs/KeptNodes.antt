@@ -1,6 +1,6 @@
 -- The servers of a world that runs, and that each keeps few nodes.
-use Rattle.std.proofs.Common.{◌≡◌, ℕ, zero, suc, ◌+◌, ◌*◌, ◌^◌, ◌<◌, ◌≤◌, true, false, List, [], ◌∷◌, All, Result, Ok, Err, Some, length, refl, sym, ap, ◌∙◌, arith}
-use Rattle.std.specs.Prelude.{OnOk, is_ok, slice_get, slice_index_or}
+use Rattle.std.proofs.Common.{◌≡◌, ℕ, zero, suc, ◌+◌, ◌*◌, ◌^◌, ◌<◌, ◌≤◌, false, List, [], ◌∷◌, All, Some, length, refl, sym, ap, ◌∙◌, arith}
+use Rattle.std.specs.Prelude.{slice_get, slice_index_or}
 use Rattle.std.specs.FinMap as finite
 use Rattle.std.proofs.lemmas.List.Elements.{All-head, All-tail}
 use Rattle.std.proofs.lemmas.Option.{slice_get_read}
@@ -46,10 +46,6 @@ kept_there start world journal stands index server count there counts =
     counts (stands.holds.servers.each index server there) ∙ ap (kept_in (view_behind start journal)) (stands.holds.servers.index index server there)
 
 -- ---- inside a world that isn't spent
-
-pub when_ok : {T E P : Type 0} (r : Result T E) → is_ok r ≡ true → OnOk r P → P
-when_ok (Ok x) is h = h
-when_ok (Err e) is h = absurd (cc)
 
 module _ (inside : Inside) {now : World} (view : as_world (whole inside.session) inside.spent inside.frames ≡ now) (within : IsWithin (whole inside.session) inside.spent inside.frames) (able : now.spent ≡ false)
     (index : ℕ) (known : index < now.queues.servers) where

@@ -45,6 +45,9 @@ module _ (inside : Inside) {now : World} (view : as_world (whole inside.session)
   able : now.spent ≡ false → inside.spent ≡ false
   able is = ap (λ (w : World). w.spent) view ∙ is
 
+  pub able_of : inside.spent ≡ false → now.spent ≡ false
+  able_of is = sym (ap (λ (w : World). w.spent) view) ∙ is
+
   pub runs_inside : IsWithin (whole inside.session) inside.spent inside.frames → now.spent ≡ false → IsRunning (2 ^ 61) (whole inside.session)
   runs_inside within is =
       let runs = within (able is) in

@@ -126,8 +126,8 @@ impl World {
         ensures only_spent { result ≡ Err WorldFault.Spent → self.old.spent ≡ true }
         ensures silent { OnErr result (outbox.new ≡ outbox.old) }
     {
-        if let Err(fault) = self.able() {
-            return Err(fault);
+        if self.spent {
+            return Err(WorldFault::Spent);
         }
         let begun = outbox.len();
         if let Err(NoMemory) = hear(&mut self.session, mode, frame, outbox) {
@@ -155,8 +155,8 @@ impl World {
         ensures only_spent { result ≡ Err WorldFault.Spent → self.old.spent ≡ true }
         ensures silent { OnErr result (outbox.new ≡ outbox.old) }
     {
-        if let Err(fault) = self.able() {
-            return Err(fault);
+        if self.spent {
+            return Err(WorldFault::Spent);
         }
         let begun = outbox.len();
         match self.session.turn(server, n, outbox) {
@@ -179,8 +179,8 @@ impl World {
         ensures only_spent { result ≡ Err WorldFault.Spent → self.old.spent ≡ true }
         ensures silent { OnErr result (outbox.new ≡ outbox.old) }
     {
-        if let Err(fault) = self.able() {
-            return Err(fault);
+        if self.spent {
+            return Err(WorldFault::Spent);
         }
         let begun = outbox.len();
         match self.session.pick(endpoint, outbox) {
@@ -203,26 +203,14 @@ impl World {
         ensures only_spent { result ≡ Err WorldFault.Spent → self.old.spent ≡ true }
         ensures silent { OnErr result (outbox.new ≡ outbox.old) }
     {
-        if let Err(fault) = self.able() {
-            return Err(fault);
+        if self.spent {
+            return Err(WorldFault::Spent);
         }
         let begun = outbox.len();
         if let Err(NoMemory) = self.session.drain(outbox) {
             return Err(take_back(begun, outbox, &mut self.spent));
         }
         Ok(())
-    }
-
-    /// A spent world does nothing more.
-    fn able(&self) -> Result<(), WorldFault>
-        ensures able { OnOk result (self.now.spent ≡ false) }
-        ensures spent { IfErr result (λ fault. (fault ≡ WorldFault.Spent) × (self.now.spent ≡ true)) }
-    {
-        if self.spent {
-            Err(WorldFault::Spent)
-        } else {
-            Ok(())
-        }
     }
 
     /// How many servers there are.
@@ -239,7 +227,7 @@ impl World {
         ensures kept { (start : Start) (journal : Journal) → StandsFor start self.now journal → result ≡ kept_in (view_behind start journal) server }
         ensures spent { self.now.spent ≡ true → result ≡ 0 }
     {
-        if self.able().is_err() {
+        if self.spent {
             return 0;
         }
         self.session.servers[server as usize].kept() as u32

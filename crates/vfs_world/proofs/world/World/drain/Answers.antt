@@ -3,17 +3,17 @@ use Rattle.std.proofs.lemmas.Bool.{true≢false}
 use Rattle.vfs_session.specs.Running.{whole}
 use Rattle.vfs_session.proofs.Serves.{drain_leads}
 use Rattle.vfs_world.proofs.Answered.{not_err, not_spent}
-use Rattle.vfs_world.proofs.Worlds.{leads_inside, nothing_waits, runs_inside, stands_inside, taken_back}
+use Rattle.vfs_world.proofs.Worlds.{able_of, leads_inside, nothing_waits, runs_inside, stands_inside, taken_back}
 use Rattle.vfs_world.proofs.world.World.drain.Goals as goal
 
 pub drain-requires : goal.drain-requires
-drain-requires c = record { running = runs_inside c.self.inside c.self.view_is c.self.invariant c.in_default.ensures.able }
+drain-requires c = record { running = runs_inside c.self.inside c.self.view_is c.self.invariant (able_of c.self.inside c.self.view_is c.if-self.false) }
 
-pub invariant_of-self-in_default-drain : goal.invariant_of-self-in_default-drain
-invariant_of-self-in_default-drain c =
+pub invariant_of-self-in_default : goal.invariant_of-self-in_default
+invariant_of-self-in_default c =
     λ able.
     let within = c.self.invariant able in
-    (c.in_default-drain.ensures.running (4098 * c.self.inside.frames) within.0, within.1)
+    (c.in_default.ensures.running (4098 * c.self.inside.frames) within.0, within.1)
 
 pub returns-clause-drained : goal.returns-clause-drained
 returns-clause-drained c =
@@ -21,43 +21,43 @@ returns-clause-drained c =
     leads_inside c.self.inside c.self.view_is (whole c.drain.new.self) c.self.inside.frames stands
     (drain_leads (runs_inside c.self.inside c.self.view_is c.self.invariant stands.able).apart start journal (whole c.self.inside.session) (whole c.drain.new.self) c.args.outbox.now c.drain.new.outbox
     (stands_inside c.self.inside c.self.view_is start journal stands)
-    c.in_default-drain.ensures.drained).0
+    c.in_default.ensures.drained).0
 
 pub returns-clause-none : goal.returns-clause-none
 returns-clause-none c =
     λ start journal stands.
     (drain_leads (runs_inside c.self.inside c.self.view_is c.self.invariant stands.able).apart start journal (whole c.self.inside.session) (whole c.drain.new.self) c.args.outbox.now c.drain.new.outbox
     (stands_inside c.self.inside c.self.view_is start journal stands)
-    c.in_default-drain.ensures.drained).1
+    c.in_default.ensures.drained).1
 
 -- for want of memory what was written is taken back
-pub returns-in-Err-drain-clause-memory : goal.returns-in-Err-drain-clause-memory
-returns-in-Err-drain-clause-memory c = λ is. (c.in_default.ensures.able, c.take_back.ensures.spent)
+pub returns-in-Err-clause-memory : goal.returns-in-Err-clause-memory
+returns-in-Err-clause-memory c = λ is. (able_of c.self.inside c.self.view_is c.if-self.false, c.take_back.ensures.spent)
 
-pub returns-in-Err-drain-clause-spent : goal.returns-in-Err-drain-clause-spent
-returns-in-Err-drain-clause-spent c = λ spent. absurd (true≢false (sym spent ∙ c.in_default.ensures.able))
+pub returns-in-Err-clause-spent : goal.returns-in-Err-clause-spent
+returns-in-Err-clause-spent c = λ spent. absurd (true≢false (sym spent ∙ able_of c.self.inside c.self.view_is c.if-self.false))
 
-pub returns-in-Err-drain-clause-silent : goal.returns-in-Err-drain-clause-silent
-returns-in-Err-drain-clause-silent c = c.take_back.ensures.back ∙ taken_back c.args.outbox.now c.drain.new.outbox c.len-begun.result c.len-begun.ensures c.drain.ensures.begins
+pub returns-in-Err-clause-silent : goal.returns-in-Err-clause-silent
+returns-in-Err-clause-silent c = c.take_back.ensures.back ∙ taken_back c.args.outbox.now c.drain.new.outbox c.len-begun.result c.len-begun.ensures c.drain.ensures.begins
 
-pub returns-in-Err-drain-clause-idle : goal.returns-in-Err-drain-clause-idle
-returns-in-Err-drain-clause-idle c =
+pub returns-in-Err-clause-idle : goal.returns-in-Err-clause-idle
+returns-in-Err-clause-idle c =
     λ start journal stands none.
-    let told = c.in-Err-drain.ensures.idle (nothing_waits start (whole c.self.inside.session) journal (stands_inside c.self.inside c.self.view_is start journal stands) none) in
+    let told = c.in-Err.ensures.idle (nothing_waits start (whole c.self.inside.session) journal (stands_inside c.self.inside c.self.view_is start journal stands) none) in
     absurd (not_err _ _ (sym told))
 
 pub returns-clause-idle : goal.returns-clause-idle
 returns-clause-idle c = λ start journal stands none. refl
 
-pub returns-in-Err-drain-clause-only_spent : goal.returns-in-Err-drain-clause-only_spent
-returns-in-Err-drain-clause-only_spent c = λ is. absurd (not_spent _ c.take_back.ensures.fault is)
+pub returns-in-Err-clause-only_spent : goal.returns-in-Err-clause-only_spent
+returns-in-Err-clause-only_spent c = λ is. absurd (not_spent _ c.take_back.ensures.fault is)
 
 -- what was done was done by a world that wasn't spent
 pub returns-clause-memory : goal.returns-clause-memory
 returns-clause-memory c = λ is. absurd (not_err _ _ is)
 
 pub returns-clause-spent : goal.returns-clause-spent
-returns-clause-spent c = λ spent. absurd (true≢false (sym spent ∙ c.in_default.ensures.able))
+returns-clause-spent c = λ spent. absurd (true≢false (sym spent ∙ able_of c.self.inside c.self.view_is c.if-self.false))
 
 pub returns-clause-only_spent : goal.returns-clause-only_spent
 returns-clause-only_spent c = λ is. absurd (not_err _ _ is)

@@ -4,12 +4,12 @@ use Rattle.vfs_session.specs.Running.{whole}
 use Rattle.vfs_session.specs.World.{World}
 use Rattle.vfs_session.proofs.Lasting.{lasts_more}
 use Rattle.vfs_world.proofs.Answered.{not_err, not_spent}
-use Rattle.vfs_world.proofs.Worlds.{leads_inside, stands_inside, taken_back, within_more}
+use Rattle.vfs_world.proofs.Worlds.{able_of, leads_inside, stands_inside, taken_back, within_more}
 use Rattle.vfs_world.proofs.world.World.hear.Goals as goal
 
 pub hear-requires-clause-running : goal.hear-requires-clause-running
 hear-requires-clause-running c =
-    let within = c.self.invariant (ap (λ (w : World). w.spent) c.self.view_is ∙ c.in_default.ensures.able) in
+    let within = c.self.invariant c.if-self.false in
     let same : c.self.inside.frames ≡ c.args.self.now.frames = ap (λ (w : World). w.frames) c.self.view_is in
     let few : c.args.self.now.frames < 2 ^ 48 = c.requires.few in
     lasts_more (4098 * c.self.inside.frames) (2 ^ 61 - 4098) (whole c.self.inside.session) (omega (arith, same, few)) within.0
@@ -20,42 +20,42 @@ invariant_of-self-2 c =
     let within = c.self.invariant able in
     let same : c.self.inside.frames ≡ c.args.self.now.frames = ap (λ (w : World). w.frames) c.self.view_is in
     let few : c.args.self.now.frames < 2 ^ 48 = c.requires.few in
-    within_more c.self.inside.frames (whole c.hear.new.session) (omega (arith, same, few)) (c.in_default-hear.ensures.running (4098 * c.self.inside.frames) within.0)
+    within_more c.self.inside.frames (whole c.hear.new.session) (omega (arith, same, few)) (c.in_default.ensures.running (4098 * c.self.inside.frames) within.0)
 
 pub returns-clause-heard : goal.returns-clause-heard
 returns-clause-heard c =
     λ start journal stands.
     leads_inside c.self.inside c.self.view_is (whole c.hear.new.session) (c.self.inside.frames + 1) stands
-    (c.in_default-hear.ensures.heard start journal
+    (c.in_default.ensures.heard start journal
     (stands_inside c.self.inside c.self.view_is start journal stands))
 
 pub returns-clause-none : goal.returns-clause-none
 returns-clause-none c =
     λ auto start journal stands.
-    c.in_default-hear.ensures.none auto start journal (stands_inside c.self.inside c.self.view_is start journal stands)
+    c.in_default.ensures.none auto start journal (stands_inside c.self.inside c.self.view_is start journal stands)
 
 pub returns-clause-frames : goal.returns-clause-frames
 returns-clause-frames c = ap (λ (w : World). w.frames + 1) c.self.view_is
 
 -- for want of memory what was written is taken back
-pub returns-in-Err-hear-clause-memory : goal.returns-in-Err-hear-clause-memory
-returns-in-Err-hear-clause-memory c = λ is. (c.in_default.ensures.able, c.take_back.ensures.spent)
+pub returns-in-Err-clause-memory : goal.returns-in-Err-clause-memory
+returns-in-Err-clause-memory c = λ is. (able_of c.self.inside c.self.view_is c.if-self.false, c.take_back.ensures.spent)
 
-pub returns-in-Err-hear-clause-spent : goal.returns-in-Err-hear-clause-spent
-returns-in-Err-hear-clause-spent c = λ spent. absurd (true≢false (sym spent ∙ c.in_default.ensures.able))
+pub returns-in-Err-clause-spent : goal.returns-in-Err-clause-spent
+returns-in-Err-clause-spent c = λ spent. absurd (true≢false (sym spent ∙ able_of c.self.inside c.self.view_is c.if-self.false))
 
-pub returns-in-Err-hear-clause-silent : goal.returns-in-Err-hear-clause-silent
-returns-in-Err-hear-clause-silent c = c.take_back.ensures.back ∙ taken_back c.args.outbox.now c.hear.new.outbox c.len-begun.result c.len-begun.ensures c.hear.ensures.begins
+pub returns-in-Err-clause-silent : goal.returns-in-Err-clause-silent
+returns-in-Err-clause-silent c = c.take_back.ensures.back ∙ taken_back c.args.outbox.now c.hear.new.outbox c.len-begun.result c.len-begun.ensures c.hear.ensures.begins
 
-pub returns-in-Err-hear-clause-only_spent : goal.returns-in-Err-hear-clause-only_spent
-returns-in-Err-hear-clause-only_spent c = λ is. absurd (not_spent _ c.take_back.ensures.fault is)
+pub returns-in-Err-clause-only_spent : goal.returns-in-Err-clause-only_spent
+returns-in-Err-clause-only_spent c = λ is. absurd (not_spent _ c.take_back.ensures.fault is)
 
 -- what was done was done by a world that wasn't spent
 pub returns-clause-memory : goal.returns-clause-memory
 returns-clause-memory c = λ is. absurd (not_err _ _ is)
 
 pub returns-clause-spent : goal.returns-clause-spent
-returns-clause-spent c = λ spent. absurd (true≢false (sym spent ∙ c.in_default.ensures.able))
+returns-clause-spent c = λ spent. absurd (true≢false (sym spent ∙ able_of c.self.inside c.self.view_is c.if-self.false))
 
 pub returns-clause-only_spent : goal.returns-clause-only_spent
 returns-clause-only_spent c = λ is. absurd (not_err _ _ is)

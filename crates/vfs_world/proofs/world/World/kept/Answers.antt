@@ -1,10 +1,11 @@
 use Rattle.std.proofs.Common.{arith}
-use Rattle.vfs_world.proofs.KeptNodes.{count_low, counted_there, when_ok}
+use Rattle.vfs_world.proofs.KeptNodes.{count_low, counted_there}
+use Rattle.vfs_world.proofs.Worlds.{able_of}
 use Rattle.vfs_world.proofs.world.World.kept.Goals as goal
 
 pub overflow_cast-result : goal.overflow_cast-result
 overflow_cast-result c =
-    let low = count_low c.self.inside c.self.view_is c.self.invariant (when_ok c.able.result c.if-is_err.ensures.negation c.able.ensures.able) c.args.server (c.requires.server (when_ok c.able.result c.if-is_err.ensures.negation c.able.ensures.able)) c.index.result.now c.kept.result c.index.ensures c.kept.ensures.few in
+    let low = count_low c.self.inside c.self.view_is c.self.invariant (able_of c.self.inside c.self.view_is c.if-self.false) c.args.server (c.requires.server (able_of c.self.inside c.self.view_is c.if-self.false)) c.index.result.now c.kept.result c.index.ensures c.kept.ensures.few in
     omega (arith, low)
 
 pub returns-clause-kept : goal.returns-clause-kept

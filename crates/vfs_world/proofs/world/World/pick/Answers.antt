@@ -3,11 +3,11 @@ use Rattle.std.proofs.lemmas.Bool.{true≢false}
 use Rattle.vfs_session.specs.Running.{whole}
 use Rattle.vfs_session.proofs.Serves.{head_none, pick_idle, pick_leads}
 use Rattle.vfs_world.proofs.Answered.{not_err, not_spent, same_ok}
-use Rattle.vfs_world.proofs.Worlds.{leads_inside, runs_inside, stands_inside, taken_back}
+use Rattle.vfs_world.proofs.Worlds.{able_of, leads_inside, runs_inside, stands_inside, taken_back}
 use Rattle.vfs_world.proofs.world.World.pick.Goals as goal
 
 pub pick-requires : goal.pick-requires
-pick-requires c = record { running = runs_inside c.self.inside c.self.view_is c.self.invariant c.in_default.ensures.able }
+pick-requires c = record { running = runs_inside c.self.inside c.self.view_is c.self.invariant (able_of c.self.inside c.self.view_is c.if-self.false) }
 
 pub returns-in-Ok-clause-picked : goal.returns-in-Ok-clause-picked
 returns-in-Ok-clause-picked c =
@@ -23,10 +23,10 @@ returns-in-Ok-clause-idle c =
     let none_served = c.in-Ok.ensures.idle (pick_idle start journal (whole c.self.inside.session) c.args.endpoint (stands_inside c.self.inside c.self.view_is start journal stands) none) in
     ap Ok (c.told.ensures.idle (same_ok _ _ none_served))
 
-pub returns-in-Err-pick-clause-idle : goal.returns-in-Err-pick-clause-idle
-returns-in-Err-pick-clause-idle c =
+pub returns-in-Err-clause-idle : goal.returns-in-Err-clause-idle
+returns-in-Err-clause-idle c =
     λ start journal stands none.
-    let told = c.in-Err-pick.ensures.idle (pick_idle start journal (whole c.self.inside.session) c.args.endpoint (stands_inside c.self.inside c.self.view_is start journal stands) none) in
+    let told = c.in-Err.ensures.idle (pick_idle start journal (whole c.self.inside.session) c.args.endpoint (stands_inside c.self.inside c.self.view_is start journal stands) none) in
     absurd (not_err _ _ (sym told))
 
 pub returns-in-Ok-clause-only_idle : goal.returns-in-Ok-clause-only_idle
@@ -37,24 +37,24 @@ returns-in-Ok-clause-only_idle c =
     (c.in-Ok.ensures.only_idle (ap Ok (c.told.ensures.only_idle (same_ok _ _ is))))
 
 -- for want of memory what was written is taken back
-pub returns-in-Err-pick-clause-memory : goal.returns-in-Err-pick-clause-memory
-returns-in-Err-pick-clause-memory c = λ is. (c.in_default.ensures.able, c.take_back.ensures.spent)
+pub returns-in-Err-clause-memory : goal.returns-in-Err-clause-memory
+returns-in-Err-clause-memory c = λ is. (able_of c.self.inside c.self.view_is c.if-self.false, c.take_back.ensures.spent)
 
-pub returns-in-Err-pick-clause-spent : goal.returns-in-Err-pick-clause-spent
-returns-in-Err-pick-clause-spent c = λ spent. absurd (true≢false (sym spent ∙ c.in_default.ensures.able))
+pub returns-in-Err-clause-spent : goal.returns-in-Err-clause-spent
+returns-in-Err-clause-spent c = λ spent. absurd (true≢false (sym spent ∙ able_of c.self.inside c.self.view_is c.if-self.false))
 
-pub returns-in-Err-pick-clause-silent : goal.returns-in-Err-pick-clause-silent
-returns-in-Err-pick-clause-silent c = c.take_back.ensures.back ∙ taken_back c.args.outbox.now c.pick.new.outbox c.len-begun.result c.len-begun.ensures c.pick.ensures.begins
+pub returns-in-Err-clause-silent : goal.returns-in-Err-clause-silent
+returns-in-Err-clause-silent c = c.take_back.ensures.back ∙ taken_back c.args.outbox.now c.pick.new.outbox c.len-begun.result c.len-begun.ensures c.pick.ensures.begins
 
-pub returns-in-Err-pick-clause-only_spent : goal.returns-in-Err-pick-clause-only_spent
-returns-in-Err-pick-clause-only_spent c = λ is. absurd (not_spent _ c.take_back.ensures.fault is)
+pub returns-in-Err-clause-only_spent : goal.returns-in-Err-clause-only_spent
+returns-in-Err-clause-only_spent c = λ is. absurd (not_spent _ c.take_back.ensures.fault is)
 
 -- what was done was done by a world that wasn't spent
 pub returns-in-Ok-clause-memory : goal.returns-in-Ok-clause-memory
 returns-in-Ok-clause-memory c = λ is. absurd (not_err _ _ is)
 
 pub returns-in-Ok-clause-spent : goal.returns-in-Ok-clause-spent
-returns-in-Ok-clause-spent c = λ spent. absurd (true≢false (sym spent ∙ c.in_default.ensures.able))
+returns-in-Ok-clause-spent c = λ spent. absurd (true≢false (sym spent ∙ able_of c.self.inside c.self.view_is c.if-self.false))
 
 pub returns-in-Ok-clause-only_spent : goal.returns-in-Ok-clause-only_spent
 returns-in-Ok-clause-only_spent c = λ is. absurd (not_err _ _ is)
