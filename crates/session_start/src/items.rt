@@ -5,7 +5,7 @@ use node_graph::NodeKind;
 use std::alloc::{AllocError, Global};
 use std::marker::Model;
 
-// A text of its own. Contracts see it as its bytes.
+/// A text of its own: a server's name, a path, or what is in a file. Contracts see it as its bytes.
 #[derive(Drop)]
 pub struct Bytes {
     bytes: Vec<u8>,
@@ -18,12 +18,14 @@ impl Model for Bytes {
 }
 
 impl Bytes {
+    /// The text that these bytes are.
     pub fn new(bytes: Vec<u8>) -> Bytes
         ensures { result ≡ bytes.items }
     {
         Bytes { bytes }
     }
 
+    /// A copy of these bytes, unless memory was wanting.
     pub fn copy(alloc: Global, bytes: &[u8]) -> Result<Bytes, AllocError>
         ensures { IfOk result (λ copy. copy ≡ bytes.now) }
     {
@@ -32,6 +34,7 @@ impl Bytes {
         })
     }
 
+    /// Its bytes.
     pub fn as_slice(&self) -> &[u8]
         ensures { result.now ≡ self.now }
     {
@@ -39,7 +42,7 @@ impl Bytes {
     }
 }
 
-// A node of the tree.
+/// A node of a start: its server's index, its path, its kind, the mask of its name, and the bytes of a file.
 #[derive(Drop)]
 pub struct Node {
     pub server: u32,
@@ -57,7 +60,7 @@ impl Model for Node {
     ghost view = { λ node. record { server = node.server; path = node.path; kind = node.kind; rights = node.rights; bytes = node.bytes } };
 }
 
-// A mount.
+/// A mount of a start: at a path of a server the target goes on, from its own directory `at`.
 #[derive(Drop)]
 pub struct Mount {
     pub server: u32,
@@ -75,7 +78,7 @@ impl Model for Mount {
     ghost view = { λ mount. record { server = mount.server; path = mount.path; target = mount.target; at = mount.at; rights = mount.rights } };
 }
 
-// A first connection.
+/// A first connection of a start: its endpoint, and the directory of a server that it is bound to.
 #[derive(Drop)]
 pub struct Client {
     pub endpoint: u32,
