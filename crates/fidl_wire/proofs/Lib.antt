@@ -1,6 +1,5 @@
 pub mod ReadEpitaphs
 pub mod ReadHeaders
-pub mod Members
 pub mod Padded
 pub mod Rows
 pub mod Sizes

@@ -1,11 +1,18 @@
 -- The numbers of the rows.
-use Rattle.std.proofs.Common.{◌≡◌, ◌≢◌, [], ◌∷◌, refl, ap, inl, inr, ℕ, ◌<◌, List, get_or, take, length, sym, ◌∙◌, arith}
+use Rattle.std.proofs.Common.{◌≡◌, ◌≢◌, [], ◌∷◌, refl, ap, inl, inr, ℕ, ◌%◌, ◌^◌, ◌<◌, List, get_or, take, length, sym, ◌∙◌, arith}
 use Rattle.std.proofs.lemmas.List.{get_or-take, length-take-le}
 use Rattle.std.proofs.lemmas.Bool.{cases_lt}
 use Rattle.fidl_names.specs.declared.methods.Method.{Method}
 use Rattle.fidl_names.specs.declared.methods.Method.TheVariants as method
 use Rattle.fidl_wire.specs.Names.{row_of, row_count, event_row, ordinal_at, method_ordinal, event_ordinal, AreDistinct, IsFirstCollision}
 use Rattle.fidl_wire.specs.Collisions.{IsEarlier, IsFirstEqual}
+
+-- a rest by 2^63 is a number of eight bytes, and so is each ordinal
+pub small_rest : (n : ℕ) → n % 2 ^ 63 < 256 ^ 8
+small_rest n = omega arith
+
+pub small_ordinal : (m : Method) → method_ordinal m < 256 ^ 8
+small_ordinal m = small_rest _
 
 -- each method has a row above the event's
 pub row_of-lt : (m : Method) → row_of m < event_row

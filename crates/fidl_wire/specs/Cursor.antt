@@ -1,8 +1,8 @@
 -- Where the reading of a message stands.
 use Rattle.std.specs.Prelude.{◌≡◌, ℕ, ◌+◌, ◌%◌, ◌≤◌, List, length, slice_range, Option, None, Result, Ok, Err, nat_lt, if◌then◌else◌}
 use Rattle.fidl_names.specs.declared.methods.Handle.{Handle}
-use Rattle.fidl_wire.specs.declared.cursor.Opened.{Opened}
-use Rattle.fidl_wire.specs.declared.envelopes.Outside.{Outside}
+use Rattle.fidl_wire.specs.declared.reading.Opened.{Opened}
+use Rattle.fidl_wire.specs.declared.reading.Outside.{Outside}
 use Rattle.fidl_wire.specs.declared.faults.WireFault.{WireFault}
 use Rattle.fidl_wire.specs.declared.faults.WireWhat.TheVariants.{Short}
 use Rattle.fidl_wire.specs.Numbers.{padded}

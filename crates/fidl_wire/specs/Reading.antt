@@ -3,9 +3,9 @@ use Rattle.std.specs.Prelude.{ℕ, zero, suc, ◌+◌, ◌-◌, ◌*◌, ◌%◌
 use Rattle.std.specs.List.{position}
 use Rattle.std.specs.Str.{is_utf8}
 use Rattle.fidl_names.specs.declared.methods.Handle.{Handle}
-use Rattle.fidl_wire.specs.declared.cursor.Opened.{Opened}
-use Rattle.fidl_wire.specs.declared.cursor.Branch.{Branch}
-use Rattle.fidl_wire.specs.declared.envelopes.Outside.{Outside}
+use Rattle.fidl_wire.specs.declared.reading.Opened.{Opened}
+use Rattle.fidl_wire.specs.declared.reading.Branch.{Branch}
+use Rattle.fidl_wire.specs.declared.reading.Outside.{Outside}
 use Rattle.fidl_wire.specs.declared.faults.WireFault.{WireFault}
 use Rattle.fidl_wire.specs.declared.kinds.HandleKind.{HandleKind}
 use Rattle.fidl_wire.specs.declared.faults.WireWhat.TheVariants.{Short, Padding, Presence, Count, Utf8, Envelope, Ordinal, Handles, Trailing}

@@ -4,7 +4,7 @@ ghost use Rattle.fidl_wire.specs.Headers.{header_of};
 use crate::faults::{WireFault, WireWhat};
 use byteorder::{ByteOrder, LittleEndian};
 
-/// The bytes of a header.
+/// How many bytes a header has.
 pub const HEADER_SIZE: usize = 16;
 
 /// The last of the magic bytes, for the version of the format that is compatible.

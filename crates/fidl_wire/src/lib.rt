@@ -1,8 +1,7 @@
-//! FIDL wire format, version 2: headers, fields, epitaphs and the ordinals of names.
+//! FIDL wire format, version 2: headers, layouts and how they are spelled and read, outputs, epitaphs and the
+//! ordinals of names. `body_reader` reads the body of a message.
 #![tactic(auto)]
 
-mod cursor;
-mod envelopes;
 mod epitaphs;
 mod faults;
 mod hashing;
@@ -12,15 +11,16 @@ mod numbers;
 mod ordinals;
 mod output;
 mod padding;
-mod tables;
-mod texts;
+mod reading;
 
-pub use cursor::{Body, Branch};
 pub use epitaphs::{epitaph, read_epitaph};
 pub use faults::{WireFault, WireWhat};
 pub use fidl_names::{Handle, Method, NoMemory, Status};
 pub use hashing::ordinal;
-pub use headers::Header;
-pub use kinds::HandleKind;
+pub use headers::{HEADER_SIZE, Header};
+pub use kinds::{HandleKind, is_kind};
+pub use numbers::{u16_at, u32_at, u64_at};
 pub use ordinals::{OrdinalFault, Ordinals};
 pub use output::{Out, long_array, word_array};
+pub use padding::padding_after;
+pub use reading::{Branch, Opened, Outside};

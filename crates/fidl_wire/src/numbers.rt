@@ -3,7 +3,7 @@ ghost use Rattle.fidl_names.specs.Numbers.{number_at};
 
 use byteorder::{ByteOrder, LittleEndian};
 
-/// The number in two bytes from a place on.
+/// The number in the two bytes from offset `at` on, the low byte first.
 #[tactic(auto, unfolding(fidl_names::specs::Numbers::number_at))]
 pub fn u16_at(bytes: &[u8], at: usize) -> u16
     requires { at + 2 ≤ length bytes.now }
@@ -12,7 +12,7 @@ pub fn u16_at(bytes: &[u8], at: usize) -> u16
     LittleEndian::read_u16(&bytes[at..])
 }
 
-/// The number in four bytes from a place on.
+/// The number in the four bytes from offset `at` on, the low byte first.
 #[tactic(auto, unfolding(fidl_names::specs::Numbers::number_at))]
 pub fn u32_at(bytes: &[u8], at: usize) -> u32
     requires { at + 4 ≤ length bytes.now }
@@ -21,7 +21,7 @@ pub fn u32_at(bytes: &[u8], at: usize) -> u32
     LittleEndian::read_u32(&bytes[at..])
 }
 
-/// The number in eight bytes from a place on.
+/// The number in the eight bytes from offset `at` on, the low byte first.
 #[tactic(auto, unfolding(fidl_names::specs::Numbers::number_at))]
 pub fn u64_at(bytes: &[u8], at: usize) -> u64
     requires { at + 8 ≤ length bytes.now }

@@ -1,35 +1,11 @@
-ghost use Rattle.std.specs.Prelude.{◌≡◌, ◌+◌, ◌≤◌, ◌<◌, ◌==◌, not, length};
-ghost use Rattle.std.specs.List.{position};
-ghost use Rattle.fidl_wire.specs.Numbers.{padding_after, padded};
-ghost use Rattle.fidl_wire.specs.Reading.{all_blank};
+ghost use Rattle.std.specs.Prelude.{◌≡◌, ◌<◌};
+ghost use Rattle.fidl_wire.specs.Numbers.{padding_after};
 
-use crate::faults::{WireFault, WireWhat};
-
-/// How many zeros follow an object of so many bytes.
+/// How many zeros follow an object of `size` bytes, up to a multiple of eight: fewer than eight.
 #[tactic(auto, unfolding(crate::specs::Numbers::padding_after))]
 pub fn padding_after(size: usize) -> usize
     ensures value { result ≡ padding_after size }
     ensures bound { result < 8 }
 {
     (8 - size % 8) % 8
-}
-
-/// Where the first byte that is not zero stands.
-fn first_used(part: &[u8]) -> Option<usize>
-    ensures { result ≡ position (λ byte. not (byte == 0)) part.now }
-{
-    part.iter().position(|byte| *byte != 0)
-}
-
-/// The first byte of padding that is not zero is the fault.
-#[tactic(auto, unfolding(crate::specs::Reading::all_blank))]
-pub fn check_blank(message: &[u8], from: usize, until: usize) -> Result<(), WireFault>
-    requires order { from ≤ until }
-    requires within { until ≤ length message.now }
-    ensures { result ≡ all_blank message.now from until }
-{
-    match first_used(&message[from..until]) {
-        None => Ok(()),
-        Some(i) => Err(WireFault::new(from + i, WireWhat::Padding)),
-    }
 }

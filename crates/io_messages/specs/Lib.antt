@@ -5,4 +5,3 @@ pub mod Requests
 pub mod Replies
 pub mod Writing
 pub mod ReplyWriting
-pub mod Laws

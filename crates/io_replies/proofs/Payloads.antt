@@ -5,7 +5,7 @@ use Rattle.std.specs.Str.{is_utf8}
 use Rattle.fidl_names.specs.declared.methods.Handle.{Handle}
 use Rattle.fidl_names.specs.declared.methods.Method.{Method}
 use Rattle.fidl_names.specs.declared.statuses.Status.{Status}
-use Rattle.fidl_wire.specs.declared.cursor.Branch.{Branch}
+use Rattle.fidl_wire.specs.declared.reading.Branch.{Branch}
 use Rattle.fidl_wire.specs.declared.faults.WireFault.{WireFault}
 use Rattle.fidl_wire.specs.Cursor.{Cursor, IsPart, outside_of, start}
 use Rattle.fidl_wire.specs.declared.faults.WireWhat.TheVariants.{Value}

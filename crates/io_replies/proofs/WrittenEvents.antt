@@ -13,9 +13,9 @@ use Rattle.io_messages.specs.Writing.{plain_header}
 use Rattle.io_messages.specs.Replies.{event_layout, an_empty_table}
 use Rattle.io_replies.specs.Reading.{ReadsEvent, kind_of}
 use Rattle.io_messages.specs.ReplyWriting.{event_bytes, branch_of_kind}
+use Rattle.fidl_wire.proofs.Rows.{small_rest}
 use Rattle.message_writer.proofs.Lengths.{length-header, length-count, padded_none}
 use Rattle.message_writer.proofs.Unions.{cat, object_length}
-use Rattle.message_writer.proofs.WritingLaws.{small_rest}
 
 table_small : length (object_bytes (join (table_part []) nothing)) < 256 ^ 4
 table_small =

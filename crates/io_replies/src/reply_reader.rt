@@ -6,8 +6,9 @@ ghost use Rattle.io_messages.specs.Replies.{Answered, answered, method_with, eve
 ghost use Rattle.io_replies.specs.Reading.{IsPayloadOf, ReadsReply, ReadsEvent, is_framework_error, reply_of, reply_told, event_of, kind_of};
 
 use crate::reply_fields::read_fields;
+use body_reader::Body;
 use fidl_names::{Handle, Method};
-use fidl_wire::{Body, Header, Ordinals, WireFault, WireWhat};
+use fidl_wire::{Header, Ordinals, WireFault, WireWhat};
 use io_messages::{FRAMEWORK_ENVELOPE, FRAMEWORK_ORDINAL, Protocol, Reply, shape_of};
 
 /// Where a header's ordinal stands.

@@ -2,12 +2,12 @@
 use Rattle.std.specs.Prelude.{◌≡◌, ℕ, List, None}
 use Rattle.wire_laws.specs.Laws.{ReadsWhatIsSpelled, SpelledWhereRead}
 use Rattle.fidl_wire.specs.Names.{AreDistinct}
-use Rattle.io_messages.specs.Laws.{WrittenRequestsAreRead}
+use Rattle.request_reader.specs.Laws.{WrittenRequestsAreRead}
 use Rattle.path_walk.specs.Paths.{IsPath, names_of, path_fault}
 use Rattle.wire_laws.proofs.Bodies.{spelled_read, read_spelled}
 use Rattle.wire_laws.proofs.ReadHeaders.{header_again}
 use Rattle.wire_laws.proofs.Spelled.{message_spelled}
-use Rattle.message_writer.proofs.WritingLaws.{written_request}
+use Rattle.request_reader.proofs.WrittenRequests.{written_request}
 use Rattle.path_walk.proofs.PathLemmas.{path_sound, path_complete}
 
 pub record Below : Type 0 where

@@ -12,7 +12,7 @@ use Rattle.io_messages.specs.declared.protocols.Protocol.{Protocol}
 use Rattle.io_messages.specs.declared.protocols.Protocol.TheVariants as protocol
 use Rattle.io_messages.specs.Asked.{Asked}
 use Rattle.io_messages.specs.Asked as asks
-use Rattle.io_messages.specs.Laws.{Carries as CarriesHandle}
+use Rattle.request_reader.specs.Laws.{Carries as CarriesHandle}
 use Rattle.io_messages.specs.Protocols.{has_method}
 use Rattle.io_messages.specs.Requests.{asked_from}
 use Rattle.request_reader.proofs.Carrying.{carries as carries_handle}

@@ -1,5 +1,4 @@
 pub mod BegunListings
 pub mod Lengths
 pub mod Unions
-pub mod WritingLaws
 pub mod PutAtOnce

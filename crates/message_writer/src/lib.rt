@@ -2,10 +2,8 @@
 #![tactic(auto)]
 
 mod fields;
-mod laws;
 mod reply_writer;
 mod request_writer;
 
-pub use laws::written_request_is_read;
 pub use reply_writer::{begin_listing, write_bytes, write_event, write_reply};
 pub use request_writer::write_request;

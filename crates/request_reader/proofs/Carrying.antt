@@ -9,7 +9,7 @@ use Rattle.fidl_wire.specs.declared.kinds.HandleKind.TheVariants as kinds
 use Rattle.fidl_wire.specs.Grammar.{IsSpelled, Lays, Part, Spells}
 use Rattle.fidl_wire.specs.Layout.{Cell, Item, struct, fields, handle, held, num, blank, seq, members}
 use Rattle.io_messages.specs.Asked.{Asked}
-use Rattle.io_messages.specs.Laws.{Carries, RequestsCarryTheirEndpoints}
+use Rattle.request_reader.specs.Laws.{Carries, RequestsCarryTheirEndpoints}
 use Rattle.io_messages.specs.Requests.{request_cells, asked_from, item, handle_in, handle_of}
 
 -- an endpoint's field has an endpoint, which is among the handles

@@ -1,3 +1,4 @@
 pub mod RequestLaws
 pub mod Carrying
 pub mod Taking
+pub mod WrittenRequests

@@ -1,9 +1,9 @@
 //! Laws of requests. They compute nothing: what they say is in their clauses.
 
 ghost use Rattle.fidl_wire.specs.Names.{MethodsHaveTheirOwn};
-ghost use Rattle.io_messages.specs.Laws.{RequestsAreReadOnce, RequestsAreFound, FoundRequestsAreRead, RequestsCarryTheirEndpoints};
+ghost use Rattle.request_reader.specs.Laws.{RequestsAreReadOnce, RequestsAreFound, FoundRequestsAreRead, RequestsCarryTheirEndpoints, WrittenRequestsAreRead};
 
-use wire_laws::body_is_read_where_spelled;
+use wire_laws::{body_is_read_where_spelled, spelling_is_read, written_header_is_read};
 
 /// Bytes and handles are at most one request to a protocol, where each method has an ordinal of its own.
 pub fn request_is_read_once()
@@ -24,3 +24,11 @@ pub fn requests_are_found()
 pub fn carried_endpoint_is_a_handle()
     ensures { RequestsCarryTheirEndpoints }
 {}
+
+/// What is written for a request is that request, to each protocol that has its method.
+pub fn written_request_is_read()
+    ensures { WrittenRequestsAreRead }
+{
+    spelling_is_read();
+    written_header_is_read();
+}

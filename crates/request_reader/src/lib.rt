@@ -5,5 +5,7 @@ mod fields;
 mod laws;
 mod reader;
 
-pub use laws::{carried_endpoint_is_a_handle, request_is_read_once, requests_are_found};
+pub use laws::{
+    carried_endpoint_is_a_handle, request_is_read_once, requests_are_found, written_request_is_read,
+};
 pub use reader::read_request;

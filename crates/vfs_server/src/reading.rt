@@ -4,8 +4,9 @@ ghost use Rattle.std.specs.Prelude.{◌≡◌, ◌<◌, ℕ, IfSome, IsSome, Ok}
 ghost use Rattle.io_messages.specs.Asked.{read};
 ghost use Rattle.io_messages.specs.Requests.{fields_of, request_of};
 
+use body_reader::Body;
 use fidl_names::{Handle, Method};
-use fidl_wire::{Body, Header, Ordinals};
+use fidl_wire::{Header, Ordinals};
 use io_messages::Protocol;
 
 /// The transaction id and the count of a message that asks a file for a Read; `None` where it asks for another thing, or for none.

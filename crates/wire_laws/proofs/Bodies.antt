@@ -3,8 +3,8 @@ use Rattle.std.proofs.Common.{◌≡◌, ℕ, ◌+◌, ◌-◌, ◌%◌, ◌<◌
 use Rattle.std.proofs.lemmas.List.{drop-drop}
 use Rattle.std.proofs.lemmas.Bool.Decides.{nat_tests}
 use Rattle.fidl_names.specs.declared.methods.Handle.{Handle}
-use Rattle.fidl_wire.specs.declared.cursor.Branch.{Branch}
-use Rattle.fidl_wire.specs.declared.cursor.Opened.{Opened}
+use Rattle.fidl_wire.specs.declared.reading.Branch.{Branch}
+use Rattle.fidl_wire.specs.declared.reading.Opened.{Opened}
 use Rattle.fidl_wire.specs.declared.faults.WireFault.{WireFault}
 use Rattle.fidl_wire.specs.declared.faults.WireWhat.TheVariants.{Short, Envelope}
 use Rattle.fidl_wire.specs.Headers.{fault}

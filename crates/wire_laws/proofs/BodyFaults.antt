@@ -2,7 +2,7 @@
 use Rattle.std.proofs.Common.{◌≡◌, ℕ, ◌+◌, ◌-◌, ◌<◌, ◌≤◌, ◌⊎◌, inl, inr, true, false, cond, ◌&&◌, List, [], length, nat_lt, nat_le, ◌==◌, Option, Some, None, Result, Ok, Err, refl, sym, ap, ◌∙◌, subst, length-drop, arith}
 use Rattle.fidl_names.specs.declared.methods.Handle.{Handle}
 use Rattle.fidl_names.specs.Numbers.{number_at}
-use Rattle.fidl_wire.specs.declared.cursor.Branch.{Branch}
+use Rattle.fidl_wire.specs.declared.reading.Branch.{Branch}
 use Rattle.fidl_wire.specs.declared.faults.WireFault.{WireFault}
 use Rattle.fidl_wire.specs.declared.faults.WireWhat.{WireWhat}
 use Rattle.fidl_wire.specs.declared.faults.WireWhat.TheVariants.{Short, Padding, Envelope, Ordinal, Handles, Trailing}

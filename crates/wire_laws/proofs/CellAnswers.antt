@@ -6,7 +6,7 @@ use Rattle.std.proofs.lemmas.Str.{IsUtf8-from_is_utf8, is_utf8-from_IsUtf8}
 use Rattle.std.proofs.lemmas.Bool.Decides.{nat_tests}
 use Rattle.fidl_names.specs.declared.methods.Handle.{Handle}
 use Rattle.fidl_names.specs.Numbers.{number_at}
-use Rattle.fidl_wire.specs.declared.envelopes.Outside.{Outside}
+use Rattle.fidl_wire.specs.declared.reading.Outside.{Outside}
 use Rattle.fidl_wire.specs.declared.faults.WireFault.{WireFault}
 use Rattle.fidl_wire.specs.declared.faults.WireWhat.{WireWhat}
 use Rattle.fidl_wire.specs.declared.faults.WireWhat.TheVariants.{Padding, Presence, Count, Utf8, Envelope, Handles}

@@ -2,7 +2,7 @@
 use Rattle.std.proofs.Common.{◌≡◌, ℕ, ◌+◌, ◌-◌, ◌%◌, ◌≤◌, subst, List, [], ◌∷◌, ◌++◌, length, replicate, take, drop, nat_le, ◌==◌, Option, Ok, refl, sym, ap, ◌∙◌, length-append, length-drop, arith}
 use Rattle.std.proofs.lemmas.List.{drop-drop, take_all, length-replicate}
 use Rattle.fidl_names.specs.declared.methods.Handle.{Handle}
-use Rattle.fidl_wire.specs.declared.cursor.Opened.{Opened}
+use Rattle.fidl_wire.specs.declared.reading.Opened.{Opened}
 use Rattle.fidl_wire.specs.declared.faults.WireWhat.TheVariants.{Trailing, Handles}
 use Rattle.fidl_wire.specs.Headers.{fault}
 use Rattle.fidl_wire.specs.Numbers.{padding_after, padded}

@@ -1,7 +1,7 @@
 -- The faults of an object that a message ends with: each is what it says.
 use Rattle.std.proofs.Common.{◌≡◌, ℕ, ◌+◌, ◌%◌, ◌<◌, ◌≤◌, inl, inr, List, [], ◌∷◌, length, drop, nat_le, ◌==◌, Option, Some, Ok, Err, refl, sym, ap, ◌∙◌, subst, length-drop, arith}
 use Rattle.fidl_names.specs.declared.methods.Handle.{Handle}
-use Rattle.fidl_wire.specs.declared.cursor.Opened.{Opened}
+use Rattle.fidl_wire.specs.declared.reading.Opened.{Opened}
 use Rattle.fidl_wire.specs.declared.faults.WireFault.{WireFault}
 use Rattle.fidl_wire.specs.declared.faults.WireWhat.{WireWhat}
 use Rattle.fidl_wire.specs.declared.faults.WireWhat.TheVariants.{Padding, Envelope, Trailing, Handles}

@@ -2,7 +2,7 @@
 use Rattle.std.proofs.Common.{◌≡◌, ℕ, ◌+◌, ◌-◌, ◌%◌, ◌<◌, ◌≤◌, ◌⊎◌, inl, inr, max, Bool, true, false, not, ◌&&◌, cond, List, [], length, take, drop, get_or, nat_le, slice_index, Option, Some, None, Ok, refl, sym, ap, ◌∙◌, length-drop, length-take, add-zero, add_assoc, ◌==◌, arith}
 use Rattle.std.proofs.lemmas.List.{get_or-drop}
 use Rattle.fidl_names.specs.declared.methods.Handle.{Handle}
-use Rattle.fidl_wire.specs.declared.envelopes.Outside.{Outside}
+use Rattle.fidl_wire.specs.declared.reading.Outside.{Outside}
 use Rattle.fidl_wire.specs.declared.faults.WireWhat.TheVariants.{Envelope, Handles}
 use Rattle.fidl_wire.specs.Headers.{fault}
 use Rattle.fidl_names.specs.Numbers.{number_at}
