@@ -6,7 +6,7 @@
 # which was stopped goes on, and a later one proves what has changed and what stands above it.
 set -eu
 cd "$(dirname "$0")/.."
-export kit started
+export kit started at_once
 kit=$(dirname "$(rt doc)")
 started=$(date +%s)
 processors=$(nproc)

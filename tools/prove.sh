@@ -1,15 +1,15 @@
 #!/usr/bin/env bash
 # prove.sh NAME NICENESS USE..: proves a crate over the libraries that it uses, and leaves its library in its out/, or of
-# a program build/NAME. It takes one process, or one for each processor that make leaves free: processes that share a
-# check each load what the others made, so that two of them cost a quarter more than one. `build.sh` has make call it,
-# and gives the toolchain's folder and when it began.
+# a program build/NAME. As it begins it takes one process, or more where fewer crates are proved than could be at once:
+# processes that share a check each load what the others made, so that two cost a quarter more than one. `build.sh` has
+# make call it, and gives the toolchain's folder, when it began, and how many crates are proved at once.
 set -eu
 shopt -s nullglob
 name=$1 niceness=$2
 shift 2
 top=$PWD
 at_work=$(wc -w < "/proc/$PPID/task/$PPID/children")
-free=$(($(nproc) + 1 - at_work))
+free=$((at_once - at_work))
 jobs=$((free > 1 ? free : 1))
 log=$top/build/$name.log
 words=(--crate-name "$name" --extern "std=$kit/rlibs/std.rlib" -L "dependency=$kit/rlibs" --links "$name=")

@@ -1,7 +1,8 @@
 ghost use Rattle.std.specs.Prelude.{◌≡◌, ◌+◌, ◌<◌, ◌≤◌, ◌==◌, true, false, [], ◌∷◌, Some, None, IsSome, IfSome, option_map, length, replicate, Ok, Err, IfOk, IfErr, OnOk, OnErr};
 ghost use Rattle.std.specs.Int.{w32, w64, cast_unsigned};
 ghost use Rattle.fidl_wire.specs.Layout.{number, pad, handle, text, vector, table, num, blank, held, seq, members, is_kind};
-ghost use Rattle.fidl_wire.specs.Cursor.{start_of, outside_of, IsPart};
+ghost use Rattle.fidl_wire.specs.Cursor.{start_of, outside_of};
+ghost use Rattle.body_reader.specs.Within.{IsPart};
 ghost use Rattle.fidl_wire.specs.Headers.{fault};
 ghost use Rattle.fidl_wire.specs.declared.faults.WireWhat.TheVariants.{Handles};
 ghost use Rattle.fidl_wire.specs.Reading.{check, all_blank, inline_at, count_at, list_cell, cell_at, inlined_word, object_at, branch_of, ordinal_at, finish_of, closed, is_whole};
@@ -31,7 +32,8 @@ pub struct Body<'a, 'h> {
 }
 
 impl<'a, 'h> Model for Body<'a, 'h> {
-    ghost use Rattle.fidl_wire.specs.Cursor.{Cursor, IsWithin};
+    ghost use Rattle.fidl_wire.specs.Cursor.{Cursor};
+    ghost use Rattle.body_reader.specs.Within.{IsWithin};
 
     ghost Value = { Cursor };
 

@@ -8,4 +8,3 @@ mod tables;
 mod texts;
 
 pub use cursor::Body;
-pub use fidl_wire::Branch;

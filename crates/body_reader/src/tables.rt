@@ -1,5 +1,5 @@
 ghost use Rattle.std.specs.Prelude.{◌≡◌, ◌+◌, ◌*◌, ◌≤◌, drop, length, nat_le, Ok, Err, None, IfOk, IfErr, replicate, slice_set};
-ghost use Rattle.fidl_wire.specs.Cursor.{IsPlaced};
+ghost use Rattle.body_reader.specs.Within.{IsPlaced};
 ghost use Rattle.fidl_wire.specs.Layout.{is_known};
 ghost use Rattle.fidl_wire.specs.Reading.{members_at};
 

@@ -1,5 +1,5 @@
 -- Where the reading of a message stands.
-use Rattle.std.specs.Prelude.{◌≡◌, ℕ, ◌+◌, ◌%◌, ◌≤◌, List, length, slice_range, Option, None, Result, Ok, Err, nat_lt, if◌then◌else◌}
+use Rattle.std.specs.Prelude.{ℕ, ◌+◌, List, length, Option, None, Result, Ok, Err, nat_lt, if◌then◌else◌}
 use Rattle.fidl_names.specs.declared.methods.Handle.{Handle}
 use Rattle.fidl_wire.specs.declared.reading.Opened.{Opened}
 use Rattle.fidl_wire.specs.declared.reading.Outside.{Outside}
@@ -23,18 +23,6 @@ pub record Cursor : Type 0 where
 abbrev pub outside_of : Cursor → Outside
 outside_of c = record { out = c.out; left = length c.handles }
 
--- what was read out of line lies within a message of this length, in steps of eight
-pub record IsPlaced (length : ℕ) (o : Outside) : Type 0 where
-  pub within : o.out ≤ length
-  pub aligned : o.out % 8 ≡ 0
-
--- the object that is read and its padding lie within the message, and what was read out of line too, in steps of eight
-pub record IsWithin (c : Cursor) : Type 0 where
-  pub place : c.place ≤ c.end
-  pub end : padded c.end ≤ length c.message
-  pub out : c.out ≤ length c.message
-  pub aligned : c.out % 8 ≡ 0
-
 -- behind the header, before a primary object of so many bytes
 abbrev pub start : List ℕ → List Handle → ℕ → Cursor
 start message handles size =
@@ -44,7 +32,3 @@ abbrev pub start_of : List ℕ → List Handle → ℕ → Result Cursor WireFau
 start_of message handles size =
     if nat_lt (length message) (16 + padded size) then Err (fault (length message) Short)
     else Ok (start message handles size)
-
--- the bytes are those of the message where the next out-of-line object stands
-abbrev pub IsPart : List ℕ → Cursor → Type 0
-IsPart bytes c = bytes ≡ slice_range c.message c.out (c.out + length bytes)

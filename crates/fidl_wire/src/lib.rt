@@ -15,7 +15,7 @@ mod reading;
 
 pub use epitaphs::{epitaph, read_epitaph};
 pub use faults::{WireFault, WireWhat};
-pub use fidl_names::{Handle, Method, NoMemory, Status};
+pub use fidl_names::{Method, NoMemory, Status};
 pub use hashing::ordinal;
 pub use headers::{HEADER_SIZE, Header};
 pub use kinds::{HandleKind, is_kind};

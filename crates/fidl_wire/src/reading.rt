@@ -1,4 +1,5 @@
-//! What the reading of a body is told with: `body_reader` reads, and the definitions of it speak of these as well.
+//! Where the reading of a body stands, and what it finds of a union. The definitions speak of these, and `body_reader`
+//! reads by them.
 
 /// What lies out of line.
 #[derive(Clone, Copy)]

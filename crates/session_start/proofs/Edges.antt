@@ -72,7 +72,7 @@ edge_is named key to h =
 
 -- ---- mounts
 
--- one that is a mount is that of the file, of this server
+-- one that is a mount is that of the list, of this server
 abbrev IsKnown : Lists → ℕ → Named → Type 0
 IsKnown lists server one = (index : ℕ) → one.kind ≡ Mount index → (mount : MountItem) × (slice_get lists.mounts index ≡ Some mount) × (mount.server ≡ server) × (one ≡ mount_named (index, mount))
 

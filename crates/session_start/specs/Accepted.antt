@@ -61,7 +61,7 @@ pub record AreAccepted (lists : Lists) : Type 0 where
   pub items : AreItems lists
   pub placed : first_broken 8 (rules_on_lists lists) ≡ None
 
--- what a tree file says is in its files are bytes; its names are bytes wherever it is accepted
+-- what is in the files of nodes are bytes; names are bytes wherever lists are accepted
 abbrev pub HasFilesOfBytes : Lists → Type 0
 HasFilesOfBytes lists = All (λ node. AreBytes node.bytes) lists.nodes
 

@@ -26,7 +26,7 @@ pub record ClientItem : Type 0 where
   pub path : List ℕ
   pub rights : OperationSet
 
--- all in the order of the file; of the servers the names
+-- each in an order that tells its items' indexes; of the servers the names
 pub record Lists : Type 0 where
   pub servers : List (List ℕ)
   pub nodes : List NodeItem

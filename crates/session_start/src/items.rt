@@ -42,7 +42,8 @@ impl Bytes {
     }
 }
 
-/// A node of a start: its server's index, its path, its kind, the mask of its name, and the bytes of a file.
+/// A node of its own: its server's index, its path below the root, its kind, the mask of its name, and the bytes of a
+/// file, of which other kinds have none.
 #[derive(Drop)]
 pub struct Node {
     pub server: u32,
@@ -60,7 +61,8 @@ impl Model for Node {
     ghost view = { λ node. record { server = node.server; path = node.path; kind = node.kind; rights = node.rights; bytes = node.bytes } };
 }
 
-/// A mount of a start: at a path of a server the target goes on, from its own directory `at`.
+/// A mount of its own: at a path below the root of a server the target goes on, from its directory `at`, through these
+/// rights. Servers are told by their indexes.
 #[derive(Drop)]
 pub struct Mount {
     pub server: u32,
@@ -78,7 +80,8 @@ impl Model for Mount {
     ghost view = { λ mount. record { server = mount.server; path = mount.path; target = mount.target; at = mount.at; rights = mount.rights } };
 }
 
-/// A first connection of a start: its endpoint, and the directory of a server that it is bound to.
+/// A first connection of its own: its endpoint, a client's number, and the directory of a server that it is bound to,
+/// with these rights.
 #[derive(Drop)]
 pub struct Client {
     pub endpoint: u32,

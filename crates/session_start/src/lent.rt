@@ -5,8 +5,8 @@ use crate::items::{Client, Mount, Node};
 use io_rights::Rights;
 use node_graph::NodeKind;
 
-/// A node of a start: its server's index, its path, its kind, the mask of its name, and the bytes of a
-/// file.
+/// A node of a start, lent: its server's index, its path below the root, its kind, the mask of its name,
+/// and the bytes of a file, of which other kinds have none.
 #[derive(Clone, Copy)]
 pub struct StartNode<'a> {
     pub server: u32,
@@ -16,7 +16,8 @@ pub struct StartNode<'a> {
     pub bytes: &'a [u8],
 }
 
-/// A mount of a start: at a path of a server the target goes on, from its own directory `at`.
+/// A mount of a start, lent: at a path below the root of a server the target goes on, from its directory
+/// `at`, through these rights. Servers are told by their indexes.
 #[derive(Clone, Copy)]
 pub struct StartMount<'a> {
     pub server: u32,
@@ -26,7 +27,8 @@ pub struct StartMount<'a> {
     pub rights: Rights,
 }
 
-/// A first connection of a start.
+/// A first connection of a start, lent: its endpoint, a client's number, and the directory of a server
+/// that it is bound to, with these rights.
 #[derive(Clone, Copy)]
 pub struct StartClient<'a> {
     pub endpoint: u32,

@@ -4,7 +4,7 @@ use crate::items::{Bytes, Client, Mount, Node};
 use std::alloc::Global;
 use std::marker::Model;
 
-/// The lists of a start, before it is known that they keep the rules of a tree.
+/// The lists of a start, before it is known that they keep the rules of a tree. Of servers they have the names.
 pub struct StartLists {
     pub servers: Vec<Bytes>,
     pub nodes: Vec<Node>,

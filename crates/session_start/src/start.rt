@@ -6,8 +6,8 @@ use crate::lent::{StartClient, StartMount, StartNode, lend_client, lend_mount, l
 use crate::lists::StartLists;
 use std::marker::Model;
 
-/// What a session starts with: servers, nodes, mounts and first connections, each in the order of the
-/// file. Contracts see it as these lists. They keep the rules of a tree, and what is in their files are
+/// What a session starts with: servers, nodes, mounts and first connections, each in the order of its
+/// list. Contracts see it as these lists. They keep the rules of a tree, and what is in their files are
 /// bytes: the counts of servers and nodes say so.
 pub struct Start {
     lists: StartLists,
@@ -32,7 +32,7 @@ impl Model for Start {
 }
 
 impl Start {
-    /// The start with these lists.
+    /// The start with these lists, which keep the rules of a tree and have bytes in their files.
     pub fn new(lists: StartLists) -> Start
         requires { AreOfStart lists }
         ensures { result ≡ lists }
@@ -40,7 +40,7 @@ impl Start {
         Start { lists }
     }
 
-    /// How many servers there are.
+    /// How many servers there are: 1 to 8.
     pub fn servers(&self) -> u32
         ensures count { result ≡ length self.now.servers }
         ensures accepted { AreAccepted self.now }
@@ -49,7 +49,7 @@ impl Start {
         self.lists.servers.len() as u32
     }
 
-    /// How many nodes all servers have, without their roots.
+    /// How many nodes all servers have, without their roots: at most 4,096 each, mounts among them.
     pub fn nodes(&self) -> u32
         ensures count { result ≡ length self.now.nodes }
         ensures accepted { AreAccepted self.now }
@@ -72,7 +72,7 @@ impl Start {
         self.lists.clients.len() as u32
     }
 
-    /// The node with this index over all servers.
+    /// The node with this index over all servers, below `nodes()`.
     pub fn node_at(&self, i: u32) -> StartNode<'_>
         requires { i < length self.now.nodes }
         ensures { slice_get self.now.nodes i ≡ Some (node_item result) }
@@ -80,7 +80,7 @@ impl Start {
         lend_node(&self.lists.nodes[i as usize])
     }
 
-    /// The mount with this index over all servers.
+    /// The mount with this index over all servers, below `mounts()`.
     pub fn mount_at(&self, i: u32) -> StartMount<'_>
         requires { i < length self.now.mounts }
         ensures { slice_get self.now.mounts i ≡ Some (mount_item result) }
@@ -88,7 +88,7 @@ impl Start {
         lend_mount(&self.lists.mounts[i as usize])
     }
 
-    /// The first connection with this index.
+    /// The first connection with this index, below `clients()`.
     pub fn client_at(&self, i: u32) -> StartClient<'_>
         requires { i < length self.now.clients }
         ensures { slice_get self.now.clients i ≡ Some (client_item result) }

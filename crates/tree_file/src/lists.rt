@@ -70,7 +70,7 @@ pub fn read_nodes(
     Ok(())
 }
 
-// A lent mount, and below a lent first connection, as ones of their own.
+// A lent mount as one of its own.
 fn keep_mount(alloc: Global, mount: &StartMount<'_>) -> Result<Mount, NoMemory>
     ensures { IfOk result (λ kept. kept ≡ mount_item mount.now) }
 {
@@ -85,6 +85,7 @@ fn keep_mount(alloc: Global, mount: &StartMount<'_>) -> Result<Mount, NoMemory>
     })
 }
 
+// A lent first connection as one of its own.
 fn keep_client(alloc: Global, client: &StartClient<'_>) -> Result<Client, NoMemory>
     ensures { IfOk result (λ kept. kept ≡ client_item client.now) }
 {

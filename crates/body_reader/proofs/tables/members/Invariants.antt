@@ -1,5 +1,5 @@
 use Rattle.std.proofs.Common.{◌≡◌, ◌+◌, ◌-◌, ◌*◌, ◌≤◌, take, drop, length, None, replicate}
-use Rattle.fidl_wire.specs.Cursor.{IsPlaced}
+use Rattle.body_reader.specs.Within.{IsPlaced}
 use Rattle.fidl_wire.specs.Reading.{members_at}
 use Rattle.body_reader.proofs.Members.{behind}
 use Rattle.body_reader.proofs.tables.members.Given as goal
