@@ -1,16 +1,15 @@
 #!/usr/bin/env bash
-# prove.sh NAME NICENESS USE..: proves a crate over the libraries that it uses, and leaves its library in its out/, or of
-# a program build/NAME. As it begins it takes one process, or more where fewer crates are proved than could be at once:
-# processes that share a check each load what the others made, so that two cost a quarter more than one. `build.sh` has
-# make call it, and gives the toolchain's folder, when it began, and how many crates are proved at once.
+# prove.sh NAME JOBS NICENESS USE..: proves a crate over the libraries that it uses, and leaves its library in its out/,
+# or of a program build/NAME. It takes so many processes, or more where fewer crates are proved as it begins than could
+# be at once. `build.sh` has make call it, and gives the toolchain's folder, when it began, and how many are proved at once.
 set -eu
 shopt -s nullglob
-name=$1 niceness=$2
-shift 2
+name=$1 jobs=$2 niceness=$3
+shift 3
 top=$PWD
 at_work=$(wc -w < "/proc/$PPID/task/$PPID/children")
 free=$((at_once - at_work))
-jobs=$((free > 1 ? free : 1))
+if [ "$jobs" -lt "$free" ]; then jobs=$free; fi
 log=$top/build/$name.log
 words=(--crate-name "$name" --extern "std=$kit/rlibs/std.rlib" -L "dependency=$kit/rlibs" --links "$name=")
 for use; do

@@ -1,6 +1,6 @@
-# From crates.txt the rules by which make proves the libraries below `program` and builds it. What does not stand on the
-# longest chain of crates, measured in lines, is nice to what stands on longer ones. To be a crate counts as 190 lines
-# (`own`), which is what a check costs before its first function.
+# From crates.txt the rules by which make proves the libraries below `program` and builds it. Of the longest chain of
+# crates, measured in lines, each gets so many `jobs`; any other gets one, and is nice to those on longer chains. To be
+# a crate counts as 190 lines (`own`), which is what a check costs before its first function.
 
 BEGIN { own = 190 }
 
@@ -61,7 +61,7 @@ function rule(name,    parts, n, i, share) {
     printf "%s: crates.txt %s", target(name), first_line("find crates/" name "/src crates/" name "/specs crates/" name "/proofs 2> /dev/null | sort | tr '\\n' ' '")
     for (i = 1; i <= n; i++) if (parts[i] in uses) printf " %s", target(parts[i])
     share = (below[name] + above[name] - lines[name]) / below[program]
-    printf "\n\t@tools/prove.sh %s %d%s\n", name, 20 * (1 - share), uses[name]
+    printf "\n\t@tools/prove.sh %s %d %d%s\n", name, share < 1 ? 1 : jobs, 60 * (1 - share), uses[name]
 }
 
 function first_line(command,    line) {
