@@ -42,8 +42,7 @@ impl Bytes {
     }
 }
 
-/// A node of its own: its server's index, its path below the root, its kind, the mask of its name, and the bytes of a
-/// file, of which other kinds have none.
+/// A node, owned; `StartNode` says what its fields are.
 #[derive(Drop)]
 pub struct Node {
     pub server: u32,
@@ -61,8 +60,7 @@ impl Model for Node {
     ghost view = { λ node. record { server = node.server; path = node.path; kind = node.kind; rights = node.rights; bytes = node.bytes } };
 }
 
-/// A mount of its own: at a path below the root of a server the target goes on, from its directory `at`, through these
-/// rights. Servers are told by their indexes.
+/// A mount, owned; `StartMount` says what its fields are.
 #[derive(Drop)]
 pub struct Mount {
     pub server: u32,
@@ -80,8 +78,7 @@ impl Model for Mount {
     ghost view = { λ mount. record { server = mount.server; path = mount.path; target = mount.target; at = mount.at; rights = mount.rights } };
 }
 
-/// A first connection of its own: its endpoint, a client's number, and the directory of a server that it is bound to,
-/// with these rights.
+/// A first connection, owned; `StartClient` says what its fields are.
 #[derive(Drop)]
 pub struct Client {
     pub endpoint: u32,

@@ -102,7 +102,7 @@ impl Server {
         }
     }
 
-    /// How many connections there are, watchers included, at most 4,096.
+    /// How many connections there are, watchers included.
     pub fn connections(&self) -> u32
         ensures { result ≡ in_use self.now }
     {
