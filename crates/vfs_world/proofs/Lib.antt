@@ -1,4 +1,5 @@
 pub mod Answered
+pub mod Conduct
 pub mod Hearing
 pub mod Worlds
 pub mod KeptNodes

@@ -1,4 +1,4 @@
-ghost use Rattle.std.specs.Prelude.{◌≡◌, ◌<◌, ◌+◌, ◌^◌, true, false, [], None, IfOk, OnOk, OnErr, Ok, Err, is_ok, if◌then◌else◌, length, take};
+ghost use Rattle.std.specs.Prelude.{◌≡◌, ◌<◌, ◌+◌, ◌^◌, true, false, [], None, IfOk, OnOk, Ok, is_ok, if◌then◌else◌, length, take};
 ghost use Rattle.endpoint_link.specs.Frames.{IsFrame};
 ghost use Rattle.endpoint_link.specs.declared.kinds.Side.TheVariants as side;
 ghost use Rattle.endpoint_link.specs.Views.{frame_of};
@@ -13,6 +13,7 @@ ghost use Rattle.message_queues.specs.Queues.{count};
 ghost use Rattle.vfs_server.specs.KeptNodes.{kept_in};
 ghost use Rattle.vfs_session.specs.Servings.{served_in};
 ghost use Rattle.vfs_session.specs.World.{LeadsTo, StandsFor};
+ghost use Rattle.vfs_world.specs.Conduct.{Conducts};
 
 use crate::arriving::hear;
 use crate::beginning::begin;
@@ -96,11 +97,7 @@ impl World {
         ensures arrived { (start : Start) (journal : Journal) → StandsFor start self.old journal →
             OnOk result (LeadsTo start (arrives start journal (frame_of frame.entry)) self.new journal outbox.old outbox.new) }
         ensures frames { self.new.frames ≡ (if is_ok result then self.old.frames + 1 else self.old.frames) }
-        ensures able { OnOk result (self.new.spent ≡ false) }
-        ensures memory { result ≡ Err WorldFault.NoMemory → (self.old.spent ≡ false) × (self.new.spent ≡ true) }
-        ensures spent { self.old.spent ≡ true → (result ≡ Err WorldFault.Spent) × (self.new ≡ self.old) }
-        ensures only_spent { result ≡ Err WorldFault.Spent → self.old.spent ≡ true }
-        ensures silent { OnErr result (outbox.new ≡ outbox.old) }
+        ensures conduct { Conducts result self.old self.new outbox.old outbox.new }
     {
         self.hear(Mode::Given, frame, outbox)
     }
@@ -120,11 +117,7 @@ impl World {
         ensures none { mode ≡ Mode.Auto → (start : Start) (journal : Journal) → StandsFor start self.old journal →
             OnOk result (waiting (history_of start (steps start mode journal (frame_of frame.entry))) ≡ []) }
         ensures frames { self.new.frames ≡ (if is_ok result then self.old.frames + 1 else self.old.frames) }
-        ensures able { OnOk result (self.new.spent ≡ false) }
-        ensures memory { result ≡ Err WorldFault.NoMemory → (self.old.spent ≡ false) × (self.new.spent ≡ true) }
-        ensures spent { self.old.spent ≡ true → (result ≡ Err WorldFault.Spent) × (self.new ≡ self.old) }
-        ensures only_spent { result ≡ Err WorldFault.Spent → self.old.spent ≡ true }
-        ensures silent { OnErr result (outbox.new ≡ outbox.old) }
+        ensures conduct { Conducts result self.old self.new outbox.old outbox.new }
     {
         if self.spent {
             return Err(WorldFault::Spent);
@@ -149,11 +142,7 @@ impl World {
             IfOk result (λ done. done < n → oldest start (history_of start (turned start server n journal)) server ≡ None) }
         ensures idle { (start : Start) (journal : Journal) → StandsFor start self.old journal → oldest start (history_of start journal) server ≡ None → result ≡ Ok 0 }
         ensures frames { self.new.frames ≡ self.old.frames }
-        ensures able { OnOk result (self.new.spent ≡ false) }
-        ensures memory { result ≡ Err WorldFault.NoMemory → (self.old.spent ≡ false) × (self.new.spent ≡ true) }
-        ensures spent { self.old.spent ≡ true → (result ≡ Err WorldFault.Spent) × (self.new ≡ self.old) }
-        ensures only_spent { result ≡ Err WorldFault.Spent → self.old.spent ≡ true }
-        ensures silent { OnErr result (outbox.new ≡ outbox.old) }
+        ensures conduct { Conducts result self.old self.new outbox.old outbox.new }
     {
         if self.spent {
             return Err(WorldFault::Spent);
@@ -173,11 +162,7 @@ impl World {
         ensures idle { (start : Start) (journal : Journal) → StandsFor start self.old journal → head start (history_of start journal) endpoint ≡ None → result ≡ Ok Picked.Idle }
         ensures only_idle { (start : Start) (journal : Journal) → StandsFor start self.old journal → result ≡ Ok Picked.Idle → head start (history_of start journal) endpoint ≡ None }
         ensures frames { self.new.frames ≡ self.old.frames }
-        ensures able { OnOk result (self.new.spent ≡ false) }
-        ensures memory { result ≡ Err WorldFault.NoMemory → (self.old.spent ≡ false) × (self.new.spent ≡ true) }
-        ensures spent { self.old.spent ≡ true → (result ≡ Err WorldFault.Spent) × (self.new ≡ self.old) }
-        ensures only_spent { result ≡ Err WorldFault.Spent → self.old.spent ≡ true }
-        ensures silent { OnErr result (outbox.new ≡ outbox.old) }
+        ensures conduct { Conducts result self.old self.new outbox.old outbox.new }
     {
         if self.spent {
             return Err(WorldFault::Spent);
@@ -197,11 +182,7 @@ impl World {
             OnOk result (waiting (history_of start (drained start journal)) ≡ []) }
         ensures idle { (start : Start) (journal : Journal) → StandsFor start self.old journal → waiting (history_of start journal) ≡ [] → result ≡ Ok tt }
         ensures frames { self.new.frames ≡ self.old.frames }
-        ensures able { OnOk result (self.new.spent ≡ false) }
-        ensures memory { result ≡ Err WorldFault.NoMemory → (self.old.spent ≡ false) × (self.new.spent ≡ true) }
-        ensures spent { self.old.spent ≡ true → (result ≡ Err WorldFault.Spent) × (self.new ≡ self.old) }
-        ensures only_spent { result ≡ Err WorldFault.Spent → self.old.spent ≡ true }
-        ensures silent { OnErr result (outbox.new ≡ outbox.old) }
+        ensures conduct { Conducts result self.old self.new outbox.old outbox.new }
     {
         if self.spent {
             return Err(WorldFault::Spent);

@@ -1,9 +1,8 @@
-use Rattle.std.proofs.Common.{◌≡◌, ◌∙◌, ◌+◌, ◌-◌, ◌*◌, ◌^◌, ◌<◌, ap, arith, sym}
-use Rattle.std.proofs.lemmas.Bool.{true≢false}
+use Rattle.std.proofs.Common.{◌≡◌, ◌∙◌, ◌+◌, ◌-◌, ◌*◌, ◌^◌, ◌<◌, ap, arith}
 use Rattle.vfs_session.specs.Running.{whole}
 use Rattle.vfs_session.specs.World.{World}
 use Rattle.vfs_session.proofs.Lasting.{lasts_more}
-use Rattle.vfs_world.proofs.Answered.{not_err, not_spent}
+use Rattle.vfs_world.proofs.Conduct.{done, wanting}
 use Rattle.vfs_world.proofs.Worlds.{able_of, leads_inside, stands_inside, taken_back, within_more}
 use Rattle.vfs_world.proofs.world.World.hear.Goals as goal
 
@@ -37,25 +36,10 @@ returns-clause-none c =
 pub returns-clause-frames : goal.returns-clause-frames
 returns-clause-frames c = ap (λ (w : World). w.frames + 1) c.self.view_is
 
--- for want of memory what was written is taken back
-pub returns-in-Err-clause-memory : goal.returns-in-Err-clause-memory
-returns-in-Err-clause-memory c = λ is. (able_of c.self.inside c.self.view_is c.if-self.false, c.take_back.ensures.spent)
+pub returns-in-Err-clause-conduct : goal.returns-in-Err-clause-conduct
+returns-in-Err-clause-conduct c =
+    wanting _ _ _ _ _ c.take_back.ensures.fault (able_of c.self.inside c.self.view_is c.if-self.false) c.take_back.ensures.spent
+    (c.take_back.ensures.back ∙ taken_back c.args.outbox.now c.hear.new.outbox c.len-begun.result c.len-begun.ensures c.hear.ensures.begins)
 
-pub returns-in-Err-clause-spent : goal.returns-in-Err-clause-spent
-returns-in-Err-clause-spent c = λ spent. absurd (true≢false (sym spent ∙ able_of c.self.inside c.self.view_is c.if-self.false))
-
-pub returns-in-Err-clause-silent : goal.returns-in-Err-clause-silent
-returns-in-Err-clause-silent c = c.take_back.ensures.back ∙ taken_back c.args.outbox.now c.hear.new.outbox c.len-begun.result c.len-begun.ensures c.hear.ensures.begins
-
-pub returns-in-Err-clause-only_spent : goal.returns-in-Err-clause-only_spent
-returns-in-Err-clause-only_spent c = λ is. absurd (not_spent _ c.take_back.ensures.fault is)
-
--- what was done was done by a world that wasn't spent
-pub returns-clause-memory : goal.returns-clause-memory
-returns-clause-memory c = λ is. absurd (not_err _ _ is)
-
-pub returns-clause-spent : goal.returns-clause-spent
-returns-clause-spent c = λ spent. absurd (true≢false (sym spent ∙ able_of c.self.inside c.self.view_is c.if-self.false))
-
-pub returns-clause-only_spent : goal.returns-clause-only_spent
-returns-clause-only_spent c = λ is. absurd (not_err _ _ is)
+pub returns-clause-conduct : goal.returns-clause-conduct
+returns-clause-conduct c = done _ _ _ _ tt (able_of c.self.inside c.self.view_is c.if-self.false) c.if-self.false

@@ -1,8 +1,8 @@
 use Rattle.std.proofs.Common.{Ok, ap, ◌∙◌, sym}
-use Rattle.std.proofs.lemmas.Bool.{true≢false}
 use Rattle.vfs_session.specs.Running.{whole}
 use Rattle.vfs_session.proofs.Serves.{head_none, pick_idle, pick_leads}
-use Rattle.vfs_world.proofs.Answered.{not_err, not_spent, same_ok}
+use Rattle.vfs_world.proofs.Answered.{not_err, same_ok}
+use Rattle.vfs_world.proofs.Conduct.{done, wanting}
 use Rattle.vfs_world.proofs.Worlds.{able_of, leads_inside, runs_inside, stands_inside, taken_back}
 use Rattle.vfs_world.proofs.world.World.pick.Goals as goal
 
@@ -36,25 +36,10 @@ returns-in-Ok-clause-only_idle c =
     (stands_inside c.self.inside c.self.view_is start journal stands)
     (c.in-Ok.ensures.only_idle (ap Ok (c.told.ensures.only_idle (same_ok _ _ is))))
 
--- for want of memory what was written is taken back
-pub returns-in-Err-clause-memory : goal.returns-in-Err-clause-memory
-returns-in-Err-clause-memory c = λ is. (able_of c.self.inside c.self.view_is c.if-self.false, c.take_back.ensures.spent)
+pub returns-in-Err-clause-conduct : goal.returns-in-Err-clause-conduct
+returns-in-Err-clause-conduct c =
+    wanting _ _ _ _ _ c.take_back.ensures.fault (able_of c.self.inside c.self.view_is c.if-self.false) c.take_back.ensures.spent
+    (c.take_back.ensures.back ∙ taken_back c.args.outbox.now c.pick.new.outbox c.len-begun.result c.len-begun.ensures c.pick.ensures.begins)
 
-pub returns-in-Err-clause-spent : goal.returns-in-Err-clause-spent
-returns-in-Err-clause-spent c = λ spent. absurd (true≢false (sym spent ∙ able_of c.self.inside c.self.view_is c.if-self.false))
-
-pub returns-in-Err-clause-silent : goal.returns-in-Err-clause-silent
-returns-in-Err-clause-silent c = c.take_back.ensures.back ∙ taken_back c.args.outbox.now c.pick.new.outbox c.len-begun.result c.len-begun.ensures c.pick.ensures.begins
-
-pub returns-in-Err-clause-only_spent : goal.returns-in-Err-clause-only_spent
-returns-in-Err-clause-only_spent c = λ is. absurd (not_spent _ c.take_back.ensures.fault is)
-
--- what was done was done by a world that wasn't spent
-pub returns-in-Ok-clause-memory : goal.returns-in-Ok-clause-memory
-returns-in-Ok-clause-memory c = λ is. absurd (not_err _ _ is)
-
-pub returns-in-Ok-clause-spent : goal.returns-in-Ok-clause-spent
-returns-in-Ok-clause-spent c = λ spent. absurd (true≢false (sym spent ∙ able_of c.self.inside c.self.view_is c.if-self.false))
-
-pub returns-in-Ok-clause-only_spent : goal.returns-in-Ok-clause-only_spent
-returns-in-Ok-clause-only_spent c = λ is. absurd (not_err _ _ is)
+pub returns-in-Ok-clause-conduct : goal.returns-in-Ok-clause-conduct
+returns-in-Ok-clause-conduct c = done _ _ _ _ _ (able_of c.self.inside c.self.view_is c.if-self.false) c.if-self.false
