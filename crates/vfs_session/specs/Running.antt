@@ -1,5 +1,5 @@
 -- What a session keeps, as a world that isn't spent; and that it runs.
-use Rattle.std.specs.Prelude.{◌≡◌, ◌≤◌, ◌+◌, ◌*◌, ◌^◌, ℕ, Bool, false}
+use Rattle.std.specs.Prelude.{◌≡◌, ◌≤◌, ◌+◌, ◌*◌, ◌^◌, ℕ, Bool, false, OnOk, Result}
 use Rattle.fidl_wire.specs.Names.{AreDistinct}
 use Rattle.vfs_journal.specs.Entries.{Journal}
 use Rattle.vfs_journal.specs.Starts.{Start}
@@ -25,6 +25,14 @@ pub record IsRunning (most : ℕ) (world : World) : Type 0 where
   pub journal : Journal
   pub stands : StandsFor start world journal
   pub few : (view_behind start journal).places + places_left (view_behind start journal) ≤ most
+
+-- what is done keeps it running in as many places
+abbrev pub RunsOn : {A E : Type 0} → Result A E → World → World → Type 0
+RunsOn result old new = (most : ℕ) → IsRunning most old → OnOk result (IsRunning most new)
+
+-- what accepts a frame keeps it running in those of a frame more
+abbrev pub RunsOnByAFrame : {A E : Type 0} → Result A E → World → World → Type 0
+RunsOnByAFrame result old new = (most : ℕ) → IsRunning most old → OnOk result (IsRunning (most + 4098) new)
 
 -- each accepted frame takes 4,098 places at most, its own and those of its servings, so that places don't run out
 abbrev pub IsWithin : World → Bool → ℕ → Type 0

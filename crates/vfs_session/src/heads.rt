@@ -6,7 +6,7 @@ ghost use Rattle.message_queues.specs.Dying.{AreDeaths};
 ghost use Rattle.message_queues.specs.Queues.{IsReady, count};
 ghost use Rattle.vfs_journal.specs.Output.{Begins};
 ghost use Rattle.vfs_session.specs.Heads.{AsksRead, CanSettle, DiesAlone, LetsDie, ServesTaken, SettlesHead, Takes, TakesHead, WasTaken};
-ghost use Rattle.vfs_session.specs.Running.{IsRunning, whole};
+ghost use Rattle.vfs_session.specs.Running.{IsRunning, RunsOn, whole};
 ghost use Rattle.vfs_session.specs.Servings.{ServesOne};
 ghost use Rattle.vfs_session.specs.Steps.{first_told};
 ghost use Rattle.vfs_session.specs.World.{World};
@@ -33,7 +33,7 @@ impl Session {
         requires running { IsRunning (2 ^ 61) (whole self.old) }
         requires ready { IsReady self.old.queues endpoint }
         ensures served { OnOk result (ServesOne (λ one. one ≡ endpoint) (whole self.old) (whole self.new) outbox.old outbox.new) }
-        ensures running { (most : ℕ) → IsRunning most (whole self.old) → OnOk result (IsRunning most (whole self.new)) }
+        ensures running { RunsOn result (whole self.old) (whole self.new) }
         ensures begins { Begins outbox.old outbox.new }
     {
         let (server, sent) = self.queues.take(endpoint)?;

@@ -4,7 +4,7 @@ ghost use Rattle.std.specs.Prelude.{◌≡◌, ◌^◌, ℕ, false, IfOk, OnOk, 
 ghost use Rattle.message_queues.specs.Oldest.{IsBound, IsBoundAt, NothingWaits};
 ghost use Rattle.message_queues.specs.Queues.{IsReady};
 ghost use Rattle.vfs_journal.specs.Output.{Begins};
-ghost use Rattle.vfs_session.specs.Running.{IsRunning, whole};
+ghost use Rattle.vfs_session.specs.Running.{IsRunning, RunsOn, whole};
 ghost use Rattle.vfs_session.specs.Servings.{IsDrain, IsPick, IsTurn};
 
 use crate::session::Session;
@@ -18,7 +18,7 @@ impl Session {
         requires running { IsRunning (2 ^ 61) (whole self.old) }
         ensures turned { IfOk result (λ done. IsTurn server times done (whole self.old) (whole self.new) outbox.old outbox.new) }
         ensures idle { NothingWaits self.old.queues (IsBoundAt self.old.queues server) → result ≡ Ok 0 }
-        ensures running { (most : ℕ) → IsRunning most (whole self.old) → OnOk result (IsRunning most (whole self.new)) }
+        ensures running { RunsOn result (whole self.old) (whole self.new) }
         ensures begins { Begins outbox.old outbox.new }
     {
         for done in 0..times {
@@ -37,7 +37,7 @@ impl Session {
         ensures picked { OnOk result (IsPick endpoint (whole self.old) (whole self.new) outbox.old outbox.new) }
         ensures idle { ¬ (IsReady self.old.queues endpoint) → result ≡ Ok false }
         ensures only_idle { result ≡ Ok false → ¬ (IsReady self.old.queues endpoint) }
-        ensures running { (most : ℕ) → IsRunning most (whole self.old) → OnOk result (IsRunning most (whole self.new)) }
+        ensures running { RunsOn result (whole self.old) (whole self.new) }
         ensures begins { Begins outbox.old outbox.new }
     {
         if !self.queues.is_ready(endpoint) {
@@ -54,7 +54,7 @@ impl Session {
         requires running { IsRunning (2 ^ 61) (whole self.old) }
         ensures drained { OnOk result (IsDrain (whole self.old) (whole self.new) outbox.old outbox.new) }
         ensures idle { NothingWaits self.old.queues (IsBound self.old.queues) → result ≡ Ok tt }
-        ensures running { (most : ℕ) → IsRunning most (whole self.old) → OnOk result (IsRunning most (whole self.new)) }
+        ensures running { RunsOn result (whole self.old) (whole self.new) }
         ensures begins { Begins outbox.old outbox.new }
     {
         while let Some(endpoint) = self.queues.next() {

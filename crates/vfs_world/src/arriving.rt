@@ -13,7 +13,7 @@ ghost use Rattle.vfs_journal.specs.Output.{Begins, refused_frame};
 ghost use Rattle.vfs_journal.specs.Past.{history_of};
 ghost use Rattle.vfs_journal.specs.Session.{arrives, drained, steps};
 ghost use Rattle.vfs_journal.specs.Starts.{Start};
-ghost use Rattle.vfs_session.specs.Running.{IsRunning, whole};
+ghost use Rattle.vfs_session.specs.Running.{IsRunning, RunsOnByAFrame, whole};
 ghost use Rattle.vfs_session.specs.World.{LeadsTo, StandsFor, World};
 ghost use Rattle.vfs_world.specs.Steps.{CanWait, Hears, IsAdmitted, IsFree, IsPlain, Reaches, WaitsLast};
 
@@ -32,7 +32,7 @@ fn arrive(session: &mut Session, frame: FrameView<'_>, outbox: &mut Outbox) -> R
     requires running { IsRunning (2 ^ 61) (whole session.old) }
     ensures arrived { (start : Start) (journal : Journal) → StandsFor start (whole session.old) journal →
         OnOk result (LeadsTo start (arrives start journal (frame_of frame.entry)) (whole session.new) journal outbox.old outbox.new) }
-    ensures running { (most : ℕ) → IsRunning most (whole session.old) → OnOk result (IsRunning (most + 4098) (whole session.new)) }
+    ensures running { RunsOnByAFrame result (whole session.old) (whole session.new) }
     ensures begins { Begins outbox.old outbox.new }
 {
     match session.endpoints.admit(frame) {
@@ -55,7 +55,7 @@ pub(crate) fn hear(
         OnOk result (LeadsTo start (steps start mode journal (frame_of frame.entry)) (whole session.new) journal outbox.old outbox.new) }
     ensures none { mode ≡ Mode.Auto → (start : Start) (journal : Journal) → StandsFor start (whole session.old) journal →
         OnOk result (waiting (history_of start (steps start mode journal (frame_of frame.entry))) ≡ []) }
-    ensures running { (most : ℕ) → IsRunning most (whole session.old) → OnOk result (IsRunning (most + 4098) (whole session.new)) }
+    ensures running { RunsOnByAFrame result (whole session.old) (whole session.new) }
     ensures begins { Begins outbox.old outbox.new }
 {
     match mode {
@@ -80,7 +80,7 @@ fn hear_out(
         OnOk result (LeadsTo start (drained start (arrives start journal (frame_of frame.entry))) (whole session.new) journal outbox.old outbox.new) }
     ensures none { (start : Start) (journal : Journal) → StandsFor start (whole session.old) journal →
         OnOk result (waiting (history_of start (drained start (arrives start journal (frame_of frame.entry)))) ≡ []) }
-    ensures running { (most : ℕ) → IsRunning most (whole session.old) → OnOk result (IsRunning (most + 4098) (whole session.new)) }
+    ensures running { RunsOnByAFrame result (whole session.old) (whole session.new) }
     ensures begins { Begins outbox.old outbox.new }
 {
     reach(session, frame, outbox)?;
@@ -93,7 +93,7 @@ fn reach(session: &mut Session, frame: FrameView<'_>, outbox: &mut Outbox) -> Re
     requires running { IsRunning (2 ^ 61 - 4098) (whole session.old) }
     ensures reached { (start : Start) (journal : Journal) → StandsFor start (whole session.old) journal →
         OnOk result (Reaches start (arrives start journal (frame_of frame.entry)) (whole session.new) journal outbox.old outbox.new) }
-    ensures running { (most : ℕ) → IsRunning most (whole session.old) → OnOk result (IsRunning (most + 4098) (whole session.new)) }
+    ensures running { RunsOnByAFrame result (whole session.old) (whole session.new) }
     ensures begins { Begins outbox.old outbox.new }
 {
     match free_server(session, frame) {
@@ -127,7 +127,7 @@ fn serve_at_once(
     requires free { IsFree (frame_of frame) server (whole session.old) }
     ensures reached { (start : Start) (journal : Journal) → StandsFor start (whole session.old) journal →
         OnOk result (Reaches start (arrives start journal (frame_of frame.entry)) (whole session.new) journal outbox.old outbox.new) }
-    ensures running { (most : ℕ) → IsRunning most (whole session.old) → OnOk result (IsRunning (most + 4098) (whole session.new)) }
+    ensures running { RunsOnByAFrame result (whole session.old) (whole session.new) }
     ensures begins { Begins outbox.old outbox.new }
 {
     if is_plain(frame) {
@@ -162,7 +162,7 @@ fn serve_plain(
     requires plain { IsPlain (frame_of frame) }
     ensures reached { (start : Start) (journal : Journal) → StandsFor start (whole session.old) journal →
         OnOk result (Reaches start (arrives start journal (frame_of frame.entry)) (whole session.new) journal outbox.old outbox.new) }
-    ensures running { (most : ℕ) → IsRunning most (whole session.old) → OnOk result (IsRunning (most + 4098) (whole session.new)) }
+    ensures running { RunsOnByAFrame result (whole session.old) (whole session.new) }
     ensures begins { Begins outbox.old outbox.new }
 {
     match session.endpoints.admit_plain() {
@@ -184,7 +184,7 @@ fn serve_sending(
     requires free { IsFree (frame_of frame) server (whole session.old) }
     ensures reached { (start : Start) (journal : Journal) → StandsFor start (whole session.old) journal →
         OnOk result (Reaches start (arrives start journal (frame_of frame.entry)) (whole session.new) journal outbox.old outbox.new) }
-    ensures running { (most : ℕ) → IsRunning most (whole session.old) → OnOk result (IsRunning (most + 4098) (whole session.new)) }
+    ensures running { RunsOnByAFrame result (whole session.old) (whole session.new) }
     ensures begins { Begins outbox.old outbox.new }
 {
     match session.endpoints.admit_live(frame) {
