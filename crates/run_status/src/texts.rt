@@ -1,6 +1,7 @@
 // Texts that a command writes as one.
 
 ghost use Rattle.std.specs.Prelude.{◌≡◌, ◌++◌, OnOk, OnErr, decimal};
+ghost use Rattle.endpoint_link.specs.Fronts.{Begins};
 ghost use Rattle.host_io.specs.Causes.{HasCause};
 ghost use Rattle.host_io.specs.Streams.{AppendsPart};
 ghost use Rattle.run_status.specs.Outside.{sink_told};
@@ -10,9 +11,10 @@ use host_io::{Failed, Sink, write_whole};
 use itoa::Buffer;
 use std::alloc::AllocError;
 
-/// Puts a text and a number behind what is there.
+/// Puts a text and a number behind what is there. For want of memory what was there stands in front.
 pub fn put_number(line: &mut Vec<u8>, text: &str, number: u128) -> Result<(), AllocError>
-    ensures { OnOk result (line.new.items ≡ line.old.items ++ text.now ++ decimal number) }
+    ensures put { OnOk result (line.new.items ≡ line.old.items ++ text.now ++ decimal number) }
+    ensures front { OnErr result (Begins line.old.items line.new.items) }
 {
     let mut digits = Buffer::new();
     line.extend_from_slice(text.as_bytes())?;
