@@ -1,11 +1,12 @@
 // The endpoints of the link: which numbers are used, and which frames are admitted.
 
-ghost use Rattle.std.specs.Prelude.{◌≡◌, ◌≢◌, ◌≤◌, ◌<◌, ◌+◌, ◌-◌, ◌⊎◌, ℕ, true, false, [], All, Some, None, IsTrue, length, count_by, IfOk, OnOk, OnErr, MatchOption};
+ghost use Rattle.std.specs.Prelude.{◌≡◌, ◌≢◌, ◌≤◌, ◌<◌, ◌+◌, ◌-◌, ◌⊎◌, true, false, [], ◌∷◌, All, Some, None, IsTrue, length, count_by, IfOk, OnOk, OnErr, MatchOption};
 ghost use Rattle.std.specs.FinMap as map;
+ghost use Rattle.fidl_names.specs.First.{cause_if, first_of};
 ghost use Rattle.fidl_names.specs.HandleNumber.{is_client};
 ghost use Rattle.endpoint_link.specs.Tables.{AreEachOnce};
 ghost use Rattle.endpoint_link.specs.Standings.{standing_of, is_used, is_live, next_token_of, Starts, Sends, hung_up, ended, given, gone};
-ghost use Rattle.endpoint_link.specs.Admission.{look_ups, all_may_travel, admission, refusal_by, Admits};
+ghost use Rattle.endpoint_link.specs.Admission.{look_ups, all_may_travel, admission, is_full, too_many, Admits};
 ghost use Rattle.endpoint_link.specs.Frames.{goes_to};
 ghost use Rattle.endpoint_link.specs.declared.kinds.Side.TheVariants as side;
 ghost use Rattle.endpoint_link.specs.Views.{frame_of, handle_numbers};
@@ -212,10 +213,12 @@ impl Endpoints {
         }
     }
 
-    /// Admits a message without handles on a live endpoint of a client, or refuses it for want of room.
+    /// Admits a message without handles on a live endpoint of a client, or refuses it for want of room: first where so
+    /// many entries wait as can, then where so many endpoints are live.
     pub fn admit_plain(&mut self) -> Result<(), Refusal>
-        ensures first { (endpoint : ℕ) → is_client endpoint ≡ true → standing_of self.old endpoint ≡ Standing.Live →
-            MatchOption (refusal_by FrameKind.Message (look_ups self.old) endpoint []) (result ≡ Ok tt) (λ why. result ≡ Err why) }
+        ensures first { MatchOption
+            (first_of (cause_if (is_full (look_ups self.old)) Refusal.ShouldWait ∷ cause_if (too_many (look_ups self.old) []) Refusal.NoResources ∷ []))
+            (result ≡ Ok tt) (λ why. result ≡ Err why) }
         ensures admitted { OnOk result (Sends self.old [] self.new) }
         ensures unchanged { OnErr result (self.new ≡ self.old) }
     {

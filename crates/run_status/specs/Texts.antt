@@ -1,7 +1,7 @@
 -- How a command ends that writes one text, and how the note is told.
-use Rattle.std.specs.Prelude.{◌≡◌, List, ℕ, Option}
+use Rattle.std.specs.Prelude.{◌≡◌, List, ℕ, OnErr, OnOk, Option, Result}
 use Rattle.std.specs.Io.KnownBytes.{Appends}
-use Rattle.host_io.specs.Causes.{Rose}
+use Rattle.host_io.specs.Causes.{HasCause, Rose}
 use Rattle.host_io.specs.Streams.{AppendsPart, IsFlushed}
 use Rattle.run_status.specs.declared.statuses.Status.{Status}
 use Rattle.run_status.specs.declared.statuses.Status.TheVariants as status
@@ -14,6 +14,12 @@ PassedOn written written' bytes flushed = Appends written written' bytes × IsFl
 -- the sink got this text, and all that it got is flushed
 abbrev pub GotAll : SinkTold → SinkTold → List ℕ → Type 0
 GotAll before after text = PassedOn before.written after.written text after.flushed
+
+-- the sink got this text, and all that it got is flushed; where that fails it got a front of the text, and the count of its faults, which stays else, rose
+pub record Writes {T E : Type 0} (text : List ℕ) (before after : SinkTold) (result : Result T E) : Type 0 where
+  pub whole : OnOk result (GotAll before after text)
+  pub part : OnErr result (AppendsPart before.written after.written text)
+  pub cause : HasCause before.faults after.faults result
 
 -- the text is written and flushed, and no call of the sink failed; or a front of it is written, and one failed. What stands after want of
 -- memory is a parameter

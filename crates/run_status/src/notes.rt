@@ -1,12 +1,11 @@
-ghost use Rattle.std.specs.Prelude.{◌≡◌, ◌++◌, OnOk, OnErr, codes, decimal};
+ghost use Rattle.std.specs.Prelude.{◌≡◌, ◌++◌, codes, decimal};
 ghost use Rattle.std.specs.List.{flat_map};
-ghost use Rattle.host_io.specs.Causes.{HasCause};
-ghost use Rattle.host_io.specs.Streams.{AppendsPart};
 ghost use Rattle.run_status.specs.Notes.{line_of, note_of, word_of};
 ghost use Rattle.run_status.specs.Outside.{sink_told};
-ghost use Rattle.run_status.specs.Texts.{GotAll, Tells};
+ghost use Rattle.run_status.specs.Texts.{Tells, Writes};
 
 use crate::statuses::Status;
+use crate::texts::pass_on;
 use endpoint_link::FrameReason;
 use host_io::{Failed, Sink, write_whole};
 use itoa::Buffer;
@@ -57,13 +56,10 @@ fn note_of(status: Status) -> Note
 }
 
 fn write_note<N: Sink>(notes: &mut N, status: Status) -> Result<(), Failed>
-    ensures whole { OnOk result (GotAll (sink_told N.written N.flushed N.faults notes.old) (sink_told N.written N.flushed N.faults notes.new)
-        (note_of status)) }
-    ensures part { OnErr result (AppendsPart (N.written notes.old) (N.written notes.new) (note_of status)) }
-    ensures cause { HasCause (N.faults notes.old) (N.faults notes.new) result }
+    ensures { Writes (note_of status) (sink_told N.written N.flushed N.faults notes.old) (sink_told N.written N.flushed N.faults notes.new) result }
 {
     match note_of(status) {
-        Note::Line(text) => write_line(notes, text),
+        Note::Line(text) => pass_on(notes, text.as_bytes()),
         Note::Number(text, number) => write_number(notes, text, number),
         Note::TwoNumbers(text, number, between, second) => {
             write_two_numbers(notes, text, number, between, second)
@@ -75,23 +71,9 @@ fn write_note<N: Sink>(notes: &mut N, status: Status) -> Result<(), Failed>
 const USAGE: &str =
     "usage: vfs file NAME | serve TREE auto | serve TREE given | run TREE SCRIPT | check TREE | show | make N\n";
 
-/// Writes a line, and passes it on.
-fn write_line<N: Sink>(notes: &mut N, text: &str) -> Result<(), Failed>
-    ensures whole { OnOk result (GotAll (sink_told N.written N.flushed N.faults notes.old) (sink_told N.written N.flushed N.faults notes.new)
-        (text.now)) }
-    ensures part { OnErr result (AppendsPart (N.written notes.old) (N.written notes.new) (text.now)) }
-    ensures cause { HasCause (N.faults notes.old) (N.faults notes.new) result }
-{
-    write_whole(notes, text.as_bytes())?;
-    notes.flush()
-}
-
 /// Writes a line of a text and a number.
 fn write_number<N: Sink>(notes: &mut N, text: &str, number: u64) -> Result<(), Failed>
-    ensures whole { OnOk result (GotAll (sink_told N.written N.flushed N.faults notes.old) (sink_told N.written N.flushed N.faults notes.new)
-        (text.now ++ decimal number ++ codes "\n")) }
-    ensures part { OnErr result (AppendsPart (N.written notes.old) (N.written notes.new) (text.now ++ decimal number ++ codes "\n")) }
-    ensures cause { HasCause (N.faults notes.old) (N.faults notes.new) result }
+    ensures { Writes (text.now ++ decimal number ++ codes "\n") (sink_told N.written N.flushed N.faults notes.old) (sink_told N.written N.flushed N.faults notes.new) result }
 {
     let mut digits = Buffer::new();
     write_parts(notes, &[text, digits.format(number), "\n"])
@@ -105,10 +87,7 @@ fn write_two_numbers<N: Sink>(
     between: &str,
     second: u64,
 ) -> Result<(), Failed>
-    ensures whole { OnOk result (GotAll (sink_told N.written N.flushed N.faults notes.old) (sink_told N.written N.flushed N.faults notes.new)
-        (text.now ++ decimal number ++ between.now ++ decimal second ++ codes "\n")) }
-    ensures part { OnErr result (AppendsPart (N.written notes.old) (N.written notes.new) (text.now ++ decimal number ++ between.now ++ decimal second ++ codes "\n")) }
-    ensures cause { HasCause (N.faults notes.old) (N.faults notes.new) result }
+    ensures { Writes (text.now ++ decimal number ++ between.now ++ decimal second ++ codes "\n") (sink_told N.written N.flushed N.faults notes.old) (sink_told N.written N.flushed N.faults notes.new) result }
 {
     let (mut first, mut other) = (Buffer::new(), Buffer::new());
     write_parts(
@@ -125,10 +104,7 @@ fn write_two_numbers<N: Sink>(
 
 /// Writes the line of a bad frame.
 fn write_reason<N: Sink>(notes: &mut N, at: u64, reason: FrameReason) -> Result<(), Failed>
-    ensures whole { OnOk result (GotAll (sink_told N.written N.flushed N.faults notes.old) (sink_told N.written N.flushed N.faults notes.new)
-        (codes "bad frame at " ++ decimal at ++ codes ": " ++ word_of reason ++ codes "\n")) }
-    ensures part { OnErr result (AppendsPart (N.written notes.old) (N.written notes.new) (codes "bad frame at " ++ decimal at ++ codes ": " ++ word_of reason ++ codes "\n")) }
-    ensures cause { HasCause (N.faults notes.old) (N.faults notes.new) result }
+    ensures { Writes (codes "bad frame at " ++ decimal at ++ codes ": " ++ word_of reason ++ codes "\n") (sink_told N.written N.flushed N.faults notes.old) (sink_told N.written N.flushed N.faults notes.new) result }
 {
     let mut digits = Buffer::new();
     write_parts(
@@ -145,10 +121,7 @@ fn write_reason<N: Sink>(notes: &mut N, at: u64, reason: FrameReason) -> Result<
 
 /// Writes the parts of a line, and passes them on.
 fn write_parts<N: Sink>(notes: &mut N, parts: &[&str]) -> Result<(), Failed>
-    ensures whole { OnOk result (GotAll (sink_told N.written N.flushed N.faults notes.old) (sink_told N.written N.flushed N.faults notes.new)
-        (flat_map (λ part. part.now) parts.now)) }
-    ensures part { OnErr result (AppendsPart (N.written notes.old) (N.written notes.new) (flat_map (λ part. part.now) parts.now)) }
-    ensures cause { HasCause (N.faults notes.old) (N.faults notes.new) result }
+    ensures { Writes (flat_map (λ part. part.now) parts.now) (sink_told N.written N.flushed N.faults notes.old) (sink_told N.written N.flushed N.faults notes.new) result }
 {
     for part in parts {
         if let Err(Failed) = write_whole(notes, part.as_bytes()) {

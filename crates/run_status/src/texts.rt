@@ -1,18 +1,18 @@
 // Texts that a command writes as one.
 
 ghost use Rattle.std.specs.Prelude.{◌≡◌, ◌++◌, OnOk, OnErr, decimal};
-ghost use Rattle.host_io.specs.Causes.{HasCause};
-ghost use Rattle.host_io.specs.Streams.{AppendsPart};
+ghost use Rattle.endpoint_link.specs.Fronts.{Begins};
 ghost use Rattle.run_status.specs.Outside.{sink_told};
-ghost use Rattle.run_status.specs.Texts.{GotAll};
+ghost use Rattle.run_status.specs.Texts.{Writes};
 
 use host_io::{Failed, Sink, write_whole};
 use itoa::Buffer;
 use std::alloc::AllocError;
 
-/// Puts a text and a number behind what is there.
+/// Puts a text and a number behind what is there. For want of memory what was there stands in front.
 pub fn put_number(line: &mut Vec<u8>, text: &str, number: u128) -> Result<(), AllocError>
-    ensures { OnOk result (line.new.items ≡ line.old.items ++ text.now ++ decimal number) }
+    ensures put { OnOk result (line.new.items ≡ line.old.items ++ text.now ++ decimal number) }
+    ensures front { OnErr result (Begins line.old.items line.new.items) }
 {
     let mut digits = Buffer::new();
     line.extend_from_slice(text.as_bytes())?;
@@ -21,10 +21,7 @@ pub fn put_number(line: &mut Vec<u8>, text: &str, number: u128) -> Result<(), Al
 
 /// Writes the bytes and passes them on.
 pub fn pass_on<K: Sink>(sink: &mut K, bytes: &[u8]) -> Result<(), Failed>
-    ensures whole { OnOk result (GotAll (sink_told K.written K.flushed K.faults sink.old) (sink_told K.written K.flushed K.faults sink.new)
-        bytes.now) }
-    ensures part { OnErr result (AppendsPart (K.written sink.old) (K.written sink.new) bytes.now) }
-    ensures cause { HasCause (K.faults sink.old) (K.faults sink.new) result }
+    ensures { Writes bytes.now (sink_told K.written K.flushed K.faults sink.old) (sink_told K.written K.flushed K.faults sink.new) result }
 {
     write_whole(sink, bytes)?;
     sink.flush()

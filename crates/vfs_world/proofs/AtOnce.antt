@@ -10,13 +10,16 @@ use Rattle.std.proofs.Math.Nat.{zero-add}
 use Rattle.std.proofs.lemmas.Bool.{eq-eqb, eqb-true, or_left}
 use Rattle.std.proofs.lemmas.Bool.Decides.{nat_tests}
 use Rattle.std.proofs.lemmas.Option.{none-some, same_Some}
+use Rattle.fidl_names.specs.First.{cause_if, first_of}
+use Rattle.fidl_names.specs.HandleNumber.{is_client}
 use Rattle.fidl_wire.specs.Names.{AreDistinct}
 use Rattle.endpoint_link.specs.Frames.{Frame, IsFrame}
-use Rattle.endpoint_link.specs.Admission.{Admits, AdmitsKind, admission, look_ups as known_look_ups, refusal_by}
+use Rattle.endpoint_link.specs.Admission.{Admits, AdmitsKind, admission, by_standing, is_full, look_ups as known_look_ups, refusal_by, too_many}
 use Rattle.endpoint_link.specs.Standings.{Known, Sends as SendsHandles, standing_of as known_standing}
 use Rattle.endpoint_link.specs.declared.kinds.FrameKind.{FrameKind}
 use Rattle.endpoint_link.specs.declared.kinds.FrameKind.TheVariants as kind
 use Rattle.endpoint_link.specs.declared.kinds.Refusal.{Refusal}
+use Rattle.endpoint_link.specs.declared.kinds.Refusal.TheVariants as refusal
 use Rattle.endpoint_link.specs.declared.kinds.Side.TheVariants.{ToServers}
 use Rattle.endpoint_link.specs.declared.kinds.Standing.TheVariants as standing
 use Rattle.vfs_journal.specs.Entries.{Journal, Sent, is_hang_up}
@@ -267,9 +270,25 @@ bound_lives most world endpoint server r bound none =
         let waits = hang_ups_wait r.start r.journal endpoint r.stands.lawful e undead in
         sym waits ∙ ap (list_any (λ (sent : Sent). is_hang_up sent.sending && (sent.endpoint == endpoint))) (nothing_waits most world r none)
 
+-- for want of room it is refused, where its endpoint lives, and for nothing else
+abbrev pub for_want_of_room : Known → Option Refusal
+for_want_of_room known =
+    first_of (cause_if (is_full (known_look_ups known)) refusal.ShouldWait ∷ cause_if (too_many (known_look_ups known) []) refusal.NoResources ∷ [])
+
+plain_refusal : (known : Known) (endpoint : ℕ) → is_client endpoint ≡ true → known_standing known endpoint ≡ standing.Live → refusal_by kind.Message (known_look_ups known) endpoint [] ≡ for_want_of_room known
+plain_refusal known endpoint client lives = λ i.
+    first_of
+    (by_standing (lives i)
+    ∷ cause_if (not (client i)) refusal.BadHandle
+    ∷ cause_if (not true) refusal.BadHandle
+    ∷ cause_if (is_full (known_look_ups known)) refusal.ShouldWait
+    ∷ cause_if (too_many (known_look_ups known) []) refusal.NoResources
+    ∷ [])
+
 -- what admits it, and what refuses it
-pub plain_admission : (known : Known) (frame : Frame) (first : Option Refusal) → IsPlain frame → refusal_by kind.Message (known_look_ups known) frame.endpoint [] ≡ first → admission (known_look_ups known) frame ≡ first
-plain_admission known frame first plain is = (λ i. refusal_by (plain.message i) (known_look_ups known) frame.endpoint (plain.bare i)) ∙ is
+pub plain_admission : (known : Known) (frame : Frame) (first : Option Refusal) → IsPlain frame → known_standing known frame.endpoint ≡ standing.Live → for_want_of_room known ≡ first → admission (known_look_ups known) frame ≡ first
+plain_admission known frame first plain lives is =
+    (λ i. refusal_by (plain.message i) (known_look_ups known) frame.endpoint (plain.bare i)) ∙ plain_refusal known frame.endpoint plain.client lives ∙ is
 
 pub plain_admits : (old new : Known) (frame : Frame) → IsPlain frame → SendsHandles old [] new → Admits old frame new
 plain_admits old new frame plain sends =

@@ -15,11 +15,9 @@ use Rattle.fidl_wire.specs.Written.{Written}
 use Rattle.io_messages.specs.Asked.{read}
 use Rattle.io_messages.specs.Requests.{request_of}
 use Rattle.io_messages.specs.declared.protocols.Protocol.TheVariants as protocol
-use Rattle.endpoint_link.specs.Admission.{by_standing, look_ups as known_look_ups, refusal_by}
 use Rattle.endpoint_link.specs.Frames.{Frame, IsFrame}
 use Rattle.endpoint_link.specs.Standings.{Known, Sends as SendsHandles, next_token_of, standing_of as known_standing}
 use Rattle.endpoint_link.specs.declared.kinds.FrameKind.{FrameKind}
-use Rattle.endpoint_link.specs.declared.kinds.FrameKind.TheVariants as kind
 use Rattle.endpoint_link.specs.declared.kinds.Refusal.TheVariants as refusal
 use Rattle.endpoint_link.specs.declared.kinds.Side.TheVariants.{ToServers}
 use Rattle.endpoint_link.specs.declared.kinds.Standing.TheVariants as standing
@@ -48,7 +46,7 @@ use Rattle.vfs_session.proofs.Halves.{goes_on, one_served}
 use Rattle.vfs_session.proofs.Quiet.{settles_quietly}
 use Rattle.vfs_session.proofs.Taken.{takes_head}
 use Rattle.vfs_world.specs.Steps.{AnswersRead, CanBeServed, IsAdmitted, IsFree, Sends}
-use Rattle.vfs_world.proofs.AtOnce.{bound_lives, drained_behind, none_waits, nothing_waits, plain_admission, plain_admits, reached_at_once, sent_in, sent_lasts, taken_again, waits_in, waits_last}
+use Rattle.vfs_world.proofs.AtOnce.{bound_lives, drained_behind, for_want_of_room, none_waits, nothing_waits, plain_admission, plain_admits, reached_at_once, sent_in, sent_lasts, taken_again, waits_in, waits_last}
 
 -- ---- at its server
 
@@ -106,19 +104,11 @@ sends_none known = record {
 not_more : (n : ℕ) → n ≤ limit.MAX_LIVE → nat_lt limit.MAX_LIVE (n + 0) ≡ false
 not_more n few = grind (arith, nat_tests)
 
--- nothing refuses it
-no_refusal : (known : Known) (endpoint : ℕ) → known_standing known endpoint ≡ standing.Live → is_client endpoint ≡ true → known.waiting ≡ 0 → known.live ≤ limit.MAX_LIVE →
-    refusal_by kind.Message (known_look_ups known) endpoint [] ≡ None
-no_refusal known endpoint live client none few =
+-- there is room for it
+no_want : (known : Known) → known.waiting ≡ 0 → known.live ≤ limit.MAX_LIVE → for_want_of_room known ≡ None
+no_want known none few =
     let room = not_more known.live few in
-    λ i.
-    first_of
-    (by_standing (live i)
-    ∷ cause_if (not (client i)) refusal.BadHandle
-    ∷ cause_if (not true) refusal.BadHandle
-    ∷ cause_if (nat_le limit.MAX_WAITING (none i)) refusal.ShouldWait
-    ∷ cause_if (room i) refusal.NoResources
-    ∷ [])
+    λ i. first_of (cause_if (nat_le limit.MAX_WAITING (none i)) refusal.ShouldWait ∷ cause_if (room i) refusal.NoResources ∷ [])
 
 none_counted : (most : ℕ) (world : World) → IsRunning most world → count world.queues ≡ 0 → world.known.waiting ≡ 0
 none_counted most world run none = run.stands.knows.waiting ∙ ap length (nothing_waits most world run none)
@@ -158,8 +148,8 @@ module _ (old : World) (run : IsRunning (2 ^ 61 - 4098) old) (frame : Frame) (is
   admitted : IsAdmitted old frame now
   admitted = record {
     none =
-        plain_admission old.known frame None can.plain
-        (no_refusal old.known frame.endpoint (bound_lives (2 ^ 61 - 4098) old frame.endpoint at run bound can.none) can.plain.client (none_counted (2 ^ 61 - 4098) old run can.none) can.few);
+        plain_admission old.known frame None can.plain (bound_lives (2 ^ 61 - 4098) old frame.endpoint at run bound can.none)
+        (no_want old.known (none_counted (2 ^ 61 - 4098) old run can.none) can.few);
     admits = plain_admits old.known (with_one old.known) frame can.plain (sends_none old.known);
     same = refl;
   }

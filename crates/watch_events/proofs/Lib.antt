@@ -1,5 +1,5 @@
 pub mod Once
 mod Registered
 mod Rowed
-mod Told
+pub mod Told
 mod Gathered

@@ -1,10 +1,11 @@
 -- Frames that are written one after another, until all are written or memory is wanting.
 use Rattle.std.proofs.Common.{◌≡◌, ℕ, true, false, List, [], ◌∷◌, ◌++◌, length, take, map, filter, refl, sym, ap, subst, ◌∙◌, append_assoc, arith, min}
 use Rattle.std.specs.Prelude.{◌+◌, Result, Ok, Err, OnErr, OnOk}
-use Rattle.std.proofs.Math.Seq.{take-append_seam}
+use Rattle.std.proofs.Math.Seq.{take-append-add, take-append_seam}
 use Rattle.std.proofs.lemmas.List.{append-nil, flat_map_more, take-append-le, take_min}
 use Rattle.std.proofs.Math.Nat.{min-le_right}
 use Rattle.endpoint_link.specs.Frames.{Frame, spelling, spellings}
+use Rattle.endpoint_link.proofs.Runs.{spellings-append}
 use Rattle.watch_events.specs.Events.{event_bytes}
 use Rattle.watch_events.specs.Messages.{Watcher, WritesFront, asks_for, told, watch_frame}
 
@@ -93,6 +94,17 @@ pub front_second : (frames more : List Frame) (before now next : List ℕ) → n
 front_second frames more before now next all same =
     let was : IsLeft (frames ++ more) more before now = record { done = frames; split = refl; written = all } in
     front_left (frames ++ more) more before now next was same
+
+-- all that is told at first, and a front of what is told then
+pub front_behind : (frames more : List Frame) (before now next : List ℕ) → now ≡ before ++ spellings frames → WritesFront more now next → WritesFront (frames ++ more) before next
+front_behind frames more before now next all front = record {
+  many = length frames + front.many;
+  front = front.front
+      ∙ ap (λ (bytes : List ℕ). bytes ++ spellings (take front.many more)) all
+      ∙ append_assoc before (spellings frames) (spellings (take front.many more))
+      ∙ ap (λ (bytes : List ℕ). before ++ bytes) (sym (spellings-append frames (take front.many more)))
+      ∙ ap (λ (done : List Frame). before ++ spellings done) (sym (take-append-add frames more front.many));
+}
 
 pub on_want : {A E P Q : Type 0} (result : Result A E) → (P → Q) → OnErr result P → OnErr result Q
 on_want (Ok value) then_so holds = tt

@@ -6,9 +6,9 @@ ghost use Rattle.endpoint_link.specs.Frames.{spellings};
 ghost use Rattle.fidl_names.specs.declared.limits.TheConstants as limit;
 ghost use Rattle.node_graph.specs.Graph.{Names, number_of};
 ghost use Rattle.conn_rules.specs.Served.{told_by};
+ghost use Rattle.watch_events.specs.Messages.{WritesFront};
 ghost use Rattle.watch_events.specs.Messages as messages;
 ghost use Rattle.node_graph.specs.Tree.{HasNameLength};
-ghost use Rattle.endpoint_link.specs.Fronts.{Begins};
 ghost use Rattle.watch_seats.specs.declared.watching.Seat.{Seat};
 ghost use Rattle.watch_seats.specs.Seats.{is_at, seat_at, without};
 ghost use Rattle.watch_seats.specs.Telling.{IsShort, gone_told, name_told, told_of};
@@ -124,11 +124,11 @@ impl Watching {
     }
 
     /// Tells those who watch of changes: a name is gone, a name is new, a directory is gone. For want of
-    /// memory a part of that is told.
+    /// memory a front of that is told, each message whole.
     pub fn tell(&self, changes: &Changes<'_>, outbox: &mut Outbox) -> Result<(), NoMemory>
         requires short { All IsShort (told_by changes.now) }
         ensures told { OnOk result (outbox.new ≡ outbox.old ++ spellings (told_of self.now (told_by changes.now))) }
-        ensures front { OnErr result (Begins outbox.old outbox.new) }
+        ensures front { OnErr result (WritesFront (told_of self.now (told_by changes.now)) outbox.old outbox.new) }
     {
         self.tell_name(WatchEvent::Removed, &changes.removed, outbox)?;
         self.tell_name(WatchEvent::Added, &changes.added, outbox)?;
@@ -144,7 +144,7 @@ impl Watching {
     ) -> Result<(), NoMemory>
         requires short { (one : At) → at.now ≡ Some one → HasNameLength one.name.now }
         ensures told { OnOk result (outbox.new ≡ outbox.old ++ spellings (name_told self.now (messages.number_of event) at.now)) }
-        ensures front { OnErr result (Begins outbox.old outbox.new) }
+        ensures front { OnErr result (WritesFront (name_told self.now (messages.number_of event) at.now) outbox.old outbox.new) }
     {
         match at {
             Some(at) => self.watchers.changed(at.dir, event, at.name, outbox),
@@ -155,7 +155,7 @@ impl Watching {
     /// Tells that a directory is gone, if one is.
     fn tell_gone(&self, directory: Option<u64>, outbox: &mut Outbox) -> Result<(), NoMemory>
         ensures told { OnOk result (outbox.new ≡ outbox.old ++ spellings (gone_told self.now directory)) }
-        ensures front { OnErr result (Begins outbox.old outbox.new) }
+        ensures front { OnErr result (WritesFront (gone_told self.now directory) outbox.old outbox.new) }
     {
         match directory {
             Some(directory) => self

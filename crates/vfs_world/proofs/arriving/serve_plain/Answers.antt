@@ -1,9 +1,7 @@
-use Rattle.std.proofs.Common.{◌≡◌, ℕ, ◌+◌, ◌-◌, ◌^◌, ◌∙◌, [], true, MatchOption, None, Some, Result, ap, refl}
-use Rattle.endpoint_link.specs.Admission.{admission, look_ups, refusal_by}
+use Rattle.std.proofs.Common.{◌≡◌, ℕ, ◌+◌, ◌-◌, ◌^◌, ◌∙◌, [], MatchOption, None, Some, Result, ap, refl}
+use Rattle.endpoint_link.specs.Admission.{admission, look_ups}
 use Rattle.endpoint_link.specs.Frames.{Frame}
-use Rattle.fidl_names.specs.HandleNumber.{is_client}
 use Rattle.endpoint_link.specs.Standings.{Known, Sends as SendsHandles, standing_of}
-use Rattle.endpoint_link.specs.declared.kinds.FrameKind.TheVariants as kind
 use Rattle.endpoint_link.specs.declared.kinds.Refusal.{Refusal}
 use Rattle.endpoint_link.specs.declared.kinds.Standing.TheVariants as standing
 use Rattle.endpoint_link.specs.Views.{frame_of}
@@ -12,7 +10,7 @@ use Rattle.vfs_session.specs.Running.{IsRunning, whole}
 use Rattle.vfs_session.specs.World.{World}
 use Rattle.vfs_world.specs.Steps.{IsAdmitted, IsFree, IsPlain}
 use Rattle.vfs_world.proofs.Answered.{let_in, on_both, on_ok, plain_passed, plain_refused, refused_for}
-use Rattle.vfs_world.proofs.AtOnce.{bound_lives, plain_admission, plain_admits, reached_by}
+use Rattle.vfs_world.proofs.AtOnce.{bound_lives, for_want_of_room, plain_admission, plain_admits, reached_by}
 use Rattle.vfs_world.proofs.Hearing.{refused_lasts, refused_leads}
 use Rattle.vfs_world.proofs.arriving.serve_plain.Goals as goal
 
@@ -21,21 +19,21 @@ lives world frame server running free = bound_lives (2 ^ 61 - 4098) world frame.
 
 -- what it is refused for, and that else it is admitted
 abbrev first_of_plain : World → Result (Unit {0}) Refusal → Type 0
-first_of_plain world result =
-    (endpoint : ℕ) → is_client endpoint ≡ true → standing_of world.known endpoint ≡ standing.Live →
-    MatchOption (refusal_by kind.Message (look_ups world.known) endpoint []) (result ≡ let_in) (λ why. result ≡ refused_for why)
+first_of_plain world result = MatchOption (for_want_of_room world.known) (result ≡ let_in) (λ why. result ≡ refused_for why)
 
 admitted : (world : World) (known : Known) (frame : Frame) (server : ℕ) → IsRunning (2 ^ 61 - 4098) world → IsFree frame server world → IsPlain frame → first_of_plain world let_in → SendsHandles world.known [] known →
     IsAdmitted world frame (record world { known = known })
 admitted world known frame server running free plain first sends =
-    let none = plain_passed (refusal_by kind.Message (look_ups world.known) frame.endpoint []) (first frame.endpoint plain.client (lives world frame server running free)) in
-    record { none = plain_admission world.known frame None plain none; admits = plain_admits world.known known frame plain sends; same = refl }
+    record {
+      none = plain_admission world.known frame None plain (lives world frame server running free) (plain_passed (for_want_of_room world.known) first);
+      admits = plain_admits world.known known frame plain sends;
+      same = refl;
+    }
 
 refused : (world : World) (frame : Frame) (server : ℕ) (why : Refusal) → IsRunning (2 ^ 61 - 4098) world → IsFree frame server world → IsPlain frame → first_of_plain world (refused_for why) →
     admission (look_ups world.known) frame ≡ Some why
 refused world frame server why running free plain first =
-    plain_admission world.known frame (Some why) plain
-    (plain_refused (refusal_by kind.Message (look_ups world.known) frame.endpoint []) why (first frame.endpoint plain.client (lives world frame server running free)))
+    plain_admission world.known frame (Some why) plain (lives world frame server running free) (plain_refused (for_want_of_room world.known) why first)
 
 pub serve_with-requires-clause-heard : goal.serve_with-requires-clause-heard
 serve_with-requires-clause-heard c = record {

@@ -1,4 +1,4 @@
-use Rattle.std.proofs.Common.{◌≡◌, ◌∷◌, ◌++◌, ℕ, List, All, OnOk, Option, None, Some, append_assoc, refl, subst}
+use Rattle.std.proofs.Common.{◌≡◌, ◌∷◌, ◌++◌, ℕ, List, All, OnOk, Option, None, Some, append_assoc, refl, subst, sym}
 use Rattle.std.proofs.lemmas.Grind.{flat_map-append}
 use Rattle.std.proofs.lemmas.List.{append-nil}
 use Rattle.std.specs.Prelude.{option_to_list}
@@ -11,7 +11,9 @@ use Rattle.conn_rules.specs.Served.{key_at, told_by}
 use Rattle.node_graph.specs.Tree.{HasNameLength}
 use Rattle.endpoint_link.specs.Frames.{Frame, spellings}
 use Rattle.endpoint_link.proofs.Runs.{spellings-append}
+use Rattle.watch_events.specs.Messages.{WritesFront}
 use Rattle.watch_events.specs.Messages as messages
+use Rattle.watch_events.proofs.Told.{for_want, front_behind, front_first, on_want}
 use Rattle.watch_seats.specs.Seats.{Seats}
 use Rattle.watch_seats.specs.Telling.{IsShort, gone_told, name_told, told_of, told_to}
 use Rattle.watch_seats.proofs.watching.Watching.tell.Goals as goal
@@ -68,6 +70,38 @@ returns-clause-told c =
     (told_behind c.args.outbox.now c.tell_name.new.outbox c.tell_name-2.new.outbox (name_told seats messages.removed changes.removed) (name_told seats messages.added changes.added) (gone_told seats changes.deleted)
     (told_of seats (told_by changes)) c.in_ok-tell_name.ensures.told c.in_ok-tell_name-2.ensures.told (told_each seats changes))
     c.tell_gone.ensures.told
+
+-- of what is told in three parts a front of the first is a front, and so is a front of the second behind the first, and of the third behind both
+pub returns-in_err-tell_name-clause-front : goal.returns-in_err-tell_name-clause-front
+returns-in_err-tell_name-clause-front c =
+    let seats = c.args.self.now in
+    let changes = c.args.changes.now in
+    for_want c.from_residual.result
+    (subst (λ (frames : List Frame). WritesFront frames c.args.outbox.now c.tell_name.new.outbox) (sym (told_each seats changes))
+    (front_first (name_told seats messages.removed changes.removed) (name_told seats messages.added changes.added ++ gone_told seats changes.deleted)
+    c.args.outbox.now c.tell_name.new.outbox c.in_err-tell_name.ensures.front))
+
+pub returns-in_err-tell_name-2-clause-front : goal.returns-in_err-tell_name-2-clause-front
+returns-in_err-tell_name-2-clause-front c =
+    let seats = c.args.self.now in
+    let changes = c.args.changes.now in
+    for_want c.from_residual-in_err-tell_name-2.result
+    (subst (λ (frames : List Frame). WritesFront frames c.args.outbox.now c.tell_name-2.new.outbox) (sym (told_each seats changes))
+    (front_behind (name_told seats messages.removed changes.removed) (name_told seats messages.added changes.added ++ gone_told seats changes.deleted)
+    c.args.outbox.now c.tell_name.new.outbox c.tell_name-2.new.outbox c.in_ok-tell_name.ensures.told
+    (front_first (name_told seats messages.added changes.added) (gone_told seats changes.deleted) c.tell_name.new.outbox c.tell_name-2.new.outbox c.in_err-tell_name-2.ensures.front)))
+
+pub returns-clause-front : goal.returns-clause-front
+returns-clause-front c =
+    let seats = c.args.self.now in
+    let changes = c.args.changes.now in
+    on_want c.tell_gone.result
+    (λ front.
+    subst (λ (frames : List Frame). WritesFront frames c.args.outbox.now c.tell_gone.new.outbox) (sym (told_each seats changes))
+    (front_behind (name_told seats messages.removed changes.removed) (name_told seats messages.added changes.added ++ gone_told seats changes.deleted)
+    c.args.outbox.now c.tell_name.new.outbox c.tell_gone.new.outbox c.in_ok-tell_name.ensures.told
+    (front_behind (name_told seats messages.added changes.added) (gone_told seats changes.deleted) c.tell_name.new.outbox c.tell_name-2.new.outbox c.tell_gone.new.outbox c.in_ok-tell_name-2.ensures.told front)))
+    c.tell_gone.ensures.front
 
 pub tell_name-requires : goal.tell_name-requires
 tell_name-requires c = record {
