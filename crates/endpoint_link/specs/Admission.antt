@@ -39,6 +39,14 @@ by_standing standing.Live = None
 by_standing standing.HungUp = Some refusal.PeerClosed
 by_standing standing.Dead = Some refusal.PeerClosed
 
+-- the refusal of a frame of this kind for how its endpoint stands; a Turn names a server
+abbrev pub standing_refusal : FrameKind → LookUps → ℕ → Option Refusal
+standing_refusal kind.Message l e = by_standing (l.standing e)
+standing_refusal kind.Close l e = by_standing (l.standing e)
+standing_refusal kind.Pick l e = by_standing (l.standing e)
+standing_refusal kind.Turn l e = None
+standing_refusal kind.Refused l e = None
+
 -- a client number that was never used, or a token that is held
 abbrev pub may_travel : LookUps → ℕ → Bool
 may_travel l h = (is_client h && not (l.used h)) || l.holds h

@@ -1,10 +1,10 @@
 // The first refusal of a frame, over whatever can be looked up.
 
-ghost use Rattle.std.specs.Prelude.{◌≡◌, ◌≤◌, ◌<◌, ◌+◌, ◌^◌, [], ◌∷◌, nat_le, nat_lt, not, length, drop, count_by};
+ghost use Rattle.std.specs.Prelude.{◌≡◌, ◌≤◌, ◌<◌, ◌+◌, ◌^◌, [], ◌∷◌, None, nat_le, nat_lt, not, length, drop, count_by};
 ghost use Rattle.fidl_names.specs.First.{cause_if, first_of};
 ghost use Rattle.fidl_names.specs.HandleNumber.{is_client};
 ghost use Rattle.endpoint_link.specs.Numbering.{among};
-ghost use Rattle.endpoint_link.specs.Admission.{LookUps, by_standing, may_travel, all_may_travel, is_full, too_many, refusal_by, admission};
+ghost use Rattle.endpoint_link.specs.Admission.{LookUps, by_standing, standing_refusal, may_travel, all_may_travel, is_full, too_many, refusal_by, admission};
 ghost use Rattle.endpoint_link.specs.Views.{frame_of, handle_numbers};
 
 use crate::frame::{FrameView, HandleBytes};
@@ -45,18 +45,27 @@ pub trait LookUp {
 pub fn first_refusal<L: LookUp>(look_ups: &L, frame: FrameView<'_>) -> Option<Refusal>
     ensures { result ≡ admission (L.tells look_ups.now) (frame_of frame.entry) }
 {
-    match frame.kind {
-        FrameKind::Message => message_refusal(look_ups, frame.endpoint, frame.handles),
-        FrameKind::Close => close_refusal(look_ups, frame.endpoint),
-        FrameKind::Turn => turn_refusal(look_ups, frame.endpoint),
-        FrameKind::Pick => pick_refusal(look_ups, frame.endpoint),
-        FrameKind::Refused => None,
+    if let Some(why) = standing_refusal(look_ups, frame.kind, frame.endpoint) {
+        return Some(why);
+    }
+    live_refusal(look_ups, frame)
+}
+
+/// The refusal of a frame for how its endpoint stands. A Turn names a server.
+fn standing_refusal<L: LookUp>(look_ups: &L, kind: FrameKind, endpoint: u32) -> Option<Refusal>
+    ensures { result ≡ standing_refusal kind (L.tells look_ups.now) endpoint }
+{
+    match kind {
+        FrameKind::Message | FrameKind::Close | FrameKind::Pick => {
+            by_standing(look_ups.standing_at(endpoint))
+        }
+        FrameKind::Turn | FrameKind::Refused => None,
     }
 }
 
-/// The same of a frame on an endpoint that lives, which isn't looked up.
+/// The same of a frame that isn't refused for how its endpoint stands. The endpoint isn't looked up.
 pub(crate) fn live_refusal<L: LookUp>(look_ups: &L, frame: FrameView<'_>) -> Option<Refusal>
-    requires live { (L.tells look_ups.now).standing frame.endpoint ≡ Standing.Live }
+    requires live { standing_refusal frame.kind (L.tells look_ups.now) frame.endpoint ≡ None }
     ensures { result ≡ admission (L.tells look_ups.now) (frame_of frame.entry) }
 {
     match frame.kind {
@@ -65,19 +74,6 @@ pub(crate) fn live_refusal<L: LookUp>(look_ups: &L, frame: FrameView<'_>) -> Opt
         FrameKind::Turn => turn_refusal(look_ups, frame.endpoint),
         FrameKind::Pick | FrameKind::Refused => None,
     }
-}
-
-fn message_refusal<L: LookUp>(
-    look_ups: &L,
-    endpoint: u32,
-    handles: HandleBytes<'_>,
-) -> Option<Refusal>
-    ensures { result ≡ refusal_by FrameKind.Message (L.tells look_ups.now) endpoint (handle_numbers handles.entry) }
-{
-    if let Some(why) = by_standing(look_ups.standing_at(endpoint)) {
-        return Some(why);
-    }
-    live_message_refusal(look_ups, endpoint, handles)
 }
 
 /// The refusal of a message behind that for how its endpoint stands.
@@ -112,15 +108,6 @@ pub(crate) fn room_refusal<L: LookUp>(look_ups: &L, clients: usize) -> Option<Re
     None
 }
 
-fn close_refusal<L: LookUp>(look_ups: &L, endpoint: u32) -> Option<Refusal>
-    ensures { result ≡ refusal_by FrameKind.Close (L.tells look_ups.now) endpoint [] }
-{
-    if let Some(why) = by_standing(look_ups.standing_at(endpoint)) {
-        return Some(why);
-    }
-    live_close_refusal(look_ups, endpoint)
-}
-
 /// The refusal of a Close behind that for how its endpoint stands.
 fn live_close_refusal<L: LookUp>(look_ups: &L, endpoint: u32) -> Option<Refusal>
     ensures { result ≡ first_of (cause_if (not (is_client endpoint)) Refusal.BadHandle ∷ cause_if (is_full (L.tells look_ups.now)) Refusal.ShouldWait ∷ []) }
@@ -148,12 +135,6 @@ fn is_behind<L: LookUp>(look_ups: &L, server: u32) -> bool
     ensures { result ≡ nat_le (L.tells look_ups.now).servers server }
 {
     server >= look_ups.servers()
-}
-
-fn pick_refusal<L: LookUp>(look_ups: &L, endpoint: u32) -> Option<Refusal>
-    ensures { result ≡ by_standing ((L.tells look_ups.now).standing endpoint) }
-{
-    by_standing(look_ups.standing_at(endpoint))
 }
 
 /// The refusal of a frame on an endpoint that stands so.

@@ -1,6 +1,6 @@
 -- The heads of a server: those in line beside the others.
 use Rattle.std.proofs.Common.{◌≡◌, ℕ, zero, suc, ◌+◌, ◌<◌, ◌≤◌, ◌==◌, ◌++◌, Bool, true, false, not, cond, List, [], ◌∷◌, length, refl, sym, ap, ◌∙◌, subst, arith}
-use Rattle.std.specs.Prelude.{Option, Some, None, IsSome, drop, get_or, if◌then◌else◌, nat_lt, slice_get}
+use Rattle.std.specs.Prelude.{Option, Some, None, IsSome, IsSomeAnd, drop, get_or, if◌then◌else◌, nat_lt, slice_get}
 use Rattle.std.specs.BTreeMap as tree
 use Rattle.std.specs.Map.{lookup}
 use Rattle.std.specs.BTreeMap.{BTreeMap, is_at, UpdatesBy, IsLowerBound, btree_map_len}
@@ -229,6 +229,13 @@ cut_others line new others fewer place updates cut =
     ∙ ap (heads_with (without_place place line)) (map_cut nat_cmp_total exact_unsigned others fewer place updates)
     ∙ cut_under line (map_of others) place
 
+-- where nothing stands at a place, nothing is taken out there
+cut_none : (m : Heads) (place : ℕ) → finite.get m place ≡ None → finite.remove m place ≡ m
+cut_none m place none = same _ _ (λ q. elim (same_place q place) [
+  | one_key e b ↦ rw (got_cut m place q, b) (sym (ap (finite.get m) e ∙ none))
+  | two_keys e b ↦ rw (got_cut m place q, b) refl
+])
+
 -- ---- the least of all
 
 no_some : {A : Type 0} (o : Option A) → o ≡ None → IsSome o → ⊥
@@ -303,3 +310,13 @@ least_in m head here low = (
   where
     not_above : (one other : ℕ) → is_gt (nat_cmp one other) ≡ false → one ≤ other
     not_above one other low = grind (arith, nat_tests)
+
+-- ---- the first of a line beside no others
+
+pub popped_first : (line new : List (ℕ × ℕ)) (others : BTreeMap ℕ ℕ) (place : ℕ) → IsRising line → IsSomeAnd (slice_get line 0) (λ first. first.0 ≡ place) → new ≡ drop 1 line → btree_map_len others ≡ 0
+    → heads_with new (map_of others) ≡ finite.remove (heads_with line (map_of others)) place
+popped_first [] new others place rises first popped empty = absurd first
+popped_first (head ∷ line) new others place rises first popped empty =
+    ap (λ (rest : List (ℕ × ℕ)). heads_with rest (map_of others)) (first_there place (head ∷ line) new head rises refl first popped)
+    ∙ ap (heads_with (without_place place (head ∷ line))) (sym (cut_none (map_of others) place (none_in others empty place)))
+    ∙ cut_under (head ∷ line) (map_of others) place

@@ -1,6 +1,6 @@
 //! The first entries of the endpoints that are bound at one server, in order.
 
-ghost use Rattle.std.specs.Prelude.{◌≡◌, true, IfOk, OnOk, OnErr, length, replicate, slice_get};
+ghost use Rattle.std.specs.Prelude.{◌≡◌, true, IfOk, IsSomeAnd, OnOk, OnErr, length, replicate, slice_get};
 ghost use Rattle.std.specs.FinMap as finite;
 ghost use Rattle.message_queues.specs.Steps.{AreBefore, IsLeast, IsRising, heads_with, older, without_place};
 
@@ -69,9 +69,11 @@ impl Heads {
     pub(crate) fn remove(&mut self, place: u64)
         ensures { self.new ≡ finite.remove self.old place }
     {
-        let_by(&mut self.line, &mut self.others, place);
-        cut(&mut self.line, place);
-        self.others.remove(&place);
+        if self.others.is_empty() && is_first(&self.line, place) {
+            self.line.pop_front();
+            return;
+        }
+        remove_among(&mut self.line, &mut self.others, place);
     }
 
     /// The endpoint at one place is at another from now on.
@@ -97,6 +99,16 @@ fn first_of(line: &VecDeque<(u64, u32)>) -> Option<(u64, u32)>
     ensures { result ≡ slice_get line.now.items 0 }
 {
     line.front().copied()
+}
+
+/// Whether the first of a line stands at a place.
+fn is_first(line: &VecDeque<(u64, u32)>, place: u64) -> bool
+    ensures { result ≡ true → IsSomeAnd (slice_get line.now.items 0) (λ first. first.0 ≡ place) }
+{
+    match line.front() {
+        Some(first) => first.0 == place,
+        None => false,
+    }
 }
 
 /// Whether a place is behind those of a line.
@@ -165,6 +177,17 @@ fn put_among(
     others.insert(place, endpoint)?;
     cut(line, place);
     Ok(())
+}
+
+/// Takes out what stands at a place, where others are there or stand before it.
+fn remove_among(line: &mut VecDeque<(u64, u32)>, others: &mut BTreeMap<u64, u32>, place: u64)
+    requires { IsRising line.old.items }
+    ensures removed { heads_with line.new.items (finite.from_entries others.new.entries) ≡ finite.remove (heads_with line.old.items (finite.from_entries others.old.entries)) place }
+    ensures rising { IsRising line.new.items }
+{
+    let_by(line, others, place);
+    cut(line, place);
+    others.remove(&place);
 }
 
 /// The least place of a map, and the endpoint there.

@@ -129,8 +129,7 @@ held_size h = omega (arith, length-number 4 present_word)
 pub absent_size : part_size Absent ≡ 4
 absent_size = omega (arith, length-number 4 0)
 
-pub list_size : (xs : List ℕ) → length (count_bytes (length xs)) + length (padded_bytes xs) ≡ 16 + length xs + (8 - length xs % 8) % 8
-unfolding padding_after
+pub list_size : (xs : List ℕ) → length (count_bytes (length xs)) + length (padded_bytes xs) ≡ 16 + length xs + padding_after (length xs)
 list_size xs = omega (arith, length-count (length xs), length-padded xs)
 
 pub table_size : (vs : List (Option ℕ)) → length (table_part vs).inline + length (table_part vs).outside ≡ 16 + slots_of (given vs)
@@ -199,8 +198,8 @@ many_slots f vs room count is front within more =
 pub table_slots : (f : Field) (vs : Bor (List (Option ℕ))) (n : ℕ) (slots : List (Option ℕ)) → f ≡ Table vs → slots ≡ given vs.now → n ≡ slots_of slots → 16 + n ≡ part_size f
 table_slots f vs n slots is front size = omega (arith, ap part_size is, table_size vs.now, ap slots_of front)
 
-pub list_bytes : (f : Field) (xs : Bor (List ℕ)) → f ≡ Bytes xs → 16 + length xs.now + (8 - length xs.now % 8) % 8 ≡ part_size f
-list_bytes f xs is = omega (arith, ap part_size is, list_size xs.now)
+pub list_bytes : (f : Field) (xs : Bor (List ℕ)) (padding : ℕ) → f ≡ Bytes xs → padding ≡ padding_after (length xs.now) → 16 + length xs.now + padding ≡ part_size f
+list_bytes f xs padding is size = omega (arith, ap part_size is, list_size xs.now, size)
 
 -- ---- a message
 

@@ -1,6 +1,6 @@
 -- The bytes of unions and of small objects.
 use Rattle.std.proofs.lemmas.List.{append-nil}
-use Rattle.std.proofs.Common.{◌≡◌, ℕ, ◌+◌, ◌-◌, ◌%◌, ◌≤◌, List, [], ◌∷◌, ◌++◌, length, refl, ap, ◌∙◌, append_assoc, length-append, add-zero, replicate, sym, ◌<◌, Option, Some, MatchOption, subst, arith}
+use Rattle.std.proofs.Common.{◌≡◌, ℕ, ◌+◌, ◌%◌, ◌≤◌, List, [], ◌∷◌, ◌++◌, length, refl, ap, ◌∙◌, append_assoc, length-append, add-zero, replicate, sym, ◌<◌, Option, Some, MatchOption, subst, arith}
 use Rattle.fidl_names.specs.declared.limits.TheConstants as limit
 use Rattle.fidl_wire.specs.Grammar.{Part, join, nothing}
 use Rattle.fidl_names.specs.Numbers.{number_bytes}
@@ -89,15 +89,14 @@ list_is xs =
     ∙ ap (λ (v : List ℕ). v ++ (padded_bytes xs ++ [])) (aligned_bytes (count_bytes (length xs)) (length-count (length xs)))
     ∙ ap (λ (v : List ℕ). count_bytes (length xs) ++ v) (append-nil (padded_bytes xs))
 
-list_has_size : (xs : List ℕ) → 16 + length xs + (8 - length xs % 8) % 8 ≡ length (list_object xs)
-unfolding padding_after
+list_has_size : (xs : List ℕ) → 16 + length xs + padding_after (length xs) ≡ length (list_object xs)
 list_has_size xs = omega (arith, list_length xs)
 
 parts : (out a b c d : List ℕ) → (out ++ (a ++ b ++ c)) ++ d ≡ out ++ (a ++ b ++ (c ++ d))
 parts out a b c d = simp append_assoc
 
 -- the head of a success, and then the bytes with their padding
-pub success_is : (out first last xs : List ℕ) → first ≡ out ++ (number_bytes 8 1 ++ envelope_bytes (16 + length xs + (8 - length xs % 8) % 8) 0 0 ++ count_bytes (length xs)) →
+pub success_is : (out first last xs : List ℕ) → first ≡ out ++ (number_bytes 8 1 ++ envelope_bytes (16 + length xs + padding_after (length xs)) 0 0 ++ count_bytes (length xs)) →
     last ≡ first ++ padded_bytes xs → last ≡ out ++ (number_bytes 8 1 ++ envelope_bytes (length (list_object xs)) 0 0 ++ list_object xs)
 success_is out first last xs h k =
     k ∙ ap (λ (v : List ℕ). v ++ padded_bytes xs) h

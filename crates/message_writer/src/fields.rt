@@ -4,7 +4,7 @@ ghost use Rattle.fidl_wire.specs.Spelling.{given, member_part, members_part, obj
 ghost use Rattle.message_writer.specs.Fields.{part_of, parts_of, part_size, parts_size, slots_of};
 
 use fidl_names::{Handle, MAX_BYTES, MAX_HANDLES};
-use fidl_wire::Out;
+use fidl_wire::{Out, padding_after};
 
 /// What marks a list or a handle as present.
 const PRESENT: u64 = u64::MAX;
@@ -73,7 +73,7 @@ fn room_behind(field: Field<'_, '_>, room: usize) -> Option<usize>
             if bytes.len() > room {
                 return None;
             }
-            room.checked_sub(16 + bytes.len() + (8 - bytes.len() % 8) % 8)
+            room.checked_sub(16 + bytes.len() + padding_after(bytes.len()))
         }
         Field::Table(members) => {
             let count = given_count(members);

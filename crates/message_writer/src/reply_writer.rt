@@ -1,17 +1,17 @@
-ghost use Rattle.std.specs.Prelude.{◌≡◌, ◌≢◌, ℕ, ◌+◌, ◌-◌, ◌%◌, ◌<◌, ◌≤◌, List, ◌++◌, [], Some, None, length};
+ghost use Rattle.std.specs.Prelude.{◌≡◌, ◌≢◌, ℕ, ◌+◌, ◌%◌, ◌<◌, ◌≤◌, List, ◌++◌, [], Some, None, length};
 ghost use Rattle.fidl_wire.specs.Headers.{header_bytes};
 ghost use Rattle.fidl_names.specs.Numbers.{number_bytes};
-ghost use Rattle.fidl_wire.specs.Numbers.{padded};
+ghost use Rattle.fidl_wire.specs.Numbers.{padded, padding_after};
 ghost use Rattle.fidl_wire.specs.Written.{padded_bytes};
 ghost use Rattle.fidl_wire.specs.Spelling.{object_bytes, count_bytes, envelope_bytes, body_bytes, body_handles};
 ghost use Rattle.message_writer.specs.Fields.{list_object, parts_of};
 ghost use Rattle.io_messages.specs.Shapes.{shape_of};
-ghost use Rattle.io_messages.specs.Replies.{answered, attributes, beside_payload, payload, reply_layout};
+ghost use Rattle.io_messages.specs.Replies.{answered, attributes, beside_payload, payload};
 ghost use Rattle.io_messages.specs.ReplyWriting.{HasReply, PayloadFits, CanFail, CanCarry, reply_bytes, reply_body, reply_handles, reply_header, layout_of, failure, carried, event_bytes, branch_of_kind, status_word};
 
 use crate::fields::{Field, put_count, put_object, put_padded, size_of};
 use fidl_names::{Handle, MAX_BYTES, Method, Status};
-use fidl_wire::{Header, Ordinals, Out, long_array, word_array};
+use fidl_wire::{Header, Ordinals, Out, long_array, padding_after, word_array};
 use io_messages::{
     Attributes, FRAMEWORK_ENVELOPE, FRAMEWORK_ORDINAL, Protocol, Reply, Shape, shape_of,
 };
@@ -191,28 +191,13 @@ fn put_payload(shape: Option<Shape>, bytes: &[u8], out: &mut Out)
     ensures handles { out.new.handles ≡ body_handles (layout_of shape) (carried shape bytes.now) }
 {
     match shape {
-        None => unreachable!(),
-        Some(shape) => put_carried(shape, bytes, out),
-    }
-}
-
-#[inline(always)]
-fn put_carried(shape: Shape, bytes: &[u8], out: &mut Out)
-    requires can { CanCarry (Some shape) bytes.now }
-    requires head { length out.old.bytes ≡ 16 }
-    requires free { out.old.handles ≡ [] }
-    requires fits { beside_payload (Some shape) + padded (length bytes.now) ≤ MAX_BYTES }
-    ensures bytes { out.new.bytes ≡ out.old.bytes ++ body_bytes (reply_layout shape) (carried (Some shape) bytes.now) }
-    ensures handles { out.new.handles ≡ body_handles (reply_layout shape) (carried (Some shape) bytes.now) }
-{
-    match shape {
-        Shape::Bytes => put_success(bytes, out),
-        Shape::Vector => put_object(out, &[Field::Bytes(bytes)]),
-        Shape::Text => put_object(out, &[Field::Bytes(bytes)]),
-        Shape::Listing => put_object(out, &[Field::Word(0), Field::Blank, Field::Bytes(bytes)]),
-        Shape::Done | Shape::Number | Shape::Attributes | Shape::Settled | Shape::Token => {
-            unreachable!()
+        Some(Shape::Bytes) => put_success(bytes, out),
+        Some(Shape::Vector) => put_object(out, &[Field::Bytes(bytes)]),
+        Some(Shape::Text) => put_object(out, &[Field::Bytes(bytes)]),
+        Some(Shape::Listing) => {
+            put_object(out, &[Field::Word(0), Field::Blank, Field::Bytes(bytes)])
         }
+        _ => unreachable!(),
     }
 }
 
@@ -235,9 +220,9 @@ fn put_success(bytes: &[u8], out: &mut Out)
 #[inline(always)]
 fn success_head(len: usize) -> [u8; 32]
     requires { len ≤ MAX_BYTES }
-    ensures { result ≡ number_bytes 8 1 ++ envelope_bytes (16 + len + (8 - len % 8) % 8) 0 0 ++ count_bytes len }
+    ensures { result ≡ number_bytes 8 1 ++ envelope_bytes (16 + len + padding_after len) 0 0 ++ count_bytes len }
 {
-    let size = 16 + len + (8 - len % 8) % 8;
+    let size = 16 + len + padding_after(len);
     let s = word_array(size as u32);
     let c = long_array(len as u64);
     [

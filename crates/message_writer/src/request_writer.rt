@@ -56,21 +56,21 @@ fn write_body(header: Header, request: Request<'_>, out: &mut Out) -> Result<(),
             &[Field::Held(Handle::Endpoint(request))],
             out,
         ),
-        Request::Close => write_fields(header, &[], out),
-        Request::Query => write_fields(header, &[], out),
-        Request::GetAttributes { query } => write_long(header, query, out),
-        Request::Sync => write_fields(header, &[], out),
+        Request::Close | Request::Query | Request::Sync | Request::Rewind | Request::GetToken =>
+            write_fields(header, &[], out),
+        Request::GetAttributes { query: number }
+        | Request::ReadDirents { max_bytes: number }
+        | Request::Read { count: number }
+        | Request::Resize { length: number } => write_long(header, number, out),
         Request::OpenPath {
             path,
             flags,
             attributes,
             object,
         } => write_open(header, path, flags, attributes, object, out),
-        Request::ReadDirents { max_bytes } => write_long(header, max_bytes, out),
-        Request::Rewind => write_fields(header, &[], out),
-        Request::GetToken => write_fields(header, &[], out),
-        Request::Rename { src, token, dst } => write_names(header, src, token, dst, out),
-        Request::Link { src, token, dst } => write_names(header, src, token, dst, out),
+        Request::Rename { src, token, dst } | Request::Link { src, token, dst } => {
+            write_names(header, src, token, dst, out)
+        }
         Request::Unlink { name, flags } => write_unlink(header, name, flags, out),
         Request::Watch {
             mask,
@@ -84,11 +84,12 @@ fn write_body(header: Header, request: Request<'_>, out: &mut Out) -> Result<(),
             ];
             write_fields(header, &fields, out)
         }
-        Request::Read { count } => write_long(header, count, out),
         Request::ReadAt { count, offset } => {
             write_fields(header, &[Field::Long(count), Field::Long(offset)], out)
         }
-        Request::Write { bytes } => write_fields(header, &[Field::Bytes(bytes)], out),
+        Request::Write { bytes } | Request::EchoString { value: bytes } => {
+            write_fields(header, &[Field::Bytes(bytes)], out)
+        }
         Request::WriteAt { bytes, offset } => {
             write_fields(header, &[Field::Bytes(bytes), Field::Long(offset)], out)
         }
@@ -100,8 +101,6 @@ fn write_body(header: Header, request: Request<'_>, out: &mut Out) -> Result<(),
             ];
             write_fields(header, &fields, out)
         }
-        Request::Resize { length } => write_long(header, length, out),
-        Request::EchoString { value } => write_fields(header, &[Field::Bytes(value)], out),
     }
 }
 

@@ -7,7 +7,7 @@ ghost use Rattle.watch_events.specs.Events.{event_bytes};
 ghost use Rattle.watch_events.specs.Messages.{WritesFront, asks_for, first_frames, watch_frame};
 ghost use Rattle.watch_events.specs.Steps.{idle_told, names_told};
 
-use endpoint_link::{FrameKind, Outbox, write_frame};
+use endpoint_link::{Outbox, write_message};
 use fidl_names::{MAX_CHUNK, NoMemory};
 use node_graph::Names;
 use std::marker::Model;
@@ -87,13 +87,7 @@ impl Message {
         ensures written { OnOk result (to.new ≡ to.old ++ spelling (watch_frame endpoint self.now)) }
         ensures no_memory { OnErr result (to.new ≡ to.old) }
     {
-        write_frame(
-            to,
-            endpoint,
-            FrameKind::Message,
-            &[],
-            &self.bytes[..self.len],
-        )
+        write_message(to, endpoint, &[], &self.bytes[..self.len])
     }
 
     /// Sends the message where there is no room for so many bytes more, and begins a new one.
@@ -151,5 +145,5 @@ fn tell_idle(endpoint: u32, mask: u32, to: &mut Outbox) -> Result<(), NoMemory>
     if !asks_for(mask, IDLE) {
         return Ok(());
     }
-    write_frame(to, endpoint, FrameKind::Message, &[], &[IDLE, 0])
+    write_message(to, endpoint, &[], &[IDLE, 0])
 }

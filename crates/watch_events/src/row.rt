@@ -7,7 +7,7 @@ ghost use Rattle.watch_events.specs.Messages.{Watcher, WritesFront, asks_for, wa
 ghost use Rattle.watch_events.specs.Watching.{is_among};
 
 use crate::messages::asks_for;
-use endpoint_link::{FrameKind, Outbox, write_frame};
+use endpoint_link::{Outbox, write_message};
 use fidl_names::NoMemory;
 use indexmap::IndexMap;
 use std::alloc::Global;
@@ -89,7 +89,7 @@ impl Row {
             if !asks_for(*mask, event) {
                 continue;
             }
-            write_frame(to, *endpoint, FrameKind::Message, &[], bytes)?;
+            write_message(to, *endpoint, &[], bytes)?;
         }
         Ok(())
     }

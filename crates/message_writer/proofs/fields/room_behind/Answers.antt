@@ -25,7 +25,7 @@ overflow_add-slots_size c =
     omega (arith, c.requires, c.slots_size.ensures.size, slots-most (take c.given_count-count.result c.in-Table.members.now), length-take c.given_count-count.result c.in-Table.members.now)
 
 pub returns-else-bytes-room : goal.returns-else-bytes-room
-returns-else-bytes-room c = left_of c.checked_sub-in-Bytes.result c.args.room _ (part_size c.args.field) (list_bytes c.args.field c.in-Bytes.bytes c.in-Bytes.is) c.checked_sub-in-Bytes.ensures
+returns-else-bytes-room c = left_of c.checked_sub-in-Bytes.result c.args.room _ (part_size c.args.field) (list_bytes c.args.field c.in-Bytes.bytes c.padding_after.result c.in-Bytes.is c.padding_after.ensures.value) c.checked_sub-in-Bytes.ensures
 
 pub returns-else-count-room : goal.returns-else-count-room
 returns-else-count-room c =

@@ -12,7 +12,7 @@ one_message endpoint mask asks = rw asks (sym (append-nil (spelling (watch_frame
 pub returns : goal.returns
 returns c = record {
   told =
-      subst (λ (bytes : List ℕ). OnOk c.write_frame.result (c.write_frame.new.to ≡ c.args.to.now ++ bytes))
-      (one_message c.args.endpoint c.args.mask (sym c.asks_for.ensures ∙ c.if-not-asks_for.false)) c.write_frame.ensures.written;
-  no_memory = c.write_frame.ensures.no_memory;
+      subst (λ (bytes : List ℕ). OnOk c.write_message.result (c.write_message.new.to ≡ c.args.to.now ++ bytes))
+      (one_message c.args.endpoint c.args.mask (sym c.asks_for.ensures ∙ c.if-not-asks_for.false)) c.write_message.ensures.written;
+  no_memory = c.write_message.ensures.no_memory;
 }

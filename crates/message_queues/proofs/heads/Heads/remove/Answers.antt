@@ -1,10 +1,11 @@
 use Rattle.std.proofs.Common.{◌∙◌, ap}
 use Rattle.std.specs.FinMap as finite
 use Rattle.message_queues.specs.Steps.{Heads}
-use Rattle.message_queues.proofs.Least.{cut_others}
+use Rattle.message_queues.proofs.Least.{popped_first}
 use Rattle.message_queues.proofs.heads.Heads.remove.Goals as goal
 
-pub returns : goal.returns
-returns c =
-    cut_others c.let_by.new.line.items c.cut.new.line.items c.let_by.new.others c.remove.new.self c.args.place c.remove.ensures.updates c.cut.ensures.cut
-    ∙ ap (λ (heads : Heads). finite.remove heads c.args.place) (c.let_by.ensures.same ∙ c.self.view_is)
+pub returns-then-is_first : goal.returns-then-is_first
+returns-then-is_first c =
+    popped_first c.self.inside.line.items c.pop_front.new.self.items c.self.inside.others c.args.place c.self.invariant (c.is_first.ensures c.if-is_first.true) c.pop_front.ensures.rest
+    (c.is_empty.ensures.0 c.if-is_empty.true)
+    ∙ ap (λ (heads : Heads). finite.remove heads c.args.place) c.self.view_is
