@@ -22,7 +22,7 @@ use fidl_names::{MAX_WAITING, NoMemory};
 use fidl_wire::Ordinals;
 use message_queues::{Lent, Sent};
 use std::mem;
-use vfs_server::{Fate, read_in};
+use vfs_server::{Fate, Part, part_in};
 
 /// The most bytes of a small room, as most messages need.
 const SMALL_ROOM: usize = 256;
@@ -42,8 +42,8 @@ impl Session {
         served
     }
 
-    /// Serves what was taken from an endpoint, as `serve_taken` does. Most of it are Reads of files, and have a way
-    /// of their own.
+    /// Serves what was taken from an endpoint, as `serve_taken` does. Most of it asks for parts of files, and has a
+    /// way of its own.
     #[inline(always)]
     fn serve_sent(
         &mut self,
@@ -62,8 +62,8 @@ impl Session {
         }
     }
 
-    /// Serves a Read of a file that was taken from an endpoint at this server. Nothing becomes of anybody by it, so
-    /// that nothing is settled. For anything else `None`, and nothing is done.
+    /// Serves a Read or a ReadAt of a file that was taken from an endpoint at this server. Nothing becomes of anybody
+    /// by it, so that nothing is settled. For anything else `None`, and nothing is done.
     #[inline(always)]
     fn serve_read(
         &mut self,
@@ -77,9 +77,9 @@ impl Session {
         ensures unchanged { result ≡ None → (whole self.new ≡ whole self.old) × (outbox.new ≡ outbox.old) }
         ensures begins { Begins outbox.old outbox.new }
     {
-        let (txid, count) = read_asked(&self.ordinals, sent)?;
+        let (txid, part) = read_asked(&self.ordinals, sent)?;
         let one = &mut self.servers[server as usize];
-        let read = one.read(&self.ordinals, endpoint, txid, count, &mut self.out, outbox)?;
+        let read = one.read(&self.ordinals, endpoint, txid, part, &mut self.out, outbox)?;
         self.endpoints.served();
         self.places += 1;
         Some(read)
@@ -259,16 +259,16 @@ impl Session {
     }
 }
 
-/// The transaction id and the count of the Read of a file that was sent; `None` where anything else was, or handles
-/// beside it.
+/// The transaction id of what was sent to ask a file for a part of its bytes, and that part; `None` where anything
+/// else was sent, or handles beside it.
 #[inline(always)]
-fn read_asked(ordinals: &Ordinals, sent: &Lent<'_>) -> Option<(u32, u64)>
-    ensures read { IfSome result (λ asked. AsksRead sent.now asked.0 asked.1) }
-    ensures txid { IfSome result (λ asked. 0 < asked.0) }
+fn read_asked(ordinals: &Ordinals, sent: &Lent<'_>) -> Option<(u32, Part)>
+    ensures read { IfSome result (λ asks. AsksRead sent.now asks.0 asks.1) }
+    ensures txid { IfSome result (λ asks. 0 < asks.0) }
 {
     let (bytes, handles) = sent.message()?;
     if !handles.is_empty() {
         return None;
     }
-    read_in(ordinals, bytes, &[])
+    part_in(ordinals, bytes)
 }
