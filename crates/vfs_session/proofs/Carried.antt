@@ -10,7 +10,7 @@ use Rattle.node_graph.specs.declared.nodes.NodeRef as nodes
 use Rattle.vfs_journal.specs.Handles.{numbers_of}
 use Rattle.vfs_journal.specs.Entries.{Sent, handles_of, tokens_in}
 use Rattle.vfs_server.specs.declared.fate.Fate.TheVariants as fates
-use Rattle.vfs_session.specs.Steps.{IsLoneEnd, IsQuiet, carried_but, is_it}
+use Rattle.vfs_session.specs.Steps.{IsLoneEnd, IsLoneGift, IsLoneToken, IsQuiet, carried_but, is_it}
 
 -- the endpoints among these numbers, but one
 abbrev pub carried_of : Option ℕ → List ℕ → List ℕ
@@ -58,6 +58,20 @@ quiet_binds sent object birth is client = record { first = carried_alone object 
 
 pub quiet_watches : (sent : Sent) (object mask : ℕ) (directory : nodes.NodeRef) → handles_of sent.sending ≡ object ∷ [] → is_client object ≡ true → IsQuiet sent (fates.Watches object directory mask)
 quiet_watches sent object mask directory is client = record { first = carried_alone object sent is client; tokens = no_tokens object sent is client; here = refl }
+
+pub lone_gives : (sent : Sent) (token : ℕ) (directory : nodes.NodeRef) → handles_of sent.sending ≡ [] → IsLoneGift sent (fates.Gives token directory)
+lone_gives sent token directory none = record { first = none_carried None sent none; tokens = nothing_spent sent none; sends = refl }
+
+-- a token is no endpoint
+pub lone_spends : (sent : Sent) (token : ℕ) → handles_of sent.sending ≡ token ∷ [] → is_client token ≡ false → IsLoneToken sent fates.Stays token
+lone_spends sent token is client = record {
+  first =
+      ap (λ (numbers : List ℕ). filter (λ number. not (is_it None number)) (filter is_client numbers)) is
+      ∙ ap (λ (b : Bool). filter (λ number. not (is_it None number)) (cond b (token ∷ []) [])) client;
+  tokens =
+      ap (λ (numbers : List ℕ). filter (λ number. not (is_client number)) numbers) is ∙ ap (λ (b : Bool). cond (not b) (token ∷ []) []) client;
+  here = refl;
+}
 
 pub lone_ends : (sent : Sent) → handles_of sent.sending ≡ [] → IsLoneEnd sent fates.Ends sent.endpoint
 lone_ends sent none = record {

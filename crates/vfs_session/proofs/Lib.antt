@@ -34,3 +34,4 @@ pub mod Taken
 pub mod Halves
 pub mod OneMore
 pub mod ReadTaken
+pub mod Spared

@@ -104,3 +104,8 @@ pub record SettlesHead (old : World) (sent : Sent) (fate : Fate) (out : Written)
   pub sends : SendsOn (old.places + 1) sent.place fate out left new.queues
   pub known : new.known ≡ record (known_told fate (fold gone (fold ended old.known dead) (spent_told sent old.queues dead))) { waiting = count new.queues }
   pub places : new.places ≡ old.places + 1 + is_sent_on fate
+
+-- all that settling does, but that the place of the serving isn't taken yet, and nothing is written
+abbrev pub SettlesButPlace : World → Sent → Fate → Written → World → Type 0
+SettlesButPlace old sent fate out new =
+    (new.places ≡ old.places) × ((bytes : List ℕ) → SettlesHead old sent fate out (record new { places = new.places + 1 }) bytes bytes)

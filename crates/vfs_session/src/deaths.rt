@@ -1,9 +1,9 @@
-//! The endpoints that die of a serving first.
+//! The endpoints that die of a serving first, and the servings that change at most one thing of others.
 
-ghost use Rattle.std.specs.Prelude.{◌≡◌, ◌++◌, ◌∷◌, [], true, IfSome, OnOk};
+ghost use Rattle.std.specs.Prelude.{◌≡◌, ◌++◌, ◌∷◌, [], false, true, IfSome, OnOk};
 ghost use Rattle.fidl_names.specs.HandleNumber.{is_client};
 ghost use Rattle.vfs_journal.specs.Handles.{numbers_of};
-ghost use Rattle.vfs_session.specs.Steps.{IsLoneEnd, IsQuiet, carried_but, end_told, first_told, is_it, settled_told};
+ghost use Rattle.vfs_session.specs.Steps.{IsLoneEnd, IsLoneGift, IsLoneToken, IsQuiet, carried_but, end_told, first_told, is_it, settled_told};
 
 use fidl_names::{Handle, NoMemory, is_client};
 use message_queues::Lent;
@@ -94,6 +94,44 @@ pub(crate) fn is_quiet(sent: &Lent<'_>, fate: &Fate) -> bool
         Fate::Stays => handles.is_empty(),
         Fate::Binds { object, .. } | Fate::Watches { object, .. } => are_it(handles, *object),
         _ => false,
+    }
+}
+
+/// Whether a serving leaves all others as they are but for the token that it gives: the entry carries nothing.
+#[tactic(auto, using(crate::proofs::Carried::lone_gives))]
+pub(crate) fn is_lone_gift(sent: &Lent<'_>, fate: &Fate) -> bool
+    ensures { result ≡ true → IsLoneGift sent.now fate.now }
+{
+    match fate {
+        Fate::Gives { .. } => sent.handles().is_empty(),
+        _ => false,
+    }
+}
+
+/// The token that these handles are, where they are one.
+fn one_token(handles: &[Handle]) -> Option<u32>
+    ensures { IfSome result (λ token. (numbers_of handles.now ≡ token ∷ []) × (is_client token ≡ false)) }
+{
+    if handles.len() != 1 {
+        return None;
+    }
+    let number = handles[0].number();
+    if is_client(number) {
+        None
+    } else {
+        Some(number)
+    }
+}
+
+/// The token that a serving spends, where it leaves all others as they are: the endpoint stays, and the entry
+/// carries that token alone.
+#[tactic(auto, using(crate::proofs::Carried::lone_spends))]
+pub(crate) fn lone_token(sent: &Lent<'_>, fate: &Fate) -> Option<u32>
+    ensures { IfSome result (IsLoneToken sent.now fate.now) }
+{
+    match fate {
+        Fate::Stays => one_token(sent.handles()),
+        _ => None,
     }
 }
 

@@ -1,11 +1,11 @@
 //! The serving of the first entry of an endpoint.
 
-ghost use Rattle.std.specs.Prelude.{◌≡◌, ◌<◌, ◌^◌, ◌∷◌, [], ℕ, true, false, All, IfOk, IfSome, List, None, OnOk};
+ghost use Rattle.std.specs.Prelude.{◌≡◌, ◌<◌, ◌^◌, ◌∷◌, [], ℕ, true, false, All, IfOk, IfSome, List, None, Ok, OnOk};
 ghost use Rattle.endpoint_link.specs.Standings.{is_live, standing_of};
 ghost use Rattle.message_queues.specs.Dying.{AreDeaths};
 ghost use Rattle.message_queues.specs.Queues.{IsReady, count};
 ghost use Rattle.vfs_journal.specs.Output.{Begins};
-ghost use Rattle.vfs_session.specs.Heads.{AsksRead, CanSettle, DiesAlone, LetsDie, ServesTaken, SettlesHead, Takes, TakesHead, WasTaken};
+ghost use Rattle.vfs_session.specs.Heads.{AsksRead, CanSettle, DiesAlone, LetsDie, ServesTaken, SettlesButPlace, SettlesHead, Takes, TakesHead, WasTaken};
 ghost use Rattle.vfs_session.specs.Running.{IsRunning, RunsOn, whole};
 ghost use Rattle.vfs_session.specs.Servings.{ServesOne};
 ghost use Rattle.vfs_session.specs.Steps.{first_told};
@@ -13,8 +13,8 @@ ghost use Rattle.vfs_session.specs.World.{World};
 
 use crate::answering::answer;
 use crate::closing::close_others;
-use crate::deaths::{end_told, is_quiet, list_first_deaths, lone_end};
-use crate::forgetting::{give, spend};
+use crate::deaths::{end_told, is_lone_gift, is_quiet, list_first_deaths, lone_end, lone_token};
+use crate::forgetting::{forget, give, spend};
 use crate::session::Session;
 use crate::settling::{bind, bury, let_all_go, send_on};
 use endpoint_link::Outbox;
@@ -134,8 +134,8 @@ impl Session {
         Ok(fate)
     }
 
-    /// Settles a serving, of which most leave all others as they are. Copies are lent otherwise, so that the
-    /// entry and the fate of a quiet one need not lie in memory.
+    /// Settles a serving, of which most change at most one thing of others. Copies are lent otherwise, so that the
+    /// entry and the fate of such a serving need not lie in memory.
     #[inline(always)]
     fn settle_head(
         &mut self,
@@ -147,19 +147,39 @@ impl Session {
         ensures settled { OnOk result (SettlesHead (whole self.old) sent.now fate.now self.old.out (whole self.new) outbox.old outbox.new) }
         ensures begins { Begins outbox.old outbox.new }
     {
-        if is_quiet(sent, fate) {
+        if self.settle_one(sent, fate)? {
             self.places += 1;
             return Ok(());
-        }
-        if let Some(end) = lone_end(sent, fate) {
-            if self.bury_alone(end) {
-                self.places += 1;
-                return Ok(());
-            }
         }
         let sent = sent.lend();
         let fate = *fate;
         self.settle_all(&sent, &fate, outbox)
+    }
+
+    /// Settles a serving that changes at most one thing of others, but for the place that it takes: a token is given
+    /// or spent, or an endpoint dies alone. Tells whether it is such a one; else all is as it was.
+    #[inline(always)]
+    fn settle_one(&mut self, sent: &Lent<'_>, fate: &Fate) -> Result<bool, NoMemory>
+        requires can { CanSettle (whole self.old) sent.now fate.now }
+        ensures settled { result ≡ Ok true → SettlesButPlace (whole self.old) sent.now fate.now self.old.out (whole self.new) }
+        ensures unchanged { result ≡ Ok false → whole self.new ≡ whole self.old }
+        ensures out { self.new.out ≡ self.old.out }
+    {
+        if is_quiet(sent, fate) {
+            return Ok(true);
+        }
+        if is_lone_gift(sent, fate) {
+            give(&mut self.endpoints, fate)?;
+            return Ok(true);
+        }
+        if let Some(token) = lone_token(sent, fate) {
+            forget(&mut self.servers, &mut self.endpoints, token);
+            return Ok(true);
+        }
+        match lone_end(sent, fate) {
+            Some(end) => Ok(self.bury_alone(end)),
+            None => Ok(false),
+        }
     }
 
     /// Buries an endpoint that dies alone, since nothing waits, and tells whether that is so; else all is as it
