@@ -1,16 +1,17 @@
 -- The endpoints that an entry carries, but one.
-use Rattle.std.proofs.Common.{◌≡◌, ℕ, ◌+◌, ◌<◌, ◌&&◌, Bool, true, false, not, cond, List, [], ◌∷◌, ◌++◌, append_assoc, filter, get_or, length, take, Option, None, Some, refl, sym, ap, ◌∙◌}
+use Rattle.std.proofs.Common.{◌≡◌, ℕ, ◌+◌, ◌<◌, ◌&&◌, ◌||◌, Bool, true, false, not, cond, List, [], ◌∷◌, ◌++◌, append_assoc, filter, get_or, length, take, Option, None, Some, refl, sym, ap, ◌∙◌}
 use Rattle.fidl_names.specs.HandleNumber.{is_client, number_of_handle}
 use Rattle.fidl_names.specs.declared.methods.Handle.{Handle}
 use Rattle.std.proofs.lemmas.Bool.{eq-eqb}
 use Rattle.std.proofs.lemmas.List.{append-nil, map-append, take_more}
 use Rattle.std.proofs.lemmas.List.Elements.{filter-append}
+use Rattle.endpoint_link.specs.Numbering.{among}
 use Rattle.conn_rules.specs.declared.births.Birth as code
 use Rattle.node_graph.specs.declared.nodes.NodeRef as nodes
 use Rattle.vfs_journal.specs.Handles.{numbers_of}
 use Rattle.vfs_journal.specs.Entries.{Sent, handles_of, tokens_in}
 use Rattle.vfs_server.specs.declared.fate.Fate.TheVariants as fates
-use Rattle.vfs_session.specs.Steps.{IsLoneEnd, IsLoneGift, IsLoneToken, IsQuiet, carried_but, is_it}
+use Rattle.vfs_session.specs.Steps.{IsLoneEnd, IsLoneGift, IsLoneRefusal, IsLoneToken, IsQuiet, carried_but, is_it}
 
 -- the endpoints among these numbers, but one
 abbrev pub carried_of : Option ℕ → List ℕ → List ℕ
@@ -81,12 +82,19 @@ lone_ends sent none = record {
   here = refl;
 }
 
-pub lone_refuses : (sent : Sent) (object : ℕ) → handles_of sent.sending ≡ object ∷ [] → is_client object ≡ true → IsLoneEnd sent (fates.Refuses object) object
+pub lone_refuses : (sent : Sent) (object : ℕ) → handles_of sent.sending ≡ object ∷ [] → is_client object ≡ true → IsLoneRefusal sent (fates.Refuses object) object
 lone_refuses sent object is client = record {
-  first = ap (λ (others : List ℕ). object ∷ others) (carried_alone object sent is client);
-  told = refl;
-  tokens = no_tokens object sent is client;
-  here = refl;
+  lone = record {
+    first = ap (λ (others : List ℕ). object ∷ others) (carried_alone object sent is client);
+    told = refl;
+    tokens = no_tokens object sent is client;
+    here = refl;
+  };
+  refuses = refl;
+  carried =
+      ap (λ (numbers : List ℕ). among object (filter is_client numbers)) is
+      ∙ ap (λ (b : Bool). among object (cond b (object ∷ []) [])) client
+      ∙ ap (λ (b : Bool). b || false) (eq-eqb object object refl);
 }
 
 -- ---- with one more handle

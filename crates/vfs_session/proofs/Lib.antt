@@ -35,3 +35,4 @@ pub mod Halves
 pub mod OneMore
 pub mod ReadTaken
 pub mod Spared
+pub mod Unbound

@@ -161,6 +161,12 @@ pub record IsLoneEnd (sent : Sent) (fate : Fate) (end : ℕ) : Type 0 where
   pub tokens : tokens_in sent ≡ []
   pub here : ends_here fate ≡ true
 
+-- such a serving, where that one is refused, which the entry carries
+pub record IsLoneRefusal (sent : Sent) (fate : Fate) (object : ℕ) : Type 0 where
+  pub lone : IsLoneEnd sent fate object
+  pub refuses : fate ≡ fates.Refuses object
+  pub carried : among object (endpoints_in sent) ≡ true
+
 -- the Close frames for deaths beside the one that the answer closed
 abbrev pub closed_for : Option ℕ → List ℕ → List Frame
 closed_for one deaths = map close_frame (rising (filter (λ number. not (is_it one number)) deaths))

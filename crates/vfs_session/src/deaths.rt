@@ -3,7 +3,7 @@
 ghost use Rattle.std.specs.Prelude.{◌≡◌, ◌++◌, ◌∷◌, [], false, true, IfSome, OnOk};
 ghost use Rattle.fidl_names.specs.HandleNumber.{is_client};
 ghost use Rattle.vfs_journal.specs.Handles.{numbers_of};
-ghost use Rattle.vfs_session.specs.Steps.{IsLoneEnd, IsLoneGift, IsLoneToken, IsQuiet, carried_but, end_told, first_told, is_it, settled_told};
+ghost use Rattle.vfs_session.specs.Steps.{IsLoneEnd, IsLoneGift, IsLoneRefusal, IsLoneToken, IsQuiet, carried_but, end_told, first_told, is_it, settled_told};
 
 use fidl_names::{Handle, NoMemory, is_client};
 use message_queues::Lent;
@@ -135,15 +135,24 @@ pub(crate) fn lone_token(sent: &Lent<'_>, fate: &Fate) -> Option<u32>
     }
 }
 
-/// The endpoint that alone dies first of a serving that ends it, where the entry carries nothing else.
-#[tactic(auto, using(crate::proofs::Carried::lone_ends, crate::proofs::Carried::lone_refuses))]
+/// The endpoint that alone dies first of a serving that ends it, where the entry carries nothing.
+#[tactic(auto, using(crate::proofs::Carried::lone_ends))]
 pub(crate) fn lone_end(sent: &Lent<'_>, fate: &Fate) -> Option<u32>
     ensures { IfSome result (IsLoneEnd sent.now fate.now) }
 {
-    let handles = sent.handles();
     match fate {
-        Fate::Ends if handles.is_empty() => Some(sent.endpoint),
-        Fate::Refuses { object } if are_it(handles, *object) => Some(*object),
+        Fate::Ends if sent.handles().is_empty() => Some(sent.endpoint),
+        _ => None,
+    }
+}
+
+/// The endpoint that alone dies first of a serving that refuses it, where the entry carries nothing else.
+#[tactic(auto, using(crate::proofs::Carried::lone_refuses))]
+pub(crate) fn lone_refusal(sent: &Lent<'_>, fate: &Fate) -> Option<u32>
+    ensures { IfSome result (IsLoneRefusal sent.now fate.now) }
+{
+    match fate {
+        Fate::Refuses { object } if are_it(sent.handles(), *object) => Some(*object),
         _ => None,
     }
 }

@@ -5,7 +5,7 @@ ghost use Rattle.endpoint_link.specs.Standings.{is_live, standing_of};
 ghost use Rattle.message_queues.specs.Dying.{AreDeaths};
 ghost use Rattle.message_queues.specs.Queues.{IsReady, count};
 ghost use Rattle.vfs_journal.specs.Output.{Begins};
-ghost use Rattle.vfs_session.specs.Heads.{AsksRead, CanSettle, DiesAlone, LetsDie, ServesTaken, SettlesButPlace, SettlesHead, Takes, TakesHead, WasTaken};
+ghost use Rattle.vfs_session.specs.Heads.{AsksRead, CanSettle, DiesAlone, IsUnbound, LetsDie, ServesTaken, SettlesButPlace, SettlesHead, Takes, TakesHead, WasTaken};
 ghost use Rattle.vfs_session.specs.Running.{IsRunning, RunsOn, whole};
 ghost use Rattle.vfs_session.specs.Servings.{ServesOne};
 ghost use Rattle.vfs_session.specs.Steps.{first_told};
@@ -13,7 +13,9 @@ ghost use Rattle.vfs_session.specs.World.{World};
 
 use crate::answering::answer;
 use crate::closing::close_others;
-use crate::deaths::{end_told, is_lone_gift, is_quiet, list_first_deaths, lone_end, lone_token};
+use crate::deaths::{
+    end_told, is_lone_gift, is_quiet, list_first_deaths, lone_end, lone_refusal, lone_token,
+};
 use crate::forgetting::{forget, give, spend};
 use crate::session::Session;
 use crate::settling::{bind, bury, let_all_go, send_on};
@@ -176,6 +178,9 @@ impl Session {
             forget(&mut self.servers, &mut self.endpoints, token);
             return Ok(true);
         }
+        if let Some(object) = lone_refusal(sent, fate) {
+            return Ok(self.bury_unbound(object));
+        }
         match lone_end(sent, fate) {
             Some(end) => Ok(self.bury_alone(end)),
             None => Ok(false),
@@ -196,6 +201,22 @@ impl Session {
         }
         self.endpoints.ended(end);
         let_all_go(&mut self.servers, &[end]);
+        true
+    }
+
+    /// Buries an endpoint that is bound nowhere, as `bury_alone` does, with no look at what waits or at a server.
+    #[inline(never)]
+    fn bury_unbound(&mut self, object: u32) -> bool
+        requires live { (dead : List ℕ) → AreDeaths self.old.queues (object ∷ []) dead → All (λ endpoint. is_live (standing_of self.old.endpoints endpoint) ≡ true) dead }
+        requires unbound { IsUnbound (whole self.old) object }
+        ensures alone { result ≡ true → DiesAlone (whole self.old) object (whole self.new) }
+        ensures unchanged { result ≡ false → whole self.new ≡ whole self.old }
+        ensures out { self.new.out ≡ self.old.out }
+    {
+        if self.queues.len() != 0 {
+            return false;
+        }
+        self.endpoints.ended(object);
         true
     }
 

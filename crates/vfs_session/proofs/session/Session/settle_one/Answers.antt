@@ -1,5 +1,6 @@
-use Rattle.std.proofs.Common.{◌≡◌, Bool, Ok, Result, refl, true}
+use Rattle.std.proofs.Common.{◌≡◌, ℕ, Bool, List, Ok, Result, refl, subst, sym, true}
 use Rattle.fidl_names.specs.declared.memory.NoMemory.{NoMemory}
+use Rattle.message_queues.specs.Dying.{AreDeaths}
 use Rattle.vfs_session.specs.Running.{whole}
 use Rattle.vfs_session.proofs.Alone.{settles_alone}
 use Rattle.vfs_session.proofs.Quiet.{settles_quietly}
@@ -27,6 +28,24 @@ returns-in-Some-clause-settled c =
 
 was_true : (b : Bool) → ◌≡◌ {A = Result Bool NoMemory} (Ok b) (Ok true) → b ≡ true
 was_true b e = cc
+
+pub bury_unbound-requires : goal.bury_unbound-requires
+bury_unbound-requires c =
+    let refusal = c.in-Some-lone_refusal.ensures in
+    record {
+      live = λ dead died. c.requires.can.live dead (subst (λ (firsts : List ℕ). AreDeaths c.args.self.now.queues firsts dead) (sym refusal.lone.first) died);
+      unbound = c.requires.can.unbound c.in-Some-lone_refusal.object refusal.refuses refusal.carried;
+    }
+
+pub returns-in-Some-lone_refusal-clause-settled : goal.returns-in-Some-lone_refusal-clause-settled
+returns-in-Some-lone_refusal-clause-settled c =
+    λ is.
+    let dies = c.bury_unbound.ensures.alone (was_true c.bury_unbound.result is) in (
+      dies.places,
+      λ bytes.
+          settles_alone (whole c.args.self.now) (whole c.bury_unbound.new.self) c.args.sent.now c.args.fate.now c.args.self.now.out bytes c.in-Some-lone_refusal.object c.in-Some-lone_refusal.ensures.lone dies
+          c.requires.can.counted,
+    )
 
 pub returns-in-Some-lone_end-clause-settled : goal.returns-in-Some-lone_end-clause-settled
 returns-in-Some-lone_end-clause-settled c =
