@@ -1,12 +1,15 @@
--- A Read is replied to without handles, changes nothing of the tree, takes no memory, and looks at nothing that is in use.
-use Rattle.std.proofs.Common.{◌≡◌, ◌∙◌, ℕ, true, [], Option, Some, None, refl, subst, rules}
+-- What asks for a part of a file is replied to without handles, changes nothing of the tree, takes no memory, and looks at nothing that is in use.
+use Rattle.std.proofs.Common.{◌≡◌, ◌∙◌, ℕ, true, false, [], Option, Some, None, refl, subst, sym, rules}
 use Rattle.fidl_names.specs.First.{first_of}
 use Rattle.fidl_names.specs.declared.methods.Method.TheVariants as method
 use Rattle.fidl_names.specs.declared.statuses.Status.{Status}
 use Rattle.fidl_wire.specs.Written.{Written}
-use Rattle.io_messages.specs.Asked as asks
+use Rattle.io_messages.specs.Asked.{Asked, method_of}
+use Rattle.io_messages.specs.Protocols.{has_method}
 use Rattle.io_messages.specs.Replies.{Answered, fails, payload}
 use Rattle.io_messages.specs.ReplyWriting.{reply_handles}
+use Rattle.io_messages.specs.Shapes.{is_one_way}
+use Rattle.io_messages.specs.declared.protocols.Protocol.TheVariants as protocol
 use Rattle.node_graph.specs.Graph.{Kept}
 use Rattle.node_graph.specs.Tree.{Change, Tree, stay}
 use Rattle.conn_rules.specs.Acts.{act_of, method_refusals}
@@ -19,6 +22,19 @@ use Rattle.conn_rules.specs.Served.{Gives, IsServed, takes_memory}
 use Rattle.conn_rules.specs.declared.births.Room.{Room}
 use Rattle.conn_rules.specs.declared.served.Served.{Served}
 use Rattle.conn_rules.specs.declared.served.Served.TheVariants as served
+use Rattle.vfs_server.specs.Parts.{asked_of}
+use Rattle.vfs_server.specs.declared.reading.Part.{Part}
+use Rattle.vfs_server.specs.declared.reading.Part.TheVariants as part
+
+-- files have its method
+pub file_has : (p : Part) → has_method protocol.File (method_of (asked_of p)) ≡ true
+file_has (part.Next count) = refl
+file_has (part.At count offset) = refl
+
+-- which has a reply
+pub has_reply : (p : Part) → is_one_way (method_of (asked_of p)) ≡ false
+has_reply (part.Next count) = refl
+has_reply (part.At count offset) = refl
 
 record IsReplied (act : Act) : Type 0 where
   reply : Answered
@@ -26,39 +42,47 @@ record IsReplied (act : Act) : Type 0 where
   bare : reply_handles reply ≡ []
   still : act.change ≡ stay
 
-unless_replied : (o : Option Status) (position : Position) (act : Act) → IsReplied act → IsReplied (unless o position method.Read act)
-unless_replied (Some status) position act replied = record { reply = fails method.Read status; answer = refl; bare = refl; still = refl }
-unless_replied None position act replied = replied
+unless_replied : (p : Part) (o : Option Status) (position : Position) (act : Act) → IsReplied act → IsReplied (unless o position (method_of (asked_of p)) act)
+unless_replied (part.Next count) (Some status) position act replied = record { reply = fails method.Read status; answer = refl; bare = refl; still = refl }
+unless_replied (part.At count offset) (Some status) position act replied = record { reply = fails method.ReadAt status; answer = refl; bare = refl; still = refl }
+unless_replied p None position act replied = replied
 
-read_replied : (context : Context) (count : ℕ) → IsReplied (act_of context (asks.read count))
+part_replied : (context : Context) (p : Part) → IsReplied (act_of context (asked_of p))
 unfolding act_of
-read_replied context count =
-    unless_replied (first_of (method_refusals context.birth method.Read)) context.position _
-    (unless_replied (reading_refusal count) context.position _ (record { reply = payload method.Read _; answer = refl; bare = refl; still = refl }))
+part_replied context (part.Next count) =
+    unless_replied (part.Next count) (first_of (method_refusals context.birth method.Read)) context.position _
+    (unless_replied (part.Next count) (reading_refusal count) context.position _ (record { reply = payload method.Read _; answer = refl; bare = refl; still = refl }))
+part_replied context (part.At count offset) =
+    unless_replied (part.At count offset) (first_of (method_refusals context.birth method.ReadAt)) context.position _
+    (unless_replied (part.At count offset) (reading_refusal count) context.position _ (record { reply = payload method.ReadAt _; answer = refl; bare = refl; still = refl }))
+
+replied_by : (context : Context) (p : Part) (request : Asked) → request ≡ asked_of p → IsReplied (act_of context request)
+replied_by context p request is = subst (λ (a : Asked). IsReplied (act_of context a)) (sym is) (part_replied context p)
 
 no_memory : (change : Change) → change ≡ stay → takes_memory change ≡ true → ⊥
 no_memory change still takes = search rules
 
--- what serves a Read answers with a reply
-pub read_gives : (context : Context) (count txid : ℕ) (what : Served) (out : Written) (new : Connection) (graph changed : Kept) →
-    IsServed (act_of context (asks.read count)) txid what out new graph changed → what ≡ served.Reply
-read_gives context count txid what out new graph changed serves =
-    let replied = read_replied context count in
+-- what serves such a request answers with a reply
+pub read_gives : (context : Context) (p : Part) (request : Asked) → request ≡ asked_of p → (txid : ℕ) (what : Served) (out : Written) (new : Connection) (graph changed : Kept) →
+    IsServed (act_of context request) txid what out new graph changed → what ≡ served.Reply
+read_gives context p request is txid what out new graph changed serves =
+    let replied = replied_by context p request is in
     (subst (λ (answer : Answer). Gives answer txid what out) replied.answer serves.answer).0
 
 -- and no memory is wanting
-pub read_takes_none : (context : Context) (count : ℕ) → takes_memory (act_of context (asks.read count)).change ≡ true → ⊥
-read_takes_none context count takes = no_memory _ (read_replied context count).still takes
+pub read_takes_none : (context : Context) (p : Part) (request : Asked) → request ≡ asked_of p → takes_memory (act_of context request).change ≡ true → ⊥
+read_takes_none context p request is takes = no_memory _ (replied_by context p request is).still takes
 
 -- it has no handles
-pub read_bare : (context : Context) (count txid : ℕ) (what : Served) (out : Written) (new : Connection) (graph changed : Kept) →
-    IsServed (act_of context (asks.read count)) txid what out new graph changed → out.handles ≡ []
-read_bare context count txid what out new graph changed serves =
-    let replied = read_replied context count in
+pub read_bare : (context : Context) (p : Part) (request : Asked) → request ≡ asked_of p → (txid : ℕ) (what : Served) (out : Written) (new : Connection) (graph changed : Kept) →
+    IsServed (act_of context request) txid what out new graph changed → out.handles ≡ []
+read_bare context p request is txid what out new graph changed serves =
+    let replied = replied_by context p request is in
     (subst (λ (answer : Answer). Gives answer txid what out) replied.answer serves.answer).1.handles ∙ replied.bare
 
 -- whatever is in use
-pub reads_alike : (connection : Connection) (room other : Room) (tree : Tree) (directory : ℕ → Option ℕ) (count : ℕ) →
-    act_of (context_of connection room tree directory) (asks.read count) ≡ act_of (context_of connection other tree directory) (asks.read count)
+pub reads_alike : (connection : Connection) (room other : Room) (tree : Tree) (directory : ℕ → Option ℕ) (p : Part) →
+    act_of (context_of connection room tree directory) (asked_of p) ≡ act_of (context_of connection other tree directory) (asked_of p)
 unfolding act_of
-reads_alike connection room other tree directory count = refl
+reads_alike connection room other tree directory (part.Next count) = refl
+reads_alike connection room other tree directory (part.At count offset) = refl

@@ -1,26 +1,29 @@
--- What a message has that asks a file for a Read.
-use Rattle.std.proofs.Common.{◌≡◌, ◌∙◌, ℕ, Bool, true, false, List, Option, Some, None, Result, Ok, Err, ap, refl, sym, subst}
-use Rattle.fidl_names.specs.declared.methods.Handle.{Handle}
+-- What a message has that asks a file for a part of its bytes.
+use Rattle.std.proofs.Common.{◌≡◌, ◌∙◌, ℕ, Bool, true, false, List, [], Option, Some, None, Result, Ok, Err, ap, refl, sym}
 use Rattle.fidl_names.specs.declared.methods.Method.{Method}
 use Rattle.fidl_names.specs.declared.methods.Method.TheVariants as method
 use Rattle.fidl_wire.specs.declared.faults.WireFault.{WireFault}
 use Rattle.fidl_wire.specs.declared.headers.Header.{Header}
 use Rattle.fidl_wire.specs.Headers.{header_of}
-use Rattle.fidl_wire.specs.Layout.{Item, struct}
+use Rattle.fidl_wire.specs.Layout.{struct}
 use Rattle.fidl_wire.specs.Names.{method_ordinal}
 use Rattle.fidl_wire.specs.Reading.{◌>>=◌, body_of}
 use Rattle.io_messages.specs.declared.protocols.Protocol.TheVariants as protocol
-use Rattle.io_messages.specs.Asked.{Asked, method_of, read}
+use Rattle.io_messages.specs.Asked.{Asked, method_of}
 use Rattle.io_messages.specs.Asked as asks
 use Rattle.io_messages.specs.declared.requests.RequestFault.{RequestFault}
 use Rattle.io_messages.specs.Shapes.{is_one_way}
 use Rattle.io_messages.specs.Requests.{asked_from, behind_header, fields_of, has_txid, items_in, known_request, method_in, or_malformed, request_cells, request_of, with_txid}
 use Rattle.io_messages.proofs.Known.{method_in-says, method_read}
+use Rattle.vfs_server.specs.Parts.{asked_of}
+use Rattle.vfs_server.specs.declared.reading.Part.{Part}
+use Rattle.vfs_server.specs.declared.reading.Part.TheVariants as part
+use Rattle.vfs_server.proofs.FileReads.{has_reply}
 
-pub record AsksRead (ordinal id : ℕ) (bytes : List ℕ) (handles : List Handle) (count : ℕ) : Type 0 where
-  pub ordinal_is : method_ordinal method.Read ≡ ordinal
+pub record AsksPart (ordinal id : ℕ) (bytes : List ℕ) (p : Part) : Type 0 where
+  pub ordinal_is : method_ordinal (method_of (asked_of p)) ≡ ordinal
   pub two_way : has_txid false id ≡ true
-  pub fields : fields_of method.Read bytes handles ≡ Ok (read count)
+  pub fields : fields_of (method_of (asked_of p)) bytes [] ≡ Ok (asked_of p)
 
 -- what is asked for, or a Close where nothing is
 asked_in : Result Asked WireFault → Asked
@@ -32,34 +35,48 @@ told_in (Ok asked) = asked.1
 told_in (Err e) = asks.close
 
 -- the fields of a method's request are that method's
-asked_by : (m : Method) (bytes : List ℕ) (handles : List Handle) (a : Asked) → fields_of m bytes handles ≡ Ok a → method_of a ≡ m
+pub asked_by : (m : Method) (bytes : List ℕ) (a : Asked) → fields_of m bytes [] ≡ Ok a → method_of a ≡ m
 unfolding fields_of asked_in
-asked_by m bytes handles a is = from (body_of (struct (request_cells m)) bytes handles) is
+asked_by m bytes a is = from (body_of (struct (request_cells m)) bytes []) is
   where
     from : (r : Result _ WireFault) → (r >>= λ content. Ok (asked_from m (items_in content))) ≡ Ok a → method_of a ≡ m
     from (Ok content) is = ap method_of (sym (ap asked_in is)) ∙ method_read m _
     from (Err e) is = absurd (cc)
 
-parts : (fits : Bool) (id : ℕ) (r : Result Asked WireFault) (txid count : ℕ) → or_malformed (with_txid fits id r) ≡ Ok (txid, read count) → (fits ≡ true) × (r ≡ Ok (read count))
+parts : (fits : Bool) (id : ℕ) (r : Result Asked WireFault) (txid : ℕ) (a : Asked) → or_malformed (with_txid fits id r) ≡ Ok (txid, a) → (fits ≡ true) × (r ≡ Ok a)
 unfolding told_in
-parts true id (Ok a) txid count is = (refl, ap Ok (ap told_in is))
-parts true id (Err e) txid count is = absurd (cc)
-parts false id r txid count is = absurd (cc)
+parts true id (Ok x) txid a is = (refl, ap Ok (ap told_in is))
+parts true id (Err e) txid a is = absurd (cc)
+parts false id r txid a is = absurd (cc)
 
-known : (h : Header) (o : Option Method) (bytes : List ℕ) (handles : List Handle) (txid count : ℕ) → ((m : Method) → o ≡ Some m → method_ordinal m ≡ h.ordinal) →
-    known_request h o bytes handles ≡ Ok (txid, read count) → AsksRead h.ordinal h.txid bytes handles count
-known h None bytes handles txid count has is = absurd (cc)
-known h (Some m) bytes handles txid count has is =
-    let both = parts (has_txid (is_one_way m) h.txid) h.txid (fields_of m bytes handles) txid count is in
-    let named : method.Read ≡ m = asked_by m bytes handles (read count) both.1 in
+known : (h : Header) (o : Option Method) (bytes : List ℕ) (txid : ℕ) (p : Part) → ((m : Method) → o ≡ Some m → method_ordinal m ≡ h.ordinal) →
+    known_request h o bytes [] ≡ Ok (txid, asked_of p) → AsksPart h.ordinal h.txid bytes p
+known h None bytes txid p has is = absurd (cc)
+known h (Some m) bytes txid p has is =
+    let both = parts (has_txid (is_one_way m) h.txid) h.txid (fields_of m bytes []) txid (asked_of p) is in
+    let named : method_of (asked_of p) ≡ m = asked_by m bytes (asked_of p) both.1 in
     record {
       ordinal_is = ap method_ordinal named ∙ has m refl;
-      two_way = ap (λ n. has_txid (is_one_way n) h.txid) named ∙ both.0;
-      fields = ap (λ n. fields_of n bytes handles) named ∙ both.1;
+      two_way = ap (λ (b : Bool). has_txid b h.txid) (sym (has_reply p) ∙ ap is_one_way named) ∙ both.0;
+      fields = ap (λ n. fields_of n bytes []) named ∙ both.1;
     }
 
-pub asks_read : (bytes : List ℕ) (handles : List Handle) (h : Header) (txid count : ℕ) → header_of bytes ≡ Ok h → request_of protocol.File bytes handles ≡ Ok (txid, read count) →
-    AsksRead h.ordinal h.txid bytes handles count
-asks_read bytes handles h txid count header is =
-    known h (method_in protocol.File h.ordinal) bytes handles txid count (λ m found. (method_in-says protocol.File h.ordinal m found).1)
-    (sym (ap (λ (x : Result Header WireFault). behind_header protocol.File x bytes handles) header) ∙ is)
+pub asks_part : (bytes : List ℕ) (h : Header) (txid : ℕ) (p : Part) → header_of bytes ≡ Ok h → request_of protocol.File bytes [] ≡ Ok (txid, asked_of p) → AsksPart h.ordinal h.txid bytes p
+asks_part bytes h txid p header is =
+    known h (method_in protocol.File h.ordinal) bytes txid p (λ m found. (method_in-says protocol.File h.ordinal m found).1)
+    (sym (ap (λ (x : Result Header WireFault). behind_header protocol.File x bytes []) header) ∙ is)
+
+-- only a Read asks for the next bytes
+pub next_alone : (bytes : List ℕ) (p : Part) → fields_of method.Read bytes [] ≡ Ok (asked_of p) → (count : ℕ) × (fields_of method.Read bytes [] ≡ Ok (asks.read count))
+next_alone bytes (part.Next count) is = (count, is)
+next_alone bytes (part.At count offset) is = absurd (let wrong : method.ReadAt ≡ method.Read = asked_by method.Read bytes (asks.read_at count offset) is in cc)
+
+-- and only a ReadAt for those at an offset
+pub at_alone : (bytes : List ℕ) (p : Part) → fields_of method.ReadAt bytes [] ≡ Ok (asked_of p) → (count : ℕ) × ((offset : ℕ) × (fields_of method.ReadAt bytes [] ≡ Ok (asks.read_at count offset)))
+at_alone bytes (part.Next count) is = absurd (let wrong : method.Read ≡ method.ReadAt = asked_by method.ReadAt bytes (asks.read count) is in cc)
+at_alone bytes (part.At count offset) is = (count, (offset, is))
+
+-- no other method asks for a part
+pub no_other : (m : Method) (bytes : List ℕ) (p : Part) → fields_of m bytes [] ≡ Ok (asked_of p) → (m ≡ method.Read → ⊥) → (m ≡ method.ReadAt → ⊥) → ⊥
+no_other m bytes (part.Next count) is not_read not_at = not_read (sym (asked_by m bytes (asks.read count) is))
+no_other m bytes (part.At count offset) is not_read not_at = not_at (sym (asked_by m bytes (asks.read_at count offset) is))

@@ -2,7 +2,7 @@
 
 ghost use Rattle.std.specs.Prelude.{◌≡◌, ◌≤◌, ◌<◌, ◌^◌, ◌≢◌, ℕ, true, OnErr, OnOk, IfOk, IfSome, IsSome, None, Ok, length};
 ghost use Rattle.fidl_names.specs.declared.limits.TheConstants as limit;
-ghost use Rattle.io_messages.specs.Asked.{asked, method_of, read};
+ghost use Rattle.io_messages.specs.Asked.{asked, method_of};
 ghost use Rattle.io_messages.specs.Protocols.{has_method};
 ghost use Rattle.io_messages.specs.Requests.{has_txid, request_of};
 ghost use Rattle.io_messages.specs.Shapes.{is_one_way};
@@ -14,6 +14,7 @@ ghost use Rattle.vfs_journal.specs.Handles.{numbers_of};
 ghost use Rattle.vfs_journal.specs.Output.{Begins};
 ghost use Rattle.vfs_journal.specs.Serving.{Moment, outcome_of_read};
 ghost use Rattle.vfs_server.specs.Kept.{HasTree, NameDirectories};
+ghost use Rattle.vfs_server.specs.Parts.{asked_of};
 ghost use Rattle.vfs_server.specs.declared.asking.Asking.{Asking};
 ghost use Rattle.vfs_server.specs.Steps.{Answers, AreNamed, CanEcho, CanTell, IsAskedAt, NamesAsThere, done_with, stays};
 
@@ -21,6 +22,7 @@ use crate::answers::{answer, answer_fault, put_bare_reply};
 use crate::asking::Asking;
 use crate::conn::Conn;
 use crate::fate::Fate;
+use crate::reading::Part;
 use crate::tokens::Tokens;
 use conn_rules::{Birth, Changes, Room, Served};
 use endpoint_link::Outbox;
@@ -109,8 +111,8 @@ impl Connection {
         }
     }
 
-    /// Serves a Read of so many bytes, where it is a connection to a file: its reply is written, and the endpoint
-    /// stays. For any other connection `None`, and nothing is done.
+    /// Serves the request for a part of a file, where it is a connection to one: its reply is written, and the
+    /// endpoint stays. For any other connection `None`, and nothing is done.
     ///
     /// For want of memory no frame is written.
     #[inline(always)]
@@ -120,7 +122,7 @@ impl Connection {
         endpoint: u32,
         graph: &mut Graph,
         txid: u32,
-        count: u64,
+        part: Part,
         out: &mut Out,
         outbox: &mut Outbox,
     ) -> Option<Result<(), NoMemory>>
@@ -131,7 +133,7 @@ impl Connection {
         ensures reads { self.old.birth.protocol ≡ Protocol.File → IsSome result }
         ensures begins { Begins outbox.old outbox.new }
         ensures answers { (server : ℕ) (asking : Asking) (moment : Moment) → asking.endpoint ≡ endpoint → IsAskedAt server asking graph.old self.old moment →
-            IfSome result (λ replied. OnOk replied (Answers moment (outcome_of_read moment (Ok (txid, read count))) stays out.new self.new graph.old graph.new outbox.old outbox.new)) }
+            IfSome result (λ replied. OnOk replied (Answers moment (outcome_of_read moment (Ok (txid, asked_of part))) stays out.new self.new graph.old graph.new outbox.old outbox.new)) }
         ensures holds { KeepsHolds self.old self.new graph.old graph.new }
         ensures tree { HasTree graph.new }
         ensures unchanged { result ≡ None → (self.new ≡ self.old) × (graph.new ≡ graph.old) × (outbox.new ≡ outbox.old) }
@@ -141,13 +143,13 @@ impl Connection {
             return None;
         };
         out.clear();
-        // A Read looks at nothing that is in use.
+        // It looks at nothing that is in use.
         let room = Room {
             connections: 0,
             watchers: 0,
             token: None,
         };
-        match conn.serve(ordinals, graph, room, txid, &Request::Read { count }, out) {
+        match conn.serve(ordinals, graph, room, txid, &part.request(), out) {
             Served::Reply => Some(put_bare_reply(endpoint, out, outbox)),
             _ => unreachable!(),
         }

@@ -8,16 +8,17 @@ ghost use Rattle.conn_rules.specs.Answers.{nothing_told};
 ghost use Rattle.conn_rules.specs.Served.{KeepsHolds, told_by};
 ghost use Rattle.conn_rules.specs.Shared.{CanBeBound};
 ghost use Rattle.vfs_server.specs.Kept.{HasTree, NameDirectories};
-ghost use Rattle.io_messages.specs.Asked as asks;
 ghost use Rattle.io_messages.specs.Requests.{request_of};
 ghost use Rattle.vfs_journal.specs.Handles.{numbers_of};
 ghost use Rattle.vfs_journal.specs.Serving.{Moment, outcome_of_read};
+ghost use Rattle.vfs_server.specs.Parts.{asked_of};
 ghost use Rattle.vfs_server.specs.declared.asking.Asking as asking;
 ghost use Rattle.vfs_server.specs.Steps.{Answers, AreNamed, CanTell, IsAskedAt, IsPassedOver, done_with, stays};
 
 use crate::asking::Asking;
 use crate::connection::Connection;
 use crate::fate::Fate;
+use crate::reading::Part;
 use crate::tokens::Tokens;
 use conn_rules::Changes;
 use endpoint_link::Outbox;
@@ -120,8 +121,8 @@ impl Connections {
         connection.serve(asking, graph, tokens, bytes, handles, out, outbox, changes)
     }
 
-    /// Serves a Read of so many bytes on the one of an endpoint, where that is to a file. No other changes. Where
-    /// it has none or another, `None`, and nothing is done.
+    /// Serves the request for a part of a file on the one of an endpoint, where that is to a file. No other
+    /// changes. Where it has none or another, `None`, and nothing is done.
     #[inline(always)]
     pub fn read(
         &mut self,
@@ -129,7 +130,7 @@ impl Connections {
         endpoint: u32,
         graph: &mut Graph,
         txid: u32,
-        count: u64,
+        part: Part,
         out: &mut Out,
         outbox: &mut Outbox,
     ) -> Option<Result<(), NoMemory>>
@@ -140,7 +141,7 @@ impl Connections {
             (new : births.Connection) × KeepsHolds old new graph.old graph.new × (self.new ≡ finite.insert self.old endpoint new)
             × IfSome result (λ read. old.birth.protocol ≡ Protocol.File)
             × ((server : ℕ) (asking : asking.Asking) (moment : Moment) → asking.endpoint ≡ endpoint → IsAskedAt server asking graph.old old moment →
-            IfSome result (λ read. OnOk read (Answers moment (outcome_of_read moment (Ok (txid, asks.read count))) stays out.new new graph.old graph.new outbox.old outbox.new))) }
+            IfSome result (λ read. OnOk read (Answers moment (outcome_of_read moment (Ok (txid, asked_of part))) stays out.new new graph.old graph.new outbox.old outbox.new))) }
         ensures reads { (old : births.Connection) → finite.get self.old endpoint ≡ Some old → old.birth.protocol ≡ Protocol.File → IsSome result }
         ensures there { finite.get self.old endpoint ≡ None → result ≡ None }
         ensures unchanged { result ≡ None → (self.new ≡ self.old) × (graph.new ≡ graph.old) × (outbox.new ≡ outbox.old) }
@@ -148,6 +149,6 @@ impl Connections {
         ensures no_memory { IfSome result (λ read. OnErr read (outbox.new ≡ outbox.old)) }
     {
         let connection = self.kept.get_mut(&endpoint)?;
-        connection.read(ordinals, endpoint, graph, txid, count, out, outbox)
+        connection.read(ordinals, endpoint, graph, txid, part, out, outbox)
     }
 }

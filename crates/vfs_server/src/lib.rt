@@ -17,5 +17,5 @@ mod telling;
 mod tokens;
 
 pub use fate::Fate;
-pub use reading::read_in;
+pub use reading::{Part, part_in};
 pub use server::Server;

@@ -1,7 +1,6 @@
 ghost use Rattle.std.specs.Prelude.{◌≡◌, ◌≤◌, ◌<◌, ◌+◌, ◌^◌, ℕ, IfOk, IfSome, IsSome, List, None, Ok, OnErr, OnOk, Option, Some, [], length};
 ghost use Rattle.fidl_names.specs.declared.limits.TheConstants as limit;
 ghost use Rattle.std.specs.FinMap as finite;
-ghost use Rattle.io_messages.specs.Asked as asks;
 ghost use Rattle.io_messages.specs.Requests.{request_of};
 ghost use Rattle.node_graph.specs.Graph.{holds_at, number_of};
 ghost use Rattle.conn_rules.specs.Births.{Position};
@@ -14,6 +13,7 @@ ghost use Rattle.vfs_server.specs.Binding.{Binds, CanWatch, Forgets, HasPlace, I
 ghost use Rattle.vfs_server.specs.Holding.{HoldsAt};
 ghost use Rattle.vfs_server.specs.Kept.{HasTree};
 ghost use Rattle.vfs_server.specs.KeptNodes.{kept_in};
+ghost use Rattle.vfs_server.specs.Parts.{asked_of};
 ghost use Rattle.vfs_server.specs.Servers.{bound_with, in_use, named, seen, watcher_with};
 ghost use Rattle.vfs_server.specs.Serving.{IsMomentOf, Serves};
 
@@ -22,6 +22,7 @@ use crate::beginning;
 use crate::connection::Connection;
 use crate::connections::Connections;
 use crate::fate::Fate;
+use crate::reading::Part;
 use crate::telling::tell;
 use crate::tokens::Tokens;
 use conn_rules::{Birth, Changes};
@@ -167,9 +168,9 @@ impl Server {
         tell(&self.watching, &self.graph, fate, &changes, len, outbox)
     }
 
-    /// Serves a Read of so many bytes on an endpoint, where that is bound to a file here: its reply is written to
-    /// the outbox, and the endpoint stays. Otherwise `None`, and nothing is done. What stands in the output then
-    /// is of no account.
+    /// Serves the request for a part of a file on an endpoint, where that is bound to a file here: its reply is
+    /// written to the outbox, and the endpoint stays. Otherwise `None`, and nothing is done. What stands in the
+    /// output then is of no account.
     ///
     /// For want of memory no frame is written.
     #[inline(always)]
@@ -178,27 +179,19 @@ impl Server {
         ordinals: &Ordinals,
         endpoint: u32,
         txid: u32,
-        count: u64,
+        part: Part,
         out: &mut Out,
         outbox: &mut Outbox,
     ) -> Option<Result<(), NoMemory>>
         requires txid { 0 < txid }
-        ensures serves { (bytes : List ℕ) (token : Option ℕ) (moment : Moment) → request_of Protocol.File bytes [] ≡ Ok (txid, asks.read count) → IsMomentOf self.old endpoint token [] moment →
+        ensures serves { (bytes : List ℕ) (token : Option ℕ) (moment : Moment) → request_of Protocol.File bytes [] ≡ Ok (txid, asked_of part) → IsMomentOf self.old endpoint token [] moment →
             IfSome result (λ read. OnOk read (Serves moment (outcome_of_sending moment (message bytes [])) Fate.Stays out.new self.old self.new outbox.old outbox.new)) }
         ensures bound { IfSome result (λ read. IsSome (seen self.old endpoint)) }
         ensures reads { (bound : Bound) (position : Position) → seen self.old endpoint ≡ Some (bound, position) → bound.birth.protocol ≡ Protocol.File → IsSome result }
         ensures unchanged { result ≡ None → (self.new ≡ self.old) × (outbox.new ≡ outbox.old) }
         ensures no_memory { IfSome result (λ read. OnErr read (outbox.new ≡ outbox.old)) }
     {
-        self.connections.read(
-            ordinals,
-            endpoint,
-            &mut self.graph,
-            txid,
-            count,
-            out,
-            outbox,
-        )
+        self.connections.read(ordinals, endpoint, &mut self.graph, txid, part, out, outbox)
     }
 
     /// Binds an endpoint that isn't bound here, and holds its node. Of want of memory the server is as

@@ -1,16 +1,17 @@
 -- The endpoints that an entry carries, but one.
-use Rattle.std.proofs.Common.{◌≡◌, ℕ, ◌+◌, ◌<◌, ◌&&◌, Bool, true, false, not, cond, List, [], ◌∷◌, ◌++◌, append_assoc, filter, get_or, length, take, Option, None, Some, refl, sym, ap, ◌∙◌}
+use Rattle.std.proofs.Common.{◌≡◌, ℕ, ◌+◌, ◌<◌, ◌&&◌, ◌||◌, Bool, true, false, not, cond, List, [], ◌∷◌, ◌++◌, append_assoc, filter, get_or, length, take, Option, None, Some, refl, sym, ap, ◌∙◌}
 use Rattle.fidl_names.specs.HandleNumber.{is_client, number_of_handle}
 use Rattle.fidl_names.specs.declared.methods.Handle.{Handle}
 use Rattle.std.proofs.lemmas.Bool.{eq-eqb}
 use Rattle.std.proofs.lemmas.List.{append-nil, map-append, take_more}
 use Rattle.std.proofs.lemmas.List.Elements.{filter-append}
+use Rattle.endpoint_link.specs.Numbering.{among}
 use Rattle.conn_rules.specs.declared.births.Birth as code
 use Rattle.node_graph.specs.declared.nodes.NodeRef as nodes
 use Rattle.vfs_journal.specs.Handles.{numbers_of}
 use Rattle.vfs_journal.specs.Entries.{Sent, handles_of, tokens_in}
 use Rattle.vfs_server.specs.declared.fate.Fate.TheVariants as fates
-use Rattle.vfs_session.specs.Steps.{IsLoneEnd, IsQuiet, carried_but, is_it}
+use Rattle.vfs_session.specs.Steps.{IsLoneEnd, IsLoneGift, IsLoneRefusal, IsLoneToken, IsQuiet, carried_but, is_it}
 
 -- the endpoints among these numbers, but one
 abbrev pub carried_of : Option ℕ → List ℕ → List ℕ
@@ -59,6 +60,20 @@ quiet_binds sent object birth is client = record { first = carried_alone object 
 pub quiet_watches : (sent : Sent) (object mask : ℕ) (directory : nodes.NodeRef) → handles_of sent.sending ≡ object ∷ [] → is_client object ≡ true → IsQuiet sent (fates.Watches object directory mask)
 quiet_watches sent object mask directory is client = record { first = carried_alone object sent is client; tokens = no_tokens object sent is client; here = refl }
 
+pub lone_gives : (sent : Sent) (token : ℕ) (directory : nodes.NodeRef) → handles_of sent.sending ≡ [] → IsLoneGift sent (fates.Gives token directory)
+lone_gives sent token directory none = record { first = none_carried None sent none; tokens = nothing_spent sent none; sends = refl }
+
+-- a token is no endpoint
+pub lone_spends : (sent : Sent) (token : ℕ) → handles_of sent.sending ≡ token ∷ [] → is_client token ≡ false → IsLoneToken sent fates.Stays token
+lone_spends sent token is client = record {
+  first =
+      ap (λ (numbers : List ℕ). filter (λ number. not (is_it None number)) (filter is_client numbers)) is
+      ∙ ap (λ (b : Bool). filter (λ number. not (is_it None number)) (cond b (token ∷ []) [])) client;
+  tokens =
+      ap (λ (numbers : List ℕ). filter (λ number. not (is_client number)) numbers) is ∙ ap (λ (b : Bool). cond (not b) (token ∷ []) []) client;
+  here = refl;
+}
+
 pub lone_ends : (sent : Sent) → handles_of sent.sending ≡ [] → IsLoneEnd sent fates.Ends sent.endpoint
 lone_ends sent none = record {
   first = ap (λ (others : List ℕ). sent.endpoint ∷ others) (none_carried (Some sent.endpoint) sent none);
@@ -67,12 +82,19 @@ lone_ends sent none = record {
   here = refl;
 }
 
-pub lone_refuses : (sent : Sent) (object : ℕ) → handles_of sent.sending ≡ object ∷ [] → is_client object ≡ true → IsLoneEnd sent (fates.Refuses object) object
+pub lone_refuses : (sent : Sent) (object : ℕ) → handles_of sent.sending ≡ object ∷ [] → is_client object ≡ true → IsLoneRefusal sent (fates.Refuses object) object
 lone_refuses sent object is client = record {
-  first = ap (λ (others : List ℕ). object ∷ others) (carried_alone object sent is client);
-  told = refl;
-  tokens = no_tokens object sent is client;
-  here = refl;
+  lone = record {
+    first = ap (λ (others : List ℕ). object ∷ others) (carried_alone object sent is client);
+    told = refl;
+    tokens = no_tokens object sent is client;
+    here = refl;
+  };
+  refuses = refl;
+  carried =
+      ap (λ (numbers : List ℕ). among object (filter is_client numbers)) is
+      ∙ ap (λ (b : Bool). among object (cond b (object ∷ []) [])) client
+      ∙ ap (λ (b : Bool). b || false) (eq-eqb object object refl);
 }
 
 -- ---- with one more handle

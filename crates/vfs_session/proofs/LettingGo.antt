@@ -1,5 +1,6 @@
 -- What a server holds behind deaths.
 use Rattle.std.proofs.Common.{◌≡◌, ◌≢◌, ℕ, ◌+◌, ◌-◌, ◌<◌, ◌≤◌, ◌==◌, ◌&&◌, ◌||◌, Bool, true, false, not, cond, if◌then◌else◌, List, [], ◌∷◌, ◌++◌, length, filter, count_by, take, Option, Some, None, get_or, refl, sym, ap, ◌∙◌, subst, arith}
+use Rattle.std.specs.Prelude.{slice_get}
 use Rattle.std.specs.Option.{option_map_or}
 use Rattle.std.proofs.lemmas.Bool.{eqb-true, eq-eqb, ne_eqb, true≢false}
 use Rattle.std.proofs.lemmas.Bool.Decides.{nat_tests}
@@ -18,6 +19,7 @@ use Rattle.journal_laws.proofs.Spreading.{among-append}
 use Rattle.vfs_server.specs.Binding.{Unbinds}
 use Rattle.vfs_server.specs.Holding.{HoldsAt, bound_to, if_at, living_at, named_by}
 use Rattle.vfs_server.specs.Servers.{Server, seen}
+use Rattle.vfs_session.specs.Holding.{HoldsEach}
 use Rattle.vfs_session.specs.Steps.{without_in}
 use Rattle.vfs_session.proofs.ServerSteps.{Apart, HoldsNumber, by_index, by_number, Living, bounds, bounds_filter, count_filter, count_without, filter_swap, found_others, one_if, others, passes_without, same_named, without_one}
 
@@ -180,3 +182,18 @@ go_on view one now dead i within apart s h =
 
 pub go_last : (view : View) (one : Server) (dead : List ℕ) (i : ℕ) → length dead ≤ i → HoldsAt (without_in view (take i dead)) one → HoldsAt (without_in view dead) one
 go_last view one dead i over h = subst (λ (ds : List ℕ). HoldsAt (without_in view ds) one) (take_all i dead over) h
+
+-- ---- an endpoint that is bound nowhere
+
+stays : (view : View) (one : Server) (d : ℕ) → Apart view.living → seen one d ≡ None → HoldsAt view one → HoldsAt (without_in view (d ∷ [])) one
+stays view one d apart none h =
+    let v = without_in view [] in
+    subst (λ (w : View). HoldsAt w one) (without_more view [] d)
+    (by_index (without_one v d) one one.index refl (unbound_there v one one.index d (apart_without view [] apart) (by_number v one one.index refl (go_first view one h)) none))
+
+pub all_stay : (view : View) (servers : List Server) (d : ℕ) → Apart view.living → ((index : ℕ) (one : Server) → slice_get servers index ≡ Some one → seen one d ≡ None) → HoldsEach view servers → HoldsEach (without_in view (d ∷ [])) servers
+all_stay view servers d apart nowhere h = record {
+  many = h.many;
+  index = h.index;
+  each = λ index one e. stays view one d apart (nowhere index one e) (h.each index one e);
+}

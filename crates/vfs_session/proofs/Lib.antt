@@ -34,3 +34,5 @@ pub mod Taken
 pub mod Halves
 pub mod OneMore
 pub mod ReadTaken
+pub mod Spared
+pub mod Unbound

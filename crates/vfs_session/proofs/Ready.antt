@@ -11,7 +11,7 @@ use Rattle.node_graph.specs.declared.nodes.NodeRef.{NodeRef}
 use Rattle.node_graph.specs.Graph.{number_of}
 use Rattle.session_start.specs.Numbering.{end_of_mount}
 use Rattle.conn_rules.specs.Births.{Position}
-use Rattle.vfs_journal.specs.Entries.{Sent, handles_of}
+use Rattle.vfs_journal.specs.Entries.{Sent, endpoints_in, handles_of}
 use Rattle.vfs_journal.specs.Fit.{IsFit}
 use Rattle.vfs_journal.specs.History.{tree_at}
 use Rattle.vfs_journal.specs.Past.{history_of}
@@ -40,9 +40,9 @@ use Rattle.vfs_server.specs.declared.fate.Fate.{Fate}
 use Rattle.vfs_server.specs.declared.fate.Fate.TheVariants as fates
 use Rattle.vfs_server.specs.Servers.{Server, bound_with, seen, watcher_with}
 use Rattle.vfs_server.specs.Serving.{IsMomentOf}
-use Rattle.vfs_session.specs.Heads.{CanSettle, TakesHead}
+use Rattle.vfs_session.specs.Heads.{CanSettle, IsUnbound, TakesHead}
 use Rattle.vfs_session.specs.Running.{IsRunning}
-use Rattle.vfs_session.specs.Steps.{Answers, CanBind, CanGo, CanName, first_told, spent_told}
+use Rattle.vfs_session.specs.Steps.{Answers, BindsTold, CanBind, CanGo, CanName, first_told, spent_told}
 use Rattle.vfs_session.specs.World.{World}
 use Rattle.vfs_session.proofs.Between.{answered_in, given_told}
 use Rattle.vfs_session.proofs.EachServer.{by_length, numbered}
@@ -56,7 +56,7 @@ use Rattle.vfs_session.proofs.Room.{named_new, room_for}
 use Rattle.vfs_session.proofs.ServerSteps.{moved_found}
 use Rattle.vfs_session.proofs.Spending.{are_spent, can_go, can_go_alike, spent_apart}
 use Rattle.vfs_session.proofs.Telling.{bound_told, first_are_told, forward_told}
-use Rattle.vfs_session.proofs.Then.{Begun, Told, binds_one, handles_are_out, new_free, told}
+use Rattle.vfs_session.proofs.Then.{Begun, Told, binds_one, carried_free, handles_are_out, new_free, told}
 
 -- what the answer, the taking and the binding count on
 pub record CanTake (world : World) (endpoint server : ℕ) (sent : Sent) : Type 0 where
@@ -198,6 +198,22 @@ module _ (old : World) (run : IsRunning (2 ^ 61) old) (sent : Sent) (pair : Boun
         (all_die (view_behind run.start run.journal) sent mid.queues (first_told sent fate) dead beside
         (sym (first_are_told sent (outcome_in (view_behind run.start run.journal) sent) pair.0.server fate out t.tells)) died)
 
+    -- what is refused and was carried till then is bound nowhere
+    unbound_then : (object : ℕ) → fate ≡ fates.Refuses object → among object (endpoints_in sent) ≡ true → IsUnbound mid object
+    unbound_then object e carried =
+        let view = view_behind run.start run.journal in
+        let o = outcome_in view sent in
+        let same = subst (λ (f : Fate). BindsTold pair.0.server f d.answered d.left mid.servers mid.queues) e d.binds in
+        let free = carried_free view sent fit first object carried in
+        record {
+          waiting =
+              ap (λ (queues : Queues). server_of queues object) same.1 ∙ d.taken.bound object ∙ run.stands.holds.queues.bound object
+              ∙ ap (option_map (λ (p : Bound × Position). p.0.server)) free;
+          servers = λ index one at.
+              (t.held.each index one (ap (λ (servers : List Server). slice_get servers index) (sym same.0) ∙ at)).bound object
+              ∙ ap (if_at index) (moved_found sent.endpoint o.position object view.living ∙ ap (option_map (moved sent.endpoint o.position)) free);
+        }
+
     were_live : (dead : List ℕ) → AreDeaths mid.queues (first_told sent fate) dead → (n : ℕ) → Contains dead n → is_live (standing_of mid.known n) ≡ true
     were_live dead died n c =
         let past = history_of run.start run.journal in
@@ -225,6 +241,7 @@ module _ (old : World) (run : IsRunning (2 ^ 61) old) (sent : Sent) (pair : Boun
     pub can_settle_there : CanSettle mid sent fate
     can_settle_there = record {
       live = λ dead died. All-weaker (Contains dead) (λ n. is_live (standing_of mid.known n) ≡ true) (were_live dead died) dead (All-contains_itself dead);
+      unbound = unbound_then;
       out = can_go_then;
       counted = let a = d.count in let b = counts in let c : mid.known.waiting ≡ old.known.waiting - 1 = ap (λ (k : Known). k.waiting) d.known in omega (arith, a, b, c);
       low = λ mount object e.

@@ -12,7 +12,7 @@ use Rattle.fidl_wire.specs.Written.{Written}
 use Rattle.node_graph.specs.Graph.{number_of}
 use Rattle.session_start.specs.Numbering.{end_of_mount}
 use Rattle.conn_rules.specs.Births.{Position, fresh}
-use Rattle.vfs_journal.specs.Entries.{Sent, handles_of, serves}
+use Rattle.vfs_journal.specs.Entries.{Sent, endpoints_in, handles_of, serves}
 use Rattle.vfs_journal.specs.Fit.{IsFit}
 use Rattle.vfs_journal.specs.History.{Event}
 use Rattle.vfs_journal.specs.Outcomes.{Forwarded, Given, Outcome, close_frame, no_outcome}
@@ -76,10 +76,14 @@ none_is : {X : Type 0} (o : Option X) → is_some o ≡ false → o ≡ None
 none_is None e = refl
 none_is (Some x) e = absurd (true≢false e)
 
+-- what a first entry carries isn't bound
+pub carried_free : (view : View) (sent : Sent) → IsFit view → head_in view sent.endpoint ≡ Some sent → (endpoint : ℕ) → among endpoint (endpoints_in sent) ≡ true → at_in view endpoint ≡ None
+carried_free view sent fit first endpoint carried =
+    none_is (at_in view endpoint) (fit.unbound endpoint (carrier_travels endpoint view.waiting sent (is_first view sent first).waits carried))
+
 -- what is bound wasn't bound
 pub new_free : (view : View) (sent : Sent) → IsFit view → head_in view sent.endpoint ≡ Some sent → (b : Bound) → (outcome_in view sent).bound ≡ Some b → at_in view b.endpoint ≡ None
-new_free view sent fit first b e =
-    none_is (at_in view b.endpoint) (fit.unbound b.endpoint (carrier_travels b.endpoint view.waiting sent (is_first view sent first).waits ((fit.heads sent first).binds b e)))
+new_free view sent fit first b e = carried_free view sent fit first b.endpoint ((fit.heads sent first).binds b e)
 
 -- ---- what is bound
 

@@ -1,19 +1,21 @@
 -- The two parts of a serving: what comes before the deaths, and what comes with them. Of these a public clause needs WasTaken and ServesTaken.
-use Rattle.std.specs.Prelude.{◌≡◌, ◌≤◌, ◌<◌, ◌+◌, ◌-◌, ◌^◌, ◌++◌, ◌∷◌, [], ℕ, All, List, drop, fold, Ok, Some, true}
+use Rattle.std.specs.Prelude.{◌≡◌, ◌≤◌, ◌<◌, ◌+◌, ◌-◌, ◌^◌, ◌++◌, ◌∷◌, [], ℕ, All, List, drop, fold, None, Ok, slice_get, Some, true}
 use Rattle.fidl_names.specs.declared.limits.TheConstants as limit
 use Rattle.fidl_wire.specs.Written.{Written}
 use Rattle.endpoint_link.specs.Frames.{spellings}
+use Rattle.endpoint_link.specs.Numbering.{among}
 use Rattle.endpoint_link.specs.Standings.{ended, gone, is_live, next_token_of, standing_of}
-use Rattle.io_messages.specs.Asked.{read}
 use Rattle.io_messages.specs.Requests.{request_of}
 use Rattle.io_messages.specs.declared.protocols.Protocol.TheVariants as protocol
-use Rattle.vfs_journal.specs.Entries.{Sent, message}
+use Rattle.vfs_journal.specs.Entries.{Sent, endpoints_in, message}
 use Rattle.vfs_journal.specs.View.{View}
 use Rattle.message_queues.specs.Dying.{AreDeaths, Buries, tokens_on}
 use Rattle.message_queues.specs.Queues.{IsAbove, Queues, Requeues, count, head_of, queue_of, server_of}
 use Rattle.vfs_server.specs.declared.fate.Fate.{Fate}
 use Rattle.vfs_server.specs.declared.fate.Fate.TheVariants as fates
-use Rattle.vfs_server.specs.Servers.{Server}
+use Rattle.vfs_server.specs.Parts.{asked_of}
+use Rattle.vfs_server.specs.Servers.{Server, seen}
+use Rattle.vfs_server.specs.declared.reading.Part.{Part}
 use Rattle.vfs_session.specs.Holding.{HoldsEach}
 use Rattle.vfs_session.specs.Running.{IsRunning}
 use Rattle.vfs_session.specs.Servings.{ServesOne}
@@ -32,11 +34,11 @@ pub record Takes (old : World) (endpoint server : ℕ) (sent : Sent) (new : Worl
 abbrev pub WasTaken : ℕ → ℕ → Sent → World → Type 0
 WasTaken endpoint server sent world = (from : World) × (IsRunning (2 ^ 61) from × Takes from endpoint server sent world)
 
--- a message without handles that asks a file for a Read of so many bytes
-pub record AsksRead (sent : Sent) (txid wanted : ℕ) : Type 0 where
+-- a message without handles that asks a file for this part of its bytes
+pub record AsksRead (sent : Sent) (txid : ℕ) (part : Part) : Type 0 where
   pub bytes : List ℕ
   pub sending : sent.sending ≡ message bytes []
-  pub asks : request_of protocol.File bytes [] ≡ Ok (txid, read wanted)
+  pub asks : request_of protocol.File bytes [] ≡ Ok (txid, asked_of part)
 
 -- what was taken is served: behind whatever world that runs it was taken from, that one's first entry is served, and it runs on
 pub record ServesTaken (endpoint server : ℕ) (sent : Sent) (old new : World) (before after : List ℕ) : Type 0 where
@@ -56,10 +58,16 @@ pub record TakesHead (old : World) (endpoint server : ℕ) (sent : Sent) (fate :
   pub known : new.known ≡ record old.known { waiting = old.known.waiting - 1 }
   pub places : new.places ≡ old.places
 
--- what was answered can be settled: whoever dies of it lives till then, each token that is spent is out, an Open goes on to a mount's end, what
--- waits is counted and came earlier, and there is room for one more and a place for it
+-- an endpoint is bound nowhere, neither at a server nor for what waits
+pub record IsUnbound (world : World) (endpoint : ℕ) : Type 0 where
+  pub waiting : server_of world.queues endpoint ≡ None
+  pub servers : (index : ℕ) (one : Server) → slice_get world.servers index ≡ Some one → seen one endpoint ≡ None
+
+-- what was answered can be settled: whoever dies of it lives till then, one that is refused and was carried is bound nowhere, each token that
+-- is spent is out, an Open goes on to a mount's end, what waits is counted and came earlier, and there is room for one more and a place for it
 pub record CanSettle (world : World) (sent : Sent) (fate : Fate) : Type 0 where
   pub live : (dead : List ℕ) → AreDeaths world.queues (first_told sent fate) dead → All (λ endpoint. is_live (standing_of world.known endpoint) ≡ true) dead
+  pub unbound : (object : ℕ) → fate ≡ fates.Refuses object → among object (endpoints_in sent) ≡ true → IsUnbound world object
   pub out : (dead : List ℕ) → AreDeaths world.queues (first_told sent fate) dead → CanGo world.known (spent_told sent world.queues dead)
   pub counted : count world.queues ≡ world.known.waiting
   pub low : (mount object : ℕ) → fate ≡ fates.Forwards mount object → mount < 2 ^ 30
@@ -103,3 +111,8 @@ pub record SettlesHead (old : World) (sent : Sent) (fate : Fate) (out : Written)
   pub sends : SendsOn (old.places + 1) sent.place fate out left new.queues
   pub known : new.known ≡ record (known_told fate (fold gone (fold ended old.known dead) (spent_told sent old.queues dead))) { waiting = count new.queues }
   pub places : new.places ≡ old.places + 1 + is_sent_on fate
+
+-- all that settling does, but that the place of the serving isn't taken yet, and nothing is written
+abbrev pub SettlesButPlace : World → Sent → Fate → Written → World → Type 0
+SettlesButPlace old sent fate out new =
+    (new.places ≡ old.places) × ((bytes : List ℕ) → SettlesHead old sent fate out (record new { places = new.places + 1 }) bytes bytes)

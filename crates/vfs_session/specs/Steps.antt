@@ -142,12 +142,30 @@ pub record IsQuiet (sent : Sent) (fate : Fate) : Type 0 where
   pub tokens : tokens_in sent ≡ []
   pub here : ends_here fate ≡ true
 
+-- a serving that leaves all others as they are but for one token, which the entry carries
+pub record IsLoneToken (sent : Sent) (fate : Fate) (token : ℕ) : Type 0 where
+  pub first : first_told sent fate ≡ []
+  pub tokens : tokens_in sent ≡ token ∷ []
+  pub here : ends_here fate ≡ true
+
+-- a serving that leaves all others as they are but for one token, which it gives; the entry carries no token
+pub record IsLoneGift (sent : Sent) (fate : Fate) : Type 0 where
+  pub first : first_told sent fate ≡ []
+  pub tokens : tokens_in sent ≡ []
+  pub sends : is_sent_on fate ≡ 0
+
 -- a serving of which one endpoint dies first, which its answer closed, and no other; the entry carries no token
 pub record IsLoneEnd (sent : Sent) (fate : Fate) (end : ℕ) : Type 0 where
   pub first : first_told sent fate ≡ end ∷ []
   pub told : end_told sent.endpoint fate ≡ Some end
   pub tokens : tokens_in sent ≡ []
   pub here : ends_here fate ≡ true
+
+-- such a serving, where that one is refused, which the entry carries
+pub record IsLoneRefusal (sent : Sent) (fate : Fate) (object : ℕ) : Type 0 where
+  pub lone : IsLoneEnd sent fate object
+  pub refuses : fate ≡ fates.Refuses object
+  pub carried : among object (endpoints_in sent) ≡ true
 
 -- the Close frames for deaths beside the one that the answer closed
 abbrev pub closed_for : Option ℕ → List ℕ → List Frame

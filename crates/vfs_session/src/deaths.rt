@@ -1,9 +1,9 @@
-//! The endpoints that die of a serving first.
+//! The endpoints that die of a serving first, and the servings that change at most one thing of others.
 
-ghost use Rattle.std.specs.Prelude.{◌≡◌, ◌++◌, ◌∷◌, [], true, IfSome, OnOk};
+ghost use Rattle.std.specs.Prelude.{◌≡◌, ◌++◌, ◌∷◌, [], false, true, IfSome, OnOk};
 ghost use Rattle.fidl_names.specs.HandleNumber.{is_client};
 ghost use Rattle.vfs_journal.specs.Handles.{numbers_of};
-ghost use Rattle.vfs_session.specs.Steps.{IsLoneEnd, IsQuiet, carried_but, end_told, first_told, is_it, settled_told};
+ghost use Rattle.vfs_session.specs.Steps.{IsLoneEnd, IsLoneGift, IsLoneRefusal, IsLoneToken, IsQuiet, carried_but, end_told, first_told, is_it, settled_told};
 
 use fidl_names::{Handle, NoMemory, is_client};
 use message_queues::Lent;
@@ -97,15 +97,62 @@ pub(crate) fn is_quiet(sent: &Lent<'_>, fate: &Fate) -> bool
     }
 }
 
-/// The endpoint that alone dies first of a serving that ends it, where the entry carries nothing else.
-#[tactic(auto, using(crate::proofs::Carried::lone_ends, crate::proofs::Carried::lone_refuses))]
+/// Whether a serving leaves all others as they are but for the token that it gives: the entry carries nothing.
+#[tactic(auto, using(crate::proofs::Carried::lone_gives))]
+pub(crate) fn is_lone_gift(sent: &Lent<'_>, fate: &Fate) -> bool
+    ensures { result ≡ true → IsLoneGift sent.now fate.now }
+{
+    match fate {
+        Fate::Gives { .. } => sent.handles().is_empty(),
+        _ => false,
+    }
+}
+
+/// The token that these handles are, where they are one.
+fn one_token(handles: &[Handle]) -> Option<u32>
+    ensures { IfSome result (λ token. (numbers_of handles.now ≡ token ∷ []) × (is_client token ≡ false)) }
+{
+    if handles.len() != 1 {
+        return None;
+    }
+    let number = handles[0].number();
+    if is_client(number) {
+        None
+    } else {
+        Some(number)
+    }
+}
+
+/// The token that a serving spends, where it leaves all others as they are: the endpoint stays, and the entry
+/// carries that token alone.
+#[tactic(auto, using(crate::proofs::Carried::lone_spends))]
+pub(crate) fn lone_token(sent: &Lent<'_>, fate: &Fate) -> Option<u32>
+    ensures { IfSome result (IsLoneToken sent.now fate.now) }
+{
+    match fate {
+        Fate::Stays => one_token(sent.handles()),
+        _ => None,
+    }
+}
+
+/// The endpoint that alone dies first of a serving that ends it, where the entry carries nothing.
+#[tactic(auto, using(crate::proofs::Carried::lone_ends))]
 pub(crate) fn lone_end(sent: &Lent<'_>, fate: &Fate) -> Option<u32>
     ensures { IfSome result (IsLoneEnd sent.now fate.now) }
 {
-    let handles = sent.handles();
     match fate {
-        Fate::Ends if handles.is_empty() => Some(sent.endpoint),
-        Fate::Refuses { object } if are_it(handles, *object) => Some(*object),
+        Fate::Ends if sent.handles().is_empty() => Some(sent.endpoint),
+        _ => None,
+    }
+}
+
+/// The endpoint that alone dies first of a serving that refuses it, where the entry carries nothing else.
+#[tactic(auto, using(crate::proofs::Carried::lone_refuses))]
+pub(crate) fn lone_refusal(sent: &Lent<'_>, fate: &Fate) -> Option<u32>
+    ensures { IfSome result (IsLoneRefusal sent.now fate.now) }
+{
+    match fate {
+        Fate::Refuses { object } if are_it(sent.handles(), *object) => Some(*object),
         _ => None,
     }
 }

@@ -22,7 +22,7 @@ fn forget_everywhere(servers: &mut Vec<Server>, token: u32)
 }
 
 /// Forgets a token that nobody holds.
-fn forget(servers: &mut Vec<Server>, endpoints: &mut Endpoints, token: u32)
+pub(crate) fn forget(servers: &mut Vec<Server>, endpoints: &mut Endpoints, token: u32)
     requires out { finite.get endpoints.old.tokens token ≡ Some false }
     ensures forgets { ForgetsEach servers.old.items token servers.new.items }
     ensures known { endpoints.new ≡ gone endpoints.old token }
@@ -74,6 +74,7 @@ pub(crate) fn spend(
 
 /// Lets the clients hold the token that a fate gives. That is the next one, so that only memory can be
 /// wanting for it.
+#[inline(always)]
 pub(crate) fn give(endpoints: &mut Endpoints, fate: &Fate) -> Result<(), NoMemory>
     ensures { OnOk result (endpoints.new ≡ known_told fate.now endpoints.old) }
 {

@@ -1,11 +1,11 @@
 //! The serving of the first entry of an endpoint.
 
-ghost use Rattle.std.specs.Prelude.{◌≡◌, ◌<◌, ◌^◌, ◌∷◌, [], ℕ, true, false, All, IfOk, IfSome, List, None, OnOk};
+ghost use Rattle.std.specs.Prelude.{◌≡◌, ◌<◌, ◌^◌, ◌∷◌, [], ℕ, true, false, All, IfOk, IfSome, List, None, Ok, OnOk};
 ghost use Rattle.endpoint_link.specs.Standings.{is_live, standing_of};
 ghost use Rattle.message_queues.specs.Dying.{AreDeaths};
 ghost use Rattle.message_queues.specs.Queues.{IsReady, count};
 ghost use Rattle.vfs_journal.specs.Output.{Begins};
-ghost use Rattle.vfs_session.specs.Heads.{AsksRead, CanSettle, DiesAlone, LetsDie, ServesTaken, SettlesHead, Takes, TakesHead, WasTaken};
+ghost use Rattle.vfs_session.specs.Heads.{AsksRead, CanSettle, DiesAlone, IsUnbound, LetsDie, ServesTaken, SettlesButPlace, SettlesHead, Takes, TakesHead, WasTaken};
 ghost use Rattle.vfs_session.specs.Running.{IsRunning, RunsOn, whole};
 ghost use Rattle.vfs_session.specs.Servings.{ServesOne};
 ghost use Rattle.vfs_session.specs.Steps.{first_told};
@@ -13,8 +13,10 @@ ghost use Rattle.vfs_session.specs.World.{World};
 
 use crate::answering::answer;
 use crate::closing::close_others;
-use crate::deaths::{end_told, is_quiet, list_first_deaths, lone_end};
-use crate::forgetting::{give, spend};
+use crate::deaths::{
+    end_told, is_lone_gift, is_quiet, list_first_deaths, lone_end, lone_refusal, lone_token,
+};
+use crate::forgetting::{forget, give, spend};
 use crate::session::Session;
 use crate::settling::{bind, bury, let_all_go, send_on};
 use endpoint_link::Outbox;
@@ -22,7 +24,7 @@ use fidl_names::{MAX_WAITING, NoMemory};
 use fidl_wire::Ordinals;
 use message_queues::{Lent, Sent};
 use std::mem;
-use vfs_server::{Fate, read_in};
+use vfs_server::{Fate, Part, part_in};
 
 /// The most bytes of a small room, as most messages need.
 const SMALL_ROOM: usize = 256;
@@ -42,8 +44,8 @@ impl Session {
         served
     }
 
-    /// Serves what was taken from an endpoint, as `serve_taken` does. Most of it are Reads of files, and have a way
-    /// of their own.
+    /// Serves what was taken from an endpoint, as `serve_taken` does. Most of it asks for parts of files, and has a
+    /// way of its own.
     #[inline(always)]
     fn serve_sent(
         &mut self,
@@ -62,8 +64,8 @@ impl Session {
         }
     }
 
-    /// Serves a Read of a file that was taken from an endpoint at this server. Nothing becomes of anybody by it, so
-    /// that nothing is settled. For anything else `None`, and nothing is done.
+    /// Serves a Read or a ReadAt of a file that was taken from an endpoint at this server. Nothing becomes of anybody
+    /// by it, so that nothing is settled. For anything else `None`, and nothing is done.
     #[inline(always)]
     fn serve_read(
         &mut self,
@@ -77,9 +79,9 @@ impl Session {
         ensures unchanged { result ≡ None → (whole self.new ≡ whole self.old) × (outbox.new ≡ outbox.old) }
         ensures begins { Begins outbox.old outbox.new }
     {
-        let (txid, count) = read_asked(&self.ordinals, sent)?;
+        let (txid, part) = read_asked(&self.ordinals, sent)?;
         let one = &mut self.servers[server as usize];
-        let read = one.read(&self.ordinals, endpoint, txid, count, &mut self.out, outbox)?;
+        let read = one.read(&self.ordinals, endpoint, txid, part, &mut self.out, outbox)?;
         self.endpoints.served();
         self.places += 1;
         Some(read)
@@ -134,8 +136,8 @@ impl Session {
         Ok(fate)
     }
 
-    /// Settles a serving, of which most leave all others as they are. Copies are lent otherwise, so that the
-    /// entry and the fate of a quiet one need not lie in memory.
+    /// Settles a serving, of which most change at most one thing of others. Copies are lent otherwise, so that the
+    /// entry and the fate of such a serving need not lie in memory.
     #[inline(always)]
     fn settle_head(
         &mut self,
@@ -147,19 +149,42 @@ impl Session {
         ensures settled { OnOk result (SettlesHead (whole self.old) sent.now fate.now self.old.out (whole self.new) outbox.old outbox.new) }
         ensures begins { Begins outbox.old outbox.new }
     {
-        if is_quiet(sent, fate) {
+        if self.settle_one(sent, fate)? {
             self.places += 1;
             return Ok(());
-        }
-        if let Some(end) = lone_end(sent, fate) {
-            if self.bury_alone(end) {
-                self.places += 1;
-                return Ok(());
-            }
         }
         let sent = sent.lend();
         let fate = *fate;
         self.settle_all(&sent, &fate, outbox)
+    }
+
+    /// Settles a serving that changes at most one thing of others, but for the place that it takes: a token is given
+    /// or spent, or an endpoint dies alone. Tells whether it is such a one; else all is as it was.
+    #[inline(always)]
+    fn settle_one(&mut self, sent: &Lent<'_>, fate: &Fate) -> Result<bool, NoMemory>
+        requires can { CanSettle (whole self.old) sent.now fate.now }
+        ensures settled { result ≡ Ok true → SettlesButPlace (whole self.old) sent.now fate.now self.old.out (whole self.new) }
+        ensures unchanged { result ≡ Ok false → whole self.new ≡ whole self.old }
+        ensures out { self.new.out ≡ self.old.out }
+    {
+        if is_quiet(sent, fate) {
+            return Ok(true);
+        }
+        if is_lone_gift(sent, fate) {
+            give(&mut self.endpoints, fate)?;
+            return Ok(true);
+        }
+        if let Some(token) = lone_token(sent, fate) {
+            forget(&mut self.servers, &mut self.endpoints, token);
+            return Ok(true);
+        }
+        if let Some(object) = lone_refusal(sent, fate) {
+            return Ok(self.bury_unbound(object));
+        }
+        match lone_end(sent, fate) {
+            Some(end) => Ok(self.bury_alone(end)),
+            None => Ok(false),
+        }
     }
 
     /// Buries an endpoint that dies alone, since nothing waits, and tells whether that is so; else all is as it
@@ -176,6 +201,22 @@ impl Session {
         }
         self.endpoints.ended(end);
         let_all_go(&mut self.servers, &[end]);
+        true
+    }
+
+    /// Buries an endpoint that is bound nowhere, as `bury_alone` does, with no look at what waits or at a server.
+    #[inline(never)]
+    fn bury_unbound(&mut self, object: u32) -> bool
+        requires live { (dead : List ℕ) → AreDeaths self.old.queues (object ∷ []) dead → All (λ endpoint. is_live (standing_of self.old.endpoints endpoint) ≡ true) dead }
+        requires unbound { IsUnbound (whole self.old) object }
+        ensures alone { result ≡ true → DiesAlone (whole self.old) object (whole self.new) }
+        ensures unchanged { result ≡ false → whole self.new ≡ whole self.old }
+        ensures out { self.new.out ≡ self.old.out }
+    {
+        if self.queues.len() != 0 {
+            return false;
+        }
+        self.endpoints.ended(object);
         true
     }
 
@@ -259,16 +300,16 @@ impl Session {
     }
 }
 
-/// The transaction id and the count of the Read of a file that was sent; `None` where anything else was, or handles
-/// beside it.
+/// The transaction id of what was sent to ask a file for a part of its bytes, and that part; `None` where anything
+/// else was sent, or handles beside it.
 #[inline(always)]
-fn read_asked(ordinals: &Ordinals, sent: &Lent<'_>) -> Option<(u32, u64)>
-    ensures read { IfSome result (λ asked. AsksRead sent.now asked.0 asked.1) }
-    ensures txid { IfSome result (λ asked. 0 < asked.0) }
+fn read_asked(ordinals: &Ordinals, sent: &Lent<'_>) -> Option<(u32, Part)>
+    ensures read { IfSome result (λ asks. AsksRead sent.now asks.0 asks.1) }
+    ensures txid { IfSome result (λ asks. 0 < asks.0) }
 {
     let (bytes, handles) = sent.message()?;
     if !handles.is_empty() {
         return None;
     }
-    read_in(ordinals, bytes, &[])
+    part_in(ordinals, bytes)
 }

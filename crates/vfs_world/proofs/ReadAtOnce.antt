@@ -1,4 +1,4 @@
--- A Read of a file that is served at once is served as if it had waited, been taken and answered, and settled.
+-- What asks for a part of a file and is served at once is served as if it had waited, been taken and answered, and settled.
 use Rattle.std.proofs.Common.{◌≡◌, ℕ, inl, ◌+◌, ◌-◌, ◌^◌, ◌≤◌, ◌==◌, ◌&&◌, Bool, true, false, not, if◌then◌else◌, IsSome, List, [], ◌∷◌, Option, Some, None, Result, Ok, Err, IfSome, length, refl, sym, ap, ◌∙◌, subst, arith}
 use Rattle.std.specs.Prelude.{nat_le, nat_lt, slice_get, slice_set}
 use Rattle.std.specs.Result.{OnOk}
@@ -12,7 +12,6 @@ use Rattle.fidl_names.specs.declared.limits.TheConstants as limit
 use Rattle.fidl_names.specs.First.{cause_if, first_of}
 use Rattle.fidl_names.specs.HandleNumber.{is_client}
 use Rattle.fidl_wire.specs.Written.{Written}
-use Rattle.io_messages.specs.Asked.{read}
 use Rattle.io_messages.specs.Requests.{request_of}
 use Rattle.io_messages.specs.declared.protocols.Protocol.TheVariants as protocol
 use Rattle.endpoint_link.specs.Frames.{Frame, IsFrame}
@@ -33,7 +32,9 @@ use Rattle.journal_laws.specs.Viewing.{view_behind}
 use Rattle.message_queues.specs.Parcels.{sent_by}
 use Rattle.message_queues.specs.Queues.{count, queue_of, server_of}
 use Rattle.vfs_server.specs.declared.fate.Fate.TheVariants as fates
+use Rattle.vfs_server.specs.declared.reading.Part.{Part}
 use Rattle.vfs_server.specs.Holding.{if_at}
+use Rattle.vfs_server.specs.Parts.{asked_of}
 use Rattle.vfs_server.specs.Servers.{Server, seen}
 use Rattle.vfs_server.specs.Serving.{IsMomentOf, Serves}
 use Rattle.vfs_session.specs.Heads.{SettlesHead, Takes, TakesHead}
@@ -50,15 +51,15 @@ use Rattle.vfs_world.proofs.AtOnce.{bound_lives, drained_behind, for_want_of_roo
 
 -- ---- at its server
 
-pub reads_there : (old : List Server) (at endpoint txid wanted : ℕ) (one now : Server) (out : Written) (before after : List ℕ) (served : Option (Result (Unit {0}) NoMemory)) → slice_get old at ≡ Some one →
+pub reads_there : (old : List Server) (at endpoint txid : ℕ) (part : Part) (one now : Server) (out : Written) (before after : List ℕ) (served : Option (Result (Unit {0}) NoMemory)) → slice_get old at ≡ Some one →
     IfSome served (λ answer. IsSome (seen one endpoint)) →
-    ((bytes : List ℕ) (token : Option ℕ) (moment : Moment) → request_of protocol.File bytes [] ≡ Ok (txid, read wanted) → IsMomentOf one endpoint token [] moment →
+    ((bytes : List ℕ) (token : Option ℕ) (moment : Moment) → request_of protocol.File bytes [] ≡ Ok (txid, asked_of part) → IsMomentOf one endpoint token [] moment →
     IfSome served (λ answer. OnOk answer (Serves moment (outcome_of_sending moment (message bytes [])) fates.Stays out one now before after))) →
-    IfSome served (λ answer. OnOk answer (AnswersRead old at endpoint txid wanted out (slice_set old at now) before after))
-reads_there old at endpoint txid wanted one now out before after (Some (Ok x)) there bound serves =
+    IfSome served (λ answer. OnOk answer (AnswersRead old at endpoint txid part out (slice_set old at now) before after))
+reads_there old at endpoint txid part one now out before after (Some (Ok x)) there bound serves =
     record { one = one; there = there; bound = bound; answers = λ bytes token moment is here. (now, refl, serves bytes token moment is here) }
-reads_there old at endpoint txid wanted one now out before after (Some (Err e)) there bound serves = tt
-reads_there old at endpoint txid wanted one now out before after None there bound serves = tt
+reads_there old at endpoint txid part one now out before after (Some (Err e)) there bound serves = tt
+reads_there old at endpoint txid part one now out before after None there bound serves = tt
 
 -- ---- where it is bound
 
@@ -115,8 +116,8 @@ none_counted most world run none = run.stands.knows.waiting ∙ ap length (nothi
 
 -- ---- from its admission to the drain
 
-module _ (old : World) (run : IsRunning (2 ^ 61 - 4098) old) (frame : Frame) (is : IsFrame ToServers frame) (can : CanBeServed frame old) (at txid wanted : ℕ) (out : Written) (servers : List Server)
-    (before after : List ℕ) (asks : request_of protocol.File frame.bytes [] ≡ Ok (txid, read wanted)) (answers : AnswersRead old.servers at frame.endpoint txid wanted out servers before after) where
+module _ (old : World) (run : IsRunning (2 ^ 61 - 4098) old) (frame : Frame) (is : IsFrame ToServers frame) (can : CanBeServed frame old) (at txid : ℕ) (part : Part) (out : Written) (servers : List Server)
+    (before after : List ℕ) (asks : request_of protocol.File frame.bytes [] ≡ Ok (txid, asked_of part)) (answers : AnswersRead old.servers at frame.endpoint txid part out servers before after) where
   abbrev now : World
   now = let_in old
 

@@ -59,7 +59,7 @@ pub(crate) fn hear(
     ensures begins { Begins outbox.old outbox.new }
 {
     match mode {
-        // Most frames are Reads of files, and have a way of their own.
+        // Most frames ask for parts of files, and have a way of their own.
         Mode::Auto => match hear_read(session, frame, outbox) {
             Some(heard) => heard,
             None => hear_out(session, frame, outbox),

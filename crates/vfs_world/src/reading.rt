@@ -1,5 +1,5 @@
-//! A Read of a file that arrives while nothing waits. Nothing becomes of anybody by it, so that it is neither put
-//! among what waits nor settled.
+//! A Read or a ReadAt of a file that arrives while nothing waits. Nothing becomes of anybody by it, so that it is
+//! neither put among what waits nor settled.
 
 ghost use Rattle.std.specs.Prelude.{◌≡◌, ◌≢◌, ◌<◌, ◌+◌, ◌-◌, ◌^◌, ℕ, [], true, IfSome, None, Ok, OnErr, OnOk, Some, length};
 ghost use Rattle.endpoint_link.specs.Frames.{IsFrame};
@@ -11,9 +11,9 @@ ghost use Rattle.vfs_journal.specs.Output.{Begins};
 ghost use Rattle.vfs_journal.specs.Past.{history_of};
 ghost use Rattle.vfs_journal.specs.Session.{arrives, drained};
 ghost use Rattle.vfs_journal.specs.Starts.{Start};
-ghost use Rattle.io_messages.specs.Asked.{read};
 ghost use Rattle.io_messages.specs.Requests.{request_of};
 ghost use Rattle.message_queues.specs.Queues.{server_of};
+ghost use Rattle.vfs_server.specs.Parts.{asked_of};
 ghost use Rattle.vfs_session.specs.Running.{IsRunning, whole};
 ghost use Rattle.vfs_session.specs.World.{LeadsTo, StandsFor};
 ghost use Rattle.vfs_world.specs.Steps.{AnswersRead, CanBeServed};
@@ -23,11 +23,11 @@ use endpoint_link::{FrameView, LookUp, Outbox};
 use fidl_names::{MAX_LIVE, NoMemory};
 use fidl_wire::{Ordinals, Out};
 use io_messages::Protocol;
-use vfs_server::{Server, read_in};
+use vfs_server::{Part, Server, part_in};
 use vfs_session::Session;
 
-/// Hears a Read of a file, where nothing waits: its reply is written, and it takes two places. For any other frame
-/// `None`, and nothing is done.
+/// Hears a Read or a ReadAt of a file, where nothing waits: its reply is written, and it takes two places. For any
+/// other frame `None`, and nothing is done.
 #[inline(always)]
 pub(crate) fn hear_read(
     session: &mut Session,
@@ -44,14 +44,14 @@ pub(crate) fn hear_read(
     ensures unchanged { result ≡ None → (whole session.new ≡ whole session.old) × (outbox.new ≡ outbox.old) }
     ensures begins { Begins outbox.old outbox.new }
 {
-    let (at, txid, count) = read_asked(session, frame)?;
+    let (at, txid, part) = read_asked(session, frame)?;
     let read = read_at(
         &mut session.servers,
         &session.ordinals,
         at,
         frame.endpoint,
         txid,
-        count,
+        part,
         &mut session.out,
         outbox,
     )?;
@@ -59,19 +59,20 @@ pub(crate) fn hear_read(
     Some(read)
 }
 
-/// The server, the transaction id and the count of the Read that a frame asks for, where that can be served at once.
+/// The server that a frame asks for a part of a file, its transaction id and that part, where it can be served at
+/// once.
 #[inline(always)]
-fn read_asked(session: &Session, frame: FrameView<'_>) -> Option<(u32, u32, u64)>
-    ensures served { IfSome result (λ asked. CanBeServed (frame_of frame.entry) (whole session.now)) }
-    ensures read { IfSome result (λ asked. request_of Protocol.File frame.entry.bytes.now [] ≡ Ok (asked.1, read asked.2)) }
-    ensures txid { IfSome result (λ asked. 0 < asked.1) }
+fn read_asked(session: &Session, frame: FrameView<'_>) -> Option<(u32, u32, Part)>
+    ensures served { IfSome result (λ asks. CanBeServed (frame_of frame.entry) (whole session.now)) }
+    ensures read { IfSome result (λ asks. request_of Protocol.File frame.entry.bytes.now [] ≡ Ok (asks.1, asked_of asks.2)) }
+    ensures txid { IfSome result (λ asks. 0 < asks.1) }
 {
     if !can_be_served(session, frame) {
         return None;
     }
-    let (txid, count) = read_in(&session.ordinals, frame.bytes, &[])?;
+    let (txid, part) = part_in(&session.ordinals, frame.bytes)?;
     let at = server_for(session, frame.endpoint)?;
-    Some((at, txid, count))
+    Some((at, txid, part))
 }
 
 /// Whether a frame is a message without handles that needn't wait, and that nothing refuses where its endpoint is
@@ -93,7 +94,7 @@ fn server_for(session: &Session, endpoint: u32) -> Option<u32>
     session.queues.server_of(endpoint)
 }
 
-/// Serves a Read of so many bytes at a server, where the endpoint is bound to a file there.
+/// Serves the request for a part of a file at a server, where the endpoint is bound to a file there.
 #[inline(always)]
 fn read_at(
     servers: &mut Vec<Server>,
@@ -101,12 +102,12 @@ fn read_at(
     at: u32,
     endpoint: u32,
     txid: u32,
-    count: u64,
+    part: Part,
     out: &mut Out,
     outbox: &mut Outbox,
 ) -> Option<Result<(), NoMemory>>
     requires txid { 0 < txid }
-    ensures answers { IfSome result (λ read. OnOk read (AnswersRead servers.old.items at endpoint txid count out.new servers.new.items outbox.old outbox.new)) }
+    ensures answers { IfSome result (λ read. OnOk read (AnswersRead servers.old.items at endpoint txid part out.new servers.new.items outbox.old outbox.new)) }
     ensures unchanged { result ≡ None → (servers.new.items ≡ servers.old.items) × (outbox.new ≡ outbox.old) }
     ensures no_memory { IfSome result (λ read. OnErr read (outbox.new ≡ outbox.old)) }
 {
@@ -114,5 +115,5 @@ fn read_at(
         return None;
     }
     let one = &mut servers[at as usize];
-    one.read(ordinals, endpoint, txid, count, out, outbox)
+    one.read(ordinals, endpoint, txid, part, out, outbox)
 }

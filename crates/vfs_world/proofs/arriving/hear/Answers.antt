@@ -10,7 +10,7 @@ use Rattle.vfs_session.specs.World.{LeadsTo, StandsFor, World}
 use Rattle.vfs_session.proofs.Lasting.{lasts_more}
 use Rattle.vfs_world.proofs.arriving.hear.Goals as goal
 
--- ---- a Read that was heard at once
+-- ---- what was heard and answered at once
 
 pub returns-in-Some-clause-heard : goal.returns-in-Some-clause-heard
 returns-in-Some-clause-heard c =

@@ -3,7 +3,6 @@ use Rattle.std.specs.Option.{option_map}
 use Rattle.std.proofs.lemmas.Option.{same_Some}
 use Rattle.std.specs.Prelude.{IsSome, OnOk}
 use Rattle.std.specs.FinMap as finite
-use Rattle.io_messages.specs.Asked as asks
 use Rattle.io_messages.specs.Requests.{request_of}
 use Rattle.io_messages.specs.declared.protocols.Protocol.{Protocol}
 use Rattle.io_messages.specs.declared.protocols.Protocol.TheVariants as protocol
@@ -16,6 +15,7 @@ use Rattle.vfs_server.specs.declared.asking.Asking.{Asking}
 use Rattle.vfs_server.specs.declared.fate.Fate.TheVariants as fates
 use Rattle.vfs_server.specs.Kept.{Connections, IsSound}
 use Rattle.watch_seats.specs.declared.watching.Seat.{Seat}
+use Rattle.vfs_server.specs.Parts.{asked_of}
 use Rattle.vfs_server.specs.Servers.{Server, connected, seen, seen_as}
 use Rattle.vfs_server.specs.Serving.{IsMomentOf, Serves}
 use Rattle.vfs_server.specs.Steps.{Answers, stays}
@@ -67,7 +67,7 @@ abbrev IsServing : (c : After-read) → Moment → List ℕ → Server → Conne
 IsServing c moment bytes server connections =
     Serves moment (outcome_of_sending moment (message bytes [])) fates.Stays c.read.new.out server (server_of c.self.inside.index c.read.new.graph connections c.self.inside.watching c.self.inside.tokens) c.args.outbox.now c.read.new.outbox
 
-on_connection : (c : After-read) (bytes : List ℕ) (token : Option ℕ) (moment : Moment) → request_of protocol.File bytes [] ≡ Ok (c.args.txid, asks.read c.args.count) → IsMomentOf (before c) c.args.endpoint token [] moment →
+on_connection : (c : After-read) (bytes : List ℕ) (token : Option ℕ) (moment : Moment) → request_of protocol.File bytes [] ≡ Ok (c.args.txid, asked_of c.args.part) → IsMomentOf (before c) c.args.endpoint token [] moment →
     (old : Connection) → finite.get c.self.inside.connections c.args.endpoint ≡ Some old → IfSome c.read.result (λ read. OnOk read (IsServing c moment bytes (before c) c.read.new.self))
 on_connection c bytes token moment is here old there =
     let served = c.read.ensures.read old there in
