@@ -1,15 +1,20 @@
 //! A connection, and the serving of what is sent to it.
 
-ghost use Rattle.std.specs.Prelude.{◌≡◌, ◌≤◌, ◌<◌, ◌^◌, ◌≢◌, ℕ, true, OnErr, OnOk, IfOk, IfSome, IsSome, None, Ok, length};
+ghost use Rattle.std.specs.Prelude.{◌≡◌, ◌≤◌, ◌<◌, ◌^◌, ◌≢◌, ℕ, true, [], OnErr, OnOk, Option, IfOk, IfSome, IsSome, None, Ok, length};
 ghost use Rattle.fidl_names.specs.declared.limits.TheConstants as limit;
 ghost use Rattle.io_messages.specs.Asked.{asked, method_of};
 ghost use Rattle.io_messages.specs.Protocols.{has_method};
 ghost use Rattle.io_messages.specs.Requests.{has_txid, request_of};
 ghost use Rattle.io_messages.specs.Shapes.{is_one_way};
+ghost use Rattle.node_graph.specs.Graph.{StandsFor};
+ghost use Rattle.node_graph.specs.Tree.{Tree};
+ghost use Rattle.conn_rules.specs.Acts.{act_of};
 ghost use Rattle.conn_rules.specs.Answers.{nothing_told};
 ghost use Rattle.conn_rules.specs.Births.{fresh};
-ghost use Rattle.conn_rules.specs.Served.{HasNothing, KeepsHolds, told_by};
+ghost use Rattle.conn_rules.specs.Contexts.{context_of};
+ghost use Rattle.conn_rules.specs.Served.{HasNothing, IsServed, KeepsHolds, told_by};
 ghost use Rattle.conn_rules.specs.Shared.{CanBeBound};
+ghost use Rattle.conn_rules.specs.declared.births.Room.{Room};
 ghost use Rattle.vfs_journal.specs.Handles.{numbers_of};
 ghost use Rattle.vfs_journal.specs.Output.{Begins};
 ghost use Rattle.vfs_journal.specs.Serving.{Moment, outcome_of_read};
@@ -28,6 +33,7 @@ use conn_rules::{Birth, Changes, Room, Served};
 use endpoint_link::Outbox;
 use fidl_names::{Handle, NoMemory};
 use fidl_wire::{Ordinals, Out};
+use file_conn::FileConn;
 use io_messages::{Protocol, Request};
 use node_graph::{Graph, NodeRef};
 use request_reader::read_request;
@@ -143,13 +149,7 @@ impl Connection {
             return None;
         };
         out.clear();
-        // It looks at nothing that is in use.
-        let room = Room {
-            connections: 0,
-            watchers: 0,
-            token: None,
-        };
-        match conn.serve(ordinals, graph, room, txid, &part.request(), out) {
+        match serve_part(conn, ordinals, graph, txid, part, out) {
             Served::Reply => Some(put_bare_reply(endpoint, out, outbox)),
             _ => unreachable!(),
         }
@@ -196,5 +196,50 @@ impl Connection {
             changes,
         );
         answer(asking, &self.conn, request, given, out, outbox)
+    }
+}
+
+/// Serves the request for a part of a file on a connection to it: its reply stands in the output.
+#[inline(always)]
+fn serve_part(
+    conn: &mut FileConn,
+    ordinals: &Ordinals,
+    graph: &mut Graph,
+    txid: u32,
+    part: Part,
+    out: &mut Out,
+) -> Served
+    requires tree { HasTree graph.old }
+    requires can { CanBeBound graph.old conn.old.birth }
+    requires protocol { conn.old.birth.protocol ≡ Protocol.File }
+    requires txid { 0 < txid }
+    requires empty { HasNothing out.old }
+    ensures serves { (room : Room) (tree : Tree) (directory : ℕ → Option ℕ) → StandsFor graph.old tree →
+        IsServed (act_of (context_of conn.old room tree directory) (asked_of part)) txid result out.new conn.new graph.old graph.new }
+    ensures reply { result ≡ Served.Reply }
+    ensures bare { out.new.handles ≡ [] }
+    ensures holds { KeepsHolds conn.old conn.new graph.old graph.new }
+{
+    // It looks at nothing that is in use.
+    let room = Room {
+        connections: 0,
+        watchers: 0,
+        token: None,
+    };
+    // Each method has a call of its own, in which the compiler knows it.
+    match part {
+        Part::Next { count } => {
+            conn.serve(ordinals, graph, room, txid, &Request::Read { count }, out)
+        }
+        Part::At { count, offset } => {
+            conn.serve(
+                ordinals,
+                graph,
+                room,
+                txid,
+                &Request::ReadAt { count, offset },
+                out,
+            )
+        }
     }
 }

@@ -1,14 +1,14 @@
 //! Which messages ask a file for a part of its bytes. There are more of them than of all others.
 
 ghost use Rattle.std.specs.Prelude.{◌≡◌, ◌<◌, ℕ, [], IfSome, IsSome, Ok};
-ghost use Rattle.io_messages.specs.Asked.{asked, read, read_at};
+ghost use Rattle.io_messages.specs.Asked.{read, read_at};
 ghost use Rattle.io_messages.specs.Requests.{fields_of, request_of};
 ghost use Rattle.vfs_server.specs.Parts.{asked_of};
 
 use body_reader::Body;
 use fidl_names::Method;
 use fidl_wire::{Header, Ordinals};
-use io_messages::{Protocol, Request};
+use io_messages::Protocol;
 
 /// A part of a file's bytes, as a message asks for it.
 #[derive(Clone, Copy)]
@@ -17,19 +17,6 @@ pub enum Part {
     Next { count: u64 },
     /// So many bytes from an offset on: a ReadAt.
     At { count: u64, offset: u64 },
-}
-
-impl Part {
-    /// The request for it.
-    #[inline(always)]
-    pub(crate) fn request(self) -> Request<'static>
-        ensures { asked result ≡ asked_of self }
-    {
-        match self {
-            Part::Next { count } => Request::Read { count },
-            Part::At { count, offset } => Request::ReadAt { count, offset },
-        }
-    }
 }
 
 /// The transaction id of a message that asks a file for a part of its bytes, and that part; `None` where it asks for
