@@ -10,6 +10,7 @@ use Rattle.std.specs.FinMap.Entries as entry
 use Rattle.std.proofs.lemmas.Bool.Decides.{nat_tests}
 use Rattle.node_graph.specs.declared.edges.Target.{Target}
 use Rattle.node_graph.specs.Tree.{EdgeKey, EdgeTo, Edges, edge_cmp, link_count, is_linked}
+use Rattle.node_graph.specs.Refusals.{has_names}
 use Rattle.node_graph.specs.Ends.{Ends, end_of, edge_of, edges_of}
 use Rattle.node_graph.proofs.Ordered.{edges_total, same_edges, standing, earlier, alike, later, same_or_other, same, other, get-put_here, get-put_other, get-cut_here, get-cut_other, entries-map_of, both_true, less}
 
@@ -156,7 +157,6 @@ count_some edges key to there =
     self : (n : ℕ) → n == n ≡ true
     self n = grind (arith, nat_tests)
 
--- where an edge leads to a node, some key has it
 pub below_found : {X : Type 0} (x k : EdgeKey) (es : List (EdgeKey × X)) (to : X) → entry.below_all edge_cmp x es ≡ true → entry.find edge_cmp k es ≡ Some to → edge_cmp x k ≡ Less
 below_found x k [] to below found = absurd (let wrong : None ≡ Some to = found in cc)
 below_found x k (e ∷ es) to below found =
@@ -165,14 +165,15 @@ below_found x k (e ∷ es) to below found =
       | other apart b ↦ below_found x k es to (both_true _ _ below).1 (sym (ap (λ c. cond c (Some e.1) (entry.find edge_cmp k es)) b) ∙ found)
     ]
 
-found_value : (number : ℕ) (es : List (EdgeKey × EdgeTo)) → finite.is_sorted edge_cmp es ≡ true → list_any (λ (to : EdgeTo). to.child == number) (map (λ (e : EdgeKey × EdgeTo). e.1) es) ≡ true
-    → (key : EdgeKey) × (to : EdgeTo) × (entry.find edge_cmp key es ≡ Some to) × (to.child ≡ number)
-found_value number [] sorted any = absurd (cc)
-found_value number (e ∷ es) sorted any =
-    elim (e.1.child == number) as (λ b. e.1.child == number ≡ b → (b || list_any (λ (to : EdgeTo). to.child == number) (map (λ (e : EdgeKey × EdgeTo). e.1) es)) ≡ true → (key : EdgeKey) × (to : EdgeTo) × (entry.find edge_cmp key (e ∷ es) ≡ Some to) × (to.child ≡ number)) [
-      | true ↦ λ is any. (e.0, e.1, itself, eqb-true e.1.child number is)
+-- an entry that passes a test is found by its key
+found_entry : (test : EdgeKey × EdgeTo → Bool) (es : List (EdgeKey × EdgeTo)) → finite.is_sorted edge_cmp es ≡ true → list_any test es ≡ true
+    → (key : EdgeKey) × (to : EdgeTo) × (entry.find edge_cmp key es ≡ Some to) × (test (key, to) ≡ true)
+found_entry test [] sorted any = absurd (cc)
+found_entry test (e ∷ es) sorted any =
+    elim (test e) as (λ b. test e ≡ b → (b || list_any test es) ≡ true → (key : EdgeKey) × (to : EdgeTo) × (entry.find edge_cmp key (e ∷ es) ≡ Some to) × (test (key, to) ≡ true)) [
+      | true ↦ λ is any. (e.0, e.1, itself, is)
       | false ↦ λ is any.
-          let rest = found_value number es (both_true _ _ sorted).1 any in
+          let rest = found_entry test es (both_true _ _ sorted).1 any in
           (rest.0, rest.1, later_found rest.0 rest.1 rest.2, rest.3)
     ] refl any
   where
@@ -194,7 +195,20 @@ found_value number (e ∷ es) sorted any =
       | other apart b ↦ ap (λ c. cond c (Some e.1) (entry.find edge_cmp k es)) b ∙ found
     ]
 
+list_any_map : {A B : Type 0} (test : B → Bool) (f : A → B) (xs : List A) → list_any test (map f xs) ≡ list_any (λ x. test (f x)) xs
+list_any_map test f [] = refl
+list_any_map test f (x ∷ xs) = ap (λ b. test (f x) || b) (list_any_map test f xs)
+
+-- where an edge leads to a node, some key has it
 pub linked_by : (edges : Edges) (number : ℕ) → is_linked edges number ≡ true → (key : EdgeKey) × (to : EdgeTo) × (finite.get edges key ≡ Some to) × (to.child ≡ number)
 linked_by edges number linked =
-    let one = found_value number (finite.entries edges) (is_true _ (finite.entries_sorted edges)) linked in
-    (one.0, one.1, finite.get-entries edges one.0 ∙ one.2, one.3)
+    let entries = finite.entries edges in
+    let one = found_entry (λ e. e.1.child == number) entries (is_true _ (finite.entries_sorted edges)) (sym (list_any_map (λ (to : EdgeTo). to.child == number) (λ (e : EdgeKey × EdgeTo). e.1) entries) ∙ linked) in
+    (one.0, one.1, finite.get-entries edges one.0 ∙ one.2, eqb-true one.1.child number one.3)
+
+-- where a node has names in it, some key is in it
+pub names_by : (edges : Edges) (number : ℕ) → has_names edges number ≡ true → (key : EdgeKey) × (to : EdgeTo) × (finite.get edges key ≡ Some to) × (key.directory ≡ number)
+names_by edges number full =
+    let entries = finite.entries edges in
+    let one = found_entry (λ e. e.0.directory == number) entries (is_true _ (finite.entries_sorted edges)) (sym (list_any_map (λ (key : EdgeKey). key.directory == number) (λ (e : EdgeKey × EdgeTo). e.0) entries) ∙ full) in
+    (one.0, one.1, finite.get-entries edges one.0 ∙ one.2, eqb-true one.0.directory number one.3)

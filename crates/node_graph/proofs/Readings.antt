@@ -16,9 +16,10 @@ use Rattle.node_graph.specs.Cell.{Cell}
 use Rattle.node_graph.specs.Tree.{Tree, Edges, EdgeKey, EdgeTo, NodeRow, kind_of, link_count, is_removed, has_one_name, add, stay}
 use Rattle.node_graph.specs.Refusals.{is_directory, is_mount, is_no_directory, edge_at, leads_to, directory_behind, has_names, leads_to_names, unlink_refusal, link_refusal, link_change, is_same_name, replace_refusal, rename_refusal, is_loop, lies_within}
 use Rattle.node_graph.specs.Graph.{Kept, Names, kind_at, holds_at, SameHolds, KeepsNames, StandsFor, create_refusal}
-use Rattle.node_graph.specs.Ends.{Ends, end_of, edges_of}
+use Rattle.node_graph.specs.Ends.{Ends, HasNamesAsDirectory, end_of, edges_of}
 use Rattle.node_graph.specs.Rows.{kept_of, AreRows}
-use Rattle.node_graph.proofs.Linked.{get-edges_of}
+use Rattle.node_graph.proofs.RowLists.{mapped, same_some}
+use Rattle.node_graph.proofs.Linked.{get-edges_of, names_by}
 use Rattle.node_graph.proofs.Steps.{leads_count}
 use Rattle.node_graph.proofs.Calls.{child_seat}
 
@@ -30,6 +31,17 @@ linked_here nodes ends made rows key to there =
     let some = leads_count ends key to there in
     let P : Option Cell → Type 0 = λ o. IfSome o (λ cell. 0 < cell.links) in
     subst P (sym child.1) (omega (arith, count, some))
+
+-- what has names in it is a directory
+pub names_here : (nodes : Slab Cell) (ends : Ends) (made : ℕ) → AreRows nodes ends made → (key : EdgeKey) (to : Target) → finite.get ends key ≡ Some to → HasNamesAsDirectory ends to.node to.kind
+names_here nodes ends made rows key to there full =
+    let edge = names_by (edges_of ends) to.node.number full in
+    let inner = mapped end_of (finite.get ends edge.0) edge.1 (sym (get-edges_of ends edge.0) ∙ edge.2) in
+    let child = rows.children key to there in
+    let above = rows.parents edge.0 inner.0 inner.1 in
+    let place = rows.apart above.0 to.node.place above.1.0 child.0 above.1.1 child.1 (above.1.2 ∙ edge.3 ∙ sym child.2) in
+    let cell_is : above.1.0 ≡ child.0 = same_some _ _ (sym above.1.1 ∙ ap (get nodes) place ∙ child.1) in
+    ap is_directory (sym child.3 ∙ ap (λ (c : Cell). c.kind) (sym cell_is) ∙ above.1.3.0)
 
 module _ (nodes : Slab Cell) (ends : Ends) (made : ℕ) (graph : Kept) (view : kept_of nodes ends made ≡ graph) (rows : AreRows nodes ends made) (tree : Tree) (stands : StandsFor graph tree) where
   pub edges_are : edges_of ends ≡ tree.edges
@@ -205,7 +217,7 @@ pub replaced_bare : (ends : Ends) (kind : NodeKind) (gone : Option Target) → r
 replaced_bare ends kind None free = tt
 replaced_bare ends kind (Some to) free = replace_bare _ _ _ _ free
 
--- what is replaced is there, linked, and has a number that isn't the last one
+-- what is replaced is there, linked, has a number that isn't the last one, and names in it only as a directory
 pub replaced_present : (nodes : Slab Cell) (ends : Ends) (made : ℕ) → AreRows nodes ends made → (key : EdgeKey) (gone : Option Target) → finite.get ends key ≡ gone → IfSome gone (λ to. ContainsKey nodes to.node.place)
 replaced_present nodes ends made rows key None is = tt
 replaced_present nodes ends made rows key (Some to) is = ap is_some (rows.children key to is).1
@@ -221,6 +233,10 @@ replaced_number nodes ends made rows key (Some to) is =
     let most = rows.numbers to.node.place child.0 child.1 in
     let room = rows.room in
     omega (arith, child.2, most.1, room)
+
+pub replaced_names : (nodes : Slab Cell) (ends : Ends) (made : ℕ) → AreRows nodes ends made → (key : EdgeKey) (gone : Option Target) → finite.get ends key ≡ gone → IfSome gone (λ to. HasNamesAsDirectory ends to.node to.kind)
+replaced_names nodes ends made rows key None is = tt
+replaced_names nodes ends made rows key (Some to) is = names_here nodes ends made rows key to is
 
 module _ (nodes : Slab Cell) (ends : Ends) (made : ℕ) (graph : Kept) (view : kept_of nodes ends made ≡ graph) (rows : AreRows nodes ends made) (tree : Tree) (stands : StandsFor graph tree) (from key : EdgeKey) where
   abbrev over : Option GraphFault

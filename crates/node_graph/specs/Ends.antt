@@ -13,6 +13,7 @@ pub use Rattle.node_graph.specs.Tree.{name_in}
 use Rattle.node_graph.specs.Tree.{EdgeKey, EdgeTo, Edges, HasNameLength, edge_cmp}
 use Rattle.node_graph.specs.Codes.{key_code, node_code, kind_code, mask_code}
 use Rattle.node_graph.specs.Graph.{Listed, comes_after}
+use Rattle.node_graph.specs.Refusals.{has_names, is_directory}
 
 abbrev pub Ends : Type 0
 Ends = finite.FinMap edge_cmp Target
@@ -32,6 +33,10 @@ edge_of entry = (entry.0, end_of entry.1)
 
 unfoldable pub edges_of : Ends → Edges
 edges_of ends = finite.from_entries (map edge_of (finite.entries ends))
+
+-- a node of this kind has names in it only as a directory
+abbrev pub HasNamesAsDirectory : Ends → NodeRef → NodeKind → Type 0
+HasNamesAsDirectory ends node kind = has_names (edges_of ends) node.number ≡ true → is_directory kind ≡ true
 
 -- the rows stand in the order of their keys, and each name has 1 to 255 bytes
 pub record IsNamed (entries : List (EdgeKey × Target)) : Type 0 where

@@ -1,7 +1,7 @@
 ghost use Rattle.std.specs.Prelude.{◌≡◌, ◌≤◌, ◌<◌, ◌-◌, ◌^◌, take, length, All, OnOk, OnErr, OnSome};
 ghost use Rattle.std.specs.Option.{option_map};
 ghost use Rattle.std.specs.FinMap as finite;
-ghost use Rattle.node_graph.specs.Ends.{edges_of, ends_after, name_in, start_of};
+ghost use Rattle.node_graph.specs.Ends.{edges_of, HasNamesAsDirectory, ends_after, name_in, start_of};
 ghost use Rattle.node_graph.specs.Refusals.{has_names};
 ghost use Rattle.node_graph.specs.Short.{IsKeyOf};
 
@@ -155,12 +155,16 @@ impl Edges {
         Ok(())
     }
 
-    // Whether a node has names in it.
-    pub fn has_names(&self, directory: u64) -> bool
-        requires { directory < 2 ^ 64 - 1 }
-        ensures { result ≡ has_names (edges_of self.now) directory }
+    // Whether a node of this kind has names in it. Only a directory can have any, so no other is asked.
+    pub fn has_names(&self, node: NodeRef, kind: NodeKind) -> bool
+        requires number { node.number < 2 ^ 64 - 1 }
+        requires kind { HasNamesAsDirectory self.now node kind }
+        ensures { result ≡ has_names (edges_of self.now) node.number }
     {
-        let mut names = self.after(directory, None);
+        if !kind.is_directory() {
+            return false;
+        }
+        let mut names = self.after(node.number, None);
         names.next().is_some()
     }
 

@@ -8,7 +8,7 @@ use Rattle.node_graph.specs.Tree.{cut}
 use Rattle.node_graph.specs.Graph.{Kept, Settles}
 use Rattle.node_graph.specs.Ends.{Ends, name_in}
 use Rattle.node_graph.specs.Rows.{kept_of, AreRows}
-use Rattle.node_graph.proofs.Readings.{linked_here, behind, unlink_none, unlink_some, unlink_bare}
+use Rattle.node_graph.proofs.Readings.{linked_here, names_here, behind, unlink_none, unlink_some, unlink_bare}
 use Rattle.node_graph.proofs.Losses.{Turns, rows_lost, turns_lost}
 use Rattle.node_graph.proofs.graph.Graph.unlink.Goals as goal
 
@@ -25,6 +25,9 @@ returns-in_default c = record {
   holds = λ number. refl;
   names = λ node named kept. (named, refl);
 }
+
+pub unlink_fault-requires-clause-kind : goal.unlink_fault-requires-clause-kind
+unlink_fault-requires-clause-kind c = names_here c.self.inside.nodes c.self.inside.edges c.self.inside.made c.self.invariant (name_in c.args.dir.number c.args.name.now) c.in-Some.to (sym c.find.ensures.found ∙ c.in-Some.is)
 
 pub returns-in-Some-unlink_fault : goal.returns-in-Some-unlink_fault
 returns-in-Some-unlink_fault c = record {
