@@ -65,11 +65,11 @@ reached_here nodes ends made graph node view rows names directory stays_linked =
     ap (nat_lt 0) (rows.links node.place h.cell h.at ∙ ap (link_count (edges_of ends)) h.number) ∙ sym (linked_counted (edges_of ends) node.number) ∙ ap (λ (g : Kept). is_linked g.edges node.number) view in
     (h.cell, h.at, h.number, (kind, ap (λ n. n == 1 || nat_lt 0 h.cell.links) h.number ∙ ap (λ b. node.number == 1 || b) linked ∙ either (node.number == 1) (is_linked graph.edges node.number) stays_linked))
 
-module _ (nodes reserved new : Slab Cell) (ends ends_new : Ends) (made : ℕ) (graph : Kept) (dir : NodeRef) (name : List ℕ) (kind : NodeKind) (mask : OperationSet) (place : ℕ) (is : Cell)
+module _ (nodes reserved new : Slab Cell) (ends ends_new : Ends) (made : ℕ) (graph : Kept) (dir : NodeRef) (name : List ℕ) (kind : NodeKind) (mask : OperationSet) (bytes : List ℕ) (place : ℕ) (is : Cell)
     (view : kept_of nodes ends made ≡ graph) (rows : AreRows nodes ends made) (names : Names graph dir) (directory : kind_at graph dir.number ≡ Some Directory)
     (free : create_refusal graph.edges (name_in dir.number name) ≡ None) (room : graph.made < 2 ^ 63)
     (room_made : reserved.slots ≡ nodes.slots) (vacant : get reserved place ≡ None)
-    (is_it : is ≡ record { number = made + 1; kind = kind; bytes = []; holds = 0; links = 1; parent = dir })
+    (is_it : is ≡ record { number = made + 1; kind = kind; bytes = bytes; holds = 0; links = 1; parent = dir })
     (put : ends_new ≡ finite.insert ends (name_in dir.number name) (record { node = record { place = place; number = made + 1 }; kind = kind; mask = mask }))
     (u : Updates reserved new place (Some is)) where
   abbrev key : EdgeKey
@@ -130,7 +130,6 @@ module _ (nodes reserved new : Slab Cell) (ends ends_new : Ends) (made : ℕ) (g
               | other eq b ↦ record { place = s.place; cell = s.cell; at = sym (step.others s.place eq) ∙ s.at; number = s.number; seat_is = s.seat_is }
             ])
             (λ seat s. record { place = s.place; cell = s.cell; at = kept_at s.place s.cell s.at; number = s.number; seat_is = s.seat_is });
-        bytes = ap (λ (c : Cell). c.bytes) is_it;
         holds = ap (λ (c : Cell). c.holds) is_it;
         child = refl;
       })

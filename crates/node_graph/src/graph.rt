@@ -62,7 +62,8 @@ impl Graph {
     {
         let mut nodes = Slab::new(alloc);
         nodes.reserve(1)?;
-        nodes.insert_reserved(Node::new(alloc, 1, NodeKind::Directory, 0, ROOT));
+        let root = Node::new(1, NodeKind::Directory, Vec::new(alloc), 0, ROOT);
+        nodes.insert_reserved(root);
         Ok(Graph {
             nodes,
             edges: Edges::new(alloc),
