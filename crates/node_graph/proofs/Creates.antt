@@ -10,7 +10,7 @@ use Rattle.node_graph.specs.declared.faults.GraphFault.TheVariants as fault
 use Rattle.node_graph.specs.declared.nodes.NodeKind.{NodeKind}
 use Rattle.node_graph.specs.declared.nodes.NodeKind.TheVariants.{Directory}
 use Rattle.node_graph.specs.declared.nodes.NodeRef.{NodeRef}
-use Rattle.node_graph.specs.declared.edges.Target.{Target}
+use Rattle.node_graph.specs.declared.nodes.Entry.{Entry}
 use Rattle.node_graph.specs.Cell.{Cell}
 use Rattle.node_graph.specs.Tree.{Edges, EdgeKey, is_linked, is_removed, link_count}
 use Rattle.node_graph.specs.Graph.{Seat, Kept, seat_of, Names, kind_at, create_refusal}
@@ -22,7 +22,7 @@ use Rattle.node_graph.proofs.Linked.{get-edges_of, edges_of-insert, len-edges_of
 use Rattle.node_graph.proofs.Seats.{seat_came, seat_at, here, same_seat}
 use Rattle.node_graph.proofs.Steps.{Made, made_rows}
 
-pub unmapped : (o : Option Target) → option_map end_of o ≡ None → o ≡ None
+pub unmapped : (o : Option Entry) → option_map end_of o ≡ None → o ≡ None
 unmapped None e = refl
 unmapped (Some to) e = absurd (let wrong : Some (end_of to) ≡ None = e in cc)
 
@@ -75,7 +75,7 @@ module _ (nodes reserved new : Slab Cell) (ends ends_new : Ends) (made : ℕ) (g
   abbrev key : EdgeKey
   key = name_in dir.number name
 
-  abbrev to : Target
+  abbrev to : Entry
   to = record { node = record { place = place; number = made + 1 }; kind = kind; mask = mask }
 
   same_slots : (p : ℕ) → get reserved p ≡ get nodes p

@@ -8,7 +8,7 @@ use Rattle.std.specs.Ordering.{is_eq, eq_by_cmp}
 use Rattle.std.specs.FinMap as finite
 use Rattle.std.specs.FinMap.Entries as entry
 use Rattle.std.proofs.lemmas.Bool.Decides.{nat_tests}
-use Rattle.node_graph.specs.declared.edges.Target.{Target}
+use Rattle.node_graph.specs.declared.nodes.Entry.{Entry}
 use Rattle.node_graph.specs.Tree.{EdgeKey, EdgeTo, Edges, edge_cmp, link_count, is_linked}
 use Rattle.node_graph.specs.Refusals.{has_names}
 use Rattle.node_graph.specs.Ends.{Ends, end_of, edge_of, edges_of}
@@ -16,7 +16,7 @@ use Rattle.node_graph.proofs.Ordered.{edges_total, same_edges, standing, earlier
 
 -- ---- the edges of kept names
 
-find-mapped : (es : List (EdgeKey × Target)) (q : EdgeKey) → entry.find edge_cmp q (map edge_of es) ≡ option_map end_of (entry.find edge_cmp q es)
+find-mapped : (es : List (EdgeKey × Entry)) (q : EdgeKey) → entry.find edge_cmp q (map edge_of es) ≡ option_map end_of (entry.find edge_cmp q es)
 find-mapped [] q = refl
 find-mapped (e ∷ es) q =
     elim (is_eq (edge_cmp q e.0)) as (λ b. cond b (Some (end_of e.1)) (entry.find edge_cmp q (map edge_of es)) ≡ option_map end_of (cond b (Some e.1) (entry.find edge_cmp q es))) [
@@ -28,15 +28,15 @@ pub get-edges_of : (ends : Ends) (q : EdgeKey) → finite.get (edges_of ends) q 
 unfolding edges_of
 get-edges_of ends q = finite.get-from_entries edges_total _ q ∙ find-mapped (finite.entries ends) q ∙ ap (option_map end_of) (sym (finite.get-entries ends q))
 
-mapped_cond : (b : Bool) (x : Target) (o : Option Target) → option_map end_of (cond b (Some x) o) ≡ cond b (Some (end_of x)) (option_map end_of o)
+mapped_cond : (b : Bool) (x : Entry) (o : Option Entry) → option_map end_of (cond b (Some x) o) ≡ cond b (Some (end_of x)) (option_map end_of o)
 mapped_cond true x o = refl
 mapped_cond false x o = refl
 
-mapped_cut : (b : Bool) (o : Option Target) → option_map end_of (cond b None o) ≡ cond b None (option_map end_of o)
+mapped_cut : (b : Bool) (o : Option Entry) → option_map end_of (cond b None o) ≡ cond b None (option_map end_of o)
 mapped_cut true o = refl
 mapped_cut false o = refl
 
-pub edges_of-insert : (ends : Ends) (key : EdgeKey) (to : Target) → edges_of (finite.insert ends key to) ≡ finite.insert (edges_of ends) key (end_of to)
+pub edges_of-insert : (ends : Ends) (key : EdgeKey) (to : Entry) → edges_of (finite.insert ends key to) ≡ finite.insert (edges_of ends) key (end_of to)
 edges_of-insert ends key to = same_edges _ _ (λ q.
     get-edges_of (finite.insert ends key to) q
     ∙ ap (option_map end_of) (finite.get-insert edges_total ends key to q)
@@ -55,14 +55,14 @@ edges_of-remove ends key = same_edges _ _ (λ q.
 pub edges_of-empty : edges_of finite.empty ≡ finite.empty
 edges_of-empty = same_edges _ _ (λ q. get-edges_of finite.empty q ∙ ap (option_map end_of) (finite.get-empty edge_cmp q) ∙ sym (finite.get-empty edge_cmp q))
 
-sorted_mapped : (es : List (EdgeKey × Target)) → finite.is_sorted edge_cmp es ≡ true → finite.is_sorted edge_cmp (map edge_of es) ≡ true
+sorted_mapped : (es : List (EdgeKey × Entry)) → finite.is_sorted edge_cmp es ≡ true → finite.is_sorted edge_cmp (map edge_of es) ≡ true
 sorted_mapped es sorted = same_tests es ∙ sorted
   where
-    same_below : (key : EdgeKey) (es : List (EdgeKey × Target)) → entry.below_all edge_cmp key (map edge_of es) ≡ entry.below_all edge_cmp key es
+    same_below : (key : EdgeKey) (es : List (EdgeKey × Entry)) → entry.below_all edge_cmp key (map edge_of es) ≡ entry.below_all edge_cmp key es
     same_below key [] = refl
     same_below key (e ∷ es) = rw (same_below key es) refl
 
-    same_tests : (es : List (EdgeKey × Target)) → finite.is_sorted edge_cmp (map edge_of es) ≡ finite.is_sorted edge_cmp es
+    same_tests : (es : List (EdgeKey × Entry)) → finite.is_sorted edge_cmp (map edge_of es) ≡ finite.is_sorted edge_cmp es
     same_tests [] = refl
     same_tests (e ∷ es) = rw (same_below e.0 es, same_tests es) refl
 

@@ -3,10 +3,9 @@ ghost use Rattle.node_graph.specs.declared.nodes.NodeKind.TheVariants.{Directory
 ghost use Rattle.node_graph.specs.Tree.{make, new_row};
 ghost use Rattle.node_graph.specs.Graph.{number_of, Names, kind_at, Leads, SameHolds, KeepsNames, Answers, create_refusal};
 
-use crate::edges::Target;
 use crate::faults::GraphFault;
 use crate::graph::Graph;
-use crate::nodes::{NodeKind, NodeRef};
+use crate::nodes::{Entry, NodeKind, NodeRef};
 use crate::rows::Node;
 use fidl_names::{MAX_FILE, MAX_NAME, MAX_NAMES, NoMemory};
 use io_rights::Rights;
@@ -78,7 +77,12 @@ impl Graph {
             place: self.nodes.vacant_key(),
             number: self.made + 1,
         };
-        self.edges.put(dir.number, name, target(child, kind, mask))?;
+        let entry = Entry {
+            node: child,
+            kind,
+            mask,
+        };
+        self.edges.put(dir.number, name, entry)?;
         let row = Node::new(child.number, kind, bytes, 1, dir);
         self.nodes.insert_reserved(row);
         self.made = child.number;
@@ -101,11 +105,4 @@ impl Graph {
         }
         None
     }
-}
-
-// Where a new node's name leads.
-fn target(node: NodeRef, kind: NodeKind, mask: Rights) -> Target
-    ensures { result ≡ record { node = node; kind = kind; mask = mask } }
-{
-    Target { node, kind, mask }
 }

@@ -1,7 +1,7 @@
 use Rattle.std.proofs.Common.{◌∙◌, ap, sym, subst, refl, Ok, Err, Option}
 use Rattle.std.specs.Prelude.{ℕ, OnSome, length, ◌≤◌}
 use Rattle.fidl_names.specs.declared.limits.TheConstants as limit
-use Rattle.node_graph.specs.declared.edges.Target.{Target}
+use Rattle.node_graph.specs.declared.nodes.Entry.{Entry}
 use Rattle.node_graph.specs.declared.faults.GraphFault.{GraphFault}
 use Rattle.node_graph.specs.declared.faults.GraphFault.TheVariants as fault
 use Rattle.node_graph.specs.Tree.{cut}
@@ -44,7 +44,7 @@ returns-in-Some-unlink_fault c = record {
 }
 
 pub cut-requires : goal.cut-requires
-cut-requires c = let P : Option Target → Type 0 = λ o. OnSome o (length c.args.name.now ≤ limit.MAX_NAME) in subst P c.in-Some.is c.find.ensures.few
+cut-requires c = let P : Option Entry → Type 0 = λ o. OnSome o (length c.args.name.now ≤ limit.MAX_NAME) in subst P c.in-Some.is c.find.ensures.few
 
 pub lose_name-requires-clause-linked : goal.lose_name-requires-clause-linked
 lose_name-requires-clause-linked c =
