@@ -4,6 +4,7 @@ use Rattle.std.specs.FinMap as finite
 use Rattle.fidl_names.specs.declared.statuses.Status.{Status}
 use Rattle.io_flags.specs.Grants.{explicit_rights}
 use Rattle.io_rights.specs.Operations.{OperationSet, is_within}
+use Rattle.node_graph.specs.declared.nodes.Entry.{Entry}
 use Rattle.node_graph.specs.declared.nodes.NodeRef.{NodeRef}
 use Rattle.node_graph.specs.declared.nodes.NodeKind.{NodeKind}
 use Rattle.node_graph.specs.declared.nodes.NodeKind.TheVariants.{Directory}
@@ -12,7 +13,6 @@ use Rattle.node_graph.specs.Tree.{EdgeTo, is_linked}
 use Rattle.path_walk.specs.Names.{IsName}
 use Rattle.conn_rules.specs.Nodes.{is_file, is_mount}
 use Rattle.conn_rules.specs.Walks.{Walk, arrives, missing, crosses, stops, limit_of}
-use Rattle.dir_conn.specs.declared.steps.Found.{Found}
 use Rattle.dir_conn.specs.declared.steps.Spot.{Spot}
 use Rattle.dir_conn.specs.declared.steps.Step.{Step}
 use Rattle.dir_conn.specs.declared.steps.Step.TheVariants as step
@@ -34,7 +34,7 @@ reach rights (crosses mount rest masks) = at_mount mount rest (limit_of rights m
 reach rights (stops status) = nowhere status
 
 -- the edge that was found
-abbrev pub edge_of : Found → EdgeTo
+abbrev pub edge_of : Entry → EdgeTo
 edge_of found = record { child = number_of found.node; mask = found.mask }
 
 -- the end that one of the code stands for
@@ -50,7 +50,7 @@ leading (step.Enters spot rest) onward = reach spot.limit (onward rest (number_o
 leading (step.Ends end) onward = reached end
 
 -- the graph keeps the node, which is of this kind, and a name leads to it
-pub record IsKept (graph : Kept) (found : Found) : Type 0 where
+pub record IsKept (graph : Kept) (found : Entry) : Type 0 where
   pub named : Names graph found.node
   pub kind : kind_at graph (number_of found.node) ≡ Some found.kind
   pub linked : is_linked graph.edges (number_of found.node) ≡ true

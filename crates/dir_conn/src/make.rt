@@ -1,17 +1,13 @@
 //! What an Open does whose last name is missing.
 
-ghost use Rattle.std.specs.Prelude.{◌≡◌, ◌<◌, ◌^◌, ◌+◌, false, None, Some, [], ◌∷◌, IfOk, OnOk, OnErr};
+ghost use Rattle.std.specs.Prelude.{◌≡◌, ◌<◌, ◌^◌, false, None, [], ◌∷◌};
 ghost use Rattle.fidl_names.specs.First.{first_of};
-ghost use Rattle.io_rights.specs.Operations.{all};
-ghost use Rattle.node_graph.specs.declared.nodes.NodeKind.TheVariants.{Directory};
-ghost use Rattle.node_graph.specs.Graph.{Leads, Names, create_refusal, kind_at, number_of};
-ghost use Rattle.node_graph.specs.Tree.{make, new_row};
-ghost use Rattle.path_walk.specs.Names.{IsName};
+ghost use Rattle.node_graph.specs.Graph.{Names, create_refusal, number_of};
 ghost use Rattle.conn_rules.specs.Answers.{added};
 ghost use Rattle.conn_rules.specs.Nodes.{is_mount};
 ghost use Rattle.conn_rules.specs.Opens.{connects_without_right, kind_made, making, making_refusals};
 ghost use Rattle.conn_rules.specs.Served.{told_by};
-ghost use Rattle.dir_conn.specs.Opened.{IsOpened, Keeps, act_at, bare};
+ghost use Rattle.dir_conn.specs.Opened.{IsOpened, act_at, bare};
 ghost use Rattle.dir_conn.specs.Reaches.{IsMissing, at_nothing};
 
 use crate::arrive::birth_for;
@@ -20,7 +16,7 @@ use conn_rules::{At, Changes, Room};
 use fidl_names::{MAX_NAMES, NoMemory, Status};
 use io_flags::{Flag, OpenFlags};
 use io_rights::Rights;
-use node_graph::{Graph, GraphFault, NodeKind, NodeRef};
+use node_graph::{Graph, NodeKind, NodeRef};
 
 /// Makes the node that an Open misses and binds it, unless it is refused.
 pub(crate) fn make<'a>(
@@ -76,7 +72,7 @@ fn bind_made<'a>(
 {
     let kind = kind_made(flags);
     let dir = graph.number(directory);
-    match create(graph, directory, name, kind) {
+    match graph.make(directory, name, kind, Rights::all(), &[]) {
         Ok(node) => DirServed::Bind(birth_for(flags, node, kind, limit), new_name(dir, name)),
         Err(NoMemory) => DirServed::NoMemory,
     }
@@ -103,31 +99,5 @@ fn kind_made(flags: OpenFlags) -> NodeKind
         NodeKind::Directory
     } else {
         NodeKind::File
-    }
-}
-
-/// Makes a node, where nothing refuses it.
-fn create(
-    graph: &mut Graph,
-    directory: NodeRef,
-    name: &[u8],
-    kind: NodeKind,
-) -> Result<NodeRef, NoMemory>
-    requires named { Names graph.old directory }
-    requires directory { kind_at graph.old (number_of directory) ≡ Some Directory }
-    requires valid { IsName name.now }
-    requires made { graph.old.made < 2 ^ 63 }
-    requires free { create_refusal graph.old.edges (record { directory = number_of directory; name = name.now }) ≡ None }
-    ensures unchanged { OnErr result (graph.new ≡ graph.old) }
-    ensures created { OnOk result (Leads graph.old graph.new (make (record { directory = number_of directory; name = name.now }) (new_row kind) all)) }
-    ensures number { IfOk result (λ node. number_of node ≡ graph.old.made + 1) }
-    ensures named { IfOk result (λ node. Names graph.new node) }
-    ensures kind { IfOk result (λ node. kind_at graph.new (number_of node) ≡ Some kind) }
-    ensures keeps { Keeps graph.old graph.new }
-{
-    match graph.create(directory, name, kind, Rights::all()) {
-        Ok(node) => Ok(node),
-        Err(GraphFault::NoMemory) => Err(NoMemory),
-        Err(_) => unreachable!(),
     }
 }

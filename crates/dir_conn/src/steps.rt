@@ -14,7 +14,7 @@ ghost use Rattle.dir_conn.specs.Reaches.{reach, reached, leading, edge_of, IsKep
 use fidl_names::Status;
 use io_flags::{OpenFlags, asked, explicit};
 use io_rights::{Operation, Rights};
-use node_graph::{Graph, NodeKind, NodeRef};
+use node_graph::{Entry, Graph, NodeKind, NodeRef};
 use path_walk::Path;
 
 /// Where the names of a path lead, with what the masks leave of the rights.
@@ -50,14 +50,6 @@ pub(crate) struct Spot {
 pub(crate) enum Step<'a> {
     Enters(Spot, Path<'a>),
     Ends(Walked<'a>),
-}
-
-/// What a name leads to: a node, the mask of the rights that pass, and what the node is.
-#[derive(Clone, Copy)]
-pub(crate) struct Found {
-    pub node: NodeRef,
-    pub mask: Rights,
-    pub kind: NodeKind,
 }
 
 /// Takes the first name of a path.
@@ -135,7 +127,7 @@ fn take_inner<'a>(
 }
 
 /// What the last name leads to. A mount wants what the flags ask for, any other node what they name.
-fn last_name<'a>(flags: OpenFlags, found: Found, limit: Rights, end: Path<'a>) -> Walked<'a>
+fn last_name<'a>(flags: OpenFlags, found: Entry, limit: Rights, end: Path<'a>) -> Walked<'a>
     requires end { end ≡ [] }
     ensures leads { reached result ≡ reach limit (last_by_kind flags (edge_of found) found.kind) }
     ensures arrived { (graph : Kept) → IsKept graph found → IsTrue (is_within (explicit_rights flags) limit) → Arrived graph flags result }
@@ -151,7 +143,7 @@ fn last_name<'a>(flags: OpenFlags, found: Found, limit: Rights, end: Path<'a>) -
 
 /// A node is reached where the mask of its name has the rights that the flags name.
 #[tactic(auto, using(io_rights::proofs::OperationSets::within_meet))]
-fn arrive<'a>(flags: OpenFlags, found: Found, limit: Rights) -> Walked<'a>
+fn arrive<'a>(flags: OpenFlags, found: Entry, limit: Rights) -> Walked<'a>
     requires crossed { is_mount found.kind ≡ false }
     ensures leads { result ≡ if is_within (explicit_rights flags) found.mask then Walked.Arrives found.node found.kind (meet limit found.mask) else Walked.Stops Status.AccessDenied }
     ensures arrived { (graph : Kept) → IsKept graph found → IsTrue (is_within (explicit_rights flags) limit) → Arrived graph flags result }
@@ -179,7 +171,7 @@ fn cross<'a>(wanted: Rights, mask: Rights, mount: u32, rest: Path<'a>, limit: Ri
 }
 
 /// What a name before the last leads to: it wants TRAVERSE and what the flags ask for, and leads to a directory or a mount.
-fn inner_name<'a>(flags: OpenFlags, found: Found, limit: Rights, rest: Path<'a>) -> Step<'a>
+fn inner_name<'a>(flags: OpenFlags, found: Entry, limit: Rights, rest: Path<'a>) -> Step<'a>
     ensures leads { (onward : List (List ℕ) → ℕ → Walk) →
         leading result onward ≡ reach limit (inner_by_kind flags rest.entry (edge_of found) found.kind (onward rest.entry (number_of found.node))) }
     ensures goes_on { (graph : Kept) → IsKept graph found → IsTrue (is_within (explicit_rights flags) limit) → GoesOn graph flags (length rest.entry + 1) result }
@@ -204,7 +196,7 @@ fn inner_name<'a>(flags: OpenFlags, found: Found, limit: Rights, rest: Path<'a>)
 }
 
 /// What a name of a directory leads to.
-fn look(graph: &Graph, directory: NodeRef, name: &[u8]) -> Option<Found>
+fn look(graph: &Graph, directory: NodeRef, name: &[u8]) -> Option<Entry>
     requires named { Names graph.now directory }
     requires directory { kind_at graph.now (number_of directory) ≡ Some Directory }
     ensures edge { (tree : Tree) → StandsFor graph.now tree →
@@ -213,12 +205,5 @@ fn look(graph: &Graph, directory: NodeRef, name: &[u8]) -> Option<Found>
     ensures row { IfSome result (λ found. (tree : Tree) → StandsFor graph.now tree → kind_here tree (number_of found.node) ≡ found.kind) }
     ensures kept { IfSome result (IsKept graph.now) }
 {
-    match graph.lookup(directory, name) {
-        None => None,
-        Some(entry) => Some(Found {
-            node: entry.node,
-            mask: entry.mask,
-            kind: graph.kind(entry.node),
-        }),
-    }
+    graph.lookup(directory, name)
 }

@@ -5,7 +5,7 @@ use Rattle.std.specs.Option.{option_map, option_map_or}
 use Rattle.std.specs.FinMap as finite
 use Rattle.slab.specs.Slab.{Slab, get, Updates}
 use Rattle.node_graph.specs.declared.nodes.NodeKind.TheVariants.{Directory}
-use Rattle.node_graph.specs.declared.edges.Target.{Target}
+use Rattle.node_graph.specs.declared.nodes.Entry.{Entry}
 use Rattle.node_graph.specs.Cell.{Cell}
 use Rattle.node_graph.specs.Tree.{EdgeKey, EdgeTo, Edges, edge_cmp, link_count, row_of, bare_tree}
 use Rattle.node_graph.specs.Graph.{Seat, Kept, seat_of, kind_at, holds_at, StandsFor}
@@ -23,7 +23,7 @@ root_cell = record { number = 1; kind = Directory; bytes = []; holds = 0; links 
 no_links : (n : ℕ) → link_count finite.empty n ≡ 0
 no_links n = ap (λ (es : List (EdgeKey × EdgeTo)). length (filter (λ (to : EdgeTo). to.child == n) (map (λ (e : EdgeKey × EdgeTo). e.1) es))) (entries-map_of [] refl)
 
-no_end : (key : EdgeKey) (to : Target) → finite.get {R = edge_cmp} finite.empty key ≡ Some to → ⊥
+no_end : (key : EdgeKey) (to : Entry) → finite.get {R = edge_cmp} finite.empty key ≡ Some to → ⊥
 no_end key to there = let wrong : None ≡ Some to = sym (finite.get-empty edge_cmp key) ∙ there in cc
 
 module _ (bare nodes : Slab Cell) (place : ℕ) (none : (p : ℕ) → get bare p ≡ None) (first : place ≡ 0) (u : Updates bare nodes place (Some root_cell)) where
@@ -45,7 +45,7 @@ module _ (bare nodes : Slab Cell) (place : ℕ) (none : (p : ℕ) → get bare p
     one_name = λ p c there single. let links : c.links ≡ 0 = ap (λ (c : Cell). c.links) (only p c there).1 in omega (arith, links);
     ways_up = λ key to c there directory at. absurd (no_end key to there);
     no_loop = subst NoLoop (sym edges_of-empty) no_loop_bare;
-    few = omega (arith, finite.len-empty edge_cmp Target);
+    few = omega (arith, finite.len-empty edge_cmp Entry);
     room = omega arith;
   }
 

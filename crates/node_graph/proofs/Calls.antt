@@ -1,6 +1,6 @@
 -- What a call finds at a node that is named, and what stands after it wrote there.
-use Rattle.std.proofs.Common.{◌≡◌, ◌≢◌, ℕ, ◌+◌, ◌-◌, ◌<◌, List, Option, Some, refl, ap, sym, ◌∙◌, arith, true, false, nat_lt, cond, not, nat_eq, ◌^◌}
-use Rattle.std.specs.Prelude.{◌==◌, ◌||◌, ◌&&◌}
+use Rattle.std.proofs.Common.{◌≡◌, ◌≢◌, ℕ, ◌+◌, ◌-◌, ◌<◌, List, Option, Some, None, refl, ap, sym, ◌∙◌, arith, true, false, nat_lt, cond, not, nat_eq, ◌^◌}
+use Rattle.std.specs.Prelude.{◌==◌, ◌||◌, ◌&&◌, IfSome}
 use Rattle.std.specs.Option.{option_map, option_map_or}
 use Rattle.std.specs.FinMap as finite
 use Rattle.std.proofs.lemmas.Bool.Decides.{nat_tests}
@@ -8,7 +8,7 @@ use Rattle.std.proofs.lemmas.Grind.{common_steps}
 use Rattle.slab.specs.Slab.{Slab, get, Updates, with_value}
 use Rattle.slab.proofs.SlabLemmas.{Updates-with_value}
 use Rattle.node_graph.specs.declared.nodes.NodeRef.{NodeRef}
-use Rattle.node_graph.specs.declared.edges.Target.{Target}
+use Rattle.node_graph.specs.declared.nodes.Entry.{Entry}
 use Rattle.node_graph.specs.Cell.{Cell}
 use Rattle.node_graph.specs.Tree.{Edges, EdgeKey, link_count, is_linked, is_removed, stay}
 use Rattle.node_graph.specs.Graph.{Seat, Kept, seat_of, Names, kind_at, holds_at, Leads, HoldsNow, KeepsNames}
@@ -89,17 +89,25 @@ module _ (nodes : Slab Cell) (ends : Ends) (made : ℕ) (graph : Kept) (node : N
 
 -- what a name leads to is named, and is of the kind that is kept with the name
 module _ (nodes : Slab Cell) (ends : Ends) (made : ℕ) (graph : Kept) (view : kept_of nodes ends made ≡ graph) (rows : AreRows nodes ends made) where
-  pub child_seat : (key : EdgeKey) (to : Target) (there : finite.get ends key ≡ Some to) → seat_of graph to.node.number ≡ Some (seat_from to.node.place (rows.children key to there).0)
+  pub child_seat : (key : EdgeKey) (to : Entry) (there : finite.get ends key ≡ Some to) → seat_of graph to.node.number ≡ Some (seat_from to.node.place (rows.children key to there).0)
   child_seat key to there =
       let child = rows.children key to there in
       ap (λ (g : Kept). seat_of g to.node.number) (sym view) ∙ ap (seat_of (kept_of nodes ends made)) (sym child.2) ∙ seat_at nodes rows.apart to.node.place child.0 child.1
 
-  pub child_named : (key : EdgeKey) (to : Target) → finite.get ends key ≡ Some to → Names graph to.node
+  pub child_named : (key : EdgeKey) (to : Entry) → finite.get ends key ≡ Some to → Names graph to.node
   child_named key to there =
       ap (option_map (λ (s : Seat). s.node)) (child_seat key to there) ∙ ap (λ n. Some (record { place = to.node.place; number = n })) (rows.children key to there).2
 
-  pub child_kind : (key : EdgeKey) (to : Target) → finite.get ends key ≡ Some to → kind_at graph to.node.number ≡ Some to.kind
+  pub child_kind : (key : EdgeKey) (to : Entry) → finite.get ends key ≡ Some to → kind_at graph to.node.number ≡ Some to.kind
   child_kind key to there = ap (option_map (λ (s : Seat). s.kind)) (child_seat key to there) ∙ ap Some (rows.children key to there).3
+
+  pub found_named : (key : EdgeKey) (o : Option Entry) → o ≡ finite.get ends key → IfSome o (λ entry. Names graph entry.node)
+  found_named key None is = tt
+  found_named key (Some entry) is = child_named key entry (sym is)
+
+  pub found_kind : (key : EdgeKey) (o : Option Entry) → o ≡ finite.get ends key → IfSome o (λ entry. kind_at graph entry.node.number ≡ Some entry.kind)
+  found_kind key None is = tt
+  found_kind key (Some entry) is = child_kind key entry (sym is)
 
   pub number_small : (node : NodeRef) → Names graph node → node.number < 2 ^ 64 - 1
   number_small node names =
@@ -109,7 +117,7 @@ module _ (nodes : Slab Cell) (ends : Ends) (made : ℕ) (graph : Kept) (view : k
       let room = rows.room in
       omega (arith, range.1, number, room)
 
-  pub edge_found : (key : EdgeKey) (o : Option Target) → o ≡ finite.get ends key → option_map end_of o ≡ finite.get graph.edges key
+  pub edge_found : (key : EdgeKey) (o : Option Entry) → o ≡ finite.get ends key → option_map end_of o ≡ finite.get graph.edges key
   edge_found key o is = ap (option_map end_of) is ∙ sym (get-edges_of ends key) ∙ ap (λ (g : Kept). finite.get g.edges key) view
 
 pub removed_counted : (edges : Edges) (n links : ℕ) → n ≢ 1 → links ≡ link_count edges n → nat_eq links 0 ≡ is_removed edges n

@@ -10,7 +10,7 @@ use Rattle.node_graph.specs.declared.faults.GraphFault.TheVariants as fault
 use Rattle.node_graph.specs.declared.nodes.NodeKind.{NodeKind}
 use Rattle.node_graph.specs.declared.nodes.NodeKind.TheVariants.{Directory}
 use Rattle.node_graph.specs.declared.nodes.NodeRef.{NodeRef}
-use Rattle.node_graph.specs.declared.edges.Target.{Target}
+use Rattle.node_graph.specs.declared.nodes.Entry.{Entry}
 use Rattle.node_graph.specs.Cell.{Cell}
 use Rattle.node_graph.specs.Tree.{Edges, EdgeKey, is_linked, is_removed, link_count}
 use Rattle.node_graph.specs.Graph.{Seat, Kept, seat_of, Names, kind_at, create_refusal}
@@ -22,7 +22,7 @@ use Rattle.node_graph.proofs.Linked.{get-edges_of, edges_of-insert, len-edges_of
 use Rattle.node_graph.proofs.Seats.{seat_came, seat_at, here, same_seat}
 use Rattle.node_graph.proofs.Steps.{Made, made_rows}
 
-pub unmapped : (o : Option Target) → option_map end_of o ≡ None → o ≡ None
+pub unmapped : (o : Option Entry) → option_map end_of o ≡ None → o ≡ None
 unmapped None e = refl
 unmapped (Some to) e = absurd (let wrong : Some (end_of to) ≡ None = e in cc)
 
@@ -65,17 +65,17 @@ reached_here nodes ends made graph node view rows names directory stays_linked =
     ap (nat_lt 0) (rows.links node.place h.cell h.at ∙ ap (link_count (edges_of ends)) h.number) ∙ sym (linked_counted (edges_of ends) node.number) ∙ ap (λ (g : Kept). is_linked g.edges node.number) view in
     (h.cell, h.at, h.number, (kind, ap (λ n. n == 1 || nat_lt 0 h.cell.links) h.number ∙ ap (λ b. node.number == 1 || b) linked ∙ either (node.number == 1) (is_linked graph.edges node.number) stays_linked))
 
-module _ (nodes reserved new : Slab Cell) (ends ends_new : Ends) (made : ℕ) (graph : Kept) (dir : NodeRef) (name : List ℕ) (kind : NodeKind) (mask : OperationSet) (place : ℕ) (is : Cell)
+module _ (nodes reserved new : Slab Cell) (ends ends_new : Ends) (made : ℕ) (graph : Kept) (dir : NodeRef) (name : List ℕ) (kind : NodeKind) (mask : OperationSet) (bytes : List ℕ) (place : ℕ) (is : Cell)
     (view : kept_of nodes ends made ≡ graph) (rows : AreRows nodes ends made) (names : Names graph dir) (directory : kind_at graph dir.number ≡ Some Directory)
     (free : create_refusal graph.edges (name_in dir.number name) ≡ None) (room : graph.made < 2 ^ 63)
     (room_made : reserved.slots ≡ nodes.slots) (vacant : get reserved place ≡ None)
-    (is_it : is ≡ record { number = made + 1; kind = kind; bytes = []; holds = 0; links = 1; parent = dir })
+    (is_it : is ≡ record { number = made + 1; kind = kind; bytes = bytes; holds = 0; links = 1; parent = dir })
     (put : ends_new ≡ finite.insert ends (name_in dir.number name) (record { node = record { place = place; number = made + 1 }; kind = kind; mask = mask }))
     (u : Updates reserved new place (Some is)) where
   abbrev key : EdgeKey
   key = name_in dir.number name
 
-  abbrev to : Target
+  abbrev to : Entry
   to = record { node = record { place = place; number = made + 1 }; kind = kind; mask = mask }
 
   same_slots : (p : ℕ) → get reserved p ≡ get nodes p
@@ -130,7 +130,6 @@ module _ (nodes reserved new : Slab Cell) (ends ends_new : Ends) (made : ℕ) (g
               | other eq b ↦ record { place = s.place; cell = s.cell; at = sym (step.others s.place eq) ∙ s.at; number = s.number; seat_is = s.seat_is }
             ])
             (λ seat s. record { place = s.place; cell = s.cell; at = kept_at s.place s.cell s.at; number = s.number; seat_is = s.seat_is });
-        bytes = ap (λ (c : Cell). c.bytes) is_it;
         holds = ap (λ (c : Cell). c.holds) is_it;
         child = refl;
       })

@@ -8,7 +8,7 @@ use Rattle.slab.specs.Slab.{Slab, get, Updates}
 use Rattle.fidl_names.specs.declared.limits.TheConstants as limit
 use Rattle.node_graph.specs.declared.nodes.NodeKind.TheVariants.{Directory}
 use Rattle.node_graph.specs.declared.nodes.NodeRef.{NodeRef}
-use Rattle.node_graph.specs.declared.edges.Target.{Target}
+use Rattle.node_graph.specs.declared.nodes.Entry.{Entry}
 use Rattle.node_graph.specs.Cell.{Cell}
 use Rattle.node_graph.specs.Tree.{Edges, EdgeKey, EdgeTo, link_count, has_one_name, add}
 use Rattle.node_graph.specs.Graph.{Kept, Names, kind_at, create_refusal}
@@ -44,7 +44,7 @@ links_few ends number =
     let all : length (finite.values (edges_of ends)) ≡ finite.len ends = length-mapped (λ (e : EdgeKey × EdgeTo). e.1) (finite.entries (edges_of ends)) ∙ sym (finite.len-entries (edges_of ends)) ∙ len-edges_of ends in
     omega (arith, few, all)
 
-module _ (old new : Slab Cell) (ends : Ends) (made : ℕ) (from key : EdgeKey) (to : Target) (was is : Cell)
+module _ (old new : Slab Cell) (ends : Ends) (made : ℕ) (from key : EdgeKey) (to : Entry) (was is : Cell)
     (rows : AreRows old ends made) (there : finite.get ends from ≡ Some to) (absent : finite.get ends key ≡ None) (at : get old to.node.place ≡ Some was)
     (u : Updates old new to.node.place (Some is)) (is_it : is ≡ record was { links = was.links + 1 })
     (up : (place : ℕ) × Sits old place key.directory (λ c. (c.kind ≡ Directory) × (is_reached c ≡ true)))
@@ -133,7 +133,7 @@ module _ (old new : Slab Cell) (ends : Ends) (made : ℕ) (from key : EdgeKey) (
     ];
     children = λ k t there_t. elim (comes ends key to k t there_t) [
       | fresh e t_is ↦
-          let P : Target → Type 0 = λ t. Sits new t.node.place t.node.number (λ c. c.kind ≡ t.kind) in
+          let P : Entry → Type 0 = λ t. Sits new t.node.place t.node.number (λ c. c.kind ≡ t.kind) in
           subst P t_is (on to.node.place to.node.number (λ c. c.kind ≡ to.kind) (λ same_kind. kind ∙ same_kind) (rows.children from to there))
       | known e was_there ↦ on t.node.place t.node.number (λ c. c.kind ≡ t.kind) (λ same_kind. kind ∙ same_kind) (rows.children k t was_there)
     ];
@@ -153,7 +153,7 @@ module _ (old new : Slab Cell) (ends : Ends) (made : ℕ) (from key : EdgeKey) (
     ];
     ways_up = λ k t c there_t directory c_at. elim (comes ends key to k t there_t) [
       | fresh e t_is ↦ absurd (
-          let single : has_one_name to.kind ≡ true = ap has_one_name (ap (λ (t : Target). t.kind) t_is ∙ directory) in
+          let single : has_one_name to.kind ≡ true = ap has_one_name (ap (λ (t : Entry). t.kind) t_is ∙ directory) in
           let wrong : false ≡ true = sym many ∙ single in
           cc
           )
@@ -190,7 +190,7 @@ module _ (old new : Slab Cell) (ends : Ends) (made : ℕ) (from key : EdgeKey) (
   }
 
 -- the same of a link as its call makes it
-module _ (nodes new : Slab Cell) (ends ends_new : Ends) (made : ℕ) (graph : Kept) (from : EdgeKey) (into : NodeRef) (name : List ℕ) (to : Target)
+module _ (nodes new : Slab Cell) (ends ends_new : Ends) (made : ℕ) (graph : Kept) (from : EdgeKey) (into : NodeRef) (name : List ℕ) (to : Entry)
     (view : kept_of nodes ends made ≡ graph) (rows : AreRows nodes ends made) (names : Names graph into) (directory : kind_at graph into.number ≡ Some Directory)
     (there : finite.get ends from ≡ Some to) (many : has_one_name to.kind ≡ false) (free : create_refusal graph.edges (name_in into.number name) ≡ None)
     (gains : GainsName nodes new to.node.place) (put : ends_new ≡ finite.insert ends (name_in into.number name) to) where
@@ -221,7 +221,7 @@ module _ (nodes new : Slab Cell) (ends ends_new : Ends) (made : ℕ) (graph : Ke
       subst P (sym put) (subst Q view (turns_gained nodes new ends made from key to gains.cell is rows there absent gains.at gains.updates refl up many room))
 
 -- there is room for one more name of a node that a name leads to
-pub links_room : (nodes : Slab Cell) (ends : Ends) (made : ℕ) → AreRows nodes ends made → (key : EdgeKey) (to : Target) → finite.get ends key ≡ Some to
+pub links_room : (nodes : Slab Cell) (ends : Ends) (made : ℕ) → AreRows nodes ends made → (key : EdgeKey) (to : Entry) → finite.get ends key ≡ Some to
     → IfSome (get nodes to.node.place) (λ cell. cell.links < 2 ^ 32 - 1)
 links_room nodes ends made rows key to there =
     let child = rows.children key to there in

@@ -11,7 +11,7 @@ use Rattle.std.proofs.Math.Nat.{pow-suc, pow-le-pow_right, one-le-pow, mul_comm,
 use Rattle.std.proofs.lemmas.Bool.Decides.{nat_tests}
 use Rattle.std.proofs.lemmas.Int.Digits.{number_after_lt, number_after_append}
 use Rattle.std.proofs.lemmas.List.{length-take-le, take_more}
-use Rattle.node_graph.specs.declared.edges.Target.{Target}
+use Rattle.node_graph.specs.declared.nodes.Entry.{Entry}
 use Rattle.node_graph.specs.declared.short.ShortName.{ShortName}
 use Rattle.node_graph.specs.declared.short.TheConstants as limit
 use Rattle.node_graph.specs.Tree.{EdgeKey, edge_cmp}
@@ -106,16 +106,16 @@ same_test d e a b fa fb =
 -- ---- the index
 
 -- under one key this is found now, and under each other what was
-abbrev pub ChangesAt : EdgeKey → Option Target → Ends → Ends → Type 0
+abbrev pub ChangesAt : EdgeKey → Option Entry → Ends → Ends → Type 0
 ChangesAt key found old new = (q : EdgeKey) → finite.get new q ≡ cond (eq_by_cmp edge_cmp q key) found (finite.get old q)
 
-pub changed_at : (old new : BTreeMap EdgeKey Target) (key name : EdgeKey) (found : Option Target) → UpdatesBy edge_cmp (edge_cmp key) old new found → key ≡ name → ChangesAt name found (map_of old.entries) (map_of new.entries)
+pub changed_at : (old new : BTreeMap EdgeKey Entry) (key name : EdgeKey) (found : Option Entry) → UpdatesBy edge_cmp (edge_cmp key) old new found → key ≡ name → ChangesAt name found (map_of old.entries) (map_of new.entries)
 changed_at old new key name found u is = subst (λ k. ChangesAt k found (map_of old.entries) (map_of new.entries)) is (get-changed old new key found u)
 
 pub no_index : IsIndex [] (map_of [])
 no_index = record { leads = λ d n short. sym (get-map_of [] (name_in d n)) }
 
-pub index_changes : (old new : List (ShortName × Target)) (names after : Ends) (key : ShortName) (directory : ℕ) (name : List ℕ) (found : Option Target) → IsKeyOf key directory name → IsIndex old names
+pub index_changes : (old new : List (ShortName × Entry)) (names after : Ends) (key : ShortName) (directory : ℕ) (name : List ℕ) (found : Option Entry) → IsKeyOf key directory name → IsIndex old names
     → ((q : ShortName) → lookup (is_same_key q) new ≡ cond (is_same_key key q) found (lookup (is_same_key q) old)) → ChangesAt (name_in directory name) found names after → IsIndex new after
 index_changes old new names after key directory name found of index changed kept = record {
   leads = λ d n short.
@@ -127,7 +127,7 @@ index_changes old new names after key directory name found of index changed kept
 }
 
 -- a longer name concerns no index
-pub index_stays : (index : List (ShortName × Target)) (names after : Ends) (directory : ℕ) (name : List ℕ) (found : Option Target) → limit.SHORT < length name → IsIndex index names
+pub index_stays : (index : List (ShortName × Entry)) (names after : Ends) (directory : ℕ) (name : List ℕ) (found : Option Entry) → limit.SHORT < length name → IsIndex index names
     → ChangesAt (name_in directory name) found names after → IsIndex index after
 index_stays index names after directory name found long is kept = record {
   leads = λ d n short. is.leads d n short ∙ sym (kept (name_in d n) ∙ ap (λ b. cond b found (finite.get names (name_in d n))) (apart d n short));
@@ -140,5 +140,5 @@ index_stays index names after directory name found long is kept = record {
     ]
 
 -- an index in another order
-pub index_reordered : (old new : List (ShortName × Target)) (names : Ends) → ((q : ShortName) → lookup (is_same_key q) new ≡ lookup (is_same_key q) old) → IsIndex old names → IsIndex new names
+pub index_reordered : (old new : List (ShortName × Entry)) (names : Ends) → ((q : ShortName) → lookup (is_same_key q) new ≡ lookup (is_same_key q) old) → IsIndex old names → IsIndex new names
 index_reordered old new names same_found index = record { leads = λ d n short. same_found (key_of d n) ∙ index.leads d n short }

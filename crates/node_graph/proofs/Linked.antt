@@ -8,14 +8,15 @@ use Rattle.std.specs.Ordering.{is_eq, eq_by_cmp}
 use Rattle.std.specs.FinMap as finite
 use Rattle.std.specs.FinMap.Entries as entry
 use Rattle.std.proofs.lemmas.Bool.Decides.{nat_tests}
-use Rattle.node_graph.specs.declared.edges.Target.{Target}
+use Rattle.node_graph.specs.declared.nodes.Entry.{Entry}
 use Rattle.node_graph.specs.Tree.{EdgeKey, EdgeTo, Edges, edge_cmp, link_count, is_linked}
+use Rattle.node_graph.specs.Refusals.{has_names}
 use Rattle.node_graph.specs.Ends.{Ends, end_of, edge_of, edges_of}
 use Rattle.node_graph.proofs.Ordered.{edges_total, same_edges, standing, earlier, alike, later, same_or_other, same, other, get-put_here, get-put_other, get-cut_here, get-cut_other, entries-map_of, both_true, less}
 
 -- ---- the edges of kept names
 
-find-mapped : (es : List (EdgeKey × Target)) (q : EdgeKey) → entry.find edge_cmp q (map edge_of es) ≡ option_map end_of (entry.find edge_cmp q es)
+find-mapped : (es : List (EdgeKey × Entry)) (q : EdgeKey) → entry.find edge_cmp q (map edge_of es) ≡ option_map end_of (entry.find edge_cmp q es)
 find-mapped [] q = refl
 find-mapped (e ∷ es) q =
     elim (is_eq (edge_cmp q e.0)) as (λ b. cond b (Some (end_of e.1)) (entry.find edge_cmp q (map edge_of es)) ≡ option_map end_of (cond b (Some e.1) (entry.find edge_cmp q es))) [
@@ -27,15 +28,15 @@ pub get-edges_of : (ends : Ends) (q : EdgeKey) → finite.get (edges_of ends) q 
 unfolding edges_of
 get-edges_of ends q = finite.get-from_entries edges_total _ q ∙ find-mapped (finite.entries ends) q ∙ ap (option_map end_of) (sym (finite.get-entries ends q))
 
-mapped_cond : (b : Bool) (x : Target) (o : Option Target) → option_map end_of (cond b (Some x) o) ≡ cond b (Some (end_of x)) (option_map end_of o)
+mapped_cond : (b : Bool) (x : Entry) (o : Option Entry) → option_map end_of (cond b (Some x) o) ≡ cond b (Some (end_of x)) (option_map end_of o)
 mapped_cond true x o = refl
 mapped_cond false x o = refl
 
-mapped_cut : (b : Bool) (o : Option Target) → option_map end_of (cond b None o) ≡ cond b None (option_map end_of o)
+mapped_cut : (b : Bool) (o : Option Entry) → option_map end_of (cond b None o) ≡ cond b None (option_map end_of o)
 mapped_cut true o = refl
 mapped_cut false o = refl
 
-pub edges_of-insert : (ends : Ends) (key : EdgeKey) (to : Target) → edges_of (finite.insert ends key to) ≡ finite.insert (edges_of ends) key (end_of to)
+pub edges_of-insert : (ends : Ends) (key : EdgeKey) (to : Entry) → edges_of (finite.insert ends key to) ≡ finite.insert (edges_of ends) key (end_of to)
 edges_of-insert ends key to = same_edges _ _ (λ q.
     get-edges_of (finite.insert ends key to) q
     ∙ ap (option_map end_of) (finite.get-insert edges_total ends key to q)
@@ -54,14 +55,14 @@ edges_of-remove ends key = same_edges _ _ (λ q.
 pub edges_of-empty : edges_of finite.empty ≡ finite.empty
 edges_of-empty = same_edges _ _ (λ q. get-edges_of finite.empty q ∙ ap (option_map end_of) (finite.get-empty edge_cmp q) ∙ sym (finite.get-empty edge_cmp q))
 
-sorted_mapped : (es : List (EdgeKey × Target)) → finite.is_sorted edge_cmp es ≡ true → finite.is_sorted edge_cmp (map edge_of es) ≡ true
+sorted_mapped : (es : List (EdgeKey × Entry)) → finite.is_sorted edge_cmp es ≡ true → finite.is_sorted edge_cmp (map edge_of es) ≡ true
 sorted_mapped es sorted = same_tests es ∙ sorted
   where
-    same_below : (key : EdgeKey) (es : List (EdgeKey × Target)) → entry.below_all edge_cmp key (map edge_of es) ≡ entry.below_all edge_cmp key es
+    same_below : (key : EdgeKey) (es : List (EdgeKey × Entry)) → entry.below_all edge_cmp key (map edge_of es) ≡ entry.below_all edge_cmp key es
     same_below key [] = refl
     same_below key (e ∷ es) = rw (same_below key es) refl
 
-    same_tests : (es : List (EdgeKey × Target)) → finite.is_sorted edge_cmp (map edge_of es) ≡ finite.is_sorted edge_cmp es
+    same_tests : (es : List (EdgeKey × Entry)) → finite.is_sorted edge_cmp (map edge_of es) ≡ finite.is_sorted edge_cmp es
     same_tests [] = refl
     same_tests (e ∷ es) = rw (same_below e.0 es, same_tests es) refl
 
@@ -156,7 +157,6 @@ count_some edges key to there =
     self : (n : ℕ) → n == n ≡ true
     self n = grind (arith, nat_tests)
 
--- where an edge leads to a node, some key has it
 pub below_found : {X : Type 0} (x k : EdgeKey) (es : List (EdgeKey × X)) (to : X) → entry.below_all edge_cmp x es ≡ true → entry.find edge_cmp k es ≡ Some to → edge_cmp x k ≡ Less
 below_found x k [] to below found = absurd (let wrong : None ≡ Some to = found in cc)
 below_found x k (e ∷ es) to below found =
@@ -165,14 +165,15 @@ below_found x k (e ∷ es) to below found =
       | other apart b ↦ below_found x k es to (both_true _ _ below).1 (sym (ap (λ c. cond c (Some e.1) (entry.find edge_cmp k es)) b) ∙ found)
     ]
 
-found_value : (number : ℕ) (es : List (EdgeKey × EdgeTo)) → finite.is_sorted edge_cmp es ≡ true → list_any (λ (to : EdgeTo). to.child == number) (map (λ (e : EdgeKey × EdgeTo). e.1) es) ≡ true
-    → (key : EdgeKey) × (to : EdgeTo) × (entry.find edge_cmp key es ≡ Some to) × (to.child ≡ number)
-found_value number [] sorted any = absurd (cc)
-found_value number (e ∷ es) sorted any =
-    elim (e.1.child == number) as (λ b. e.1.child == number ≡ b → (b || list_any (λ (to : EdgeTo). to.child == number) (map (λ (e : EdgeKey × EdgeTo). e.1) es)) ≡ true → (key : EdgeKey) × (to : EdgeTo) × (entry.find edge_cmp key (e ∷ es) ≡ Some to) × (to.child ≡ number)) [
-      | true ↦ λ is any. (e.0, e.1, itself, eqb-true e.1.child number is)
+-- an entry that passes a test is found by its key
+found_entry : (test : EdgeKey × EdgeTo → Bool) (es : List (EdgeKey × EdgeTo)) → finite.is_sorted edge_cmp es ≡ true → list_any test es ≡ true
+    → (key : EdgeKey) × (to : EdgeTo) × (entry.find edge_cmp key es ≡ Some to) × (test (key, to) ≡ true)
+found_entry test [] sorted any = absurd (cc)
+found_entry test (e ∷ es) sorted any =
+    elim (test e) as (λ b. test e ≡ b → (b || list_any test es) ≡ true → (key : EdgeKey) × (to : EdgeTo) × (entry.find edge_cmp key (e ∷ es) ≡ Some to) × (test (key, to) ≡ true)) [
+      | true ↦ λ is any. (e.0, e.1, itself, is)
       | false ↦ λ is any.
-          let rest = found_value number es (both_true _ _ sorted).1 any in
+          let rest = found_entry test es (both_true _ _ sorted).1 any in
           (rest.0, rest.1, later_found rest.0 rest.1 rest.2, rest.3)
     ] refl any
   where
@@ -194,7 +195,20 @@ found_value number (e ∷ es) sorted any =
       | other apart b ↦ ap (λ c. cond c (Some e.1) (entry.find edge_cmp k es)) b ∙ found
     ]
 
+list_any_map : {A B : Type 0} (test : B → Bool) (f : A → B) (xs : List A) → list_any test (map f xs) ≡ list_any (λ x. test (f x)) xs
+list_any_map test f [] = refl
+list_any_map test f (x ∷ xs) = ap (λ b. test (f x) || b) (list_any_map test f xs)
+
+-- where an edge leads to a node, some key has it
 pub linked_by : (edges : Edges) (number : ℕ) → is_linked edges number ≡ true → (key : EdgeKey) × (to : EdgeTo) × (finite.get edges key ≡ Some to) × (to.child ≡ number)
 linked_by edges number linked =
-    let one = found_value number (finite.entries edges) (is_true _ (finite.entries_sorted edges)) linked in
-    (one.0, one.1, finite.get-entries edges one.0 ∙ one.2, one.3)
+    let entries = finite.entries edges in
+    let one = found_entry (λ e. e.1.child == number) entries (is_true _ (finite.entries_sorted edges)) (sym (list_any_map (λ (to : EdgeTo). to.child == number) (λ (e : EdgeKey × EdgeTo). e.1) entries) ∙ linked) in
+    (one.0, one.1, finite.get-entries edges one.0 ∙ one.2, eqb-true one.1.child number one.3)
+
+-- where a node has names in it, some key is in it
+pub names_by : (edges : Edges) (number : ℕ) → has_names edges number ≡ true → (key : EdgeKey) × (to : EdgeTo) × (finite.get edges key ≡ Some to) × (key.directory ≡ number)
+names_by edges number full =
+    let entries = finite.entries edges in
+    let one = found_entry (λ e. e.0.directory == number) entries (is_true _ (finite.entries_sorted edges)) (sym (list_any_map (λ (key : EdgeKey). key.directory == number) (λ (e : EdgeKey × EdgeTo). e.0) entries) ∙ full) in
+    (one.0, one.1, finite.get-entries edges one.0 ∙ one.2, eqb-true one.0.directory number one.3)

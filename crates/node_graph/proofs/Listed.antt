@@ -12,7 +12,7 @@ use Rattle.std.specs.FinMap as finite
 use Rattle.std.specs.FinMap.Entries as entry
 use Rattle.std.proofs.lemmas.Bool.Decides.{nat_tests}
 use Rattle.fidl_names.specs.declared.limits.TheConstants as limit
-use Rattle.node_graph.specs.declared.edges.Target.{Target}
+use Rattle.node_graph.specs.declared.nodes.Entry.{Entry}
 use Rattle.node_graph.specs.Tree.{EdgeKey, EdgeTo, edge_cmp}
 use Rattle.node_graph.specs.Graph.{Listed, comes_after, listed_after}
 use Rattle.node_graph.specs.Refusals.{has_names}
@@ -104,23 +104,23 @@ between_is directory (Some place) key short = elim (way key.directory directory)
 ]
 
 -- something holds of each entry
-pub data Each (P : EdgeKey × Target → Type 0) : List (EdgeKey × Target) → Type 0 where
+pub data Each (P : EdgeKey × Entry → Type 0) : List (EdgeKey × Entry) → Type 0 where
   done : Each P []
-  more : (e : EdgeKey × Target) (es : List (EdgeKey × Target)) → P e → Each P es → Each P (e ∷ es)
+  more : (e : EdgeKey × Entry) (es : List (EdgeKey × Entry)) → P e → Each P es → Each P (e ∷ es)
 
-find_here : (e : EdgeKey × Target) (es : List (EdgeKey × Target)) → entry.find edge_cmp e.0 (e ∷ es) ≡ Some e.1
+find_here : (e : EdgeKey × Entry) (es : List (EdgeKey × Entry)) → entry.find edge_cmp e.0 (e ∷ es) ≡ Some e.1
 find_here e es = elim (same_or_other e.0 e.0) [
   | same eq b ↦ ap (λ c. cond c (Some e.1) (entry.find edge_cmp e.0 es)) b
   | other apart b ↦ absurd (apart refl)
 ]
 
 -- what holds of each that is found holds of each entry
-pub each : (P : EdgeKey × Target → Type 0) (es : List (EdgeKey × Target)) → finite.is_sorted edge_cmp es ≡ true → ((k : EdgeKey) (t : Target) → entry.find edge_cmp k es ≡ Some t → P (k, t)) → Each P es
+pub each : (P : EdgeKey × Entry → Type 0) (es : List (EdgeKey × Entry)) → finite.is_sorted edge_cmp es ≡ true → ((k : EdgeKey) (t : Entry) → entry.find edge_cmp k es ≡ Some t → P (k, t)) → Each P es
 each P [] sorted holds = done
 each P (e ∷ es) sorted holds =
     more e es (holds e.0 e.1 (find_here e es)) (each P es (both_true _ _ sorted).1 (λ k t found. holds k t (later k t found)))
   where
-    later : (k : EdgeKey) (t : Target) → entry.find edge_cmp k es ≡ Some t → entry.find edge_cmp k (e ∷ es) ≡ Some t
+    later : (k : EdgeKey) (t : Entry) → entry.find edge_cmp k es ≡ Some t → entry.find edge_cmp k (e ∷ es) ≡ Some t
     later k t found = elim (same_or_other k e.0) [
       | same eq b ↦ absurd (
           let lower : edge_cmp e.0 k ≡ Less = below_found e.0 k es t (both_true _ _ sorted).0 found in
@@ -131,31 +131,31 @@ each P (e ∷ es) sorted holds =
       | other apart b ↦ ap (λ c. cond c (Some e.1) (entry.find edge_cmp k es)) b ∙ found
     ]
 
-abbrev IsShort : EdgeKey × Target → Type 0
+abbrev IsShort : EdgeKey × Entry → Type 0
 IsShort e = length e.0.name ≤ limit.MAX_NAME
 
-filter_short : (directory : ℕ) (place : Option (List ℕ)) (es : List (EdgeKey × Target)) → Each IsShort es
-    → entries_between edge_cmp (start_of directory place) (Excluded (name_in (directory + 1) [])) es ≡ filter (λ (e : EdgeKey × Target). (e.0.directory == directory) && comes_after place e.0.name) es
+filter_short : (directory : ℕ) (place : Option (List ℕ)) (es : List (EdgeKey × Entry)) → Each IsShort es
+    → entries_between edge_cmp (start_of directory place) (Excluded (name_in (directory + 1) [])) es ≡ filter (λ (e : EdgeKey × Entry). (e.0.directory == directory) && comes_after place e.0.name) es
 filter_short directory place [] done = refl
 filter_short directory place (e ∷ es) (more _ _ short rest) =
     ap (λ b. cond b (e ∷ entries_between edge_cmp (start_of directory place) (Excluded (name_in (directory + 1) [])) es) (entries_between edge_cmp (start_of directory place) (Excluded (name_in (directory + 1) [])) es)) (between_is directory place e.0 short)
     ∙ ap (λ rest. cond ((e.0.directory == directory) && comes_after place e.0.name) (e ∷ rest) rest) (filter_short directory place es rest)
 
-pub listed_between : (es : List (EdgeKey × Target)) (directory : ℕ) (place : Option (List ℕ)) → IsNamed es
+pub listed_between : (es : List (EdgeKey × Entry)) (directory : ℕ) (place : Option (List ℕ)) → IsNamed es
     → entries_between edge_cmp (start_of directory place) (Excluded (name_in (directory + 1) [])) es ≡ ends_after (map_of es) directory place
 listed_between es directory place named =
     filter_short directory place es (each IsShort es named.in_order (λ k t found. (named.named k t (finite.get-entries (map_of es) k ∙ ap (entry.find edge_cmp k) (entries-map_of es named.in_order) ∙ found)).1))
-    ∙ ap (filter (λ (e : EdgeKey × Target). (e.0.directory == directory) && comes_after place e.0.name)) (sym (entries-map_of es named.in_order))
+    ∙ ap (filter (λ (e : EdgeKey × Entry). (e.0.directory == directory) && comes_after place e.0.name)) (sym (entries-map_of es named.in_order))
 
 -- ---- what a listing shows
 
-listed_mapped : (directory : ℕ) (place : Option (List ℕ)) (es : List (EdgeKey × Target))
-    → map {B = List ℕ × ℕ} (λ (l : Listed). (l.name, l.number)) (map listed_of (filter (λ (e : EdgeKey × Target). (e.0.directory == directory) && comes_after place e.0.name) es))
+listed_mapped : (directory : ℕ) (place : Option (List ℕ)) (es : List (EdgeKey × Entry))
+    → map {B = List ℕ × ℕ} (λ (l : Listed). (l.name, l.number)) (map listed_of (filter (λ (e : EdgeKey × Entry). (e.0.directory == directory) && comes_after place e.0.name) es))
     ≡ map {B = List ℕ × ℕ} (λ (e : EdgeKey × EdgeTo). (e.0.name, e.1.child)) (filter (λ (e : EdgeKey × EdgeTo). (e.0.directory == directory) && comes_after place e.0.name) (map edge_of es))
 listed_mapped directory place [] = refl
 listed_mapped directory place (e ∷ es) =
     elim ((e.0.directory == directory) && comes_after place e.0.name) as (λ b.
-    map {B = List ℕ × ℕ} (λ (l : Listed). (l.name, l.number)) (map listed_of (cond b (e ∷ filter (λ (e : EdgeKey × Target). (e.0.directory == directory) && comes_after place e.0.name) es) (filter (λ (e : EdgeKey × Target). (e.0.directory == directory) && comes_after place e.0.name) es)))
+    map {B = List ℕ × ℕ} (λ (l : Listed). (l.name, l.number)) (map listed_of (cond b (e ∷ filter (λ (e : EdgeKey × Entry). (e.0.directory == directory) && comes_after place e.0.name) es) (filter (λ (e : EdgeKey × Entry). (e.0.directory == directory) && comes_after place e.0.name) es)))
     ≡ map {B = List ℕ × ℕ} (λ (e : EdgeKey × EdgeTo). (e.0.name, e.1.child)) (cond b (edge_of e ∷ filter (λ (e : EdgeKey × EdgeTo). (e.0.directory == directory) && comes_after place e.0.name) (map edge_of es)) (filter (λ (e : EdgeKey × EdgeTo). (e.0.directory == directory) && comes_after place e.0.name) (map edge_of es)))) [
       | true ↦ ap (λ rest. (e.0.name, e.1.node.number) ∷ rest) (listed_mapped directory place es)
       | false ↦ listed_mapped directory place es
@@ -166,7 +166,7 @@ listed_names ends directory place =
     listed_mapped directory place (finite.entries ends)
     ∙ ap (λ (es : List (EdgeKey × EdgeTo)). map {B = List ℕ × ℕ} (λ (e : EdgeKey × EdgeTo). (e.0.name, e.1.child)) (filter (λ (e : EdgeKey × EdgeTo). (e.0.directory == directory) && comes_after place e.0.name) es)) (sym (entries-edges_of ends))
 
-each_filtered : (P : EdgeKey × Target → Type 0) (test : EdgeKey × Target → Bool) (es : List (EdgeKey × Target)) → Each P es → Each P (filter test es)
+each_filtered : (P : EdgeKey × Entry → Type 0) (test : EdgeKey × Entry → Bool) (es : List (EdgeKey × Entry)) → Each P es → Each P (filter test es)
 each_filtered P test [] done = done
 each_filtered P test (e ∷ es) (more _ _ here rest) =
     let later = each_filtered P test es rest in
@@ -175,7 +175,7 @@ each_filtered P test (e ∷ es) (more _ _ here rest) =
       | false ↦ later
     ]
 
-all_shown : (Q : Listed → Type 0) (es : List (EdgeKey × Target)) → Each (λ e. Q (listed_of e)) es → All Q (map listed_of es)
+all_shown : (Q : Listed → Type 0) (es : List (EdgeKey × Entry)) → Each (λ e. Q (listed_of e)) es → All Q (map listed_of es)
 all_shown Q [] done k d within = absurd (omega (arith, within))
 all_shown Q (e ∷ es) (more _ _ here rest) zero d within = here
 all_shown Q (e ∷ es) (more _ _ here rest) (suc k) d within = all_shown Q es rest k d (omega (arith, within))
@@ -184,12 +184,12 @@ is_true : (b : Bool) → T b → b ≡ true
 is_true true t = refl
 is_true false t = absurd t
 
-pub listed_all : (Q : Listed → Type 0) (ends : Ends) (directory : ℕ) (place : Option (List ℕ)) → ((k : EdgeKey) (t : Target) → finite.get ends k ≡ Some t → Q (listed_of (k, t))) → All Q (map listed_of (ends_after ends directory place))
+pub listed_all : (Q : Listed → Type 0) (ends : Ends) (directory : ℕ) (place : Option (List ℕ)) → ((k : EdgeKey) (t : Entry) → finite.get ends k ≡ Some t → Q (listed_of (k, t))) → All Q (map listed_of (ends_after ends directory place))
 listed_all Q ends directory place holds =
     all_shown Q _ (each_filtered (λ e. Q (listed_of e)) (λ e. (e.0.directory == directory) && comes_after place e.0.name) (finite.entries ends)
     (each (λ e. Q (listed_of e)) (finite.entries ends) (is_true _ (finite.entries_sorted ends)) (λ k t found. holds k t (finite.get-entries ends k ∙ found))))
 
-fewer_filtered : (test : EdgeKey × Target → Bool) (es : List (EdgeKey × Target)) → length (map listed_of (filter test es)) ≤ length es
+fewer_filtered : (test : EdgeKey × Entry → Bool) (es : List (EdgeKey × Entry)) → length (map listed_of (filter test es)) ≤ length es
 fewer_filtered test [] = omega arith
 fewer_filtered test (e ∷ es) =
     let rest = fewer_filtered test es in
@@ -207,21 +207,21 @@ listed_few ends directory place few =
 -- ---- the sizes of names
 
 -- a name has 1 to 255 bytes
-abbrev pub HasName : EdgeKey × Target → Type 0
+abbrev pub HasName : EdgeKey × Entry → Type 0
 HasName e = (1 ≤ length e.0.name) × (length e.0.name ≤ limit.MAX_NAME)
 
-all_of : (P : EdgeKey × Target → Type 0) (es : List (EdgeKey × Target)) → Each P es → All P es
+all_of : (P : EdgeKey × Entry → Type 0) (es : List (EdgeKey × Entry)) → Each P es → All P es
 all_of P [] done k d within = absurd (omega (arith, within))
 all_of P (e ∷ es) (more _ _ here rest) zero d within = here
 all_of P (e ∷ es) (more _ _ here rest) (suc k) d within = all_of P es rest k d (omega (arith, within))
 
-pub listed_named : (es : List (EdgeKey × Target)) (directory : ℕ) (place : Option (List ℕ)) → IsNamed es → All HasName (ends_after (map_of es) directory place)
+pub listed_named : (es : List (EdgeKey × Entry)) (directory : ℕ) (place : Option (List ℕ)) → IsNamed es → All HasName (ends_after (map_of es) directory place)
 listed_named es directory place named =
     all_of HasName _ (each_filtered HasName (λ e. (e.0.directory == directory) && comes_after place e.0.name) (finite.entries (map_of es))
     (subst (Each HasName) (sym (entries-map_of es named.in_order))
     (each HasName es named.in_order (λ k t found. named.named k t (finite.get-entries (map_of es) k ∙ ap (entry.find edge_cmp k) (entries-map_of es named.in_order) ∙ found)))))
 
-pub all_listed : (es : List (EdgeKey × Target)) → All HasName es → All (λ (l : Listed). (1 ≤ length l.name) × (length l.name ≤ limit.MAX_NAME)) (map listed_of es)
+pub all_listed : (es : List (EdgeKey × Entry)) → All HasName es → All (λ (l : Listed). (1 ≤ length l.name) × (length l.name ≤ limit.MAX_NAME)) (map listed_of es)
 all_listed [] named k d within = absurd (omega (arith, within))
 all_listed (e ∷ es) named zero d within = named zero e (omega arith)
 all_listed (e ∷ es) named (suc k) d within = all_listed es (λ k d within. named (suc k) d (omega (arith, within))) k d (omega (arith, within))
@@ -229,20 +229,20 @@ all_listed (e ∷ es) named (suc k) d within = all_listed es (λ k d within. nam
 -- ---- whether there are names
 
 -- some name is left
-abbrev pub is_any : List (EdgeKey × Target) → Bool
+abbrev pub is_any : List (EdgeKey × Entry) → Bool
 is_any [] = false
 is_any (e ∷ es) = true
 
-pub first_is_any : {A : Type 0} (shows : A → EdgeKey × Target) (s : List (EdgeKey × Target)) (r : Option A) (t : List (EdgeKey × Target)) → TakesFirst shows s r t → is_some r ≡ is_any s
+pub first_is_any : {A : Type 0} (shows : A → EdgeKey × Entry) (s : List (EdgeKey × Entry)) (r : Option A) (t : List (EdgeKey × Entry)) → TakesFirst shows s r t → is_some r ≡ is_any s
 first_is_any shows s None t gives = sym (ap is_any gives.0)
 first_is_any shows s (Some x) t gives = sym (ap is_any gives)
 
-any_mapped : (directory : ℕ) (es : List (EdgeKey × Target))
-    → is_any (filter (λ (e : EdgeKey × Target). (e.0.directory == directory) && comes_after None e.0.name) es) ≡ list_any (λ (k : EdgeKey). k.directory == directory) (map (λ (e : EdgeKey × EdgeTo). e.0) (map edge_of es))
+any_mapped : (directory : ℕ) (es : List (EdgeKey × Entry))
+    → is_any (filter (λ (e : EdgeKey × Entry). (e.0.directory == directory) && comes_after None e.0.name) es) ≡ list_any (λ (k : EdgeKey). k.directory == directory) (map (λ (e : EdgeKey × EdgeTo). e.0) (map edge_of es))
 any_mapped directory [] = refl
 any_mapped directory (e ∷ es) =
     elim (e.0.directory == directory) as (λ b.
-    is_any (cond (b && true) (e ∷ filter (λ (e : EdgeKey × Target). (e.0.directory == directory) && comes_after None e.0.name) es) (filter (λ (e : EdgeKey × Target). (e.0.directory == directory) && comes_after None e.0.name) es))
+    is_any (cond (b && true) (e ∷ filter (λ (e : EdgeKey × Entry). (e.0.directory == directory) && comes_after None e.0.name) es) (filter (λ (e : EdgeKey × Entry). (e.0.directory == directory) && comes_after None e.0.name) es))
     ≡ (b || list_any (λ (k : EdgeKey). k.directory == directory) (map (λ (e : EdgeKey × EdgeTo). e.0) (map edge_of es)))) [
       | true ↦ refl
       | false ↦ any_mapped directory es

@@ -8,7 +8,7 @@ use Rattle.std.specs.FinMap.Entries as entry
 use Rattle.slab.specs.Slab.{Slab, get, Updates}
 use Rattle.node_graph.specs.declared.nodes.NodeKind.TheVariants.{Directory}
 use Rattle.node_graph.specs.declared.nodes.NodeRef.{NodeRef}
-use Rattle.node_graph.specs.declared.edges.Target.{Target}
+use Rattle.node_graph.specs.declared.nodes.Entry.{Entry}
 use Rattle.node_graph.specs.Cell.{Cell}
 use Rattle.node_graph.specs.Tree.{Edges, EdgeKey, EdgeTo, edge_cmp, link_count, has_one_name, after, cut, Change}
 use Rattle.node_graph.specs.Refusals.{has_names}
@@ -40,17 +40,17 @@ none_found n (e ∷ es) k t found none =
       | other apart b ↦ none_found n es k t (sym (ap (λ c. cond c (Some e.1) (entry.find edge_cmp k es)) b) ∙ found) both.1
     ]
 
-pub in_no_key : (ends : Ends) (n : ℕ) → has_names (edges_of ends) n ≡ false → (k : EdgeKey) (t : Target) → finite.get ends k ≡ Some t → k.directory ≢ n
+pub in_no_key : (ends : Ends) (n : ℕ) → has_names (edges_of ends) n ≡ false → (k : EdgeKey) (t : Entry) → finite.get ends k ≡ Some t → k.directory ≢ n
 in_no_key ends n none k t found e =
     let edge : finite.get (edges_of ends) k ≡ Some (end_of t) = get-edges_of ends k ∙ ap (option_map end_of) found in
     let no : k.directory == n ≡ false = none_found n (finite.entries (edges_of ends)) k (end_of t) (sym (finite.get-entries (edges_of ends) k) ∙ edge) none in
     let yes : k.directory == n ≡ true = equal_numbers k.directory n e in
     absurd (let wrong : false ≡ true = sym no ∙ yes in cc)
 
-module _ (old between new : Slab Cell) (ends : Ends) (made : ℕ) (key : EdgeKey) (to : Target) (was is : Cell)
+module _ (old between new : Slab Cell) (ends : Ends) (made : ℕ) (key : EdgeKey) (to : Entry) (was is : Cell)
     (rows : AreRows old ends made) (there : finite.get ends key ≡ Some to) (at : get old to.node.place ≡ Some was)
     (u : Updates old between to.node.place (Some is)) (is_it : is ≡ record was { links = was.links - 1 })
-    (bare : (k : EdgeKey) (t : Target) → finite.get ends k ≡ Some t → k.directory ≢ to.node.number) where
+    (bare : (k : EdgeKey) (t : Entry) → finite.get ends k ≡ Some t → k.directory ≢ to.node.number) where
   number : is.number ≡ was.number
   number = ap (λ (c : Cell). c.number) is_it
 
@@ -152,7 +152,7 @@ module _ (old between new : Slab Cell) (ends : Ends) (made : ℕ) (key : EdgeKey
     }
 
 -- the same of a node that loses a name
-module _ (old new : Slab Cell) (ends : Ends) (made : ℕ) (key : EdgeKey) (to : Target) (rows : AreRows old ends made) (there : finite.get ends key ≡ Some to)
+module _ (old new : Slab Cell) (ends : Ends) (made : ℕ) (key : EdgeKey) (to : Entry) (rows : AreRows old ends made) (there : finite.get ends key ≡ Some to)
     (bare : has_names (edges_of ends) to.node.number ≡ false) (loses : LosesName old new to.node.place) where
   pub rows_lost : AreRows new (finite.remove ends key) made
   rows_lost = rows_cut old loses.between new ends made key to loses.cell _ rows there loses.at loses.updates refl (in_no_key ends to.node.number bare) loses.forgets

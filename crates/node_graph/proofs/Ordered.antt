@@ -14,7 +14,7 @@ use Rattle.std.specs.FinMap as finite
 use Rattle.std.specs.FinMap.Entries as entry
 use Rattle.std.proofs.lemmas.Map.Lookups.{CmpEqualImpliesEq, exact_pairs, exact_unsigned, exact_bytes}
 use Rattle.fidl_names.specs.declared.limits.TheConstants as limit
-use Rattle.node_graph.specs.declared.edges.Target.{Target}
+use Rattle.node_graph.specs.declared.nodes.Entry.{Entry}
 use Rattle.node_graph.specs.Tree.{EdgeKey, edge_cmp}
 use Rattle.node_graph.specs.Ends.{Ends, IsNamed}
 use Rattle.node_graph.proofs.RowLists.{same_some}
@@ -163,7 +163,7 @@ get-cut_other m key from apart = elim (same_or_other from key) [
 pub named_none : IsNamed []
 named_none = record { in_order = refl; named = λ key to there. absurd (let wrong : None ≡ Some to = sym (get-map_of [] key) ∙ there in cc) }
 
-pub named_put : (old new : BTreeMap EdgeKey Target) (key : EdgeKey) (to : Target) → IsNamed old.entries → 1 ≤ length key.name → length key.name ≤ limit.MAX_NAME
+pub named_put : (old new : BTreeMap EdgeKey Entry) (key : EdgeKey) (to : Entry) → IsNamed old.entries → 1 ≤ length key.name → length key.name ≤ limit.MAX_NAME
     → UpdatesBy edge_cmp (edge_cmp key) old new (Some to) → IsStrictlySortedBy edge_cmp (keys_of new.entries) → IsNamed new.entries
 named_put old new key to named some few u sorted = record {
   in_order = in_order new.entries sorted;
@@ -174,7 +174,7 @@ named_put old new key to named some few u sorted = record {
       ];
 }
 
-pub named_cut : (old new : BTreeMap EdgeKey Target) (key : EdgeKey) → IsNamed old.entries → UpdatesBy edge_cmp (edge_cmp key) old new None → IsStrictlySortedBy edge_cmp (keys_of new.entries) → IsNamed new.entries
+pub named_cut : (old new : BTreeMap EdgeKey Entry) (key : EdgeKey) → IsNamed old.entries → UpdatesBy edge_cmp (edge_cmp key) old new None → IsStrictlySortedBy edge_cmp (keys_of new.entries) → IsNamed new.entries
 named_cut old new key named u sorted = record {
   in_order = in_order new.entries sorted;
   named = λ from x there. named.named from x (stays (map_of old.entries) key from x (ap (λ (m : Ends). finite.get m from) (sym (map_cut old new key u)) ∙ there)).1;

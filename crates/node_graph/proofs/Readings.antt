@@ -11,19 +11,20 @@ use Rattle.node_graph.specs.declared.faults.GraphFault.{GraphFault}
 use Rattle.node_graph.specs.declared.faults.GraphFault.TheVariants as fault
 use Rattle.node_graph.specs.declared.nodes.NodeKind.{NodeKind}
 use Rattle.node_graph.specs.declared.nodes.NodeKind.TheVariants.{Directory, File, Service, Mount}
-use Rattle.node_graph.specs.declared.edges.Target.{Target}
+use Rattle.node_graph.specs.declared.nodes.Entry.{Entry}
 use Rattle.node_graph.specs.Cell.{Cell}
 use Rattle.node_graph.specs.Tree.{Tree, Edges, EdgeKey, EdgeTo, NodeRow, kind_of, link_count, is_removed, has_one_name, add, stay}
 use Rattle.node_graph.specs.Refusals.{is_directory, is_mount, is_no_directory, edge_at, leads_to, directory_behind, has_names, leads_to_names, unlink_refusal, link_refusal, link_change, is_same_name, replace_refusal, rename_refusal, is_loop, lies_within}
 use Rattle.node_graph.specs.Graph.{Kept, Names, kind_at, holds_at, SameHolds, KeepsNames, StandsFor, create_refusal}
-use Rattle.node_graph.specs.Ends.{Ends, end_of, edges_of}
+use Rattle.node_graph.specs.Ends.{Ends, HasNamesAsDirectory, end_of, edges_of}
 use Rattle.node_graph.specs.Rows.{kept_of, AreRows}
-use Rattle.node_graph.proofs.Linked.{get-edges_of}
+use Rattle.node_graph.proofs.RowLists.{mapped, same_some}
+use Rattle.node_graph.proofs.Linked.{get-edges_of, names_by}
 use Rattle.node_graph.proofs.Steps.{leads_count}
 use Rattle.node_graph.proofs.Calls.{child_seat}
 
 -- a node that a name leads to is linked
-pub linked_here : (nodes : Slab Cell) (ends : Ends) (made : ℕ) → AreRows nodes ends made → (key : EdgeKey) (to : Target) → finite.get ends key ≡ Some to → IfSome (get nodes to.node.place) (λ cell. 0 < cell.links)
+pub linked_here : (nodes : Slab Cell) (ends : Ends) (made : ℕ) → AreRows nodes ends made → (key : EdgeKey) (to : Entry) → finite.get ends key ≡ Some to → IfSome (get nodes to.node.place) (λ cell. 0 < cell.links)
 linked_here nodes ends made rows key to there =
     let child = rows.children key to there in
     let count : child.0.links ≡ link_count (edges_of ends) to.node.number = rows.links to.node.place child.0 child.1 ∙ ap (link_count (edges_of ends)) child.2 in
@@ -31,14 +32,25 @@ linked_here nodes ends made rows key to there =
     let P : Option Cell → Type 0 = λ o. IfSome o (λ cell. 0 < cell.links) in
     subst P (sym child.1) (omega (arith, count, some))
 
+-- what has names in it is a directory
+pub names_here : (nodes : Slab Cell) (ends : Ends) (made : ℕ) → AreRows nodes ends made → (key : EdgeKey) (to : Entry) → finite.get ends key ≡ Some to → HasNamesAsDirectory ends to.node to.kind
+names_here nodes ends made rows key to there full =
+    let edge = names_by (edges_of ends) to.node.number full in
+    let inner = mapped end_of (finite.get ends edge.0) edge.1 (sym (get-edges_of ends edge.0) ∙ edge.2) in
+    let child = rows.children key to there in
+    let above = rows.parents edge.0 inner.0 inner.1 in
+    let place = rows.apart above.0 to.node.place above.1.0 child.0 above.1.1 child.1 (above.1.2 ∙ edge.3 ∙ sym child.2) in
+    let cell_is : above.1.0 ≡ child.0 = same_some _ _ (sym above.1.1 ∙ ap (get nodes) place ∙ child.1) in
+    ap is_directory (sym child.3 ∙ ap (λ (c : Cell). c.kind) (sym cell_is) ∙ above.1.3.0)
+
 module _ (nodes : Slab Cell) (ends : Ends) (made : ℕ) (graph : Kept) (view : kept_of nodes ends made ≡ graph) (rows : AreRows nodes ends made) (tree : Tree) (stands : StandsFor graph tree) where
   pub edges_are : edges_of ends ≡ tree.edges
   edges_are = ap (λ (g : Kept). g.edges) view ∙ stands.edges
 
-  pub edge_is : (key : EdgeKey) (o : Option Target) → finite.get ends key ≡ o → edge_at tree key ≡ option_map end_of o
+  pub edge_is : (key : EdgeKey) (o : Option Entry) → finite.get ends key ≡ o → edge_at tree key ≡ option_map end_of o
   edge_is key o there = ap (λ (e : Edges). finite.get e key) (sym edges_are) ∙ get-edges_of ends key ∙ ap (option_map end_of) there
 
-  module _ (key : EdgeKey) (to : Target) (there : finite.get ends key ≡ Some to) where
+  module _ (key : EdgeKey) (to : Entry) (there : finite.get ends key ≡ Some to) where
     pub kind_is : kind_of tree to.node.number ≡ Some to.kind
     kind_is =
         ap (option_map (λ (r : NodeRow). r.kind)) (stands.rows to.node.number _ (child_seat nodes ends made graph view rows key to there)) ∙ ap Some (rows.children key to there).3
@@ -66,7 +78,7 @@ module _ (nodes : Slab Cell) (ends : Ends) (made : ℕ) (graph : Kept) (view : k
   unlink_none none =
       ap (λ o. unlink_causes (is_none o) (leads_to is_mount tree key) (must_be_dir && leads_to is_no_directory tree key) (leads_to_names tree key)) (edge_is nodes ends made graph view rows tree stands key None none)
 
-  pub unlink_some : (to : Target) → finite.get ends key ≡ Some to
+  pub unlink_some : (to : Entry) → finite.get ends key ≡ Some to
       → unlink_refusal tree key must_be_dir ≡ first_of (cause_if (is_mount to.kind) fault.Unsupported ∷ cause_if (must_be_dir && is_no_directory to.kind) fault.NotDir ∷ cause_if (has_names (edges_of ends) to.node.number) fault.NotEmpty ∷ [])
   unlink_some to there =
       ap (λ o. unlink_causes (is_none o) (leads_to is_mount tree key) (must_be_dir && leads_to is_no_directory tree key) (leads_to_names tree key)) (edge_is nodes ends made graph view rows tree stands key (Some to) there)
@@ -93,7 +105,7 @@ module _ (nodes : Slab Cell) (ends : Ends) (made : ℕ) (graph : Kept) (view : k
       ap (λ o. link_causes (is_none o) (leads_to is_mount tree from) (leads_to is_directory tree from) (is_removed tree.edges key.directory) (is_some (edge_at tree key)) (nat_le limit.MAX_NAMES (finite.len tree.edges)))
       (edge_is nodes ends made graph view rows tree stands from None none)
 
-  link_some : (to : Target) → finite.get ends from ≡ Some to
+  link_some : (to : Entry) → finite.get ends from ≡ Some to
       → link_refusal tree from key ≡ link_causes false (is_mount to.kind) (is_directory to.kind) (is_removed graph.edges key.directory) (is_some (finite.get graph.edges key)) (nat_le limit.MAX_NAMES (finite.len graph.edges))
   link_some to there =
       ap (λ o. link_causes (is_none o) (leads_to is_mount tree from) (leads_to is_directory tree from) (is_removed tree.edges key.directory) (is_some (edge_at tree key)) (nat_le limit.MAX_NAMES (finite.len tree.edges)))
@@ -102,7 +114,7 @@ module _ (nodes : Slab Cell) (ends : Ends) (made : ℕ) (graph : Kept) (view : k
       ∙ ap (λ b. link_causes false (is_mount to.kind) b (is_removed tree.edges key.directory) (is_some (edge_at tree key)) (nat_le limit.MAX_NAMES (finite.len tree.edges))) (leads nodes ends made graph view rows tree stands from to there is_directory)
       ∙ ap (λ (e : Edges). link_causes false (is_mount to.kind) (is_directory to.kind) (is_removed e key.directory) (is_some (finite.get e key)) (nat_le limit.MAX_NAMES (finite.len e))) (sym stands.edges)
 
-  module _ (to : Target) (there : finite.get ends from ≡ Some to) (kind_fault : Option GraphFault) (kind_is_it : kind_fault ≡ first_of (cause_if (is_mount to.kind) fault.Unsupported ∷ cause_if (is_directory to.kind) fault.NotFile ∷ [])) where
+  module _ (to : Entry) (there : finite.get ends from ≡ Some to) (kind_fault : Option GraphFault) (kind_is_it : kind_fault ≡ first_of (cause_if (is_mount to.kind) fault.Unsupported ∷ cause_if (is_directory to.kind) fault.NotFile ∷ [])) where
     behind_kinds : link_refusal tree from key ≡ option_or kind_fault (create_refusal graph.edges key)
     behind_kinds =
         link_some to there
@@ -197,30 +209,34 @@ replace_bare false false false true e = absurd (let wrong : Some fault.NotEmpty 
 replace_bare false false false false e = refl
 
 -- why a node of this kind doesn't take the place of what is there
-abbrev pub replace_cause : Ends → NodeKind → Option Target → Option GraphFault
+abbrev pub replace_cause : Ends → NodeKind → Option Entry → Option GraphFault
 replace_cause ends kind gone =
     option_map_or (λ to. replace_causes (is_mount to.kind) (is_directory kind && is_no_directory to.kind) (is_no_directory kind && is_directory to.kind) (has_names (edges_of ends) to.node.number)) gone None
 
-pub replaced_bare : (ends : Ends) (kind : NodeKind) (gone : Option Target) → replace_cause ends kind gone ≡ None → IfSome gone (λ to. has_names (edges_of ends) to.node.number ≡ false)
+pub replaced_bare : (ends : Ends) (kind : NodeKind) (gone : Option Entry) → replace_cause ends kind gone ≡ None → IfSome gone (λ to. has_names (edges_of ends) to.node.number ≡ false)
 replaced_bare ends kind None free = tt
 replaced_bare ends kind (Some to) free = replace_bare _ _ _ _ free
 
--- what is replaced is there, linked, and has a number that isn't the last one
-pub replaced_present : (nodes : Slab Cell) (ends : Ends) (made : ℕ) → AreRows nodes ends made → (key : EdgeKey) (gone : Option Target) → finite.get ends key ≡ gone → IfSome gone (λ to. ContainsKey nodes to.node.place)
+-- what is replaced is there, linked, has a number that isn't the last one, and names in it only as a directory
+pub replaced_present : (nodes : Slab Cell) (ends : Ends) (made : ℕ) → AreRows nodes ends made → (key : EdgeKey) (gone : Option Entry) → finite.get ends key ≡ gone → IfSome gone (λ to. ContainsKey nodes to.node.place)
 replaced_present nodes ends made rows key None is = tt
 replaced_present nodes ends made rows key (Some to) is = ap is_some (rows.children key to is).1
 
-pub replaced_linked : (nodes : Slab Cell) (ends : Ends) (made : ℕ) → AreRows nodes ends made → (key : EdgeKey) (gone : Option Target) → finite.get ends key ≡ gone → IfSome gone (λ to. IfSome (get nodes to.node.place) (λ cell. 0 < cell.links))
+pub replaced_linked : (nodes : Slab Cell) (ends : Ends) (made : ℕ) → AreRows nodes ends made → (key : EdgeKey) (gone : Option Entry) → finite.get ends key ≡ gone → IfSome gone (λ to. IfSome (get nodes to.node.place) (λ cell. 0 < cell.links))
 replaced_linked nodes ends made rows key None is = tt
 replaced_linked nodes ends made rows key (Some to) is = linked_here nodes ends made rows key to is
 
-pub replaced_number : (nodes : Slab Cell) (ends : Ends) (made : ℕ) → AreRows nodes ends made → (key : EdgeKey) (gone : Option Target) → finite.get ends key ≡ gone → IfSome gone (λ to. to.node.number < 2 ^ 64 - 1)
+pub replaced_number : (nodes : Slab Cell) (ends : Ends) (made : ℕ) → AreRows nodes ends made → (key : EdgeKey) (gone : Option Entry) → finite.get ends key ≡ gone → IfSome gone (λ to. to.node.number < 2 ^ 64 - 1)
 replaced_number nodes ends made rows key None is = tt
 replaced_number nodes ends made rows key (Some to) is =
     let child = rows.children key to is in
     let most = rows.numbers to.node.place child.0 child.1 in
     let room = rows.room in
     omega (arith, child.2, most.1, room)
+
+pub replaced_names : (nodes : Slab Cell) (ends : Ends) (made : ℕ) → AreRows nodes ends made → (key : EdgeKey) (gone : Option Entry) → finite.get ends key ≡ gone → IfSome gone (λ to. HasNamesAsDirectory ends to.node to.kind)
+replaced_names nodes ends made rows key None is = tt
+replaced_names nodes ends made rows key (Some to) is = names_here nodes ends made rows key to is
 
 module _ (nodes : Slab Cell) (ends : Ends) (made : ℕ) (graph : Kept) (view : kept_of nodes ends made ≡ graph) (rows : AreRows nodes ends made) (tree : Tree) (stands : StandsFor graph tree) (from key : EdgeKey) where
   abbrev over : Option GraphFault
@@ -230,7 +246,7 @@ module _ (nodes : Slab Cell) (ends : Ends) (made : ℕ) (graph : Kept) (view : k
   rename_none none =
       ap (λ o. rename_causes (is_none o) (leads_to is_mount tree from) (is_removed tree.edges key.directory) (is_loop tree from key.directory) over) (edge_is nodes ends made graph view rows tree stands from None none)
 
-  module _ (to : Target) (there : finite.get ends from ≡ Some to) where
+  module _ (to : Entry) (there : finite.get ends from ≡ Some to) where
     loops : is_loop tree from key.directory ≡ (is_directory to.kind && lies_within (finite.len graph.edges) graph.edges key.directory to.node.number)
     loops =
         ap (λ o. option_map_or (λ child. lies_within (finite.len tree.edges) tree.edges key.directory child) o false) (behind nodes ends made graph view rows tree stands from to there)
@@ -280,7 +296,7 @@ module _ (nodes : Slab Cell) (ends : Ends) (made : ℕ) (graph : Kept) (view : k
         ∙ ap (λ b. replace_causes false false b (leads_to_names tree key)) (ap (λ b. leads_to is_no_directory tree from && b) (absent_leads is_directory none) ∙ and_false _)
         ∙ ap (λ b. replace_causes false false false b) (ap (λ o. option_map_or (λ (t : EdgeTo). has_names tree.edges t.child) o false) (edge_is nodes ends made graph view rows tree stands key None none))
 
-    pub replace_some : (gone : Target) → finite.get ends key ≡ Some gone
+    pub replace_some : (gone : Entry) → finite.get ends key ≡ Some gone
         → replace_refusal tree from key ≡ replace_causes (is_mount gone.kind) (is_directory to.kind && is_no_directory gone.kind) (is_no_directory to.kind && is_directory gone.kind) (has_names (edges_of ends) gone.node.number)
     replace_some gone taken =
         ap (λ b. replace_causes b (leads_to is_directory tree from && leads_to is_no_directory tree key) (leads_to is_no_directory tree from && leads_to is_directory tree key) (leads_to_names tree key)) (leads nodes ends made graph view rows tree stands key gone taken is_mount)
@@ -293,10 +309,10 @@ module _ (nodes : Slab Cell) (ends : Ends) (made : ℕ) (graph : Kept) (view : k
     pub behind_none : finite.get ends key ≡ None → directory_behind tree key ≡ None
     behind_none none = ap (λ b. if b then option_map (λ (t : EdgeTo). t.child) (edge_at tree key) else None) (absent_leads is_directory none)
 
-    pub replace_is : (gone : Option Target) → finite.get ends key ≡ gone → replace_refusal tree from key ≡ replace_cause ends to.kind gone
+    pub replace_is : (gone : Option Entry) → finite.get ends key ≡ gone → replace_refusal tree from key ≡ replace_cause ends to.kind gone
     replace_is None absent = replace_none absent
     replace_is (Some gone) taken = replace_some gone taken
 
-    pub behind_is : (gone : Option Target) → finite.get ends key ≡ gone → directory_behind tree key ≡ option_map_or (λ t. if is_directory t.kind then Some t.node.number else None) gone None
+    pub behind_is : (gone : Option Entry) → finite.get ends key ≡ gone → directory_behind tree key ≡ option_map_or (λ t. if is_directory t.kind then Some t.node.number else None) gone None
     behind_is None absent = behind_none absent
     behind_is (Some gone) taken = behind nodes ends made graph view rows tree stands key gone taken

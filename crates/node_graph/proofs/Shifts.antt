@@ -11,7 +11,7 @@ use Rattle.slab.specs.Slab.{Slab, get, Updates, with_value}
 use Rattle.slab.proofs.SlabLemmas.{Updates-with_value}
 use Rattle.node_graph.specs.declared.nodes.NodeKind.TheVariants.{Directory}
 use Rattle.node_graph.specs.declared.nodes.NodeRef.{NodeRef}
-use Rattle.node_graph.specs.declared.edges.Target.{Target}
+use Rattle.node_graph.specs.declared.nodes.Entry.{Entry}
 use Rattle.node_graph.specs.Cell.{Cell}
 use Rattle.node_graph.specs.Tree.{Tree, Edges, EdgeKey, EdgeTo, edge_cmp, link_count, is_linked, has_one_name, after, cut, move, moved}
 use Rattle.node_graph.specs.Refusals.{has_names, is_directory, is_same_name, lies_within}
@@ -29,11 +29,11 @@ use Rattle.node_graph.proofs.Ways.{Ways, no_loop_move, way_cut, way_found}
 use Rattle.node_graph.proofs.Losses.{Turns, in_no_key, rows_lost, turns_lost}
 
 -- an edge after a move is the moved one, or an old one under another key
-data Arrives (ends : Ends) (from key : EdgeKey) (to : Target) (k : EdgeKey) (t : Target) : Type 0 where
+data Arrives (ends : Ends) (from key : EdgeKey) (to : Entry) (k : EdgeKey) (t : Entry) : Type 0 where
   arrived : k ≡ key → to ≡ t → Arrives ends from key to k t
   stayed : ¬ (k ≡ from) → finite.get ends k ≡ Some t → Arrives ends from key to k t
 
-arrives : (ends : Ends) (from key : EdgeKey) (to : Target) (k : EdgeKey) (t : Target) → finite.get (finite.insert (finite.remove ends from) key to) k ≡ Some t → Arrives ends from key to k t
+arrives : (ends : Ends) (from key : EdgeKey) (to : Entry) (k : EdgeKey) (t : Entry) → finite.get (finite.insert (finite.remove ends from) key to) k ≡ Some t → Arrives ends from key to k t
 arrives ends from key to k t there = elim (comes (finite.remove ends from) key to k t there) [
   | fresh e t_is ↦ arrived e t_is
   | known apart was ↦ let one = stays ends from k t was in stayed one.0 one.1
@@ -43,7 +43,7 @@ arrives ends from key to k t there = elim (comes (finite.remove ends from) key t
 apart_keys : {X : Type 0} (m : finite.FinMap edge_cmp X) (from key : EdgeKey) (x : X) → finite.get m from ≡ Some x → finite.get m key ≡ None → ¬ (key ≡ from)
 apart_keys m from key x there absent e = let wrong : None ≡ Some x = sym absent ∙ ap (finite.get m) e ∙ there in absurd (cc)
 
-module _ (old new : Slab Cell) (ends : Ends) (made : ℕ) (from key : EdgeKey) (to : Target) (dir : NodeRef) (was is : Cell)
+module _ (old new : Slab Cell) (ends : Ends) (made : ℕ) (from key : EdgeKey) (to : Entry) (dir : NodeRef) (was is : Cell)
     (rows : AreRows old ends made) (there : finite.get ends from ≡ Some to) (absent : finite.get ends key ≡ None) (at : get old to.node.place ≡ Some was)
     (u : Updates old new to.node.place (Some is)) (is_it : is ≡ record was { parent = dir }) (into : dir.number ≡ key.directory)
     (up : Sits old dir.place dir.number (λ c. (c.kind ≡ Directory) × (is_reached c ≡ true))) where
@@ -106,7 +106,7 @@ module _ (old new : Slab Cell) (ends : Ends) (made : ℕ) (from key : EdgeKey) (
     ];
     children = λ k t there_t. elim (arrives ends from key to k t there_t) [
       | arrived e t_is ↦
-          let P : Target → Type 0 = λ t. Sits new t.node.place t.node.number (λ c. c.kind ≡ t.kind) in
+          let P : Entry → Type 0 = λ t. Sits new t.node.place t.node.number (λ c. c.kind ≡ t.kind) in
           subst P t_is (on to.node.place to.node.number (λ c. c.kind ≡ to.kind) (λ same_kind. kind ∙ same_kind) (rows.children from to there))
       | stayed not_from was_there ↦ on t.node.place t.node.number (λ c. c.kind ≡ t.kind) (λ same_kind. kind ∙ same_kind) (rows.children k t was_there)
     ];
@@ -126,7 +126,7 @@ module _ (old new : Slab Cell) (ends : Ends) (made : ℕ) (from key : EdgeKey) (
     ];
     ways_up = λ k t c there_t directory c_at. elim (arrives ends from key to k t there_t) [
       | arrived e t_is ↦
-          let c_is : is ≡ c = same_some _ _ (sym u.changed ∙ ap (λ (t : Target). get new t.node.place) t_is ∙ c_at) in
+          let c_is : is ≡ c = same_some _ _ (sym u.changed ∙ ap (λ (t : Entry). get new t.node.place) t_is ∙ c_at) in
           let P : NodeRef → Type 0 = λ n. (n.number ≡ k.directory) × Sits new n.place n.number (λ a. a.kind ≡ Directory) in
           let here = on dir.place dir.number IsAbove (λ p. (kind ∙ p.0, reached ∙ p.1)) up in
           subst P (ap (λ (c : Cell). c.parent) (sym is_it ∙ c_is)) (into ∙ ap (λ (k : EdgeKey). k.directory) (sym e), (here.0, here.1, here.2, here.3.0))
@@ -147,7 +147,7 @@ module _ (old new : Slab Cell) (ends : Ends) (made : ℕ) (from key : EdgeKey) (
   }
     where
       -- no second name leads to a directory
-      twice : (k : EdgeKey) (t : Target) → finite.get ends k ≡ Some t → ¬ (k ≡ from) → t.kind ≡ Directory → t.node.place ≡ to.node.place → ⊥
+      twice : (k : EdgeKey) (t : Entry) → finite.get ends k ≡ Some t → ¬ (k ≡ from) → t.kind ≡ Directory → t.node.place ≡ to.node.place → ⊥
       twice k t was_there not_from directory same_place =
           let child = rows.children k t was_there in
           let cell_is : child.0 ≡ was = same_some _ _ (sym child.1 ∙ ap (get old) same_place ∙ at) in
@@ -193,7 +193,7 @@ module _ (nodes : Slab Cell) (ends : Ends) (made : ℕ) (graph : Kept) (view : k
       let up = rows.parents k one.0 one.1 in
       above_directory count k.directory d rest (up.0, (up.1.0, up.1.1, up.1.2, up.1.3.0))
 
-  pub not_within : (from key : EdgeKey) (to : Target) → finite.get ends from ≡ Some to → (place : ℕ) → Sits nodes place key.directory (λ c. (c.kind ≡ Directory) × (is_reached c ≡ true))
+  pub not_within : (from key : EdgeKey) (to : Entry) → finite.get ends from ≡ Some to → (place : ℕ) → Sits nodes place key.directory (λ c. (c.kind ≡ Directory) × (is_reached c ≡ true))
       → (is_directory to.kind && lies_within (finite.len graph.edges) graph.edges key.directory to.node.number) ≡ false → (count : ℕ) → ¬ (Ways count (edges_of ends) key.directory to.node.number)
   not_within from key to there place (cell, at, numbered, above) no_loop count way =
       let top = above_directory count key.directory to.node.number way (place, (cell, at, numbered, above.0)) in
@@ -258,7 +258,7 @@ sits_after old new place loses p n P apart (cell, at, numbered, holds) =
     kept_there {between} {new} {place} {p} (drops c c_at spare u count) elsewhere = u.others p elsewhere
 
 -- to a name that is free
-module _ (nodes : Slab Cell) (ends ends_new : Ends) (made : ℕ) (graph : Kept) (from key : EdgeKey) (dir : NodeRef) (to : Target) (was is : Cell)
+module _ (nodes : Slab Cell) (ends ends_new : Ends) (made : ℕ) (graph : Kept) (from key : EdgeKey) (dir : NodeRef) (to : Entry) (was is : Cell)
     (view : kept_of nodes ends made ≡ graph) (rows : AreRows nodes ends made) (there : finite.get ends from ≡ Some to) (absent : finite.get ends key ≡ None)
     (up : Sits nodes dir.place dir.number (λ c. (c.kind ≡ Directory) × (is_reached c ≡ true))) (into : dir.number ≡ key.directory)
     (at : get nodes to.node.place ≡ Some was) (is_it : is ≡ record was { parent = dir }) (put : ends_new ≡ finite.remove (finite.insert ends key to) from) where
@@ -284,7 +284,7 @@ module _ (nodes : Slab Cell) (ends ends_new : Ends) (made : ℕ) (graph : Kept) 
       }))
 
 -- to a name that leads to another node, or to the same one
-module _ (nodes lost : Slab Cell) (ends ends_new : Ends) (made : ℕ) (graph : Kept) (from key : EdgeKey) (dir : NodeRef) (to gone : Target) (was is : Cell)
+module _ (nodes lost : Slab Cell) (ends ends_new : Ends) (made : ℕ) (graph : Kept) (from key : EdgeKey) (dir : NodeRef) (to gone : Entry) (was is : Cell)
     (view : kept_of nodes ends made ≡ graph) (rows : AreRows nodes ends made) (there : finite.get ends from ≡ Some to) (taken : finite.get ends key ≡ Some gone) (apart : ¬ (key ≡ from))
     (up : Sits nodes dir.place dir.number (λ c. (c.kind ≡ Directory) × (is_reached c ≡ true))) (into : dir.number ≡ key.directory)
     (bare : has_names (edges_of ends) gone.node.number ≡ false) (loses : LosesName nodes lost gone.node.place) where
@@ -341,17 +341,17 @@ module _ (nodes lost : Slab Cell) (ends ends_new : Ends) (made : ℕ) (graph : K
         })
 
 -- to any name
-module _ (nodes lost : Slab Cell) (ends ends_new : Ends) (made : ℕ) (graph : Kept) (from key : EdgeKey) (dir : NodeRef) (to : Target) (was is : Cell)
+module _ (nodes lost : Slab Cell) (ends ends_new : Ends) (made : ℕ) (graph : Kept) (from key : EdgeKey) (dir : NodeRef) (to : Entry) (was is : Cell)
     (view : kept_of nodes ends made ≡ graph) (rows : AreRows nodes ends made) (there : finite.get ends from ≡ Some to) (apart : ¬ (key ≡ from))
     (up : Sits nodes dir.place dir.number (λ c. (c.kind ≡ Directory) × (is_reached c ≡ true))) (into : dir.number ≡ key.directory) where
-  pub present_after : (gone : Option Target) → finite.get ends key ≡ gone → IfSome gone (λ t. has_names (edges_of ends) t.node.number ≡ false)
+  pub present_after : (gone : Option Entry) → finite.get ends key ≡ gone → IfSome gone (λ t. has_names (edges_of ends) t.node.number ≡ false)
       → (gone ≡ None → lost ≡ nodes) → IfSome gone (λ t. LosesName nodes lost t.node.place) → IsSome (get lost to.node.place)
   present_after None absent bare same_nodes loses = subst (λ (s : Slab Cell). IsSome (get s to.node.place)) (sym (same_nodes refl)) (ap is_some (rows.children from to there).1)
   present_after (Some gone) taken bare same_nodes loses = present_left nodes lost ends ends_new made graph from key dir to gone was is view rows there taken apart up into bare loses
 
   module _ (at : get lost to.node.place ≡ Some was) (is_it : is ≡ record was { parent = dir }) (put : ends_new ≡ finite.remove (finite.insert ends key to) from) where
     pub rows_after : ((count : ℕ) → ¬ (Ways count (edges_of ends) key.directory to.node.number))
-        → (gone : Option Target) → finite.get ends key ≡ gone → IfSome gone (λ t. has_names (edges_of ends) t.node.number ≡ false)
+        → (gone : Option Entry) → finite.get ends key ≡ gone → IfSome gone (λ t. has_names (edges_of ends) t.node.number ≡ false)
         → (gone ≡ None → lost ≡ nodes) → IfSome gone (λ t. LosesName nodes lost t.node.place) → AreRows (with_value lost to.node.place is) ends_new made
     rows_after not_within None absent bare same_nodes loses =
         let P : Slab Cell → Type 0 = λ s. AreRows (with_value s to.node.place is) ends_new made in
@@ -359,7 +359,7 @@ module _ (nodes lost : Slab Cell) (ends ends_new : Ends) (made : ℕ) (graph : K
     rows_after not_within (Some gone) taken bare same_nodes loses =
         rows_over nodes lost ends ends_new made graph from key dir to gone was is view rows there taken apart up into bare loses at is_it put not_within
 
-    pub turns_after : (gone : Option Target) → finite.get ends key ≡ gone → IfSome gone (λ t. has_names (edges_of ends) t.node.number ≡ false)
+    pub turns_after : (gone : Option Entry) → finite.get ends key ≡ gone → IfSome gone (λ t. has_names (edges_of ends) t.node.number ≡ false)
         → (gone ≡ None → lost ≡ nodes) → IfSome gone (λ t. LosesName nodes lost t.node.place) → Turns graph (kept_of (with_value lost to.node.place is) ends_new made) (move from key)
     turns_after None absent bare same_nodes loses =
         let P : Slab Cell → Type 0 = λ s. Turns graph (kept_of (with_value s to.node.place is) ends_new made) (move from key) in

@@ -111,10 +111,10 @@ parent_few tree number kind =
 not_new : (tree : Tree) (number : ℕ) → kind_of tree number ≡ Some Directory → number ≢ length tree.nodes + 1
 not_new tree number kind e = let few = parent_few tree number kind in omega (arith, few, e)
 
-pub made_sound : (tree : Tree) (key : EdgeKey) (what : NodeKind) (mask : OperationSet) → IsSound tree → create_refusal tree.edges key ≡ None → kind_of tree key.directory ≡ Some Directory → 1 ≤ length key.name → length key.name ≤ limit.MAX_NAME
-    → IsSound (after tree (make key (new_row what) mask))
-made_sound tree key what mask sound free_is parent some few =
-    let row : NodeRow = record { kind = what; bytes = [] } in
+-- a node is made, with no more bytes than a file may have
+pub row_sound : (tree : Tree) (key : EdgeKey) (row : NodeRow) (mask : OperationSet) → IsSound tree → create_refusal tree.edges key ≡ None → kind_of tree key.directory ≡ Some Directory → 1 ≤ length key.name → length key.name ≤ limit.MAX_NAME → length row.bytes ≤ limit.MAX_FILE
+    → IsSound (after tree (make key row mask))
+row_sound tree key row mask sound free_is parent some few size =
     let to : EdgeTo = record { child = length tree.nodes + 1; mask = mask } in
     let free = unrefused tree.edges key free_is in
     record {
@@ -147,7 +147,7 @@ made_sound tree key what mask sound free_is parent some few =
         | known old ↦ stays_in tree.edges key to from.directory free.absent (sound.removed from x old)
       ];
       few_names = more_names tree.edges key to free.absent free.few;
-      short_files = λ n r there. short tree row refl sound n r there;
+      short_files = λ n r there. short tree row size sound n r there;
     }
   where
     new_twice : (tree : Tree) (row : NodeRow) → {n : ℕ} → length tree.nodes + 1 ≡ n → IsSome (row_of tree.nodes n) → ⊥
@@ -158,13 +158,12 @@ made_sound tree key what mask sound free_is parent some few =
         let count = finite.len-insert edges_total edges key to ∙ ap (λ o. cond (is_some o) (finite.len edges) (finite.len edges + 1)) absent in
         omega (arith, count, few)
 
-    short : (tree : Tree) (row : NodeRow) → row.bytes ≡ [] → IsSound tree → (n : ℕ) (r : NodeRow) → row_of (tree.nodes ++ row ∷ []) n ≡ Some r → length r.bytes ≤ limit.MAX_FILE
-    short tree row none sound n r there =
+    short : (tree : Tree) (row : NodeRow) → length row.bytes ≤ limit.MAX_FILE → IsSound tree → (n : ℕ) (r : NodeRow) → row_of (tree.nodes ++ row ∷ []) n ≡ Some r → length r.bytes ≤ limit.MAX_FILE
+    short tree row size sound n r there =
         elim (n == length tree.nodes + 1) as (λ b. n == length tree.nodes + 1 ≡ b → length r.bytes ≤ limit.MAX_FILE) [
           | true ↦ λ e.
               let is : row ≡ r = same_some _ _ (sym (ap (row_of (tree.nodes ++ row ∷ [])) (eqb-true n (length tree.nodes + 1) e) ∙ row_of-push_same tree.nodes row) ∙ there) in
-              let size = ap length (ap (λ (x : NodeRow). x.bytes) (sym is) ∙ none) in
-              omega (arith, size)
+              subst (λ (x : NodeRow). length x.bytes ≤ limit.MAX_FILE) is size
           | false ↦ λ e.
               let apart : n ≢ length tree.nodes + 1 = grind (arith, nat_tests) in
               sound.short_files n r (sym (row_of-push_other tree.nodes row n apart) ∙ there)
@@ -176,6 +175,10 @@ made_sound tree key what mask sound free_is parent some few =
         by_cases : (b : Bool) → is_removed edges key.directory ≡ b → is_removed edges key.directory ≡ false
         by_cases true e = absurd (let wrong : Some fault.Removed ≡ None = sym (refusal_of edges key true (is_some (finite.get edges key)) (nat_le limit.MAX_NAMES (finite.len edges)) e refl refl) ∙ none in cc)
         by_cases false e = e
+
+pub made_sound : (tree : Tree) (key : EdgeKey) (what : NodeKind) (mask : OperationSet) → IsSound tree → create_refusal tree.edges key ≡ None → kind_of tree key.directory ≡ Some Directory → 1 ≤ length key.name → length key.name ≤ limit.MAX_NAME
+    → IsSound (after tree (make key (new_row what) mask))
+made_sound tree key what mask sound free parent some few = row_sound tree key (new_row what) mask sound free parent some few (omega arith)
 
 -- a file with other bytes
 pub filled_sound : (tree : Tree) (number : ℕ) (old bytes : List ℕ) → IsSound tree → row_of tree.nodes number ≡ Some (record { kind = File; bytes = old }) → length bytes ≤ limit.MAX_FILE → IsSound (after tree (fill number bytes))

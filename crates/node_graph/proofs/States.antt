@@ -113,7 +113,6 @@ pub record Adds (old new : Kept) (number : ℕ) (is : Seat) (key : EdgeKey) (to 
   pub here : seat_of new number ≡ Some is
   pub fresh : seat_of old number ≡ None
   pub others : (n : ℕ) → n ≢ number → seat_of new n ≡ seat_of old n
-  pub bytes : is.bytes ≡ []
   pub holds : is.holds ≡ 0
   pub child : to.child ≡ number
 
@@ -137,10 +136,9 @@ module _ {old new : Kept} {number : ℕ} {is : Seat} {key : EdgeKey} {to : EdgeT
         | other e b ↦ ap (λ s. option_map_or (λ (s : Seat). s.holds) s 0) (r.others n e)
       ]
 
-  pub leads_made : Adds old new number is key to → (what : NodeKind) → is.kind ≡ what → Leads old new (make key (new_row what) to.mask)
-  leads_made r what kind tree stands =
+  pub leads_made : Adds old new number is key to → (row : NodeRow) → is.kind ≡ row.kind → is.bytes ≡ row.bytes → Leads old new (make key row to.mask)
+  leads_made r row kind bytes tree stands =
       let count : number ≡ length tree.nodes + 1 = r.next ∙ ap (λ n. n + 1) stands.made in
-      let row : NodeRow = record { kind = what; bytes = [] } in
       let longer : length (tree.nodes ++ row ∷ []) ≡ length tree.nodes + 1 = length-append tree.nodes (row ∷ []) in
       record {
         made = r.made ∙ count ∙ sym longer;
@@ -149,8 +147,8 @@ module _ {old new : Kept} {number : ℕ} {is : Seat} {key : EdgeKey} {to : EdgeT
           | same e b ↦
               let seat_is : is ≡ seat = same_some _ _ (sym (ap (seat_of new) e ∙ r.here) ∙ there) in
               ap (row_of (tree.nodes ++ row ∷ [])) (e ∙ count) ∙ row_of-push_same tree.nodes row
-              ∙ ap (λ k. Some (record { kind = k; bytes = [] })) (sym kind ∙ ap (λ (s : Seat). s.kind) seat_is)
-              ∙ ap (λ bs. Some (record { kind = seat.kind; bytes = bs })) (sym r.bytes ∙ ap (λ (s : Seat). s.bytes) seat_is)
+              ∙ ap (λ k. Some (record { kind = k; bytes = row.bytes })) (sym kind ∙ ap (λ (s : Seat). s.kind) seat_is)
+              ∙ ap (λ bs. Some (record { kind = seat.kind; bytes = bs })) (sym bytes ∙ ap (λ (s : Seat). s.bytes) seat_is)
           | other e b ↦
               row_of-push_other tree.nodes row n (λ equal. e (equal ∙ sym count)) ∙ stands.rows n seat (sym (r.others n e) ∙ there)
         ];

@@ -8,7 +8,7 @@ use Rattle.slab.specs.Slab.{Slab, get, Updates}
 use Rattle.fidl_names.specs.declared.limits.TheConstants as limit
 use Rattle.node_graph.specs.declared.nodes.NodeKind.TheVariants.{Directory}
 use Rattle.node_graph.specs.declared.nodes.NodeRef.{NodeRef}
-use Rattle.node_graph.specs.declared.edges.Target.{Target}
+use Rattle.node_graph.specs.declared.nodes.Entry.{Entry}
 use Rattle.node_graph.specs.Cell.{Cell}
 use Rattle.node_graph.specs.Tree.{EdgeKey, EdgeTo, Edges, link_count, has_one_name}
 use Rattle.node_graph.specs.Ends.{Ends, end_of, edges_of}
@@ -138,10 +138,10 @@ unreached cell un reached = by_cases (cell.number == 1) refl
         cc
 
 -- an edge counts for its node
-pub leads_count : (ends : Ends) (key : EdgeKey) (to : Target) → finite.get ends key ≡ Some to → 1 ≤ link_count (edges_of ends) to.node.number
+pub leads_count : (ends : Ends) (key : EdgeKey) (to : Entry) → finite.get ends key ≡ Some to → 1 ≤ link_count (edges_of ends) to.node.number
 leads_count ends key to there = count_some (edges_of ends) key (end_of to) (get-edges_of ends key ∙ ap (λ o. option_mapped o) there)
   where
-    option_mapped : Option Target → Option EdgeTo
+    option_mapped : Option Entry → Option EdgeTo
     option_mapped None = None
     option_mapped (Some to) = Some (end_of to)
 
@@ -188,13 +188,13 @@ forgotten old new ends made place rows (drops cell at spare u count) =
     sits_else : (p n : ℕ) (P : Cell → Type 0) → Sits old p n P → p ≢ place → Sits new p n P
     sits_else p n P (c, c_at, numbered, holds) apart = (c, u.others p apart ∙ c_at, numbered, holds)
 
-    not_parent : (key : EdgeKey) (to : Target) (there : finite.get ends key ≡ Some to) → (rows.parents key to there).0 ≢ place
+    not_parent : (key : EdgeKey) (to : Entry) (there : finite.get ends key ≡ Some to) → (rows.parents key to there).0 ≢ place
     not_parent key to there e =
         let one = rows.parents key to there in
         unreached cell (unneeded cell spare) (ap is_reached (same_some _ _ (sym at ∙ ap (get old) (sym e) ∙ one.1.1)) ∙ one.1.3.1)
 
 -- a node comes with its first name
-pub record Made (old new : Slab Cell) (ends : Ends) (made : ℕ) (key : EdgeKey) (to : Target) (is : Cell) : Type 0 where
+pub record Made (old new : Slab Cell) (ends : Ends) (made : ℕ) (key : EdgeKey) (to : Entry) (is : Cell) : Type 0 where
   pub updates : Updates old new to.node.place (Some is)
   pub vacant : get old to.node.place ≡ None
   pub number : is.number ≡ made + 1
@@ -231,7 +231,7 @@ equal_numbers a b e = grind (arith, nat_tests)
 pub apart_numbers : (a b : ℕ) → a ≢ b → a == b ≡ false
 apart_numbers a b e = grind (arith, nat_tests)
 
-pub made_rows : (old new : Slab Cell) (ends : Ends) (made : ℕ) (key : EdgeKey) (to : Target) (is : Cell) → AreRows old ends made → Made old new ends made key to is → AreRows new (finite.insert ends key to) (made + 1)
+pub made_rows : (old new : Slab Cell) (ends : Ends) (made : ℕ) (key : EdgeKey) (to : Entry) (is : Cell) → AreRows old ends made → Made old new ends made key to is → AreRows new (finite.insert ends key to) (made + 1)
 made_rows old new ends made key to is rows m = record {
   root = sits_still 0 1 _ rows.root;
   numbers = λ p c there. elim (at p c there) [
@@ -267,7 +267,7 @@ made_rows old new ends made key to is rows m = record {
     | inr old_one ↦ rows.needed p c old_one (λ x. x)
   ];
   children = λ k t there. elim (comes ends key to k t there) [
-    | fresh e is_it ↦ let P : Target → Type 0 = λ t. Sits new t.node.place t.node.number (λ c. c.kind ≡ t.kind) in subst P is_it (is, m.updates.changed, m.number ∙ sym m.to_number, m.kind)
+    | fresh e is_it ↦ let P : Entry → Type 0 = λ t. Sits new t.node.place t.node.number (λ c. c.kind ≡ t.kind) in subst P is_it (is, m.updates.changed, m.number ∙ sym m.to_number, m.kind)
     | known e was ↦ sits_still t.node.place t.node.number _ (rows.children k t was)
   ];
   parents = λ k t there. elim (comes ends key to k t there) [
@@ -282,7 +282,7 @@ made_rows old new ends made key to is rows m = record {
   ];
   ways_up = λ k t c there directory at_c. elim (comes ends key to k t there) [
     | fresh e is_it ↦
-        let c_is : is ≡ c = same_some _ _ (sym m.updates.changed ∙ ap (λ (t : Target). get new t.node.place) is_it ∙ at_c) in
+        let c_is : is ≡ c = same_some _ _ (sym m.updates.changed ∙ ap (λ (t : Entry). get new t.node.place) is_it ∙ at_c) in
         let P : Cell → Type 0 = λ c. (c.parent.number ≡ k.directory) × Sits new c.parent.place c.parent.number (λ a. a.kind ≡ Directory) in
         let up = sits_still is.parent.place is.parent.number _ m.up in
         subst P c_is (m.up_number ∙ ap (λ (k : EdgeKey). k.directory) (sym e), (up.0, up.1, up.2, up.3.0))

@@ -8,42 +8,47 @@ use Rattle.fidl_names.specs.declared.limits.TheConstants as limit
 use Rattle.io_rights.specs.Operations.{OperationSet}
 use Rattle.node_graph.specs.declared.nodes.NodeKind.{NodeKind}
 use Rattle.node_graph.specs.declared.nodes.NodeRef.{NodeRef}
-use Rattle.node_graph.specs.declared.edges.Target.{Target}
+use Rattle.node_graph.specs.declared.nodes.Entry.{Entry}
 pub use Rattle.node_graph.specs.Tree.{name_in}
 use Rattle.node_graph.specs.Tree.{EdgeKey, EdgeTo, Edges, HasNameLength, edge_cmp}
 use Rattle.node_graph.specs.Codes.{key_code, node_code, kind_code, mask_code}
 use Rattle.node_graph.specs.Graph.{Listed, comes_after}
+use Rattle.node_graph.specs.Refusals.{has_names, is_directory}
 
 abbrev pub Ends : Type 0
-Ends = finite.FinMap edge_cmp Target
+Ends = finite.FinMap edge_cmp Entry
 
-abbrev pub target_code : Coded Target
-target_code = code_by (NodeRef × (NodeKind × OperationSet)) (coded× node_code (coded× kind_code mask_code)) (λ t. (t.node, (t.kind, t.mask))) (λ p. record { node = p.0; kind = p.1.0; mask = p.1.1 }) (λ _. refl)
+abbrev pub entry_code : Coded Entry
+entry_code = code_by (NodeRef × (NodeKind × OperationSet)) (coded× node_code (coded× kind_code mask_code)) (λ entry. (entry.node, (entry.kind, entry.mask))) (λ p. record { node = p.0; kind = p.1.0; mask = p.1.1 }) (λ _. refl)
 
 abbrev pub ends_code : Coded Ends
-ends_code = finite.code key_code target_code
+ends_code = finite.code key_code entry_code
 
 -- the edge of a tree that a kept one is
-abbrev pub end_of : Target → EdgeTo
-end_of target = record { child = target.node.number; mask = target.mask }
+abbrev pub end_of : Entry → EdgeTo
+end_of entry = record { child = entry.node.number; mask = entry.mask }
 
-abbrev pub edge_of : EdgeKey × Target → EdgeKey × EdgeTo
+abbrev pub edge_of : EdgeKey × Entry → EdgeKey × EdgeTo
 edge_of entry = (entry.0, end_of entry.1)
 
 unfoldable pub edges_of : Ends → Edges
 edges_of ends = finite.from_entries (map edge_of (finite.entries ends))
 
+-- a node of this kind has names in it only as a directory
+abbrev pub HasNamesAsDirectory : Ends → NodeRef → NodeKind → Type 0
+HasNamesAsDirectory ends node kind = has_names (edges_of ends) node.number ≡ true → is_directory kind ≡ true
+
 -- the rows stand in the order of their keys, and each name has 1 to 255 bytes
-pub record IsNamed (entries : List (EdgeKey × Target)) : Type 0 where
+pub record IsNamed (entries : List (EdgeKey × Entry)) : Type 0 where
   pub in_order : finite.is_sorted edge_cmp entries ≡ true
-  pub named : (key : EdgeKey) (to : Target) → finite.get (finite.from_entries {R = edge_cmp} entries) key ≡ Some to → HasNameLength key.name
+  pub named : (key : EdgeKey) (to : Entry) → finite.get (finite.from_entries {R = edge_cmp} entries) key ≡ Some to → HasNameLength key.name
 
 -- the names of a directory behind a place in its listing
-abbrev pub ends_after : Ends → ℕ → Option (List ℕ) → List (EdgeKey × Target)
+abbrev pub ends_after : Ends → ℕ → Option (List ℕ) → List (EdgeKey × Entry)
 ends_after ends directory place = filter (λ entry. (entry.0.directory == directory) && comes_after place entry.0.name) (finite.entries ends)
 
 -- what a listing shows of a name
-abbrev pub listed_of : EdgeKey × Target → Listed
+abbrev pub listed_of : EdgeKey × Entry → Listed
 listed_of entry = record { name = entry.0.name; number = entry.1.node.number; kind = entry.1.kind }
 
 -- where the names of a directory behind a place in its listing begin

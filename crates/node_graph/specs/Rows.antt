@@ -5,7 +5,7 @@ use Rattle.std.specs.FinMap as finite
 use Rattle.slab.specs.Slab.{Slab, get, entries_from, Updates, slab_len}
 use Rattle.fidl_names.specs.declared.limits.TheConstants as limit
 use Rattle.node_graph.specs.declared.nodes.NodeKind.TheVariants.{Directory}
-use Rattle.node_graph.specs.declared.edges.Target.{Target}
+use Rattle.node_graph.specs.declared.nodes.Entry.{Entry}
 use Rattle.node_graph.specs.Cell.{Cell}
 use Rattle.node_graph.specs.Tree.{Below, EdgeKey, link_count, has_one_name}
 use Rattle.node_graph.specs.Graph.{Seat, Kept}
@@ -45,12 +45,12 @@ pub record AreAlmost (nodes : Slab Cell) (ends : Ends) (made : ℕ) (spare : ℕ
   pub links : (place : ℕ) (cell : Cell) → get nodes place ≡ Some cell → cell.links ≡ link_count (edges_of ends) cell.number
   -- nothing is kept for nobody
   pub needed : (place : ℕ) (cell : Cell) → get nodes place ≡ Some cell → ¬ (spare place) → is_needed cell ≡ true
-  pub children : (key : EdgeKey) (to : Target) → finite.get ends key ≡ Some to → Sits nodes to.node.place to.node.number (λ cell. cell.kind ≡ to.kind)
+  pub children : (key : EdgeKey) (to : Entry) → finite.get ends key ≡ Some to → Sits nodes to.node.place to.node.number (λ cell. cell.kind ≡ to.kind)
   -- names stand in directories to which names lead
-  pub parents : (key : EdgeKey) (to : Target) → finite.get ends key ≡ Some to → (place : ℕ) × Sits nodes place key.directory (λ cell. (cell.kind ≡ Directory) × (is_reached cell ≡ true))
+  pub parents : (key : EdgeKey) (to : Entry) → finite.get ends key ≡ Some to → (place : ℕ) × Sits nodes place key.directory (λ cell. (cell.kind ≡ Directory) × (is_reached cell ≡ true))
   -- at most one name leads to a directory or a mount, and a directory knows where it stands
   pub one_name : (place : ℕ) (cell : Cell) → get nodes place ≡ Some cell → has_one_name cell.kind ≡ true → cell.links ≤ 1
-  pub ways_up : (key : EdgeKey) (to : Target) (cell : Cell) → finite.get ends key ≡ Some to → to.kind ≡ Directory → get nodes to.node.place ≡ Some cell
+  pub ways_up : (key : EdgeKey) (to : Entry) (cell : Cell) → finite.get ends key ≡ Some to → to.kind ≡ Directory → get nodes to.node.place ≡ Some cell
       → (cell.parent.number ≡ key.directory) × Sits nodes cell.parent.place cell.parent.number (λ above. above.kind ≡ Directory)
   -- no directory is below itself
   pub no_loop : (number : ℕ) → ¬ (Below (edges_of ends) number number)

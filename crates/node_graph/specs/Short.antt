@@ -3,7 +3,7 @@ use Rattle.std.specs.Prelude.{◌≡◌, ℕ, ◌≤◌, ◌==◌, ◌&&◌, Boo
 use Rattle.std.specs.FinMap as finite
 use Rattle.std.specs.Int.Digits.{AllBelowBase, number_from_digits_after}
 use Rattle.std.specs.Map.{lookup}
-use Rattle.node_graph.specs.declared.edges.Target.{Target}
+use Rattle.node_graph.specs.declared.nodes.Entry.{Entry}
 use Rattle.node_graph.specs.declared.short.ShortName.{ShortName}
 use Rattle.node_graph.specs.declared.short.TheConstants as limit
 use Rattle.node_graph.specs.Ends.{Ends, name_in}
@@ -29,5 +29,5 @@ pub record IsKeyOf (key : ShortName) (directory : ℕ) (name : List ℕ) : Type 
   pub is : key ≡ key_of directory name
 
 -- the index has just the short names, each with where it leads
-pub record IsIndex (index : List (ShortName × Target)) (names : Ends) : Type 0 where
+pub record IsIndex (index : List (ShortName × Entry)) (names : Ends) : Type 0 where
   pub leads : (directory : ℕ) (name : List ℕ) → IsShort name → lookup (is_same_key (key_of directory name)) index ≡ finite.get names (name_in directory name)

@@ -5,7 +5,7 @@ ghost use Rattle.node_graph.specs.declared.nodes.NodeKind.TheVariants.{Directory
 ghost use Rattle.node_graph.specs.declared.faults.GraphFault.TheVariants as fault;
 ghost use Rattle.node_graph.specs.Tree.{Tree, cut};
 ghost use Rattle.node_graph.specs.Refusals.{unlink_refusal, directory_behind, is_directory, is_mount, is_no_directory, has_names};
-ghost use Rattle.node_graph.specs.Ends.{edges_of};
+ghost use Rattle.node_graph.specs.Ends.{edges_of, HasNamesAsDirectory};
 ghost use Rattle.node_graph.specs.Rows.{LosesName};
 ghost use Rattle.node_graph.specs.Graph.{number_of, Names, kind_at, StandsFor, Leads, SameHolds, KeepsNames, Settles};
 
@@ -60,7 +60,8 @@ fn unlink_fault(
     kind: NodeKind,
     must_be_dir: bool,
 ) -> Option<GraphFault>
-    requires { node.number < 2 ^ 64 - 1 }
+    requires number { node.number < 2 ^ 64 - 1 }
+    requires kind { HasNamesAsDirectory edges.now node kind }
     ensures { result ≡ first_of (cause_if (is_mount kind) fault.Unsupported ∷ cause_if (must_be_dir && is_no_directory kind) fault.NotDir ∷ cause_if (has_names (edges_of edges.now) node.number) fault.NotEmpty ∷ []) }
 {
     if kind.is_mount() {
@@ -69,7 +70,7 @@ fn unlink_fault(
     if must_be_dir && !kind.is_directory() {
         return Some(GraphFault::NotDir);
     }
-    if edges.has_names(node.number) {
+    if edges.has_names(node, kind) {
         return Some(GraphFault::NotEmpty);
     }
     None

@@ -1,35 +1,26 @@
 ghost use Rattle.std.specs.Prelude.{◌≡◌, ◌≤◌, ◌<◌, ◌-◌, ◌^◌, take, length, All, OnOk, OnErr, OnSome};
 ghost use Rattle.std.specs.Option.{option_map};
 ghost use Rattle.std.specs.FinMap as finite;
-ghost use Rattle.node_graph.specs.Ends.{edges_of, ends_after, name_in, start_of};
+ghost use Rattle.node_graph.specs.Ends.{edges_of, HasNamesAsDirectory, ends_after, name_in, start_of};
 ghost use Rattle.node_graph.specs.Refusals.{has_names};
 ghost use Rattle.node_graph.specs.Short.{IsKeyOf};
 
 use crate::keys::EdgeName;
-use crate::nodes::{NodeKind, NodeRef};
+use crate::nodes::{Entry, NodeKind, NodeRef};
 use crate::short::ShortName;
 use fidl_names::{MAX_NAME, NoMemory};
-use io_rights::Rights;
 use std::alloc::Global;
 use std::collections::btree_map::Range;
 use std::collections::{BTreeMap, HashMap};
 use std::marker::Model;
 use std::ops::Bound;
 
-/// Where a name leads: the node, what it is, and the mask of the rights that pass through the name.
-#[derive(Clone, Copy)]
-pub struct Target {
-    pub node: NodeRef,
-    pub kind: NodeKind,
-    pub mask: Rights,
-}
-
 /// All names of a server, in the order of directories and of the names' bytes.
 #[derive(Drop)]
 pub struct Edges {
-    names: BTreeMap<EdgeName, Target>,
+    names: BTreeMap<EdgeName, Entry>,
     // The short ones among them a second time, which are found by hash.
-    short: HashMap<ShortName, Target>,
+    short: HashMap<ShortName, Entry>,
 }
 
 impl Model for Edges {
@@ -63,7 +54,7 @@ impl Edges {
         self.names.len()
     }
 
-    pub fn find(&self, directory: u64, name: &[u8]) -> Option<Target>
+    pub fn find(&self, directory: u64, name: &[u8]) -> Option<Entry>
         ensures found { result ≡ finite.get self.now (name_in directory name.now) }
         ensures few { OnSome result (length name.now ≤ MAX_NAME) }
     {
@@ -74,7 +65,7 @@ impl Edges {
     }
 
     // No name is longer than a name may be.
-    fn find_in_order(&self, directory: u64, name: &[u8]) -> Option<Target>
+    fn find_in_order(&self, directory: u64, name: &[u8]) -> Option<Entry>
         ensures found { result ≡ finite.get self.now (name_in directory name.now) }
         ensures few { OnSome result (length name.now ≤ MAX_NAME) }
     {
@@ -88,7 +79,7 @@ impl Edges {
     }
 
     // Room is made before anything changes.
-    pub fn put(&mut self, directory: u64, name: &[u8], to: Target) -> Result<(), NoMemory>
+    pub fn put(&mut self, directory: u64, name: &[u8], to: Entry) -> Result<(), NoMemory>
         requires some { 1 ≤ length name.now }
         requires few { length name.now ≤ MAX_NAME }
         ensures put { OnOk result (self.new ≡ finite.insert self.old (name_in directory name.now) to) }
@@ -109,7 +100,7 @@ impl Edges {
         short: ShortName,
         directory: u64,
         name: &[u8],
-        to: &Target,
+        to: &Entry,
     ) -> Result<(), NoMemory>
         requires some { 1 ≤ length name.now }
         requires few { length name.now ≤ MAX_NAME }
@@ -142,7 +133,7 @@ impl Edges {
         src: &[u8],
         into: u64,
         dst: &[u8],
-        to: Target,
+        to: Entry,
     ) -> Result<(), NoMemory>
         requires source { length src.now ≤ MAX_NAME }
         requires some { 1 ≤ length dst.now }
@@ -155,18 +146,22 @@ impl Edges {
         Ok(())
     }
 
-    // Whether a node has names in it.
-    pub fn has_names(&self, directory: u64) -> bool
-        requires { directory < 2 ^ 64 - 1 }
-        ensures { result ≡ has_names (edges_of self.now) directory }
+    // Whether a node of this kind has names in it. Only a directory can have any, so no other is asked.
+    pub fn has_names(&self, node: NodeRef, kind: NodeKind) -> bool
+        requires number { node.number < 2 ^ 64 - 1 }
+        requires kind { HasNamesAsDirectory self.now node kind }
+        ensures { result ≡ has_names (edges_of self.now) node.number }
     {
-        let mut names = self.after(directory, None);
+        if !kind.is_directory() {
+            return false;
+        }
+        let mut names = self.after(node.number, None);
         names.next().is_some()
     }
 
     // The names of a directory behind a place in its listing, and where they lead. A longer place than
     // a name stands to each name as its front does.
-    pub fn after(&self, directory: u64, place: Option<&[u8]>) -> Range<'_, EdgeName, Target>
+    pub fn after(&self, directory: u64, place: Option<&[u8]>) -> Range<'_, EdgeName, Entry>
         requires { directory < 2 ^ 64 - 1 }
         ensures names { result ≡ ends_after self.now directory (option_map (λ name. name.now) place.entry) }
         ensures named { All (λ entry. (1 ≤ length entry.0.name) × (length entry.0.name ≤ MAX_NAME)) result }

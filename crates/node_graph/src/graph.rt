@@ -62,7 +62,8 @@ impl Graph {
     {
         let mut nodes = Slab::new(alloc);
         nodes.reserve(1)?;
-        nodes.insert_reserved(Node::new(alloc, 1, NodeKind::Directory, 0, ROOT));
+        let root = Node::new(1, NodeKind::Directory, Vec::new(alloc), 0, ROOT);
+        nodes.insert_reserved(root);
         Ok(Graph {
             nodes,
             edges: Edges::new(alloc),
@@ -142,14 +143,9 @@ impl Graph {
         requires directory { kind_at self.now (number_of dir) ≡ Some Directory }
         ensures found { option_map (λ entry. record { child = number_of entry.node; mask = entry.mask }) result ≡ finite.get self.now.edges (record { directory = number_of dir; name = name.now }) }
         ensures kept { IfSome result (λ entry. Names self.now entry.node) }
+        ensures kind { IfSome result (λ entry. kind_at self.now (number_of entry.node) ≡ Some entry.kind) }
     {
-        match self.edges.find(dir.number, name) {
-            Some(to) => Some(Entry {
-                node: to.node,
-                mask: to.mask,
-            }),
-            None => None,
-        }
+        self.edges.find(dir.number, name)
     }
 
     /// How many nodes are the root, linked or held. These and no others have to be kept.

@@ -1,21 +1,20 @@
 ghost use Rattle.std.specs.Prelude.{◌≡◌, ◌≤◌, ◌⊎◌, ℕ, Bool, true, List, length, Some, None};
 ghost use Rattle.std.specs.FinMap as finite;
 ghost use Rattle.io_rights.specs.Operations.{OperationSet};
-ghost use Rattle.node_graph.specs.declared.nodes.NodeKind.{NodeKind};
 ghost use Rattle.node_graph.specs.declared.nodes.NodeKind.TheVariants.{Directory, File};
-ghost use Rattle.node_graph.specs.Tree.{Tree, Edges, EdgeKey, Below, row_of, kind_of, make, new_row, cut, fill, after, bare_tree, IsSound};
+ghost use Rattle.node_graph.specs.Tree.{Tree, Edges, EdgeKey, NodeRow, Below, row_of, kind_of, make, cut, fill, after, bare_tree, IsSound};
 ghost use Rattle.node_graph.specs.Refusals.{lies_within};
 ghost use Rattle.node_graph.specs.Graph.{create_refusal, unlink_refusal, link_refusal, link_change, rename_refusal, rename_change, write_refusal, write_change, resize_refusal, resized};
 
-use fidl_names::MAX_NAME;
+use fidl_names::{MAX_FILE, MAX_NAME};
 
-/// A server begins with a sound tree, and each change that `create`, `unlink`, `link`, `rename`,
-/// `write_at` and `resize` make where they don't refuse keeps a tree sound.
+/// A server begins with a sound tree, and each change that `create`, `make`, `unlink`, `link`,
+/// `rename`, `write_at` and `resize` make where they don't refuse keeps a tree sound.
 pub fn changes_keep_trees_sound()
     ensures begun { IsSound bare_tree }
-    ensures made { (tree : Tree) (key : EdgeKey) (kind : NodeKind) (mask : OperationSet) →
-        IsSound tree → create_refusal tree.edges key ≡ None → kind_of tree key.directory ≡ Some Directory → 1 ≤ length key.name → length key.name ≤ MAX_NAME →
-        IsSound (after tree (make key (new_row kind) mask)) }
+    ensures made { (tree : Tree) (key : EdgeKey) (row : NodeRow) (mask : OperationSet) →
+        IsSound tree → create_refusal tree.edges key ≡ None → kind_of tree key.directory ≡ Some Directory → 1 ≤ length key.name → length key.name ≤ MAX_NAME → length row.bytes ≤ MAX_FILE →
+        IsSound (after tree (make key row mask)) }
     ensures unlinked { (tree : Tree) (key : EdgeKey) (must_be_dir : Bool) →
         IsSound tree → unlink_refusal tree key must_be_dir ≡ None → IsSound (after tree (cut key)) }
     ensures linked { (tree : Tree) (from to : EdgeKey) →

@@ -10,10 +10,10 @@ ghost use Rattle.node_graph.specs.Ends.{name_in};
 ghost use Rattle.node_graph.specs.Rows.{GainsName};
 ghost use Rattle.node_graph.specs.Graph.{number_of, Names, kind_at, StandsFor, LeadsBy, SameHolds, KeepsNames, Answers, link_refusal, link_change};
 
-use crate::edges::{Edges, Target};
+use crate::edges::Edges;
 use crate::faults::GraphFault;
 use crate::graph::Graph;
-use crate::nodes::{NodeKind, NodeRef};
+use crate::nodes::{Entry, NodeKind, NodeRef};
 use crate::rows::Node;
 use fidl_names::{MAX_NAME, NoMemory};
 use slab::Slab;
@@ -64,7 +64,7 @@ fn name_again(
     nodes: &mut Slab<Node>,
     directory: u64,
     name: &[u8],
-    to: Target,
+    to: Entry,
 ) -> Result<(), NoMemory>
     requires some { 1 ≤ length name.now }
     requires few { length name.now ≤ MAX_NAME }

@@ -5,10 +5,9 @@ ghost use Rattle.node_graph.specs.declared.nodes.NodeKind.TheVariants.{Directory
 ghost use Rattle.node_graph.specs.Graph.{number_of, Names as NamesNode, kind_at, listed_after};
 ghost use Rattle.node_graph.specs.Listing.{listed};
 
-use crate::edges::Target;
 use crate::graph::Graph;
 use crate::keys::EdgeName;
-use crate::nodes::{NodeKind, NodeRef};
+use crate::nodes::{Entry, NodeKind, NodeRef};
 use fidl_names::{MAX_NAME, MAX_NAMES};
 use std::collections::btree_map::Range;
 use std::marker::Model;
@@ -24,7 +23,7 @@ pub struct NameView<'a> {
 /// The names of a directory that a listing has left, in the order of their bytes.
 #[derive(Drop)]
 pub struct Names<'a> {
-    names: Range<'a, EdgeName, Target>,
+    names: Range<'a, EdgeName, Entry>,
 }
 
 impl<'a> Model for Names<'a> {

@@ -7,15 +7,15 @@ ghost use Rattle.node_graph.specs.declared.nodes.NodeKind.TheVariants.{Directory
 ghost use Rattle.node_graph.specs.declared.faults.GraphFault.TheVariants as fault;
 ghost use Rattle.node_graph.specs.Tree.{Tree, is_removed};
 ghost use Rattle.node_graph.specs.Refusals.{is_directory, is_mount, is_no_directory, has_names, parents_of, lies_within, is_same_name, replaced_directory};
-ghost use Rattle.node_graph.specs.Ends.{edges_of};
+ghost use Rattle.node_graph.specs.Ends.{edges_of, HasNamesAsDirectory};
 ghost use Rattle.node_graph.specs.Rows.{LosesName};
 ghost use Rattle.node_graph.specs.Graph.{number_of, Names, kind_at, StandsFor, Leads, SameHolds, KeepsNames, Answers, rename_refusal, rename_change};
 
 use crate::cuts::{directory_of, lose_name};
-use crate::edges::{Edges, Target};
+use crate::edges::Edges;
 use crate::faults::GraphFault;
 use crate::graph::Graph;
-use crate::nodes::{NodeKind, NodeRef};
+use crate::nodes::{Entry, NodeKind, NodeRef};
 use crate::rows::Node;
 use fidl_names::MAX_NAME;
 use slab::Slab;
@@ -150,7 +150,7 @@ impl Graph {
 }
 
 // One name less leads to the node that is replaced, if one is.
-fn lose_replaced(nodes: &mut Slab<Node>, gone: &Option<Target>)
+fn lose_replaced(nodes: &mut Slab<Node>, gone: &Option<Entry>)
     requires present { IfSome gone.now (λ to. ContainsKey nodes.old to.node.place) }
     requires linked { IfSome gone.now (λ to. IfSome (get nodes.old to.node.place) (λ cell. 0 < cell.links)) }
     ensures kept { gone.now ≡ None → nodes.new ≡ nodes.old }
@@ -162,7 +162,7 @@ fn lose_replaced(nodes: &mut Slab<Node>, gone: &Option<Target>)
 }
 
 // What a rename did that replaced what this name led to, if it was there.
-fn moved_over(gone: &Option<Target>) -> Moved
+fn moved_over(gone: &Option<Entry>) -> Moved
     ensures { result ≡ record { changed = true; replaced = option_map_or (λ to. if is_directory to.kind then Some to.node.number else None) gone.now None } }
 {
     let replaced = match gone {
@@ -183,8 +183,9 @@ fn is_same_name(dir: NodeRef, src: &[u8], into: NodeRef, dst: &[u8]) -> bool
 }
 
 // Why a node of this kind doesn't take the place of what is there, if something is.
-fn replace_fault(edges: &Edges, kind: NodeKind, gone: &Option<Target>) -> Option<GraphFault>
-    requires { IfSome gone.now (λ to. to.node.number < 2 ^ 64 - 1) }
+fn replace_fault(edges: &Edges, kind: NodeKind, gone: &Option<Entry>) -> Option<GraphFault>
+    requires number { IfSome gone.now (λ to. to.node.number < 2 ^ 64 - 1) }
+    requires kind { IfSome gone.now (λ to. HasNamesAsDirectory edges.now to.node to.kind) }
     ensures { result ≡ option_map_or (λ to. first_of (cause_if (is_mount to.kind) fault.Unsupported ∷ cause_if (is_directory kind && is_no_directory to.kind) fault.NotDir ∷ cause_if (is_no_directory kind && is_directory to.kind) fault.NotFile ∷ cause_if (has_names (edges_of edges.now) to.node.number) fault.NotEmpty ∷ [])) gone.now None }
 {
     let Some(to) = gone else {
@@ -199,7 +200,7 @@ fn replace_fault(edges: &Edges, kind: NodeKind, gone: &Option<Target>) -> Option
     if !kind.is_directory() && to.kind.is_directory() {
         return Some(GraphFault::NotFile);
     }
-    if edges.has_names(to.node.number) {
+    if edges.has_names(to.node, to.kind) {
         return Some(GraphFault::NotEmpty);
     }
     None

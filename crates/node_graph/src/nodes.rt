@@ -35,9 +35,10 @@ pub struct NodeRef {
     pub(crate) number: u64,
 }
 
-/// What a name leads to: a node, and the mask of the rights that pass through the name.
+/// What a name leads to: a node, what it is, and the mask of the rights that pass through the name.
 #[derive(Clone, Copy)]
 pub struct Entry {
     pub node: NodeRef,
+    pub kind: NodeKind,
     pub mask: Rights,
 }

@@ -1,11 +1,10 @@
-ghost use Rattle.std.specs.Prelude.{◌≡◌, ◌+◌, ◌-◌, ◌^◌, ◌<◌, ◌≤◌, List, [], length, OnOk, OnErr};
+ghost use Rattle.std.specs.Prelude.{◌≡◌, ◌+◌, ◌-◌, ◌^◌, ◌<◌, ◌≤◌, List, length, OnOk, OnErr};
 ghost use Rattle.node_graph.specs.Cell.{Cell};
 ghost use Rattle.node_graph.specs.Graph.{resized, overwritten};
 ghost use Rattle.node_graph.specs.Rows.{is_needed};
 
 use crate::nodes::{NodeKind, NodeRef};
 use fidl_names::NoMemory;
-use std::alloc::Global;
 use std::marker::Model;
 
 // A node's row with its holds, how many names lead to it, and the directory that a directory's name
@@ -29,13 +28,13 @@ impl Model for Node {
 }
 
 impl Node {
-    pub fn new(alloc: Global, number: u64, kind: NodeKind, links: u32, parent: NodeRef) -> Node
-        ensures { result ≡ record { number = number; kind = kind; bytes = []; holds = 0; links = links; parent = parent } }
+    pub fn new(number: u64, kind: NodeKind, bytes: Vec<u8>, links: u32, parent: NodeRef) -> Node
+        ensures { result ≡ record { number = number; kind = kind; bytes = bytes.items; holds = 0; links = links; parent = parent } }
     {
         Node {
             number,
             kind,
-            bytes: Vec::new(alloc),
+            bytes,
             holds: 0,
             links,
             parent,

@@ -3,4 +3,3 @@ pub mod Chosen
 pub mod NamedNodes
 pub mod Standing
 pub mod Nexts
-mod Made

@@ -1,9 +1,9 @@
 -- What the tree of a graph says of a node that the graph names.
-use Rattle.std.proofs.Common.{◌≡◌, ℕ, zero, suc, ◌≤◌, [], Option, Some, None, refl, sym, ap, ◌∙◌, arith}
+use Rattle.std.proofs.Common.{◌≡◌, ℕ, zero, suc, ◌≤◌, Option, Some, None, refl, sym, ap, ◌∙◌, arith}
 use Rattle.std.specs.Prelude.{unwrap_or}
-use Rattle.std.specs.Option.{option_map, option_map_or}
+use Rattle.std.specs.Option.{option_map}
 use Rattle.node_graph.specs.declared.nodes.NodeRef.{NodeRef}
-use Rattle.node_graph.specs.Graph.{Seat, Kept, seat_of, Names, number_of, kind_at, bytes_at, StandsFor}
+use Rattle.node_graph.specs.Graph.{Seat, Kept, seat_of, Names, number_of, kind_at, StandsFor}
 use Rattle.node_graph.specs.Tree.{NodeRow, Tree, row_of, kind_of}
 
 mapped : {A B : Type 0} (f : A → B) (o : Option A) (y : B) → option_map f o ≡ Some y → (x : A) × (o ≡ Some x) × (f x ≡ y)
@@ -14,12 +14,6 @@ pub named_kind : (graph : Kept) (tree : Tree) (node : NodeRef) → StandsFor gra
 named_kind graph tree node stands names =
     let seat = mapped (λ (s : Seat). s.node) (seat_of graph (number_of node)) node names in
     ap (option_map (λ (s : Seat). s.kind)) seat.1 ∙ sym (ap (option_map (λ (row : NodeRow). row.kind)) (stands.rows (number_of node) seat.0 seat.1))
-
-pub named_bytes : (graph : Kept) (tree : Tree) (node : NodeRef) (row : NodeRow) → StandsFor graph tree → Names graph node → row_of tree.nodes (number_of node) ≡ Some row → bytes_at graph (number_of node) ≡ row.bytes
-named_bytes graph tree node row stands names there =
-    let seat = mapped (λ (s : Seat). s.node) (seat_of graph (number_of node)) node names in
-    let same : Some (record { kind = seat.0.kind; bytes = seat.0.bytes }) ≡ Some row = sym (stands.rows (number_of node) seat.0 seat.1) ∙ there in
-    ap (λ s. option_map_or (λ (s : Seat). s.bytes) s []) seat.1 ∙ ap (λ o. option_map_or (λ (r : NodeRow). r.bytes) o []) same
 
 pub named_some : (graph : Kept) (tree : Tree) (node : NodeRef) → StandsFor graph tree → Names graph node → 1 ≤ number_of node
 named_some graph tree node stands names =

@@ -1,4 +1,4 @@
-use Rattle.node_graph.proofs.Soundness.{bare_sound, made_sound, written_sound, resized_sound}
+use Rattle.node_graph.proofs.Soundness.{bare_sound, row_sound, written_sound, resized_sound}
 use Rattle.node_graph.proofs.SoundNames.{cut_sound, link_sound, rename_sound}
 use Rattle.node_graph.proofs.laws.changes_keep_trees_sound.Goals as goal
 
@@ -6,7 +6,7 @@ pub returns-clause-begun : goal.returns-clause-begun
 returns-clause-begun c = bare_sound
 
 pub returns-clause-made : goal.returns-clause-made
-returns-clause-made c = made_sound
+returns-clause-made c = row_sound
 
 pub returns-clause-written : goal.returns-clause-written
 returns-clause-written c = written_sound

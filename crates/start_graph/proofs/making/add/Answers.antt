@@ -1,14 +1,14 @@
 use Rattle.std.proofs.Common.{◌≡◌, ◌≤◌, ◌∙◌, ℕ, List, ap, arith, refl, subst, sym}
 use Rattle.std.proofs.lemmas.List.{length-map}
-use Rattle.node_graph.specs.Graph.{create_refusal, number_of}
-use Rattle.node_graph.specs.Tree.{Edges, kind_of}
+use Rattle.node_graph.specs.Graph.{Leads, create_refusal, number_of}
+use Rattle.node_graph.specs.Tree.{Edges, kind_of, make, name_in}
 use Rattle.session_start.specs.Lent.{node_item}
 use Rattle.session_start.specs.Numbering.{Named, node_named, number_at, row_of_named, tree_from}
-use Rattle.path_walk.specs.Parts.{parent_of}
-use Rattle.path_walk.proofs.PartLemmas.{last_valid}
+use Rattle.path_walk.specs.Parts.{last_name, parent_of}
+use Rattle.path_walk.proofs.PartLemmas.{last_valid, name_short}
 use Rattle.session_start.proofs.Standing.{free_in}
 use Rattle.session_start.proofs.Trees.{parent_there}
-use Rattle.start_graph.specs.Growing.{key_in}
+use Rattle.start_graph.specs.Growing.{Makes, key_in}
 use Rattle.start_graph.proofs.Nexts.{few, filled, grown}
 use Rattle.start_graph.proofs.Standing.{place_there, leads_to, kind_there, stands_more}
 use Rattle.start_graph.proofs.making.add.Goals as goal
@@ -20,6 +20,9 @@ node_at-dir-requires c =
     place_there c.requires.next.2 c.args.graph.now c.args.places.now next.stands c.parent_of.result
     (subst (λ (path : List ℕ). 1 ≤ number_at c.requires.next.2 path) (sym c.parent_of.ensures) (parent_there c.requires.next.2 one (grown c.requires.next.0 c.requires.next.1 c.requires.next.2 (node_named (node_item c.args.node.now)) c.args.graph.now c.args.places.now c.requires.next.3).1))
 
+pub last_name-name-requires : goal.last_name-name-requires
+last_name-name-requires c = let fits = (grown c.requires.next.0 c.requires.next.1 c.requires.next.2 (node_named (node_item c.args.node.now)) c.args.graph.now c.args.places.now c.requires.next.3).1 in record { below = fits.new.below }
+
 pub make-requires-clause-directory : goal.make-requires-clause-directory
 make-requires-clause-directory c =
     let next = c.requires.next.3 in
@@ -28,11 +31,15 @@ make-requires-clause-directory c =
     kind_there named c.args.graph.now c.args.places.now next.stands c.parent_of.result c.node_at-dir.result c.node_at-dir.ensures
     ∙ ap (λ (path : List ℕ). kind_of (tree_from named) (number_at named path)) c.parent_of.ensures ∙ fits.parent
 
-pub make-requires-clause-below : goal.make-requires-clause-below
-make-requires-clause-below c = let fits = (grown c.requires.next.0 c.requires.next.1 c.requires.next.2 (node_named (node_item c.args.node.now)) c.args.graph.now c.args.places.now c.requires.next.3).1 in fits.new.below
+pub make-requires-clause-some : goal.make-requires-clause-some
+make-requires-clause-some c =
+    let fits = (grown c.requires.next.0 c.requires.next.1 c.requires.next.2 (node_named (node_item c.args.node.now)) c.args.graph.now c.args.places.now c.requires.next.3).1 in
+    rw c.last_name-name.ensures (name_short (last_name c.args.node.now.path.now) (last_valid c.args.node.now.path.now fits.new.below fits.valid)).0
 
-pub make-requires-clause-valid : goal.make-requires-clause-valid
-make-requires-clause-valid c = let fits = (grown c.requires.next.0 c.requires.next.1 c.requires.next.2 (node_named (node_item c.args.node.now)) c.args.graph.now c.args.places.now c.requires.next.3).1 in last_valid c.args.node.now.path.now fits.new.below fits.valid
+pub make-requires-clause-few : goal.make-requires-clause-few
+make-requires-clause-few c =
+    let fits = (grown c.requires.next.0 c.requires.next.1 c.requires.next.2 (node_named (node_item c.args.node.now)) c.args.graph.now c.args.places.now c.requires.next.3).1 in
+    rw c.last_name-name.ensures (name_short (last_name c.args.node.now.path.now) (last_valid c.args.node.now.path.now fits.new.below fits.valid)).1
 
 pub make-requires-clause-room : goal.make-requires-clause-room
 make-requires-clause-room c =
@@ -53,7 +60,8 @@ make-requires-clause-free c =
     let parent : number_of c.node_at-dir.result ≡ number_at named (parent_of one.path) =
     leads_to named c.args.graph.now c.args.places.now next.stands c.parent_of.result c.node_at-dir.result c.node_at-dir.ensures ∙ ap (number_at named) c.parent_of.ensures in
     let tree = next.stands.tree in
-    ap (λ (edges : Edges). create_refusal edges (key_in (number_of c.node_at-dir.result) one.path)) tree.edges
+    ap (λ (name : List ℕ). create_refusal c.args.graph.now.edges (name_in (number_of c.node_at-dir.result) name)) c.last_name-name.ensures
+    ∙ ap (λ (edges : Edges). create_refusal edges (key_in (number_of c.node_at-dir.result) one.path)) tree.edges
     ∙ ap (λ (n : ℕ). create_refusal (tree_from named).edges (key_in n one.path)) parent
     ∙ free_in named one grows.0 grows.1 (few c.requires.next.0 c.requires.next.1 named one c.args.graph.now c.args.places.now next)
 
@@ -74,5 +82,14 @@ returns c lists server named next =
     let parent : number_of c.node_at-dir.result ≡ number_at named (parent_of one.path) =
     leads_to named c.args.graph.now c.args.places.now next.stands c.parent_of.result c.node_at-dir.result c.node_at-dir.ensures ∙ ap (number_at named) c.parent_of.ensures in
     let tree = next.stands.tree in
-    stands_more named one grows.0 grows.1 c.args.graph.now c.make.new.graph c.args.places.now c.insert.new.self next.stands
-    c.node_at-dir.result c.in_ok-made.made parent (c.in_ok-made.ensures (tree_from named) tree) c.args.node.now.path refl c.in_ok-insert.ensures.updates.0
+    let leads = subst (λ (name : List ℕ). Leads c.args.graph.now c.make.new.self (make (name_in (number_of c.node_at-dir.result) name) (record { kind = one.kind; bytes = one.bytes }) one.mask)) c.last_name-name.ensures c.in_ok-made.ensures.created in
+    let makes : Makes c.args.graph.now c.make.new.self (tree_from named) (key_in (number_of c.node_at-dir.result) one.path) one.kind one.mask one.bytes c.in_ok-made.made =
+    record {
+      grown = leads (tree_from named) tree;
+      number = c.in_ok-made.ensures.number;
+      named = c.in_ok-made.ensures.kept;
+      holds = c.in_ok-made.ensures.holds;
+      names = c.in_ok-made.ensures.names;
+    } in
+    stands_more named one grows.0 grows.1 c.args.graph.now c.make.new.self c.args.places.now c.insert.new.self next.stands
+    c.node_at-dir.result c.in_ok-made.made parent makes c.args.node.now.path refl c.in_ok-insert.ensures.updates.0

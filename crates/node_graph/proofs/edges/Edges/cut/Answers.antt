@@ -1,7 +1,7 @@
 use Rattle.std.proofs.Common.{◌≡◌, ap, ◌∙◌, None}
 use Rattle.std.specs.FinMap as finite
 use Rattle.std.specs.BTreeMap.{BTreeMap, UpdatesBy}
-use Rattle.node_graph.specs.declared.edges.Target.{Target}
+use Rattle.node_graph.specs.declared.nodes.Entry.{Entry}
 use Rattle.node_graph.specs.Tree.{EdgeKey, edge_cmp}
 use Rattle.node_graph.specs.Ends.{Ends, name_in}
 use Rattle.node_graph.proofs.Ordered.{map_of, map_cut, named_cut}
@@ -9,7 +9,7 @@ use Rattle.node_graph.proofs.Indexed.{changed_at, index_changes, index_stays}
 use Rattle.node_graph.proofs.edges.Edges.cut.Goals as goal
 
 -- the names without a key are those without the name that it is
-removed : (old new : BTreeMap EdgeKey Target) (names : Ends) (key name : EdgeKey) → UpdatesBy edge_cmp (edge_cmp key) old new None → key ≡ name → map_of old.entries ≡ names → map_of new.entries ≡ finite.remove names name
+removed : (old new : BTreeMap EdgeKey Entry) (names : Ends) (key name : EdgeKey) → UpdatesBy edge_cmp (edge_cmp key) old new None → key ≡ name → map_of old.entries ≡ names → map_of new.entries ≡ finite.remove names name
 removed old new names key name u is view = map_cut old new key u ∙ ap (finite.remove (map_of old.entries)) is ∙ ap (λ (m : Ends). finite.remove m name) view
 
 pub invariant_of-self : goal.invariant_of-self

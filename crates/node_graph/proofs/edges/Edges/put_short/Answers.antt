@@ -2,7 +2,7 @@ use Rattle.std.proofs.Common.{ap, ◌∙◌, sym, subst, List, ◌≤◌, length
 use Rattle.std.specs.Prelude.{Some}
 use Rattle.std.specs.FinMap as finite
 use Rattle.fidl_names.specs.declared.limits.TheConstants as limit
-use Rattle.node_graph.specs.declared.edges.Target.{Target}
+use Rattle.node_graph.specs.declared.nodes.Entry.{Entry}
 use Rattle.node_graph.specs.Tree.{EdgeKey}
 use Rattle.node_graph.specs.Ends.{Ends, IsNamed, name_in}
 use Rattle.node_graph.specs.Short.{IsIndex}
@@ -12,7 +12,7 @@ use Rattle.node_graph.proofs.edges.Edges.put_short.Goals as goal
 
 pub invariant_of-self-in_err-insert : goal.invariant_of-self-in_err-insert
 invariant_of-self-in_err-insert c =
-    subst (λ (names : List (EdgeKey × Target)). IsNamed names × IsIndex c.reserve.new.self.entries (map_of names)) (sym c.in_err-insert.ensures.err)
+    subst (λ (names : List (EdgeKey × Entry)). IsNamed names × IsIndex c.reserve.new.self.entries (map_of names)) (sym c.in_err-insert.ensures.err)
     (c.self.invariant.0, index_reordered c.self.inside.short.entries c.reserve.new.self.entries (map_of c.self.inside.names.entries) c.reserve.ensures.entries.2 c.self.invariant.1)
 
 pub invariant_of-self-2 : goal.invariant_of-self-2

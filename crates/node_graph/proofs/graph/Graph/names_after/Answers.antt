@@ -2,7 +2,7 @@ use Rattle.std.proofs.Common.{List, length, sym, ap, ◌∙◌, subst, map, ℕ,
 use Rattle.std.specs.Prelude.{All}
 use Rattle.std.specs.Option.{option_map}
 use Rattle.fidl_names.specs.declared.limits.TheConstants as limit
-use Rattle.node_graph.specs.declared.edges.Target.{Target}
+use Rattle.node_graph.specs.declared.nodes.Entry.{Entry}
 use Rattle.node_graph.specs.Tree.{EdgeKey}
 use Rattle.node_graph.specs.Graph.{Kept, Listed, kind_at, listed_after}
 use Rattle.node_graph.specs.Ends.{listed_of}
@@ -22,13 +22,13 @@ returns-clause-names c =
 
 pub returns-clause-kinds : goal.returns-clause-kinds
 returns-clause-kinds c =
-    let P : List (EdgeKey × Target) → Type 0 = λ es. All (λ (l : Listed). kind_at c.args.self.now l.number ≡ Some l.kind) (map listed_of es) in
+    let P : List (EdgeKey × Entry) → Type 0 = λ es. All (λ (l : Listed). kind_at c.args.self.now l.number ≡ Some l.kind) (map listed_of es) in
     subst P (sym c.after.ensures.names) (listed_all (λ (l : Listed). kind_at c.args.self.now l.number ≡ Some l.kind) c.self.inside.edges c.args.dir.number (option_map (λ name. name.now) c.args.after)
     (λ key to there. child_kind _ _ _ c.args.self.now c.self.view_is c.self.invariant key to there))
 
 pub returns-clause-few : goal.returns-clause-few
 returns-clause-few c =
-    let P : List (EdgeKey × Target) → Type 0 = λ es. length (map listed_of es) ≤ limit.MAX_NAMES in
+    let P : List (EdgeKey × Entry) → Type 0 = λ es. length (map listed_of es) ≤ limit.MAX_NAMES in
     subst P (sym c.after.ensures.names) (listed_few c.self.inside.edges c.args.dir.number (option_map (λ name. name.now) c.args.after) c.self.invariant.few)
 
 pub returns-clause-named : goal.returns-clause-named

@@ -10,7 +10,7 @@ use Rattle.node_graph.specs.Graph.{Kept, Answers, StandsFor}
 use Rattle.node_graph.specs.Ends.{Ends, name_in}
 use Rattle.node_graph.specs.Rows.{kept_of}
 use Rattle.node_graph.proofs.Creates.{reached_here}
-use Rattle.node_graph.proofs.Readings.{rename_none, rename_moving, rename_same, rename_other, replace_is, behind_is, replaced_bare, replaced_present, replaced_linked, replaced_number, move_loop, move_memory, move_removed, only_memory, on_err, not_ok, not_if_ok, stays_held, stays_named}
+use Rattle.node_graph.proofs.Readings.{rename_none, rename_moving, rename_same, rename_other, replace_is, behind_is, replaced_bare, replaced_present, replaced_linked, replaced_number, replaced_names, move_loop, move_memory, move_removed, only_memory, on_err, not_ok, not_if_ok, stays_held, stays_named}
 use Rattle.node_graph.proofs.Shifts.{not_within, two_keys, present_after, rows_after, turns_after}
 use Rattle.node_graph.proofs.graph.Graph.rename.Goals as goal
 
@@ -65,8 +65,11 @@ returns-then-is_same_name c =
       names = λ node named kept. (named, refl);
     }
 
-pub replace_fault-requires : goal.replace_fault-requires
-replace_fault-requires c = replaced_number c.self.inside.nodes c.self.inside.edges c.self.inside.made c.self.invariant (name_in c.args.into.number c.args.dst.now) c.find-gone.result (sym c.find-gone.ensures.found)
+pub replace_fault-requires-clause-number : goal.replace_fault-requires-clause-number
+replace_fault-requires-clause-number c = replaced_number c.self.inside.nodes c.self.inside.edges c.self.inside.made c.self.invariant (name_in c.args.into.number c.args.dst.now) c.find-gone.result (sym c.find-gone.ensures.found)
+
+pub replace_fault-requires-clause-kind : goal.replace_fault-requires-clause-kind
+replace_fault-requires-clause-kind c = replaced_names c.self.inside.nodes c.self.inside.edges c.self.inside.made c.self.invariant (name_in c.args.into.number c.args.dst.now) c.find-gone.result (sym c.find-gone.ensures.found)
 
 pub returns-in-Some-replace_fault : goal.returns-in-Some-replace_fault
 returns-in-Some-replace_fault c =

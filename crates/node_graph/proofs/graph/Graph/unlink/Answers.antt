@@ -1,14 +1,14 @@
 use Rattle.std.proofs.Common.{◌∙◌, ap, sym, subst, refl, Ok, Err, Option}
 use Rattle.std.specs.Prelude.{ℕ, OnSome, length, ◌≤◌}
 use Rattle.fidl_names.specs.declared.limits.TheConstants as limit
-use Rattle.node_graph.specs.declared.edges.Target.{Target}
+use Rattle.node_graph.specs.declared.nodes.Entry.{Entry}
 use Rattle.node_graph.specs.declared.faults.GraphFault.{GraphFault}
 use Rattle.node_graph.specs.declared.faults.GraphFault.TheVariants as fault
 use Rattle.node_graph.specs.Tree.{cut}
 use Rattle.node_graph.specs.Graph.{Kept, Settles}
 use Rattle.node_graph.specs.Ends.{Ends, name_in}
 use Rattle.node_graph.specs.Rows.{kept_of, AreRows}
-use Rattle.node_graph.proofs.Readings.{linked_here, behind, unlink_none, unlink_some, unlink_bare}
+use Rattle.node_graph.proofs.Readings.{linked_here, names_here, behind, unlink_none, unlink_some, unlink_bare}
 use Rattle.node_graph.proofs.Losses.{Turns, rows_lost, turns_lost}
 use Rattle.node_graph.proofs.graph.Graph.unlink.Goals as goal
 
@@ -26,6 +26,9 @@ returns-in_default c = record {
   names = λ node named kept. (named, refl);
 }
 
+pub unlink_fault-requires-clause-kind : goal.unlink_fault-requires-clause-kind
+unlink_fault-requires-clause-kind c = names_here c.self.inside.nodes c.self.inside.edges c.self.inside.made c.self.invariant (name_in c.args.dir.number c.args.name.now) c.in-Some.to (sym c.find.ensures.found ∙ c.in-Some.is)
+
 pub returns-in-Some-unlink_fault : goal.returns-in-Some-unlink_fault
 returns-in-Some-unlink_fault c = record {
   answer = λ tree stands.
@@ -41,7 +44,7 @@ returns-in-Some-unlink_fault c = record {
 }
 
 pub cut-requires : goal.cut-requires
-cut-requires c = let P : Option Target → Type 0 = λ o. OnSome o (length c.args.name.now ≤ limit.MAX_NAME) in subst P c.in-Some.is c.find.ensures.few
+cut-requires c = let P : Option Entry → Type 0 = λ o. OnSome o (length c.args.name.now ≤ limit.MAX_NAME) in subst P c.in-Some.is c.find.ensures.few
 
 pub lose_name-requires-clause-linked : goal.lose_name-requires-clause-linked
 lose_name-requires-clause-linked c =
