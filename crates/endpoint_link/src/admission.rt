@@ -52,6 +52,7 @@ pub fn first_refusal<L: LookUp>(look_ups: &L, frame: FrameView<'_>) -> Option<Re
 }
 
 /// The refusal of a frame for how its endpoint stands. A Turn names a server.
+#[inline(always)]
 fn standing_refusal<L: LookUp>(look_ups: &L, kind: FrameKind, endpoint: u32) -> Option<Refusal>
     ensures { result ≡ standing_refusal kind (L.tells look_ups.now) endpoint }
 {
@@ -63,9 +64,10 @@ fn standing_refusal<L: LookUp>(look_ups: &L, kind: FrameKind, endpoint: u32) -> 
     }
 }
 
-/// The same of a frame that isn't refused for how its endpoint stands. The endpoint isn't looked up.
+/// The first refusal of a frame that isn't refused for how its endpoint stands. The endpoint isn't looked up.
+#[inline(always)]
 pub(crate) fn live_refusal<L: LookUp>(look_ups: &L, frame: FrameView<'_>) -> Option<Refusal>
-    requires live { standing_refusal frame.kind (L.tells look_ups.now) frame.endpoint ≡ None }
+    requires stands { standing_refusal frame.kind (L.tells look_ups.now) frame.endpoint ≡ None }
     ensures { result ≡ admission (L.tells look_ups.now) (frame_of frame.entry) }
 {
     match frame.kind {

@@ -1,6 +1,6 @@
 //! The first entries of the endpoints that are bound at one server, in order.
 
-ghost use Rattle.std.specs.Prelude.{◌≡◌, true, IfOk, IsSomeAnd, OnOk, OnErr, length, replicate, slice_get};
+ghost use Rattle.std.specs.Prelude.{◌≡◌, true, IfOk, IsSomeAnd, OnOk, OnErr, replicate, slice_get};
 ghost use Rattle.std.specs.FinMap as finite;
 ghost use Rattle.message_queues.specs.Steps.{AreBefore, IsLeast, IsRising, heads_with, older, without_place};
 
@@ -179,7 +179,7 @@ fn put_among(
     Ok(())
 }
 
-/// Takes out what stands at a place, where others are there or stand before it.
+/// Takes out what stands at a place, if anything does, wherever that is.
 fn remove_among(line: &mut VecDeque<(u64, u32)>, others: &mut BTreeMap<u64, u32>, place: u64)
     requires { IsRising line.old.items }
     ensures removed { heads_with line.new.items (finite.from_entries others.new.entries) ≡ finite.remove (heads_with line.old.items (finite.from_entries others.old.entries)) place }

@@ -19,8 +19,8 @@ pub enum Part {
     At { count: u64, offset: u64 },
 }
 
-/// The transaction id of a message that asks a file for a part of its bytes, and that part; `None` where it asks for
-/// another thing, or for none.
+/// The transaction id of a message without handles that asks a file for a part of its bytes, and that part; `None`
+/// where it asks for another thing, or for none.
 pub fn part_in(ordinals: &Ordinals, bytes: &[u8]) -> Option<(u32, Part)>
     ensures read { IfSome result (λ asks. request_of Protocol.File bytes.now [] ≡ Ok (asks.0, asked_of asks.1)) }
     ensures each { (txid : ℕ) (part : Part) → request_of Protocol.File bytes.now [] ≡ Ok (txid, asked_of part) → IsSome result }
@@ -37,7 +37,7 @@ pub fn part_in(ordinals: &Ordinals, bytes: &[u8]) -> Option<(u32, Part)>
     Some((header.txid, part))
 }
 
-/// The part that a message of a method asks for behind its header, where that is a Read or a ReadAt.
+/// The part that a message of a method, without handles, asks for behind its header, where that is a Read or a ReadAt.
 fn part_behind(method: Method, bytes: &[u8]) -> Option<Part>
     ensures part { IfSome result (λ part. fields_of method bytes.now [] ≡ Ok (asked_of part)) }
     ensures each { (part : Part) → fields_of method bytes.now [] ≡ Ok (asked_of part) → IsSome result }
@@ -48,7 +48,7 @@ fn part_behind(method: Method, bytes: &[u8]) -> Option<Part>
             Some(Part::Next { count })
         }
         Method::ReadAt => {
-            let (count, offset) = place_in(bytes)?;
+            let (count, offset) = count_and_offset_in(bytes)?;
             Some(Part::At { count, offset })
         }
         _ => None,
@@ -75,8 +75,8 @@ fn count_in(bytes: &[u8]) -> Option<u64>
 
 /// The count and the offset of a ReadAt, which are all that follows the header.
 #[tactic(auto, unfolding(io_messages::specs::Requests::fields_of))]
-fn place_in(bytes: &[u8]) -> Option<(u64, u64)>
-    ensures place { IfSome result (λ place. fields_of Method.ReadAt bytes.now [] ≡ Ok (read_at place.0 place.1)) }
+fn count_and_offset_in(bytes: &[u8]) -> Option<(u64, u64)>
+    ensures fields { IfSome result (λ fields. fields_of Method.ReadAt bytes.now [] ≡ Ok (read_at fields.0 fields.1)) }
     ensures each { (count offset : ℕ) → fields_of Method.ReadAt bytes.now [] ≡ Ok (read_at count offset) → IsSome result }
 {
     let Ok(mut body) = Body::new(bytes, &[], 16) else {

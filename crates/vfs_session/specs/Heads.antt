@@ -35,7 +35,7 @@ abbrev pub WasTaken : ℕ → ℕ → Sent → World → Type 0
 WasTaken endpoint server sent world = (from : World) × (IsRunning (2 ^ 61) from × Takes from endpoint server sent world)
 
 -- a message without handles that asks a file for this part of its bytes
-pub record AsksRead (sent : Sent) (txid : ℕ) (part : Part) : Type 0 where
+pub record AsksPart (sent : Sent) (txid : ℕ) (part : Part) : Type 0 where
   pub bytes : List ℕ
   pub sending : sent.sending ≡ message bytes []
   pub asks : request_of protocol.File bytes [] ≡ Ok (txid, asked_of part)

@@ -1,4 +1,4 @@
-//! The endpoints that die of a serving first, and the servings that change at most one thing of others.
+//! The endpoints that die of a serving first, and the servings that change at most one thing beside the endpoint served.
 
 ghost use Rattle.std.specs.Prelude.{◌≡◌, ◌++◌, ◌∷◌, [], false, true, IfSome, OnOk};
 ghost use Rattle.fidl_names.specs.HandleNumber.{is_client};

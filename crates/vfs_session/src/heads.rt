@@ -5,7 +5,7 @@ ghost use Rattle.endpoint_link.specs.Standings.{is_live, standing_of};
 ghost use Rattle.message_queues.specs.Dying.{AreDeaths};
 ghost use Rattle.message_queues.specs.Queues.{IsReady, count};
 ghost use Rattle.vfs_journal.specs.Output.{Begins};
-ghost use Rattle.vfs_session.specs.Heads.{AsksRead, CanSettle, DiesAlone, IsUnbound, LetsDie, ServesTaken, SettlesButPlace, SettlesHead, Takes, TakesHead, WasTaken};
+ghost use Rattle.vfs_session.specs.Heads.{AsksPart, CanSettle, DiesAlone, IsUnbound, LetsDie, ServesTaken, SettlesButPlace, SettlesHead, Takes, TakesHead, WasTaken};
 ghost use Rattle.vfs_session.specs.Running.{IsRunning, RunsOn, whole};
 ghost use Rattle.vfs_session.specs.Servings.{ServesOne};
 ghost use Rattle.vfs_session.specs.Steps.{first_told};
@@ -136,8 +136,8 @@ impl Session {
         Ok(fate)
     }
 
-    /// Settles a serving, of which most change at most one thing of others. Copies are lent otherwise, so that the
-    /// entry and the fate of such a serving need not lie in memory.
+    /// Settles a serving. Most change at most one thing beside the endpoint served. Copies are lent otherwise, so that
+    /// the entry and the fate of such a serving need not lie in memory.
     #[inline(always)]
     fn settle_head(
         &mut self,
@@ -158,8 +158,8 @@ impl Session {
         self.settle_all(&sent, &fate, outbox)
     }
 
-    /// Settles a serving that changes at most one thing of others, but for the place that it takes: a token is given
-    /// or spent, or an endpoint dies alone. Tells whether it is such a one; else all is as it was.
+    /// Settles a serving that changes at most one thing beside the endpoint served, but for the place that it takes: a
+    /// token is given or spent, or an endpoint dies alone. Tells whether it is such a one; else all is as it was.
     #[inline(always)]
     fn settle_one(&mut self, sent: &Lent<'_>, fate: &Fate) -> Result<bool, NoMemory>
         requires can { CanSettle (whole self.old) sent.now fate.now }
@@ -304,7 +304,7 @@ impl Session {
 /// else was sent, or handles beside it.
 #[inline(always)]
 fn read_asked(ordinals: &Ordinals, sent: &Lent<'_>) -> Option<(u32, Part)>
-    ensures read { IfSome result (λ asks. AsksRead sent.now asks.0 asks.1) }
+    ensures read { IfSome result (λ asks. AsksPart sent.now asks.0 asks.1) }
     ensures txid { IfSome result (λ asks. 0 < asks.0) }
 {
     let (bytes, handles) = sent.message()?;

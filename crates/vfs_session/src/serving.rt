@@ -1,6 +1,6 @@
 //! Servings: of one entry, and one after another.
 
-ghost use Rattle.std.specs.Prelude.{◌≡◌, ◌^◌, ℕ, false, IfOk, OnOk, Ok};
+ghost use Rattle.std.specs.Prelude.{◌≡◌, ◌^◌, false, IfOk, OnOk, Ok};
 ghost use Rattle.message_queues.specs.Oldest.{IsBound, IsBoundAt, NothingWaits};
 ghost use Rattle.message_queues.specs.Queues.{IsReady};
 ghost use Rattle.vfs_journal.specs.Output.{Begins};

@@ -46,7 +46,7 @@ use Rattle.vfs_session.proofs.Carried.{quiet_stays}
 use Rattle.vfs_session.proofs.Halves.{goes_on, one_served}
 use Rattle.vfs_session.proofs.Quiet.{settles_quietly}
 use Rattle.vfs_session.proofs.Taken.{takes_head}
-use Rattle.vfs_world.specs.Steps.{AnswersRead, CanBeServed, IsAdmitted, IsFree, Sends}
+use Rattle.vfs_world.specs.Steps.{AnswersPart, CanBeServed, IsAdmitted, IsFree, Sends}
 use Rattle.vfs_world.proofs.AtOnce.{bound_lives, drained_behind, for_want_of_room, none_waits, nothing_waits, plain_admission, plain_admits, reached_at_once, sent_in, sent_lasts, taken_again, waits_in, waits_last}
 
 -- ---- at its server
@@ -55,7 +55,7 @@ pub reads_there : (old : List Server) (at endpoint txid : ℕ) (part : Part) (on
     IfSome served (λ answer. IsSome (seen one endpoint)) →
     ((bytes : List ℕ) (token : Option ℕ) (moment : Moment) → request_of protocol.File bytes [] ≡ Ok (txid, asked_of part) → IsMomentOf one endpoint token [] moment →
     IfSome served (λ answer. OnOk answer (Serves moment (outcome_of_sending moment (message bytes [])) fates.Stays out one now before after))) →
-    IfSome served (λ answer. OnOk answer (AnswersRead old at endpoint txid part out (slice_set old at now) before after))
+    IfSome served (λ answer. OnOk answer (AnswersPart old at endpoint txid part out (slice_set old at now) before after))
 reads_there old at endpoint txid part one now out before after (Some (Ok x)) there bound serves =
     record { one = one; there = there; bound = bound; answers = λ bytes token moment is here. (now, refl, serves bytes token moment is here) }
 reads_there old at endpoint txid part one now out before after (Some (Err e)) there bound serves = tt
@@ -117,7 +117,7 @@ none_counted most world run none = run.stands.knows.waiting ∙ ap length (nothi
 -- ---- from its admission to the drain
 
 module _ (old : World) (run : IsRunning (2 ^ 61 - 4098) old) (frame : Frame) (is : IsFrame ToServers frame) (can : CanBeServed frame old) (at txid : ℕ) (part : Part) (out : Written) (servers : List Server)
-    (before after : List ℕ) (asks : request_of protocol.File frame.bytes [] ≡ Ok (txid, asked_of part)) (answers : AnswersRead old.servers at frame.endpoint txid part out servers before after) where
+    (before after : List ℕ) (asks : request_of protocol.File frame.bytes [] ≡ Ok (txid, asked_of part)) (answers : AnswersPart old.servers at frame.endpoint txid part out servers before after) where
   abbrev now : World
   now = let_in old
 

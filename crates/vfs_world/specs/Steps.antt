@@ -70,7 +70,7 @@ pub record CanBeServed (frame : Frame) (world : World) : Type 0 where
   pub plain : IsPlain frame
 
 -- the request for a part of a file is served at a server, where the endpoint is bound, and no other server does anything
-pub record AnswersRead (old : List Server) (at endpoint txid : ℕ) (part : Part) (out : Written) (new : List Server) (before after : List ℕ) : Type 0 where
+pub record AnswersPart (old : List Server) (at endpoint txid : ℕ) (part : Part) (out : Written) (new : List Server) (before after : List ℕ) : Type 0 where
   pub one : Server
   pub there : slice_get old at ≡ Some one
   pub bound : IsSome (seen one endpoint)

@@ -16,7 +16,7 @@ ghost use Rattle.message_queues.specs.Queues.{server_of};
 ghost use Rattle.vfs_server.specs.Parts.{asked_of};
 ghost use Rattle.vfs_session.specs.Running.{IsRunning, whole};
 ghost use Rattle.vfs_session.specs.World.{LeadsTo, StandsFor};
-ghost use Rattle.vfs_world.specs.Steps.{AnswersRead, CanBeServed};
+ghost use Rattle.vfs_world.specs.Steps.{AnswersPart, CanBeServed};
 
 use crate::arriving::is_plain;
 use endpoint_link::{FrameView, LookUp, Outbox};
@@ -107,7 +107,7 @@ fn read_at(
     outbox: &mut Outbox,
 ) -> Option<Result<(), NoMemory>>
     requires txid { 0 < txid }
-    ensures answers { IfSome result (λ read. OnOk read (AnswersRead servers.old.items at endpoint txid part out.new servers.new.items outbox.old outbox.new)) }
+    ensures answers { IfSome result (λ read. OnOk read (AnswersPart servers.old.items at endpoint txid part out.new servers.new.items outbox.old outbox.new)) }
     ensures unchanged { result ≡ None → (servers.new.items ≡ servers.old.items) × (outbox.new ≡ outbox.old) }
     ensures no_memory { IfSome result (λ read. OnErr read (outbox.new ≡ outbox.old)) }
 {

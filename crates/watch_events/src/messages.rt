@@ -1,6 +1,6 @@
 //! The messages to watchers, as `Directory.Watch` of `fuchsia.io` has them.
 
-ghost use Rattle.std.specs.Prelude.{◌≡◌, ◌≤◌, ◌<◌, ◌+◌, ◌++◌, ◌∷◌, [], All, OnErr, OnOk, drop, false, length, map, nat_le, true};
+ghost use Rattle.std.specs.Prelude.{◌≡◌, ◌≤◌, ◌<◌, ◌+◌, ◌++◌, [], All, OnErr, OnOk, drop, false, length, map, nat_le, true};
 ghost use Rattle.endpoint_link.specs.Frames.{spelling, spellings};
 ghost use Rattle.fidl_names.specs.declared.limits.TheConstants as limit;
 ghost use Rattle.watch_events.specs.Events.{event_bytes};

@@ -1,6 +1,6 @@
 //! The watchers of a server.
 
-ghost use Rattle.std.specs.Prelude.{◌≡◌, ◌<◌, ◌++◌, ◌∷◌, [], ℕ, All, None, OnErr, OnOk, Some, filter, length};
+ghost use Rattle.std.specs.Prelude.{◌≡◌, ◌<◌, ◌++◌, ◌∷◌, [], All, None, OnErr, OnOk, Some, filter, length};
 ghost use Rattle.std.specs.Option.{option_map};
 ghost use Rattle.endpoint_link.specs.Frames.{spellings};
 ghost use Rattle.fidl_names.specs.declared.limits.TheConstants as limit;
