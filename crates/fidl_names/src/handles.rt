@@ -34,7 +34,8 @@ pub fn is_client(number: u32) -> bool
     0 < number && number < FIRST_MOUNT_END
 }
 
-/// The endpoint of a mount's end, by the mount's index over all servers: neither a client's number nor a token's.
+/// The endpoint of a mount's end, by the mount's index over all servers: neither a client's number
+/// nor a token's.
 pub fn end_of_mount(index: u32) -> u32
     requires { end_of_mount index < FIRST_TOKEN }
     ensures { result ≡ end_of_mount index }

@@ -6,8 +6,8 @@ use crate::limits::{
     MAX_PLACES, MAX_SERVERS, MAX_TEXT, MAX_TOKENS, MAX_WAITING, MAX_WATCHERS,
 };
 
-/// The numbers of the limits and of the first numbers of endpoints and tokens, which the definitions cite by
-/// these names. It computes nothing: what it says is in its clauses.
+/// The numbers of the limits, of the first mount end and of the first token, which the definitions
+/// cite by these names. It computes nothing: what it says is in its clauses.
 pub fn limits_have_their_numbers()
     ensures servers { MAX_SERVERS ≡ 8 }
     ensures names { MAX_NAMES ≡ 4096 }
