@@ -400,7 +400,7 @@ impl<'a, 'h> Body<'a, 'h> {
 
     /// The end of the message. `Envelope` where a branch took other bytes or handles than its
     /// envelope counts; then `Padding` behind the object; then `Trailing` and `Handles` where bytes
-    /// or handles are left over.
+    /// or handles are left over. Fields of the object that weren't read aren't looked at.
     #[tactic(auto, unfolding(fidl_wire::specs::Reading::finish_of))]
     #[inline(always)]
     pub fn finish(self) -> Result<(), WireFault>
