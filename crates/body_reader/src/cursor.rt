@@ -11,10 +11,9 @@ use crate::blanks::check_blank;
 use crate::envelopes::{bytes_at, check_handles, enter, handles_at, is_inlined};
 use crate::tables::{forget, have_room, members};
 use crate::texts::may_stand;
-use fidl_names::Handle;
+use fidl_names::{Handle, u32_at, u64_at};
 use fidl_wire::{
     Branch, HEADER_SIZE, HandleKind, Opened, Outside, WireFault, WireWhat, is_kind, padding_after,
-    u32_at, u64_at,
 };
 use std::marker::Model;
 
@@ -366,7 +365,7 @@ impl<'a, 'h> Body<'a, 'h> {
         let envelope = at + 8;
         let padding = padding_after(size);
         enter(message, envelope, size, self.outside())?;
-        check_blank(message, at + 16, self.end + padding_after(self.end))?;
+        check_blank(message, self.end, self.end + padding_after(self.end))?;
         self.opened = Some(Opened {
             at: envelope,
             until: self.out + bytes_at(message, envelope),
@@ -401,14 +400,14 @@ impl<'a, 'h> Body<'a, 'h> {
 
     /// The end of the message. `Envelope` where a branch took other bytes or handles than its
     /// envelope counts; then `Padding` behind the object; then `Trailing` and `Handles` where bytes
-    /// or handles are left over.
+    /// or handles are left over. Fields of the object that weren't read aren't looked at.
     #[tactic(auto, unfolding(fidl_wire::specs::Reading::finish_of))]
     #[inline(always)]
     pub fn finish(self) -> Result<(), WireFault>
         ensures { result ≡ finish_of self.entry }
     {
         self.check_branch()?;
-        check_blank(self.bytes, self.place, self.end + padding_after(self.end))?;
+        check_blank(self.bytes, self.end, self.end + padding_after(self.end))?;
         if self.out < self.bytes.len() {
             return Err(WireFault::new(self.out, WireWhat::Trailing));
         }

@@ -3,7 +3,8 @@ ghost use Rattle.fidl_wire.specs.Numbers.{padded};
 ghost use Rattle.body_reader.specs.Within.{IsPlaced};
 ghost use Rattle.fidl_wire.specs.Reading.{bytes_at, handles_at, flags_at, is_absent, is_inlined, is_outside, enough_handles, entered, skipped, number_member, member_at};
 
-use fidl_wire::{Outside, WireFault, WireWhat, padding_after, u16_at, u32_at, u64_at};
+use fidl_names::{u16_at, u32_at, u64_at};
+use fidl_wire::{Outside, WireFault, WireWhat, padding_after};
 
 /// The bytes that the envelope at a place counts.
 pub fn bytes_at(message: &[u8], at: usize) -> usize

@@ -17,6 +17,10 @@ handle_with n = if nat_le limit.FIRST_TOKEN n then Token n else Endpoint n
 abbrev pub is_client : ℕ → Bool
 is_client n = nat_lt 0 n && nat_lt n limit.FIRST_MOUNT_END
 
+-- the endpoint of the end of a mount, by its index over the mounts of all servers
+abbrev pub end_of_mount : ℕ → ℕ
+end_of_mount index = limit.FIRST_MOUNT_END + index
+
 -- the numbers of so many mount ends
 abbrev pub is_mount_end : ℕ → ℕ → Bool
 is_mount_end mounts n = nat_le limit.FIRST_MOUNT_END n && nat_lt n (limit.FIRST_MOUNT_END + mounts)

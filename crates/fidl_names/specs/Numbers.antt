@@ -1,5 +1,5 @@
 -- Numbers as bytes, the low byte first.
-use Rattle.std.specs.Prelude.{◌<◌, ℕ, zero, suc, List, [], ◌∷◌, drop, All}
+use Rattle.std.specs.Prelude.{◌<◌, ℕ, List, drop, All}
 use Rattle.byteorder.specs.Endian.{little_number, little_bytes}
 
 -- numbers that are bytes

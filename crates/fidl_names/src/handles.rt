@@ -1,5 +1,5 @@
-ghost use Rattle.std.specs.Prelude.{◌≡◌};
-ghost use Rattle.fidl_names.specs.HandleNumber.{handle_with, is_client, number_of_handle};
+ghost use Rattle.std.specs.Prelude.{◌≡◌, ◌<◌};
+ghost use Rattle.fidl_names.specs.HandleNumber.{end_of_mount, handle_with, is_client, number_of_handle};
 
 use crate::limits::{FIRST_MOUNT_END, FIRST_TOKEN};
 use crate::methods::Handle;
@@ -32,4 +32,13 @@ pub fn is_client(number: u32) -> bool
     ensures { result ≡ is_client number }
 {
     0 < number && number < FIRST_MOUNT_END
+}
+
+/// The endpoint of a mount's end, by the mount's index over all servers: neither a client's number
+/// nor a token's.
+pub fn end_of_mount(index: u32) -> u32
+    requires { end_of_mount index < FIRST_TOKEN }
+    ensures { result ≡ end_of_mount index }
+{
+    FIRST_MOUNT_END + index
 }

@@ -46,6 +46,17 @@ pub const MAX_INPUT: u64 = 1_099_511_627_776;
 /// The most bytes that one call reads from the outside.
 pub const MAX_PIECE: usize = 65536;
 
+/// The most places that one accepted frame takes of a world's journal: its own, one for its serving,
+/// and two for each of the at most 2,048 names of a path, at any of which a mount may stand.
+pub const FRAME_PLACES: u64 = 4098;
+
+/// The most frames that a world hears: 2^48. A session's input of 2^40 bytes has fewer.
+pub const MAX_FRAMES: u64 = 281_474_976_710_656;
+
+/// The most places of a world's journal: 2^61, which is more than all frames take, and far from the
+/// end of a `u64`.
+pub const MAX_PLACES: u64 = 2_305_843_009_213_693_952;
+
 /// The number of the first mount end. Clients make endpoints from the numbers below it, from 1 on; a mount's end is this and the
 /// mount's index.
 pub const FIRST_MOUNT_END: u32 = 0x4000_0000;

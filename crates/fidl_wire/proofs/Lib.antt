@@ -1,4 +1,3 @@
-pub mod ReadEpitaphs
 pub mod ReadHeaders
 pub mod Padded
 pub mod Rows

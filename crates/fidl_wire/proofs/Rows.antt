@@ -1,6 +1,5 @@
 -- The numbers of the rows.
-use Rattle.std.proofs.Common.{◌≡◌, ◌≢◌, [], ◌∷◌, refl, ap, inl, inr, ℕ, ◌%◌, ◌^◌, ◌<◌, List, get_or, take, length, sym, ◌∙◌, arith}
-use Rattle.std.proofs.lemmas.List.{get_or-take, length-take-le}
+use Rattle.std.proofs.Common.{◌≡◌, ◌≢◌, [], ◌∷◌, refl, ap, inl, inr, ℕ, ◌%◌, ◌^◌, ◌<◌, List, get_or, length, sym, ◌∙◌, arith}
 use Rattle.std.proofs.lemmas.Bool.{cases_lt}
 use Rattle.fidl_names.specs.declared.methods.Method.{Method}
 use Rattle.fidl_names.specs.declared.methods.Method.TheVariants as method
@@ -14,24 +13,25 @@ small_rest n = omega arith
 pub small_ordinal : (m : Method) → method_ordinal m < 256 ^ 8
 small_ordinal m = small_rest _
 
--- each method has a row above the event's
-pub row_of-lt : (m : Method) → row_of m < event_row
+-- each method has a row, which isn't the event's
+pub row_of-lt : (m : Method) → row_of m < row_count
 row_of-lt method.Clone = omega arith
 row_of-lt _ = omega arith
 
--- what is found in a row is the ordinal of the row's name
-pub found_row : (numbers : List ℕ) (number row : ℕ) → ((k : ℕ) → k < row_count → get_or numbers k 0 ≡ ordinal_at k) → row < event_row →
-    IsEarlier (take event_row numbers) number row → ordinal_at row ≡ number
-found_row numbers number row named below found =
-    sym (named row (omega arith)) ∙ sym (get_or-take event_row numbers row 0 below) ∙ found.equal
+pub row_of-no_event : (m : Method) → row_of m ≢ event_row
+row_of-no_event method.Clone = λ e. omega arith
+row_of-no_event _ = λ e. omega arith
 
--- what is in no row is no method's ordinal
+-- what is found in a row is the ordinal of the row's name
+pub found_row : (numbers : List ℕ) (number row : ℕ) → ((k : ℕ) → k < row_count → get_or numbers k 0 ≡ ordinal_at k) → length numbers ≡ row_count →
+    IsEarlier numbers number row → (row < row_count) × (ordinal_at row ≡ number)
+found_row numbers number row named size found =
+    let below : row < row_count = omega (arith, size, found.within) in (below, sym (named row below) ∙ found.equal)
+
+-- what is in no place is in no row
 pub no_row : (numbers : List ℕ) (number : ℕ) → ((k : ℕ) → k < row_count → get_or numbers k 0 ≡ ordinal_at k) → length numbers ≡ row_count →
-    ((k : ℕ) → k < length (take event_row numbers) → get_or (take event_row numbers) k 0 ≢ number) → (m : Method) → method_ordinal m ≢ number
-no_row numbers number named size none m e =
-    let below : row_of m < event_row = row_of-lt m in
-    let len : length (take event_row numbers) ≡ event_row = length-take-le event_row numbers (omega arith) in
-    none (row_of m) (omega arith) (get_or-take event_row numbers (row_of m) 0 below ∙ named (row_of m) (omega arith) ∙ e)
+    ((k : ℕ) → k < length numbers → get_or numbers k 0 ≢ number) → (row : ℕ) → row < row_count → ordinal_at row ≢ number
+no_row numbers number named size none row below e = none row (omega arith) (named row below ∙ e)
 
 -- the first two places of equal ordinals are the first collision
 pub first_collision : (numbers : List ℕ) (i j : ℕ) → length numbers ≡ row_count → ((k : ℕ) → k < row_count → get_or numbers k 0 ≡ ordinal_at k) → IsFirstEqual numbers i j → IsFirstCollision i j
@@ -77,19 +77,21 @@ method_in method.EchoString = refl
 row_of-injective : (m n : Method) → row_of m ≡ row_of n → m ≡ n
 row_of-injective m n e = sym (method_in m) ∙ ap (λ (row : ℕ). get_or methods row method.Clone) e ∙ method_in n
 
--- methods with equal ordinals are one
-pub method_ordinal-injective : AreDistinct → (m n : Method) → method_ordinal m ≡ method_ordinal n → m ≡ n
-method_ordinal-injective apart m n e =
-    let m_row : row_of m < event_row = row_of-lt m in
-    let n_row : row_of n < event_row = row_of-lt n in
-    elim (cases_lt (row_of m) (row_of n)) [
-      | inl below ↦ absurd (apart (row_of m) (row_of n) below (omega arith) e)
-      | inr above ↦ elim (cases_lt (row_of n) (row_of m)) [
-        | inl below ↦ absurd (apart (row_of n) (row_of m) below (omega arith) (sym e))
-        | inr equal ↦ row_of-injective m n (omega arith)
+-- where ordinals are distinct, a row is known by its ordinal
+pub row_once : AreDistinct → (i j : ℕ) → i < row_count → j < row_count → ordinal_at i ≡ ordinal_at j → i ≡ j
+row_once apart i j first second e =
+    elim (cases_lt i j) [
+      | inl below ↦ absurd (apart i j below second e)
+      | inr above ↦ elim (cases_lt j i) [
+        | inl below ↦ absurd (apart j i below first (sym e))
+        | inr equal ↦ omega arith
       ]
     ]
 
+-- methods with equal ordinals are one
+pub method_ordinal-injective : AreDistinct → (m n : Method) → method_ordinal m ≡ method_ordinal n → m ≡ n
+method_ordinal-injective apart m n e = row_of-injective m n (row_once apart (row_of m) (row_of n) (row_of-lt m) (row_of-lt n) e)
+
 -- no method has the event's ordinal
 pub event_apart : AreDistinct → (m : Method) → method_ordinal m ≢ event_ordinal
-event_apart apart m e = apart (row_of m) event_row (row_of-lt m) (omega arith) e
+event_apart apart m e = row_of-no_event m (row_once apart (row_of m) event_row (row_of-lt m) (omega arith) e)

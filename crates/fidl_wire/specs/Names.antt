@@ -57,7 +57,7 @@ full_names =
     codes "fuchsia.examples/Echo.EchoString" ∷
     codes "fuchsia.io/Node.OnRepresentation" ∷ []
 
--- how many methods there are, which is the event's row too, and how many rows
+-- the event's row, which is no method's, and how many rows there are
 abbrev pub event_row : ℕ
 event_row = 20
 

@@ -206,11 +206,11 @@ within_branch size e c = record {
   opened = Some (record { at = e; until = c.out + bytes_at e c.message; left = length c.handles - handles_at e c.message });
 }
 
--- the branch of the union at a place, where that is out of line; nothing but padding follows the union in its own object
+-- the branch of the union at a place, where that is out of line; behind the object that has the union stands padding
 abbrev pub object_at : ℕ → ℕ → Cursor → Result Cursor WireFault
 object_at size at c =
     entered (at + 8) size c.message (outside_of c)
-    >>= λ _. all_blank c.message (at + 16) (padded c.end)
+    >>= λ _. all_blank c.message c.end (padded c.end)
     >>= λ _. Ok (within_branch size (at + 8) c)
 
 -- a union whose branch has so many bytes: at most four stand in the envelope
@@ -241,7 +241,7 @@ closed (Some o) c = check (is_whole c o) (fault o.at Envelope)
 unfoldable pub finish_of : Cursor → Result (Unit {0}) WireFault
 finish_of c =
     closed c.opened c
-    >>= λ _. all_blank c.message c.place (padded c.end)
+    >>= λ _. all_blank c.message c.end (padded c.end)
     >>= λ _. check (nat_le (length c.message) c.out) (fault c.out Trailing)
     >>= λ _. check (length c.handles == 0) (fault (length c.message) Handles)
 

@@ -1,14 +1,14 @@
-ghost use Rattle.std.specs.Prelude.{◌≡◌, ℤ, [], length, Some, IfSome, IsNone};
+ghost use Rattle.std.specs.Prelude.{◌≡◌, true, [], length};
 ghost use Rattle.fidl_names.specs.StatusNumber.{number_of};
-ghost use Rattle.fidl_wire.specs.Epitaphs.{epitaph_bytes, IsEpitaph};
+ghost use Rattle.fidl_wire.specs.Epitaphs.{epitaph_bytes, epitaph_of, heads_epitaph, is_epitaph};
+ghost use Rattle.fidl_wire.specs.Headers.{header_of};
 
 use crate::headers::Header;
-use crate::numbers::u32_at;
 use crate::output::Out;
-use fidl_names::Status;
+use fidl_names::{Status, u32_at};
 
-/// No method has this ordinal.
-const EPITAPH_ORDINAL: u64 = u64::MAX;
+/// The ordinal of an epitaph, which no method has.
+pub const EPITAPH_ORDINAL: u64 = u64::MAX;
 
 const EPITAPH_SIZE: usize = 24;
 
@@ -30,26 +30,32 @@ pub fn epitaph(status: Status, out: &mut Out)
 
 /// The status of an epitaph; `None` exactly where the bytes are none.
 pub fn read_epitaph(bytes: &[u8]) -> Option<i32>
-    // The bytes are the epitaph that is read.
-    ensures found { IfSome result (λ status. IsEpitaph bytes.now status) }
-    // The epitaph that the bytes are is read.
-    ensures only { (status : ℤ) → IsEpitaph bytes.now status → result ≡ Some status }
-    ensures none { IsNone result → (status : ℤ) → IsEpitaph bytes.now status → ⊥ }
+    ensures { result ≡ epitaph_of bytes.now }
 {
-    status_in(bytes)
-}
-
-fn status_in(bytes: &[u8]) -> Option<i32>
-    ensures found { IfSome result (λ status. IsEpitaph bytes.now status) }
-    ensures none { IsNone result → (status : ℤ) → IsEpitaph bytes.now status → ⊥ }
-{
-    let size = bytes.len();
-    if size != EPITAPH_SIZE {
-        return None;
-    }
-    let header = Header::read(bytes).ok()?;
-    if header.txid != 0 || header.ordinal != EPITAPH_ORDINAL || u32_at(bytes, 20) != 0 {
+    if !is_epitaph(bytes) {
         return None;
     }
     Some(u32_at(bytes, 16).cast_signed())
+}
+
+/// 24 bytes, with the header of an epitaph in front and four zeros behind the status.
+fn is_epitaph(bytes: &[u8]) -> bool
+    ensures value { result ≡ is_epitaph bytes.now }
+    ensures size { result ≡ true → length bytes.now ≡ 24 }
+{
+    let size = bytes.len();
+    if size != EPITAPH_SIZE {
+        return false;
+    }
+    heads_epitaph(bytes) && u32_at(bytes, 20) == 0
+}
+
+/// A header without a flaw stands in front, with the transaction id 0 and the epitaph's ordinal.
+fn heads_epitaph(bytes: &[u8]) -> bool
+    ensures { result ≡ heads_epitaph (header_of bytes.now) }
+{
+    match Header::read(bytes) {
+        Ok(header) => header.txid == 0 && header.ordinal == EPITAPH_ORDINAL,
+        Err(_) => false,
+    }
 }

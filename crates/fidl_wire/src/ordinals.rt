@@ -7,7 +7,7 @@ ghost use Rattle.fidl_wire.specs.Collisions.{IsFirstEqual, AreApart, IsEarlier};
 use crate::hashing::ordinal;
 use fidl_names::Method;
 
-/// The methods, and the event `OnRepresentation` behind them.
+/// The methods and the event `OnRepresentation`.
 const ROWS: usize = 21;
 
 const EVENT_ROW: usize = 20;
@@ -60,21 +60,20 @@ impl Ordinals {
         ensures none { IsNone result → (m : Method) → method_ordinal m ≢ ordinal }
     {
         let row = self.row_with(ordinal)?;
-        Some(method_at(row))
+        method_at(row)
     }
 
-    /// The row of a method's ordinal. That of a method that shares its low byte with no other is found
-    /// at once.
+    /// The row that has an ordinal. One that shares its low byte with no other is found at once.
     #[inline]
     fn row_with(&self, ordinal: u64) -> Option<usize>
-        ensures row { IfSome result (λ row. (row < event_row) × (ordinal_at row ≡ ordinal)) }
-        ensures none { IsNone result → (m : Method) → method_ordinal m ≢ ordinal }
+        ensures row { IfSome result (λ row. (row < row_count) × (ordinal_at row ≡ ordinal)) }
+        ensures none { IsNone result → (row : ℕ) → row < row_count → ordinal_at row ≢ ordinal }
     {
         let hint = self.hints[low_byte(ordinal)] as usize;
-        if hint < EVENT_ROW && self.numbers[hint] == ordinal {
+        if hint < ROWS && self.numbers[hint] == ordinal {
             return Some(hint);
         }
-        let row = place_of(&self.numbers[..EVENT_ROW], ordinal)?;
+        let row = place_of(&self.numbers, ordinal)?;
         Some(row)
     }
 
@@ -102,10 +101,10 @@ fn low_byte(ordinal: u64) -> usize
     (ordinal % LOW_BYTES as u64) as usize
 }
 
-/// For each low byte the last row of a method whose ordinal has it, or 0.
+/// For each low byte the last row whose ordinal has it, or 0.
 fn hints_of(numbers: &[u64; ROWS]) -> [u8; LOW_BYTES] {
     let mut hints = [0; LOW_BYTES];
-    for row in 0..EVENT_ROW {
+    for row in 0..ROWS {
         hints[low_byte(numbers[row])] = row as u8;
     }
     hints
@@ -169,7 +168,7 @@ fn full_name(row: usize) -> &'static [u8]
 /// The row of a method.
 fn row_of(method: Method) -> usize
     ensures row { result ≡ row_of method }
-    ensures bound { result < event_row }
+    ensures bound { result < row_count }
 {
     match method {
         Method::Clone => 0,
@@ -195,31 +194,33 @@ fn row_of(method: Method) -> usize
     }
 }
 
-/// The method in a row.
-fn method_at(row: usize) -> Method
-    requires { row < event_row }
-    ensures { row_of result ≡ row }
+/// The method in a row; `None` exactly where the row is no method's.
+fn method_at(row: usize) -> Option<Method>
+    requires { row < row_count }
+    ensures found { IfSome result (λ m. row_of m ≡ row) }
+    ensures none { IsNone result → (m : Method) → row_of m ≢ row }
 {
     match row {
-        0 => Method::Clone,
-        1 => Method::Close,
-        2 => Method::Query,
-        3 => Method::GetAttributes,
-        4 => Method::Sync,
-        5 => Method::OpenPath,
-        6 => Method::ReadDirents,
-        7 => Method::Rewind,
-        8 => Method::GetToken,
-        9 => Method::Rename,
-        10 => Method::Link,
-        11 => Method::Unlink,
-        12 => Method::Watch,
-        13 => Method::Read,
-        14 => Method::ReadAt,
-        15 => Method::Write,
-        16 => Method::WriteAt,
-        17 => Method::Seek,
-        18 => Method::Resize,
-        _ => Method::EchoString,
+        0 => Some(Method::Clone),
+        1 => Some(Method::Close),
+        2 => Some(Method::Query),
+        3 => Some(Method::GetAttributes),
+        4 => Some(Method::Sync),
+        5 => Some(Method::OpenPath),
+        6 => Some(Method::ReadDirents),
+        7 => Some(Method::Rewind),
+        8 => Some(Method::GetToken),
+        9 => Some(Method::Rename),
+        10 => Some(Method::Link),
+        11 => Some(Method::Unlink),
+        12 => Some(Method::Watch),
+        13 => Some(Method::Read),
+        14 => Some(Method::ReadAt),
+        15 => Some(Method::Write),
+        16 => Some(Method::WriteAt),
+        17 => Some(Method::Seek),
+        18 => Some(Method::Resize),
+        19 => Some(Method::EchoString),
+        _ => None,
     }
 }

@@ -7,8 +7,7 @@ ghost use Rattle.fidl_wire.specs.Written.{Written, padded_bytes};
 
 use crate::headers::{FLEXIBLE_BIT, Header, MAGIC, VERSION_BIT};
 use crate::padding::padding_after;
-use byteorder::{ByteOrder, LittleEndian};
-use fidl_names::{Handle, MAX_BYTES, MAX_HANDLES, NoMemory};
+use fidl_names::{Handle, MAX_BYTES, MAX_HANDLES, NoMemory, long_array, word_array};
 use std::alloc::Global;
 use std::marker::Model;
 
@@ -43,28 +42,6 @@ fn dynamic_flags(flexible: bool) -> u8
     ensures { result ≡ flags_of flexible }
 {
     if flexible { FLEXIBLE_BIT } else { 0 }
-}
-
-/// A number in four bytes, the low byte first.
-#[tactic(auto, unfolding(fidl_names::specs::Numbers::number_bytes))]
-#[inline]
-pub fn word_array(v: u32) -> [u8; 4]
-    ensures { result ≡ number_bytes 4 v }
-{
-    let mut word = [0; 4];
-    LittleEndian::write_u32(&mut word, v);
-    word
-}
-
-/// A number in eight bytes, the low byte first.
-#[tactic(auto, unfolding(fidl_names::specs::Numbers::number_bytes))]
-#[inline]
-pub fn long_array(v: u64) -> [u8; 8]
-    ensures { result ≡ number_bytes 8 v }
-{
-    let mut long = [0; 8];
-    LittleEndian::write_u64(&mut long, v);
-    long
 }
 
 /// A header, as it is put at once.

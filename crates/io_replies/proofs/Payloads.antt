@@ -113,7 +113,7 @@ branch_passes c x h =
     let place = bind_ok (inline_at 16 c) _ x h in
     let within = bind_ok (object_at 16 place.0 c) _ x place.2 in
     let tested = bind_ok (entered (place.0 + 8) 16 c.message (outside_of c)) _ within.0 within.1 in
-    let blank = bind_ok (all_blank c.message (place.0 + 16) (padded c.end)) _ within.0 tested.2 in
+    let blank = bind_ok (all_blank c.message c.end (padded c.end)) _ within.0 tested.2 in
     let inside : within_branch 16 (place.0 + 8) c ≡ within.0 = cc blank.2 in
     let got : Branch × Cursor = (record { ordinal = number_at 8 place.0 c.message; inlined = None }, within.0) in
     let same : got ≡ x = cc within.2 in

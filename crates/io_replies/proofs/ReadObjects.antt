@@ -25,7 +25,7 @@ finish_short : (c : Cursor) (u : Unit {0}) → finish_of c ≡ Ok u → length c
 unfolding finish_of
 finish_short c u h =
     let whole = bind_ok (closed c.opened c) _ u h in
-    let blank = bind_ok (all_blank c.message c.place (padded c.end)) _ u whole.2 in
+    let blank = bind_ok (all_blank c.message c.end (padded c.end)) _ u whole.2 in
     let short = check_bind (nat_le (length c.message) c.out) _ _ u blank.2 in
     below (length c.message) c.out short.0
   where

@@ -10,8 +10,8 @@ ghost use Rattle.io_messages.specs.Replies.{answered, attributes, beside_payload
 ghost use Rattle.io_messages.specs.ReplyWriting.{HasReply, PayloadFits, CanFail, CanCarry, reply_bytes, reply_body, reply_handles, reply_header, layout_of, failure, carried, event_bytes, branch_of_kind, status_word};
 
 use crate::fields::{Field, put_count, put_object, put_padded, size_of};
-use fidl_names::{Handle, MAX_BYTES, Method, Status};
-use fidl_wire::{Header, Ordinals, Out, long_array, padding_after, word_array};
+use fidl_names::{Handle, MAX_BYTES, Method, Status, long_array, word_array};
+use fidl_wire::{Header, Ordinals, Out, padding_after};
 use io_messages::{
     Attributes, FRAMEWORK_ENVELOPE, FRAMEWORK_ORDINAL, Protocol, Reply, Shape, shape_of,
 };

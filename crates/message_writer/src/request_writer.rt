@@ -9,8 +9,8 @@ ghost use Rattle.io_messages.specs.Shapes.{is_one_way};
 ghost use Rattle.io_messages.specs.Writing.{request_bytes, request_body, request_handles, HasTexts, Wrote};
 
 use crate::fields::{Field, put_object, put_padded, size_of};
-use fidl_names::{Handle, MAX_BYTES, MAX_HANDLES};
-use fidl_wire::{Header, Ordinals, Out, long_array};
+use fidl_names::{Handle, MAX_BYTES, MAX_HANDLES, long_array};
+use fidl_wire::{Header, Ordinals, Out};
 use io_messages::{Request, TooLong};
 
 /// The most bytes of the path of an Open without options: its message has a header and 48 bytes more.

@@ -15,13 +15,21 @@ pub trait Table {
 }
 
 /// Tries the rows of a text in order: its lines, without those that are empty or begin with `#`. It fails with the name of the first that
-/// doesn't hold. A text stands as bytes, since a constant of these is proved in half the time.
+/// doesn't hold, and where there is no row. A text stands as bytes, since a constant of these is proved in half the time.
 pub fn all_hold<T: Table>(alloc: Global, text: &[u8], table: &mut T) -> Result<(), Fail> {
+    let mut is_empty = true;
     for line in str::from_utf8(text)?.lines() {
         let row = Row { line: line.trim() };
-        if !row.is_skipped() && !table.holds(alloc, &row) {
+        if row.is_skipped() {
+            continue;
+        }
+        if !table.holds(alloc, &row) {
             return Err(Fail::new(row.name()));
         }
+        is_empty = false;
+    }
+    if is_empty {
+        return Err(Fail::new("a text without rows"));
     }
     Ok(())
 }

@@ -75,38 +75,36 @@ record Answers (envelope : Option ℕ) (opened : Option Opened) (m : List ℕ) (
   pub bad : (at : ℕ) → envelope ≡ Some at → (IsCounted envelope m p → ⊥) → closed opened last ≡ Err (fault at Envelope)
 
 ended_answer : (envelope : Option ℕ) (opened : Option Opened) (m : List ℕ) (hs : List Handle) (from size : ℕ) (p : Part) (at : ℕ) (w : WireWhat) → from % 8 ≡ 0 → from + padded size ≤ length m →
-    length p.inline ≡ size → Answers envelope opened m (moved (before_object m hs from size opened) p) p →
+    Answers envelope opened m (moved (before_object m hs from size opened) p) p →
     EndFault envelope (meant.before_object m hs from size) p at w → finish_of (moved (before_object m hs from size opened) p) ≡ Err (fault at w)
 unfolding finish_of
-ended_answer envelope opened m hs from size p at Envelope aligned fits long answers f = rw (answers.bad at f.0 f.1) refl
-ended_answer envelope opened m hs from size p at Padding aligned fits long answers f =
+ended_answer envelope opened m hs from size p at Envelope aligned fits answers f = rw (answers.bad at f.0 f.1) refl
+ended_answer envelope opened m hs from size p at Padding aligned fits answers f =
     let until : padded (from + size) ≡ from + padded size = omega (arith, padding_after-add from size aligned) in
-    rw (answers.good f.0, long, blank_answer m (from + size) (padded (from + size)) at (omega (arith, until)) f.1) refl
-ended_answer envelope opened m hs from size p at Trailing aligned fits long answers f =
+    rw (answers.good f.0, blank_answer m (from + size) (padded (from + size)) at (omega (arith, until)) f.1) refl
+ended_answer envelope opened m hs from size p at Trailing aligned fits answers f =
     let until : padded (from + size) ≡ from + padded size = omega (arith, padding_after-add from size aligned) in
     let out = from + padded size + length p.outside in
     let ended : IsEnded envelope (meant.before_object m hs from size) p = f.0 in
     rw (
       answers.good ended.counted,
-      long,
       blank_passes m (from + size) (padded (from + size)) (omega arith) (omega (arith, until)) ended.blank,
       check-false (nat_le (length m) out) (fault out Trailing) (false_le (length m) out (omega (arith, f.1, f.2))),
       f.1,
     ) refl
-ended_answer envelope opened m hs from size p at Handles aligned fits long answers f =
+ended_answer envelope opened m hs from size p at Handles aligned fits answers f =
     let until : padded (from + size) ≡ from + padded size = omega (arith, padding_after-add from size aligned) in
     let out = from + padded size + length p.outside in
     let ended : IsEnded envelope (meant.before_object m hs from size) p = f.0 in
     let left = length (drop (length p.handles) hs) in
     rw (
       answers.good ended.counted,
-      long,
       blank_passes m (from + size) (padded (from + size)) (omega arith) (omega (arith, until)) ended.blank,
       check-true (nat_le (length m) out) (fault out Trailing) (true_le (length m) out (omega (arith, f.1, f.2))),
       check-false (left == 0) (fault (length m) Handles) (false_eq left 0 (λ z. omega (arith, length-drop (length p.handles) hs, f.3))),
       f.1,
     ) refl
-ended_answer envelope opened m hs from size p at w aligned fits long answers f = absurd f
+ended_answer envelope opened m hs from size p at w aligned fits answers f = absurd f
 
 object_answer : (envelope : Option ℕ) (opened : Option Opened) (cells : List Cell) (m : List ℕ) (hs : List Handle) (from : ℕ) (at : ℕ) (w : WireWhat) → from % 8 ≡ 0 → from + padded (sizes_of cells) ≤ length m →
     ((xs : List Item) (p : Part) → Lays cells xs p → Stands m from (from + padded (sizes_of cells)) hs p → Answers envelope opened m (moved (before_object m hs from (sizes_of cells) opened) p) p) →
@@ -119,7 +117,7 @@ object_answer envelope opened cells m hs from at w aligned fits answers (inl f) 
 object_answer envelope opened cells m hs from at w aligned fits answers (inr f) =
     let c = before_object m hs from (sizes_of cells) opened in
     let read = cells_read cells f.items c f.part fits (omega arith) f.lays f.stands in
-    let done = ended_answer envelope opened m hs from (sizes_of cells) f.part at w aligned fits (length-lays cells f.items f.part f.lays) (answers f.items f.part f.lays f.stands) f.means in
+    let done = ended_answer envelope opened m hs from (sizes_of cells) f.part at w aligned fits (answers f.items f.part f.lays f.stands) f.means in
     rw (read, done) refl
 
 -- ---- structs

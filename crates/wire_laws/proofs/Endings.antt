@@ -52,7 +52,7 @@ padding_sound m at size aligned fits h =
     ap (λ n. take n (drop (at + size) m)) (sym pad) ∙ sym (slice_range-at m (at + size) (padding_after (at + size))) ∙ zeros ∙ ap (λ n. replicate n 0) same in
     subst (λ (n : ℕ). take n (drop (at + size) m) ≡ replicate (padding_after size) 0) (sym (length-replicate {A = ℕ} (padding_after size) 0)) front
 
-pub finish_ok : (c : Cursor) → closed c.opened c ≡ Ok tt → all_blank c.message c.place (padded c.end) ≡ Ok tt → c.out ≡ length c.message → c.handles ≡ [] → finish_of c ≡ Ok tt
+pub finish_ok : (c : Cursor) → closed c.opened c ≡ Ok tt → all_blank c.message c.end (padded c.end) ≡ Ok tt → c.out ≡ length c.message → c.handles ≡ [] → finish_of c ≡ Ok tt
 unfolding finish_of
 finish_ok c whole blank out handles =
     rw (
@@ -64,15 +64,15 @@ finish_ok c whole blank out handles =
 
 pub record Finished (c : Cursor) : Type 0 where
   pub whole : closed c.opened c ≡ Ok tt
-  pub blank : all_blank c.message c.place (padded c.end) ≡ Ok tt
+  pub blank : all_blank c.message c.end (padded c.end) ≡ Ok tt
   pub out : length c.message ≤ c.out
   pub handles : length c.handles ≡ 0
 
 pub finish_says : (c : Cursor) (u : Unit {0}) → finish_of c ≡ Ok u → Finished c
 unfolding finish_of
 finish_says c u h =
-    let whole = unit_bind (closed c.opened c) (λ _. all_blank c.message c.place (padded c.end) >>= λ _. check (nat_le (length c.message) c.out) (fault c.out Trailing) >>= λ _. check (length c.handles == 0) (fault (length c.message) Handles)) u h in
-    let blank = unit_bind (all_blank c.message c.place (padded c.end)) (λ _. check (nat_le (length c.message) c.out) (fault c.out Trailing) >>= λ _. check (length c.handles == 0) (fault (length c.message) Handles)) u whole.1 in
+    let whole = unit_bind (closed c.opened c) (λ _. all_blank c.message c.end (padded c.end) >>= λ _. check (nat_le (length c.message) c.out) (fault c.out Trailing) >>= λ _. check (length c.handles == 0) (fault (length c.message) Handles)) u h in
+    let blank = unit_bind (all_blank c.message c.end (padded c.end)) (λ _. check (nat_le (length c.message) c.out) (fault c.out Trailing) >>= λ _. check (length c.handles == 0) (fault (length c.message) Handles)) u whole.1 in
     let out = check_bind (nat_le (length c.message) c.out) (fault c.out Trailing) (λ _. check (length c.handles == 0) (fault (length c.message) Handles)) u blank.1 in
     record {
       whole = whole.0;
@@ -120,8 +120,7 @@ object_ended cells xs m hs at opened p aligned fits lays s h =
     let f : Finished last = finish_says last tt h in
     let n = sizes_of cells in
     let size : length p.inline ≡ n = length-lays cells xs p lays in
-    let blank : all_blank m (at + n) (padded (at + n)) ≡ Ok tt = subst (λ (k : ℕ). all_blank m (at + k) (padded (at + n)) ≡ Ok tt) size f.blank in
-    let pads : Begins (drop (at + n) m) (replicate (padding_after n) 0) = padding_sound m at n aligned fits blank in
+    let pads : Begins (drop (at + n) m) (replicate (padding_after n) 0) = padding_sound m at n aligned fits f.blank in
     let zeros : List ℕ = replicate (padding_after (length p.inline)) 0 in
     let pads_behind : Begins (drop (length p.inline) (drop at m)) zeros =
     rw (drop-drop (length p.inline) at m) (subst (λ (k : ℕ). Begins (drop (at + k) m) (replicate (padding_after k) 0)) (sym size) pads) in

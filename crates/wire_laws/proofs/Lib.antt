@@ -14,6 +14,7 @@ pub mod Parts
 pub mod ReadHeaders
 pub mod Slices
 pub mod Spelled
+pub mod Shortest
 pub mod Steps
 pub mod TableCells
 pub mod TableFaults

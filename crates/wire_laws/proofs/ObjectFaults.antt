@@ -19,7 +19,7 @@ use Rattle.wire_laws.proofs.Slices.{Begins, begins-length}
 use Rattle.wire_laws.proofs.Steps.{le_true}
 use Rattle.wire_laws.proofs.Parts.{moved, moved-nothing, moved-join, stands-nothing, stands-join}
 use Rattle.wire_laws.proofs.Cells.{Took}
-use Rattle.wire_laws.proofs.Objects.{cell_read, cell_sound, cells_sound, length-cell, length-lays}
+use Rattle.wire_laws.proofs.Objects.{cell_read, cell_sound, cells_sound, length-cell}
 use Rattle.wire_laws.proofs.Endings.{before_object}
 use Rattle.wire_laws.proofs.FaultSteps.{bind_err, last_err, check_err, check_bind_err, unit_bind_err, inline_bind_err, le_false, eq_no, blank_err, blank_ok}
 use Rattle.wire_laws.proofs.CellFaults.{spot_of, as_fault, pad_fault, handle_fault, text_fault, vector_fault}
@@ -103,26 +103,24 @@ pub record Closes (envelope : Option ℕ) (opened : Option Opened) (m : List ℕ
   pub bad : (e : WireFault) → closed opened last ≡ Err e → (at : ℕ) × (fault at Envelope ≡ e) × (envelope ≡ Some at) × (IsCounted envelope m p → ⊥)
 
 ended_fault : (envelope : Option ℕ) (opened : Option Opened) (m : List ℕ) (hs : List Handle) (at size : ℕ) (p : Part) (e : WireFault) → at % 8 ≡ 0 → at + padded size ≤ length m →
-    length p.inline ≡ size → Stands m at (at + padded size) hs p → Closes envelope opened m (moved (before_object m hs at size opened) p) p →
+    Stands m at (at + padded size) hs p → Closes envelope opened m (moved (before_object m hs at size opened) p) p →
     finish_of (moved (before_object m hs at size opened) p) ≡ Err e → EndFault envelope (meant.before_object m hs at size) p e.at e.what
 unfolding finish_of
-ended_fault envelope opened m hs at size p e aligned fits long stands closes h =
+ended_fault envelope opened m hs at size p e aligned fits stands closes h =
     let last = moved (before_object m hs at size opened) p in
     let s = meant.before_object m hs at size in
     let M : ℕ → WireWhat → Type 0 = EndFault envelope s p in
-    let end : at + length p.inline ≡ at + size = omega arith in
     let until : padded (at + size) ≡ at + padded size = omega (arith, padding_after-add at size aligned) in
-    let first : all_blank m last.place (padded last.end) ≡ all_blank m (at + size) (padded (at + size)) = ap (λ k. all_blank m k (padded (at + size))) end in
-    elim (unit_bind_err (closed opened last) (λ _. all_blank m last.place (padded last.end) >>= λ _. check (nat_le (length m) last.out) (fault last.out Trailing) >>= λ _. check (length last.handles == 0) (fault (length m) Handles)) e h) [
+    elim (unit_bind_err (closed opened last) (λ _. all_blank m last.end (padded last.end) >>= λ _. check (nat_le (length m) last.out) (fault last.out Trailing) >>= λ _. check (length last.handles == 0) (fault (length m) Handles)) e h) [
       | inl bad ↦ let b = closes.bad e bad in as_fault M (fault b.0 Envelope) e b.1 (b.2, b.3)
       | inr (whole, pads) ↦
           let counted = closes.good whole in
-          elim (unit_bind_err (all_blank m last.place (padded last.end)) (λ _. check (nat_le (length m) last.out) (fault last.out Trailing) >>= λ _. check (length last.handles == 0) (fault (length m) Handles)) e pads) [
+          elim (unit_bind_err (all_blank m last.end (padded last.end)) (λ _. check (nat_le (length m) last.out) (fault last.out Trailing) >>= λ _. check (length last.handles == 0) (fault (length m) Handles)) e pads) [
             | inl bad ↦
-                let b = blank_err m (at + size) (padded (at + size)) e (omega arith) (omega (arith, until)) (sym first ∙ bad) in
+                let b = blank_err m (at + size) (padded (at + size)) e (omega arith) (omega (arith, until)) bad in
                 as_fault M (fault b.0 Padding) e b.1 (counted, b.2)
             | inr (blank, more) ↦
-                let zeros = blank_ok m (at + size) (padded (at + size)) (omega arith) (omega (arith, until)) (sym first ∙ blank) in
+                let zeros = blank_ok m (at + size) (padded (at + size)) (omega arith) (omega (arith, until)) blank in
                 let ended : IsEnded envelope s p = record { counted = counted; blank = zeros } in
                 elim (check_bind_err (nat_le (length m) last.out) (fault last.out Trailing) (λ _. check (length last.handles == 0) (fault (length m) Handles)) e more) [
                   | inl bad ↦ as_fault M (fault last.out Trailing) e bad.1 (ended, refl, le_false (length m) last.out bad.0)
@@ -149,6 +147,6 @@ object_fault envelope opened cells m hs at e aligned fits closes h =
             part = t.part;
             lays = t.lays;
             stands = t.stands;
-            means = ended_fault envelope opened m hs at (sizes_of cells) t.part e aligned fits (length-lays cells got.0 t.part t.lays) t.stands (closes got.0 t.part t.lays t.stands) (ap finish_of (sym t.after) ∙ done);
+            means = ended_fault envelope opened m hs at (sizes_of cells) t.part e aligned fits t.stands (closes got.0 t.part t.lays t.stands) (ap finish_of (sym t.after) ∙ done);
           })
     ]

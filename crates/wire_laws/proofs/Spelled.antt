@@ -130,13 +130,13 @@ cells_spelled _ _ f = absurd f
 object_spelled : (cells : List Cell) (xs : List Item) → AllFit cells xs → IsObject cells xs (object_bytes (spelling_of_all cells xs)) (spelling_of_all cells xs).handles
 object_spelled cells xs f = record { part = spelling_of_all cells xs; lays = cells_spelled cells xs f; bytes_are = refl; handles_are = refl }
 
-drop-behind : {A : Type 0} → (n : ℕ) (a b : List A) → length a ≡ n → drop n (a ++ b) ≡ b
+pub drop-behind : {A : Type 0} → (n : ℕ) (a b : List A) → length a ≡ n → drop n (a ++ b) ≡ b
 drop-behind n a b h = rw (sym h) (drop-append_seam a b)
 
-take-front : {A : Type 0} → (n : ℕ) (a b : List A) → length a ≡ n → take n (a ++ b) ≡ a
+pub take-front : {A : Type 0} → (n : ℕ) (a b : List A) → length a ≡ n → take n (a ++ b) ≡ a
 take-front n a b h = rw (sym h) (take-append_seam a b)
 
-length-envelope_bytes : (bytes handles flags : ℕ) → length (envelope_bytes bytes handles flags) ≡ 8
+pub length-envelope_bytes : (bytes handles flags : ℕ) → length (envelope_bytes bytes handles flags) ≡ 8
 length-envelope_bytes bytes handles flags =
     omega (arith, length-append (number_bytes 4 bytes ++ number_bytes 2 handles) (number_bytes 2 flags), length-append (number_bytes 4 bytes) (number_bytes 2 handles), length-number_bytes 4 bytes, length-number_bytes 2 handles, length-number_bytes 2 flags)
 
@@ -144,7 +144,7 @@ zero_bytes : number_bytes 4 0 ≡ replicate 4 0
 unfolding number_bytes
 zero_bytes = refl
 
-length-union : (ordinal bytes handles flags : ℕ) → length (number_bytes 8 ordinal ++ envelope_bytes bytes handles flags) ≡ 16
+pub length-union : (ordinal bytes handles flags : ℕ) → length (number_bytes 8 ordinal ++ envelope_bytes bytes handles flags) ≡ 16
 length-union ordinal bytes handles flags =
     omega (arith, length-append (number_bytes 8 ordinal) (envelope_bytes bytes handles flags), length-number_bytes 8 ordinal, length-envelope_bytes bytes handles flags)
 

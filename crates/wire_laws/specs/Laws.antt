@@ -1,5 +1,5 @@
 -- What holds of every header, every layout, every message and all handles.
-use Rattle.std.specs.Prelude.{◌≡◌, ℕ, ℤ, ◌^◌, ◌<◌, List, ◌++◌, length, Ok, Err}
+use Rattle.std.specs.Prelude.{◌≡◌, ℕ, ℤ, ◌+◌, ◌*◌, ◌^◌, ◌<◌, ◌≤◌, List, ◌++◌, length, drop, replicate, slice_index_or, slice_range, Option, None, Ok, Err}
 use Rattle.fidl_names.specs.declared.methods.Handle.{Handle}
 use Rattle.fidl_names.specs.declared.statuses.Status.{Status}
 use Rattle.fidl_names.specs.StatusNumber.{number_of}
@@ -11,7 +11,7 @@ use Rattle.fidl_wire.specs.Layout.{Layout, Content}
 use Rattle.fidl_wire.specs.Reading.{body_of}
 use Rattle.fidl_wire.specs.Grammar.{IsSpelled}
 use Rattle.wire_laws.specs.Meanings.{IsFaultOf}
-use Rattle.fidl_wire.specs.Spelling.{FitsBody, body_bytes, body_handles}
+use Rattle.fidl_wire.specs.Spelling.{FitsBody, body_bytes, body_handles, given, table_part}
 
 -- what bytes and handles spell is read
 abbrev pub ReadsWhatIsSpelled : Type 0
@@ -39,6 +39,18 @@ abbrev pub SpellingIsRead : Type 0
 SpellingIsRead =
     (layout : Layout) (content : Content) (header : List ℕ) → length header ≡ 16 → FitsBody layout content →
     body_of layout (header ++ body_bytes layout content) (body_handles layout content) ≡ Ok content
+
+-- no bytes that spell a value are fewer than its spelling: that has no absent envelope at a table's end, and nothing of a member that isn't known
+abbrev pub SpellingIsShortest : Type 0
+SpellingIsShortest =
+    (layout : Layout) (content : Content) (message : List ℕ) (handles : List Handle) → IsSpelled layout content message handles →
+    length (body_bytes layout content) ≤ length (drop 16 message)
+
+-- in the spelling of a table, the envelope of each member that isn't given is zero
+abbrev pub AbsentEnvelopesAreZero : Type 0
+AbsentEnvelopesAreZero =
+    (values : List (Option ℕ)) (k : ℕ) → k < length (given values) → slice_index_or (given values) k None ≡ None →
+    slice_range (table_part values).outside (8 * k) (8 * k + 8) ≡ replicate 8 0
 
 -- a fault that is answered is what it says, and no value is spelled there
 abbrev pub FaultsAreMeant : Type 0

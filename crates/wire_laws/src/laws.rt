@@ -2,7 +2,7 @@
 //! their clauses.
 
 ghost use Rattle.fidl_wire.specs.Names.{AreDistinct, MethodsHaveTheirOwn, EventHasItsOwn};
-ghost use Rattle.wire_laws.specs.Laws.{EpitaphsAreReadOnce, FaultsAreMeant, FaultsAreMeantOnce, HeadersAreRead, MeantFaultsAreAnswered, ReadsWhatIsSpelled, SpelledWhereRead, SpelledOnce, SpellingIsSpelled, SpellingIsRead, WrittenEpitaphsAreRead};
+ghost use Rattle.wire_laws.specs.Laws.{AbsentEnvelopesAreZero, EpitaphsAreReadOnce, FaultsAreMeant, FaultsAreMeantOnce, HeadersAreRead, MeantFaultsAreAnswered, ReadsWhatIsSpelled, SpelledWhereRead, SpelledOnce, SpellingIsSpelled, SpellingIsRead, SpellingIsShortest, WrittenEpitaphsAreRead};
 
 /// A body is read as a value exactly where the message's bytes and handles spell that value, each
 /// cell at its place and with nothing left over.
@@ -29,6 +29,13 @@ pub fn body_fault_is_meant()
 pub fn spelling_is_read()
     ensures spelled { SpellingIsSpelled }
     ensures read { SpellingIsRead }
+{}
+
+/// The spelling of a value is the shortest of all bytes that spell it. In its tables the envelope of a member that
+/// isn't given is zero.
+pub fn spelling_is_shortest()
+    ensures shortest { SpellingIsShortest }
+    ensures zero { AbsentEnvelopesAreZero }
 {}
 
 /// A header that was written is read back, whatever follows it.

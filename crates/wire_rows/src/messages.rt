@@ -43,6 +43,9 @@ struct Messages {
 
 impl Table for Messages {
     fn holds(&mut self, alloc: Global, row: &Row<'_>) -> bool {
+        if row.is(1, "method") {
+            return self.is_method(alloc, row);
+        }
         let Some(bytes) = row.bytes(alloc, 2) else {
             return false;
         };
@@ -53,6 +56,22 @@ impl Table for Messages {
 /// The one field of a message behind its header, a number of four bytes with a sign.
 fn read_status(bytes: &[u8]) -> Result<i32, WireFault> {
     Body::new(bytes, &[], 4)?.get_i32()
+}
+
+/// The one field of a message behind its header, a handle that may be absent.
+fn read_handle(bytes: &[u8], handles: &[Handle]) -> Result<Option<Handle>, WireFault> {
+    Body::new(bytes, handles, 4)?.handle(true)
+}
+
+/// Whether the handle of a message is what its row says.
+fn is_handle(alloc: Global, row: &Row<'_>, bytes: &[u8]) -> bool {
+    let mut handles = Vec::new(alloc);
+    match row.numbers(alloc, 3) {
+        Some(numbers) => {
+            put_handles(&mut handles, &numbers) && row.says(alloc, 4, &read_handle(bytes, &handles))
+        }
+        None => false,
+    }
 }
 
 /// Puts handles by their numbers.
@@ -66,6 +85,17 @@ fn put_handles(all: &mut Vec<Handle>, numbers: &[u64]) -> bool {
 }
 
 impl Messages {
+    /// Whether an ordinal is that of the method which its row says, and that of the event exactly where it says so.
+    fn is_method(&self, alloc: Global, row: &Row<'_>) -> bool {
+        match row.number(2) {
+            Some(number) => {
+                row.says(alloc, 3, &self.ordinals.method(number))
+                    && row.is(4, "event") == (number == self.ordinals.event())
+            }
+            None => false,
+        }
+    }
+
     /// Whether these bytes are what their row says.
     fn are_said(&mut self, alloc: Global, row: &Row<'_>, bytes: &[u8]) -> bool {
         if row.is(1, "header") {
@@ -74,6 +104,8 @@ impl Messages {
             row.says(alloc, 3, &read_epitaph(bytes))
         } else if row.is(1, "status") {
             row.says(alloc, 3, &read_status(bytes))
+        } else if row.is(1, "handle") {
+            is_handle(alloc, row, bytes)
         } else if row.is(1, "ordinal") {
             bytes == ordinal(row.name().as_bytes()).to_be_bytes().as_slice()
         } else {

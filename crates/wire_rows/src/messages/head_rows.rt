@@ -1,7 +1,8 @@
-//! Outside values of headers, epitaphs and ordinals.
+//! Outside values of headers, epitaphs, handles and ordinals.
 
-/// A name, `header`, `epitaph` or `status` (of an epitaph, as its one field), the bytes, and what is read; or a full name, `ordinal`, and the
-/// ordinal's digits.
+/// A name, `header`, `epitaph` or `status` (of an epitaph, as its one field), the bytes, and what is read; a name, `handle`, the bytes, the
+/// handles, and what is read; a full name, `ordinal`, and the ordinal's digits; or a name, `method`, an ordinal, its method, and `event` where it
+/// is the event's.
 pub const HEADS: &[u8] = b"
 header_plain | header | 01000000020000014c01b891c67ff240 | Ok(Header { txid: 1, flexible: false, ordinal: 4679943453616374092 })
 header_flexible | header | 01000000020080014c01b891c67ff240 | Ok(Header { txid: 1, flexible: true, ordinal: 4679943453616374092 })
@@ -42,6 +43,19 @@ epitaph_magic_zero | epitaph | [00*4]02000000[ff*8]e7ffffff[00*4] | None
 epitaph_version_clear | epitaph | [00*7]01[ff*8]e7ffffff[00*4] | None
 epitaph | status | [00*4]02000001[ff*8]e7ffffff[00*4] | Ok(-25)
 epitaph_three_bytes | status | [00*4]02000001[ff*8]e7ffff | Err(WireFault { at: 19, what: Short })
+handle_endpoint | handle | [00*4]02000001[ff*8]ffffffff[00*4] | 7 | Ok(Some(Endpoint(7)))
+handle_token | handle | [00*4]02000001[ff*8]ffffffff[00*4] | 2147483648 | Ok(Some(Token(2147483648)))
+handle_absent | handle | [00*4]02000001[ff*8][00*8] | - | Ok(None)
+handle_neither | handle | [00*4]02000001[ff*8]01[00*7] | 7 | Err(WireFault { at: 16, what: Presence })
+handle_none_left | handle | [00*4]02000001[ff*8]ffffffff[00*4] | - | Err(WireFault { at: 16, what: Handles })
+zero | method | 0 | None | -
+five | method | 5 | None | -
+the_top_bit | method | 0x8000000000000000 | None | -
+the_largest | method | 0xffffffffffffffff | None | -
+read_without_its_top_byte | method | 0x00f27fc691b8014c | None | -
+read | method | 0x40f27fc691b8014c | Some(Read) | -
+read_with_the_top_bit | method | 0xc0f27fc691b8014c | None | -
+on_representation | method | 0x5cb40567d80a510c | None | event
 fuchsia.unknown/Cloneable.Clone | ordinal | 20d8a7aba2168a79
 fuchsia.unknown/Closeable.Close | ordinal | 74f5d243849cb458
 fuchsia.unknown/Queryable.Query | ordinal | 2658edee9decfc06
