@@ -1,3 +1,4 @@
+pub mod EveryWalk
 mod Failing
 pub mod KeptRows
 pub mod Taking
