@@ -67,8 +67,11 @@ is_of_every_node _ = false
 
 -- a node reference knows the methods of directories and files, and has those of every node alone
 abbrev pub is_beyond : Protocol → Method → Bool
+is_beyond protocol.Directory method = false
+is_beyond protocol.File method = false
 is_beyond protocol.Node method = not (is_of_every_node (home_of method))
-is_beyond _ method = false
+is_beyond protocol.Echo method = false
+is_beyond protocol.Watcher method = false
 
 -- a right that the method needs is wanting. No connection to a service lacks CONNECT, without which none is bound
 abbrev pub lacks_right : Birth → Method → Bool

@@ -1,5 +1,5 @@
 -- What a connection is bound with, and where it stands.
-use Rattle.std.specs.Prelude.{ℕ, Bool}
+use Rattle.std.specs.Prelude.{ℕ, Bool, false}
 use Rattle.io_messages.specs.declared.protocols.Protocol.{Protocol}
 use Rattle.io_rights.specs.Operations.{OperationSet}
 use Rattle.node_graph.specs.Graph.{number_of}
@@ -17,6 +17,11 @@ pub record Birth : Type 0 where
 -- the birth that one of the code stands for
 abbrev pub born : code.Birth → Birth
 born birth = record { node = number_of birth.node; rights = birth.rights; protocol = birth.protocol; append = birth.append }
+
+-- what a connection's clone is bound with: the same node, rights, protocol and way of writing, and nothing announces it
+abbrev pub clone_of : code.Birth → code.Birth
+clone_of birth =
+    record { node = birth.node; rights = birth.rights; protocol = birth.protocol; append = birth.append; announce = false }
 
 -- a file's position is a number of bytes, a directory's a place of its listing; the other of the two stays at its beginning
 pub record Position : Type 0 where

@@ -42,8 +42,15 @@ abilities_of File = 0x16
 abilities_of Service = 0x11
 abilities_of (Mount index) = 0
 
+-- how many bytes a node of a kind tells as its content
+abbrev pub size_of_kind : NodeKind → List ℕ → ℕ
+size_of_kind Directory bytes = 0
+size_of_kind File bytes = length bytes
+size_of_kind Service bytes = 0
+size_of_kind (Mount index) bytes = 0
+
 abbrev pub content_size : Tree → ℕ → ℕ
-content_size tree number = if is_file (kind_here tree number) then length (bytes_of tree number) else 0
+content_size tree number = size_of_kind (kind_here tree number) (bytes_of tree number)
 
 -- the value of an attribute, where its bit is in the query
 abbrev pub where_asked : ℕ → ℕ → ℕ → Option ℕ
@@ -64,4 +71,6 @@ attributes_of tree number query =
 abbrev pub protocol_name : Protocol → List ℕ
 protocol_name protocol.Directory = codes "fuchsia.io/Directory"
 protocol_name protocol.File = codes "fuchsia.io/File"
-protocol_name _ = codes "fuchsia.io/Node"
+protocol_name protocol.Node = codes "fuchsia.io/Node"
+protocol_name protocol.Echo = codes "fuchsia.io/Node"
+protocol_name protocol.Watcher = codes "fuchsia.io/Node"

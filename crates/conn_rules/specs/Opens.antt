@@ -1,6 +1,5 @@
 -- Open: the node at a path is bound to the endpoint that the request carries, or made first, or the Open goes on behind a mount.
 use Rattle.std.specs.Prelude.{ℕ, ◌+◌, ◌&&◌, ◌||◌, Bool, not, nat_le, is_some, if◌then◌else◌, List, [], ◌∷◌, length, Option}
-use Rattle.std.specs.FinMap as finite
 use Rattle.std.specs.Option.{option_map}
 use Rattle.std.specs.Str.{bytes_eq}
 use Rattle.fidl_names.specs.declared.limits.TheConstants as limit
@@ -18,7 +17,8 @@ use Rattle.io_rights.specs.declared.operations.Operation.TheVariants as op
 use Rattle.io_rights.specs.Operations.{OperationSet, single, all}
 use Rattle.node_graph.specs.declared.nodes.NodeKind.{NodeKind}
 use Rattle.node_graph.specs.declared.nodes.NodeKind.TheVariants.{Directory, File, Service, Mount}
-use Rattle.node_graph.specs.Tree.{Tree, EdgeKey, Change, make, new_row, fill, stay, is_removed}
+use Rattle.node_graph.specs.Refusals.{create_refusal}
+use Rattle.node_graph.specs.Tree.{Tree, EdgeKey, Change, make, name_in, new_row, fill, stay}
 use Rattle.path_walk.specs.Names.{dot}
 use Rattle.path_walk.specs.Paths.{path_fault, names_of}
 use Rattle.conn_rules.specs.declared.births.Room.{Room}
@@ -27,8 +27,8 @@ use Rattle.conn_rules.specs.Answers.{Answer, binds, forwards, added, Act, only, 
 use Rattle.conn_rules.specs.Contexts.{Context}
 use Rattle.conn_rules.specs.Nodes.{kind_here, is_file, is_service}
 use Rattle.fidl_names.specs.First.{cause_if, first_of}
-use Rattle.conn_rules.specs.Refusals.{unless, lacks}
-use Rattle.conn_rules.specs.Walks.{Walk, arrives, missing, crosses, stops, walk, limit_of}
+use Rattle.conn_rules.specs.Refusals.{as_status, unless, lacks}
+use Rattle.conn_rules.specs.Walks.{Walk, walk, Reach, at_node, at_nothing, at_mount, nowhere, reach}
 
 -- ---- refusals
 
@@ -80,12 +80,11 @@ arrival_refusals room word kind =
     ∷ cause_if (is_full room) status.NoResources
     ∷ []
 
--- of a node that is missing
-abbrev pub making_refusals : Tree → Room → ℕ → ℕ → List (Option Status)
-making_refusals tree room word directory =
+-- of a node that is missing at this name
+abbrev pub making_refusals : Tree → Room → ℕ → EdgeKey → List (Option Status)
+making_refusals tree room word key =
     cause_if (not (creates word)) status.NotFound
-    ∷ cause_if (is_removed tree.edges directory) status.BadState
-    ∷ cause_if (nat_le limit.MAX_NAMES (finite.len tree.edges)) status.NoSpace
+    ∷ as_status (create_refusal tree.edges key)
     ∷ cause_if (is_full room) status.NoResources
     ∷ []
 
@@ -133,16 +132,19 @@ making position tree word limit key =
 
 -- ---- the whole
 
+-- what is done where a walk ends
+abbrev pub act_at : Position → Room → Tree → ℕ → Reach → Act
+act_at position room tree word (at_node node limit) =
+    unless (first_of (arrival_refusals room word (kind_here tree node))) position method.OpenPath
+    (arrival position word limit node (kind_here tree node))
+act_at position room tree word (at_nothing directory name limit) =
+    unless (first_of (making_refusals tree room word (name_in directory name))) position method.OpenPath
+    (making position tree word limit (name_in directory name))
+act_at position room tree word (at_mount mount rest limit) = only position (forwards mount (onward word limit) rest)
+act_at position room tree word (nowhere status) = only position (failure_of method.OpenPath status)
+
 abbrev pub by_walk : Context → ℕ → Walk → Act
-by_walk context word (arrives node masks) =
-    unless (first_of (arrival_refusals context.room word (kind_here context.tree node))) context.position method.OpenPath
-    (arrival context.position word (limit_of context.birth.rights masks) node (kind_here context.tree node))
-by_walk context word (missing directory name masks) =
-    unless (first_of (making_refusals context.tree context.room word directory)) context.position method.OpenPath
-    (making context.position context.tree word (limit_of context.birth.rights masks) (record { directory = directory; name = name }))
-by_walk context word (crosses mount rest masks) =
-    only context.position (forwards mount (onward word (limit_of context.birth.rights masks)) rest)
-by_walk context word (stops status) = only context.position (failure_of method.OpenPath status)
+by_walk context word w = act_at context.position context.room context.tree word (reach context.birth.rights w)
 
 abbrev pub open_act : Context → List ℕ → ℕ → Act
 open_act context path word =

@@ -7,7 +7,7 @@ use Rattle.io_rights.specs.declared.operations.Operation.TheVariants as op
 use Rattle.io_rights.specs.Operations.{OperationSet, single, meet, join, is_within}
 use Rattle.node_graph.specs.declared.nodes.NodeKind.{NodeKind}
 use Rattle.node_graph.specs.declared.nodes.NodeKind.TheVariants.{Directory, File, Service, Mount}
-use Rattle.node_graph.specs.Tree.{Tree, EdgeTo}
+use Rattle.node_graph.specs.Tree.{Tree, EdgeTo, name_in}
 use Rattle.conn_rules.specs.Nodes.{edge_at, kind_behind}
 
 -- where the names lead, with the masks of the names that passed, in their order
@@ -58,10 +58,31 @@ inner_step tree word rest (Some edge) onward = inner_by_kind word rest edge (kin
 -- where the names lead; the empty list leads to the directory itself
 unfoldable pub walk : Tree → ℕ → List (List ℕ) → ℕ → Walk
 walk tree word [] directory = arrives directory []
-walk tree word (name ∷ []) directory = last_step tree word directory name (edge_at tree (record { directory = directory; name = name }))
+walk tree word (name ∷ []) directory = last_step tree word directory name (edge_at tree (name_in directory name))
 walk tree word (name ∷ next ∷ rest) directory =
-    inner_step tree word (next ∷ rest) (edge_at tree (record { directory = directory; name = name })) (walk tree word (next ∷ rest))
+    inner_step tree word (next ∷ rest) (edge_at tree (name_in directory name)) (walk tree word (next ∷ rest))
+
+-- the masks of the names that a walk passed
+abbrev pub masks_of : Walk → List OperationSet
+masks_of (arrives node masks) = masks
+masks_of (missing directory name masks) = masks
+masks_of (crosses mount rest masks) = masks
+masks_of (stops status) = []
 
 -- the limit: the meet of a connection's rights with the masks on the way
 abbrev pub limit_of : OperationSet → List OperationSet → OperationSet
 limit_of rights masks = fold meet rights masks
+
+-- an end of a walk, with the rights that are left there
+pub data Reach : Type 0 where
+  at_node : (node : ℕ) (limit : OperationSet) → Reach
+  at_nothing : (directory : ℕ) (name : List ℕ) (limit : OperationSet) → Reach
+  at_mount : (mount : ℕ) (rest : List (List ℕ)) (limit : OperationSet) → Reach
+  nowhere : Status → Reach
+
+-- what the masks of a walk leave of these rights, where it ends
+abbrev pub reach : OperationSet → Walk → Reach
+reach rights (arrives node masks) = at_node node (limit_of rights masks)
+reach rights (missing directory name masks) = at_nothing directory name (limit_of rights masks)
+reach rights (crosses mount rest masks) = at_mount mount rest (limit_of rights masks)
+reach rights (stops status) = nowhere status

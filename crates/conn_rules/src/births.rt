@@ -1,4 +1,5 @@
 ghost use Rattle.std.specs.Prelude.{◌≡◌};
+ghost use Rattle.conn_rules.specs.Births.{clone_of};
 ghost use Rattle.conn_rules.specs.Opens.{is_full};
 
 use fidl_names::MAX_CONNECTIONS;
@@ -18,8 +19,25 @@ pub struct Birth {
     pub announce: bool,
 }
 
-/// What is in use at a server: its connections, at most 4,096; the watchers of the connection's directory, at most 64; and the
-/// number that the next token gets, `None` where none is given any more.
+impl Birth {
+    /// What a clone of the connection is bound with. Each field is named, so that one that no clone
+    /// inherits isn't inherited unseen.
+    pub(crate) fn of_clone(&self) -> Birth
+        ensures { result ≡ clone_of self.now }
+    {
+        Birth {
+            node: self.node,
+            rights: self.rights,
+            protocol: self.protocol,
+            append: self.append,
+            announce: false,
+        }
+    }
+}
+
+/// What is in use at a server: its connections, at most 4,096; the watchers of the connection's
+/// directory, at most 64; and the number that the next token gets, `None` where none is given any
+/// more.
 #[derive(Clone, Copy)]
 pub struct Room {
     pub connections: u32,

@@ -9,7 +9,8 @@ pub struct At<'a> {
     pub name: &'a [u8],
 }
 
-/// What the watchers of directories are told of a request, in this order: a name is gone, a name is new, a directory is gone.
+/// What the watchers of directories are told of a request, in this order: a name is gone, a name is
+/// new, a directory is gone.
 #[derive(Clone, Copy)]
 pub struct Changes<'a> {
     pub removed: Option<At<'a>>,

@@ -1,10 +1,10 @@
 //! The attributes of a node.
 
-ghost use Rattle.std.specs.Prelude.{◌≡◌, ◌<◌, ◌==◌, length, Some, if◌then◌else◌};
+ghost use Rattle.std.specs.Prelude.{◌≡◌, ◌<◌, ◌==◌, Some};
 ghost use Rattle.std.specs.Int.{bit_at};
 ghost use Rattle.node_graph.specs.Graph.{Names, StandsFor, number_of, kind_at, bytes_at};
 ghost use Rattle.node_graph.specs.Tree.{Tree, link_count};
-ghost use Rattle.conn_rules.specs.Nodes.{attributes_of, protocols_of, abilities_of, is_file, where_asked};
+ghost use Rattle.conn_rules.specs.Nodes.{attributes_of, protocols_of, abilities_of, size_of_kind, where_asked};
 
 use io_messages::Attributes;
 use node_graph::{Graph, NodeKind, NodeRef};
@@ -14,7 +14,8 @@ use node_graph::{Graph, NodeKind, NodeRef};
 #[tactic(auto, unfolding(crate::specs::Nodes::attributes_of), using(crate::proofs::KeptRows::kept_rows))]
 pub(crate) fn attributes(graph: &Graph, node: NodeRef, query: u64) -> Attributes
     requires kept { Names graph.now node }
-    ensures value { (tree : Tree) → StandsFor graph.now tree → result ≡ attributes_of tree (number_of node) query }
+    ensures value { (tree : Tree) → StandsFor graph.now tree →
+        result ≡ attributes_of tree (number_of node) query }
 {
     let kind = graph.kind(node);
     Attributes {
@@ -61,11 +62,11 @@ fn links_where_asked(query: u64, graph: &Graph, node: NodeRef) -> Option<u64>
 fn content_size(graph: &Graph, node: NodeRef, kind: NodeKind) -> u64
     requires kept { Names graph.now node }
     requires kind { kind_at graph.now (number_of node) ≡ Some kind }
-    ensures { result ≡ (if is_file kind then length (bytes_at graph.now (number_of node)) else 0) }
+    ensures { result ≡ size_of_kind kind (bytes_at graph.now (number_of node)) }
 {
     match kind {
         NodeKind::File => graph.bytes(node).len() as u64,
-        _ => 0,
+        NodeKind::Directory | NodeKind::Service | NodeKind::Mount(_) => 0,
     }
 }
 

@@ -17,7 +17,8 @@ use io_rights::needed;
 pub fn method_refusal(birth: &Birth, method: Method) -> Option<Status>
     ensures first { result ≡ first_of (method_refusals (born birth.now) method) }
     ensures status { IfSome result (λ status. status ≢ Status.Ok) }
-    ensures form { birth.now.protocol ≢ Protocol.Echo → has_method birth.now.protocol method ≡ true → IfSome result (λ _. can_fail method ≡ true) }
+    ensures form { birth.now.protocol ≢ Protocol.Echo →
+        has_method birth.now.protocol method ≡ true → IfSome result (λ _. can_fail method ≡ true) }
 {
     if is_beyond(birth.protocol, method) {
         return Some(Status::BadHandle);
@@ -34,7 +35,7 @@ fn is_beyond(protocol: Protocol, method: Method) -> bool
 {
     match protocol {
         Protocol::Node => !is_of_every_node(method),
-        _ => false,
+        Protocol::Directory | Protocol::File | Protocol::Echo | Protocol::Watcher => false,
     }
 }
 

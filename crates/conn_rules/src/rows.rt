@@ -16,7 +16,7 @@ ghost use Rattle.node_graph.specs.Graph.{Kept, StandsFor};
 ghost use Rattle.node_graph.specs.Tree.{Tree};
 ghost use Rattle.conn_rules.specs.Acts.{clone_act, is_of_every_node, row_act};
 ghost use Rattle.conn_rules.specs.Answers.{closes, failure_of, only, replies};
-ghost use Rattle.conn_rules.specs.Births.{Connection, Position, born, connection_with};
+ghost use Rattle.conn_rules.specs.Births.{Connection, Position, born, clone_of, connection_with};
 ghost use Rattle.conn_rules.specs.Contexts.{context_with};
 ghost use Rattle.conn_rules.specs.Nodes.{attributes_of, protocol_name};
 ghost use Rattle.conn_rules.specs.Served.{HasNothing, IsAnswered};
@@ -39,7 +39,8 @@ pub fn reply(ordinals: &Ordinals, txid: u32, reply: Reply<'_>, out: &mut Out) ->
     requires fits { PayloadFits (answered reply) }
     ensures kind { result ≡ Served.Reply }
     ensures served { (connection : Connection) (graph : Kept) →
-        IsAnswered (only connection.position (replies (answered reply.entry))) txid result out.new connection graph }
+        IsAnswered (only connection.position (replies (answered reply.entry))) txid result out.new
+        connection graph }
 {
     write_reply(ordinals, txid, reply, out);
     Served::Reply
@@ -60,7 +61,8 @@ pub fn reply_with(
     requires fits { PayloadFits (payload method bytes.now) }
     ensures kind { result ≡ Served.Reply }
     ensures served { (connection : Connection) (graph : Kept) →
-        IsAnswered (only connection.position (replies (payload method bytes.now))) txid result out.new connection graph }
+        IsAnswered (only connection.position (replies (payload method bytes.now))) txid result
+        out.new connection graph }
 {
     write_bytes(ordinals, txid, method, bytes, out);
     Served::Reply
@@ -74,7 +76,8 @@ pub fn fail(ordinals: &Ordinals, txid: u32, method: Method, status: Status, out:
     requires form { can_fail method ≡ true }
     requires status { status ≢ Status.Ok }
     ensures served { (connection : Connection) (graph : Kept) →
-        IsAnswered (only connection.position (failure_of method status)) txid result out.new connection graph }
+        IsAnswered (only connection.position (failure_of method status)) txid result out.new
+        connection graph }
     ensures memory { result ≢ Served.NoMemory }
     ensures lives { (last : Status) → result ≢ Served.End last }
 {
@@ -99,19 +102,19 @@ fn serve_close(ordinals: &Ordinals, txid: u32, out: &mut Out) -> Served
 /// Serves Clone: the endpoint that it carries is bound like the connection, unless the server has
 /// as many connections as it may.
 fn serve_clone(birth: &Birth, room: Room) -> Served
-    ensures served { (position : Position) (tree : Tree) (directory : ℕ → Option ℕ) (txid : ℕ) (out : Written) (graph : Kept) →
+    ensures served { (position : Position) (tree : Tree) (directory : ℕ → Option ℕ) (txid : ℕ)
+        (out : Written) (graph : Kept) →
         HasNothing out → CanBeBound graph birth.now →
-        IsAnswered (clone_act (context_with (born birth.now) position room tree directory)) txid result out (connection_with birth.now position) graph }
+        IsAnswered (clone_act (context_with (born birth.now) position room tree directory)) txid
+        result out (connection_with birth.now position) graph }
+    ensures clone { (found : Birth) → result ≡ Served.Bind found → found ≡ clone_of birth.now }
     ensures memory { result ≢ Served.NoMemory }
     ensures lives { (last : Status) → result ≢ Served.End last }
 {
     if room.is_full() {
         return Served::Refused(Status::NoResources);
     }
-    Served::Bind(Birth {
-        announce: false,
-        ..*birth
-    })
+    Served::Bind(birth.of_clone())
 }
 
 /// Serves Query: the name of the connection's protocol.
@@ -119,7 +122,9 @@ fn serve_query(ordinals: &Ordinals, txid: u32, protocol: Protocol, out: &mut Out
     requires empty { HasNothing out.old }
     requires txid { 0 < txid }
     ensures served { (connection : Connection) (graph : Kept) →
-        IsAnswered (only connection.position (replies (payload method.Query (protocol_name protocol)))) txid result out.new connection graph }
+        IsAnswered (only connection.position
+        (replies (payload method.Query (protocol_name protocol)))) txid result out.new connection
+        graph }
     ensures kind { result ≡ Served.Reply }
 {
     reply(
@@ -144,8 +149,11 @@ pub fn serve_node(
     requires home { is_of_every_node (home_of (method_of (asked request.now))) ≡ true }
     requires txid { has_txid (is_one_way (method_of (asked request.now))) txid ≡ true }
     requires empty { HasNothing out.old }
-    ensures served { (position : Position) (tree : Tree) (directory : ℕ → Option ℕ) → StandsFor graph.now tree →
-        IsAnswered (row_act (context_with (born birth.now) position room tree directory) (asked request.now)) txid result out.new (connection_with birth.now position) graph.now }
+    ensures served { (position : Position) (tree : Tree) (directory : ℕ → Option ℕ) →
+        StandsFor graph.now tree →
+        IsAnswered (row_act (context_with (born birth.now) position room tree directory)
+        (asked request.now)) txid result out.new (connection_with birth.now position) graph.now }
+    ensures clone { (found : Birth) → result ≡ Served.Bind found → found ≡ clone_of birth.now }
     ensures memory { result ≢ Served.NoMemory }
     ensures lives { (last : Status) → result ≢ Served.End last }
 {

@@ -7,4 +7,3 @@ pub mod ListingRows
 pub mod Watching
 pub mod Trying
 pub mod Naming
-pub mod Narrow

@@ -1,23 +1,24 @@
 -- How an Open is served, by where its walk leads.
-use Rattle.std.proofs.Common.{◌≡◌, ℕ, List, Option, Some, None, refl, sym, ap}
+use Rattle.std.proofs.Common.{◌≡◌, ℕ, List, Option, Some, None, refl, sym}
+use Rattle.std.specs.FinMap as finite
 use Rattle.fidl_names.specs.First.{first_of}
 use Rattle.fidl_names.specs.declared.statuses.Status.{Status}
 use Rattle.io_rights.specs.Operations.{OperationSet}
 use Rattle.node_graph.specs.declared.nodes.NodeKind.{NodeKind}
 use Rattle.node_graph.specs.Graph.{Kept, StandsFor, kind_at}
-use Rattle.node_graph.specs.Tree.{Tree}
+use Rattle.node_graph.specs.Tree.{Tree, name_in}
 use Rattle.path_walk.specs.Paths.{names_of}
 use Rattle.conn_rules.specs.declared.births.Room.{Room}
 use Rattle.conn_rules.specs.Answers.{Act, only, refuses}
 use Rattle.conn_rules.specs.Births.{Birth, Position}
 use Rattle.conn_rules.specs.Contexts.{context_with}
-use Rattle.conn_rules.specs.Opens.{arrival, arrival_refusals, by_walk, entry_refusals, making, making_refusals, open_act}
-use Rattle.conn_rules.specs.Walks.{Walk, arrives, missing, crosses, stops, walk}
+use Rattle.conn_rules.specs.Opens.{act_at, arrival, arrival_refusals, entry_refusals, making, open_act}
+use Rattle.conn_rules.specs.Walks.{walk, at_node, at_nothing, reach}
 use Rattle.dir_conn.specs.declared.served.DirServed.{DirServed}
 use Rattle.dir_conn.specs.declared.served.DirServed.TheVariants as served
-use Rattle.dir_conn.specs.Opened.{IsOpened, Keeps, act_at, bare}
-use Rattle.dir_conn.specs.Reaches.{at_node, at_nothing, reach}
+use Rattle.dir_conn.specs.Opened.{IsOpened, Keeps, absent_refusals}
 use Rattle.dir_conn.proofs.Binding.{kind_kept}
+use Rattle.dir_conn.proofs.Making.{making_refused_as}
 
 -- ---- what is served
 
@@ -64,31 +65,18 @@ pub arrived_bound : (graph : Kept) (tree : Tree) (room : Room) (position : Posit
 arrived_bound graph tree room position word number limit kind stands is none =
     rw (kind_kept graph tree number kind stands is, sym none) refl
 
-refusals_same : (graph : Kept) (tree : Tree) (room : Room) (word directory : ℕ) → StandsFor graph tree →
-    first_of (making_refusals tree room word directory) ≡ first_of (making_refusals (bare graph.edges) room word directory)
-refusals_same graph tree room word directory stands =
-    ap (λ edges. first_of (making_refusals (bare edges) room word directory)) (sym stands.edges)
-
 -- what a graph refuses to make is what a tree with its edges refuses
 pub making_refused : (graph : Kept) (tree : Tree) (room : Room) (position : Position) (word directory : ℕ) (name : List ℕ) (limit : OperationSet) (status : Status) →
-    StandsFor graph tree → Some status ≡ first_of (making_refusals (bare graph.edges) room word directory) →
+    StandsFor graph tree → finite.get graph.edges (name_in directory name) ≡ None → Some status ≡ first_of (absent_refusals graph.edges room word directory) →
     act_at position room tree word (at_nothing directory name limit) ≡ only position (refuses status)
-making_refused graph tree room position word directory name limit status stands is =
-    rw (refusals_same graph tree room word directory stands, sym is) refl
+making_refused graph tree room position word directory name limit status stands absent is =
+    rw (sym (making_refused_as graph.edges tree room word (name_in directory name) (sym stands.edges) absent), sym is) refl
 
 pub making_bound : (graph : Kept) (tree : Tree) (room : Room) (position : Position) (word directory : ℕ) (name : List ℕ) (limit : OperationSet) →
-    StandsFor graph tree → None ≡ first_of (making_refusals (bare graph.edges) room word directory) →
-    act_at position room tree word (at_nothing directory name limit)
-    ≡ making position tree word limit (record { directory = directory; name = name })
-making_bound graph tree room position word directory name limit stands none =
-    rw (refusals_same graph tree room word directory stands, sym none) refl
-
-act_of_walk : (birth : Birth) (position : Position) (room : Room) (tree : Tree) (directory : ℕ → Option ℕ) (word : ℕ) (w : Walk) →
-    by_walk (context_with birth position room tree directory) word w ≡ act_at position room tree word (reach birth.rights w)
-act_of_walk birth position room tree directory word (arrives node masks) = refl
-act_of_walk birth position room tree directory word (missing parent name masks) = refl
-act_of_walk birth position room tree directory word (crosses mount rest masks) = refl
-act_of_walk birth position room tree directory word (stops status) = refl
+    StandsFor graph tree → finite.get graph.edges (name_in directory name) ≡ None → None ≡ first_of (absent_refusals graph.edges room word directory) →
+    act_at position room tree word (at_nothing directory name limit) ≡ making position tree word limit (name_in directory name)
+making_bound graph tree room position word directory name limit stands absent none =
+    rw (sym (making_refused_as graph.edges tree room word (name_in directory name) (sym stands.edges) absent), sym none) refl
 
 -- an Open that isn't refused before its walk
 pub act_of_open : (birth : Birth) (position : Position) (room : Room) (tree : Tree) (directory : ℕ → Option ℕ) (path : List ℕ) (word flags : ℕ) (names : List (List ℕ)) →
@@ -96,4 +84,4 @@ pub act_of_open : (birth : Birth) (position : Position) (room : Room) (tree : Tr
     open_act (context_with birth position room tree directory) path word
     ≡ act_at position room tree flags (reach birth.rights (walk tree flags names birth.node))
 act_of_open birth position room tree directory path word flags names none same named =
-    rw (sym none, same, named) (act_of_walk birth position room tree directory word (walk tree word (names_of path) birth.node))
+    rw (sym none, same, named) refl

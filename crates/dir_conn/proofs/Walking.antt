@@ -9,10 +9,10 @@ use Rattle.std.proofs.lemmas.Bool.Decides.{nat_tests}
 use Rattle.fidl_names.specs.declared.statuses.Status.TheVariants as status
 use Rattle.io_rights.specs.Operations.{OperationSet}
 use Rattle.node_graph.specs.declared.nodes.NodeKind.{NodeKind}
-use Rattle.node_graph.specs.Tree.{Tree, EdgeKey, EdgeTo, Edges, edge_cmp, is_linked}
+use Rattle.node_graph.specs.Tree.{Tree, EdgeKey, EdgeTo, Edges, edge_cmp, is_linked, name_in}
 use Rattle.conn_rules.specs.Nodes.{edge_at, kind_here}
-use Rattle.conn_rules.specs.Walks.{walk, last_step, inner_step, last_by_kind, inner_by_kind}
-use Rattle.dir_conn.specs.Reaches.{reach, at_node, at_nothing, nowhere}
+use Rattle.conn_rules.specs.Walks.{walk, last_by_kind, inner_by_kind, reach, at_node, at_nothing, nowhere}
+use Rattle.conn_rules.proofs.EveryWalk.{walk_none, walk_last, walk_inner}
 
 -- a list without a first item is empty; any other is its first item and the rest
 pub no_first : {X : Type 0} (xs : List X) → slice_get xs 0 ≡ None → xs ≡ []
@@ -24,43 +24,36 @@ first_and_rest [] x e = search rules
 first_and_rest (y ∷ xs) x e = search rules
 
 -- no name leads to the directory itself
-pub walk_none : (tree : Tree) (word directory : ℕ) (limit : OperationSet) (names : List (List ℕ)) →
+pub no_names : (tree : Tree) (word directory : ℕ) (limit : OperationSet) (names : List (List ℕ)) →
     names ≡ [] → reach limit (walk tree word names directory) ≡ at_node directory limit
-unfolding walk
-walk_none tree word directory limit names e = rw e refl
+no_names tree word directory limit names e =
+    ap (λ names. reach limit (walk tree word names directory)) e ∙ ap (reach limit) (walk_none tree word directory)
 
 pub last_missing : (tree : Tree) (word directory : ℕ) (limit : OperationSet) (name : List ℕ) →
-    edge_at tree (record { directory = directory; name = name }) ≡ None →
+    edge_at tree (name_in directory name) ≡ None →
     reach limit (walk tree word (name ∷ []) directory) ≡ at_nothing directory name limit
-unfolding walk
-last_missing tree word directory limit name none =
-    ap (λ edge. reach limit (last_step tree word directory name edge)) none
+last_missing tree word directory limit name none = ap (reach limit) (walk_last tree word directory name None none)
 
 pub last_found : (tree : Tree) (word directory : ℕ) (limit : OperationSet) (name : List ℕ) (edge : EdgeTo) (kind : NodeKind) →
-    edge_at tree (record { directory = directory; name = name }) ≡ Some edge → kind_here tree edge.child ≡ kind →
+    edge_at tree (name_in directory name) ≡ Some edge → kind_here tree edge.child ≡ kind →
     reach limit (walk tree word (name ∷ []) directory) ≡ reach limit (last_by_kind word edge kind)
-unfolding walk
 last_found tree word directory limit name edge kind found same =
-    ap (λ edge. reach limit (last_step tree word directory name edge)) found
+    ap (reach limit) (walk_last tree word directory name (Some edge) found)
     ∙ ap (λ kind. reach limit (last_by_kind word edge kind)) same
 
 pub inner_missing : (tree : Tree) (word directory : ℕ) (limit : OperationSet) (name : List ℕ) (rest : List (List ℕ)) →
-    rest ≢ [] → edge_at tree (record { directory = directory; name = name }) ≡ None →
+    rest ≢ [] → edge_at tree (name_in directory name) ≡ None →
     reach limit (walk tree word (name ∷ rest) directory) ≡ nowhere status.NotFound
-unfolding walk
-inner_missing tree word directory limit name [] more none = absurd (more refl)
-inner_missing tree word directory limit name (next ∷ rest) more none =
-    ap (λ edge. reach limit (inner_step tree word (next ∷ rest) edge (walk tree word (next ∷ rest)))) none
+inner_missing tree word directory limit name rest more none =
+    ap (reach limit) (walk_inner tree word directory name rest None more none)
 
 pub inner_found : (tree : Tree) (word directory : ℕ) (limit : OperationSet) (name : List ℕ) (rest : List (List ℕ)) (edge : EdgeTo) (kind : NodeKind) →
-    rest ≢ [] → edge_at tree (record { directory = directory; name = name }) ≡ Some edge → kind_here tree edge.child ≡ kind →
+    rest ≢ [] → edge_at tree (name_in directory name) ≡ Some edge → kind_here tree edge.child ≡ kind →
     reach limit (walk tree word (name ∷ rest) directory)
     ≡ reach limit (inner_by_kind word rest edge kind (walk tree word rest edge.child))
-unfolding walk
-inner_found tree word directory limit name [] edge kind more found same = absurd (more refl)
-inner_found tree word directory limit name (next ∷ rest) edge kind more found same =
-    ap (λ edge. reach limit (inner_step tree word (next ∷ rest) edge (walk tree word (next ∷ rest)))) found
-    ∙ ap (λ kind. reach limit (inner_by_kind word (next ∷ rest) edge kind (walk tree word (next ∷ rest) edge.child))) same
+inner_found tree word directory limit name rest edge kind more found same =
+    ap (reach limit) (walk_inner tree word directory name rest (Some edge) more found)
+    ∙ ap (λ kind. reach limit (inner_by_kind word rest edge kind (walk tree word rest edge.child))) same
 
 -- ---- edges
 

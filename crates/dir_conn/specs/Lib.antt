@@ -2,4 +2,3 @@ pub mod Reaches
 pub mod Served
 pub mod Opened
 pub mod Tried
-pub mod Laws

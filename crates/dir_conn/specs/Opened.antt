@@ -1,38 +1,42 @@
--- What an Open does, by where its walk leads. These are words of steps.
-use Rattle.std.specs.Prelude.{◌≡◌, ◌≢◌, ℕ, true, []}
-use Rattle.fidl_names.specs.First.{first_of}
-use Rattle.fidl_names.specs.declared.methods.Method.TheVariants as method
+-- How an Open is served, by where its walk leads. These are words of steps.
+use Rattle.std.specs.Prelude.{◌≡◌, ◌≢◌, ℕ, true, not, nat_le, List, [], ◌∷◌, Option}
+use Rattle.std.specs.FinMap as finite
+use Rattle.fidl_names.specs.First.{cause_if, first_of}
+use Rattle.fidl_names.specs.declared.limits.TheConstants as limit
+use Rattle.fidl_names.specs.declared.statuses.Status.{Status}
+use Rattle.fidl_names.specs.declared.statuses.Status.TheVariants as status
 use Rattle.fidl_wire.specs.Written.{Written}
-use Rattle.io_flags.specs.Grants.{onward}
+use Rattle.io_flags.specs.Words.{creates}
+use Rattle.node_graph.specs.declared.faults.GraphFault.{GraphFault}
+use Rattle.node_graph.specs.declared.faults.GraphFault.TheVariants as fault
 use Rattle.node_graph.specs.Graph.{Kept, KeepsNames, SameHolds, StandsFor}
-use Rattle.node_graph.specs.Tree.{Tree, Edges}
+use Rattle.node_graph.specs.Tree.{Tree, Edges, is_removed}
 use Rattle.conn_rules.specs.declared.births.Birth as code
-use Rattle.conn_rules.specs.declared.births.Room.{Room}
-use Rattle.conn_rules.specs.Answers.{Act, only, forwards, refuses}
+use Rattle.conn_rules.specs.Answers.{Act}
 use Rattle.conn_rules.specs.Births.{Position, connection_with}
-use Rattle.conn_rules.specs.Nodes.{kind_here}
-use Rattle.conn_rules.specs.Opens.{arrival, arrival_refusals, making, making_refusals}
-use Rattle.conn_rules.specs.Refusals.{unless}
+use Rattle.conn_rules.specs.declared.births.Room.{Room}
+use Rattle.conn_rules.specs.Opens.{is_full}
+use Rattle.conn_rules.specs.Refusals.{as_status}
 use Rattle.conn_rules.specs.Served.{HasNothing, takes_memory}
 use Rattle.dir_conn.specs.declared.served.DirServed.{DirServed}
 use Rattle.dir_conn.specs.declared.served.DirServed.TheVariants as given
-use Rattle.dir_conn.specs.Reaches.{Reach, at_node, at_nothing, at_mount, nowhere}
 use Rattle.dir_conn.specs.Served.{IsDirServed}
 
--- what is done at an end of the walk
-abbrev pub act_at : Position → Room → Tree → ℕ → Reach → Act
-act_at position room tree word (at_node node limit) =
-    unless (first_of (arrival_refusals room word (kind_here tree node))) position method.OpenPath
-    (arrival position word limit node (kind_here tree node))
-act_at position room tree word (at_nothing directory name limit) =
-    unless (first_of (making_refusals tree room word directory)) position method.OpenPath
-    (making position tree word limit (record { directory = directory; name = name }))
-act_at position room tree word (at_mount mount rest limit) = only position (forwards mount (onward word limit) rest)
-act_at position room tree word (nowhere status) = only position (refuses status)
+-- why the graph makes no node in a directory at a name that is missing there
+abbrev pub absent_refusal : Edges → ℕ → Option GraphFault
+absent_refusal edges directory =
+    first_of
+    (cause_if (is_removed edges directory) fault.Removed
+    ∷ cause_if (nat_le limit.MAX_NAMES (finite.len edges)) fault.NoSpace
+    ∷ [])
 
--- a tree of these edges, whose nodes don't matter
-abbrev pub bare : Edges → Tree
-bare edges = record { nodes = []; edges = edges }
+-- and why an Open makes none
+abbrev pub absent_refusals : Edges → Room → ℕ → ℕ → List (Option Status)
+absent_refusals edges room word directory =
+    cause_if (not (creates word)) status.NotFound
+    ∷ as_status (absent_refusal edges directory)
+    ∷ cause_if (is_full room) status.NoResources
+    ∷ []
 
 -- each node has its holds and its reference
 pub record Keeps (before after : Kept) : Type 0 where

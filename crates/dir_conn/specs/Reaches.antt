@@ -1,7 +1,6 @@
 -- Where a walk leads, with what the masks on its way leave of some rights. These are words of steps.
 use Rattle.std.specs.Prelude.{◌≡◌, ℕ, ◌<◌, true, false, List, length, Some, None, IsTrue}
 use Rattle.std.specs.FinMap as finite
-use Rattle.fidl_names.specs.declared.statuses.Status.{Status}
 use Rattle.io_flags.specs.Grants.{explicit_rights}
 use Rattle.io_rights.specs.Operations.{OperationSet, is_within}
 use Rattle.node_graph.specs.declared.nodes.Entry.{Entry}
@@ -9,33 +8,15 @@ use Rattle.node_graph.specs.declared.nodes.NodeRef.{NodeRef}
 use Rattle.node_graph.specs.declared.nodes.NodeKind.{NodeKind}
 use Rattle.node_graph.specs.declared.nodes.NodeKind.TheVariants.{Directory}
 use Rattle.node_graph.specs.Graph.{Kept, Names, number_of, kind_at}
-use Rattle.node_graph.specs.Tree.{EdgeTo, is_linked}
+use Rattle.node_graph.specs.Tree.{is_linked, name_in}
 use Rattle.path_walk.specs.Names.{IsName}
 use Rattle.conn_rules.specs.Nodes.{is_file, is_mount}
-use Rattle.conn_rules.specs.Walks.{Walk, arrives, missing, crosses, stops, limit_of}
+use Rattle.conn_rules.specs.Walks.{Walk, Reach, at_node, at_nothing, at_mount, nowhere, reach}
 use Rattle.dir_conn.specs.declared.steps.Spot.{Spot}
 use Rattle.dir_conn.specs.declared.steps.Step.{Step}
 use Rattle.dir_conn.specs.declared.steps.Step.TheVariants as step
 use Rattle.dir_conn.specs.declared.steps.Walked.{Walked}
 use Rattle.dir_conn.specs.declared.steps.Walked.TheVariants as walked
-
--- an end of a walk, with the rights that are left there
-pub data Reach : Type 0 where
-  at_node : (node : ℕ) (limit : OperationSet) → Reach
-  at_nothing : (directory : ℕ) (name : List ℕ) (limit : OperationSet) → Reach
-  at_mount : (mount : ℕ) (rest : List (List ℕ)) (limit : OperationSet) → Reach
-  nowhere : Status → Reach
-
--- what the masks of a walk leave of these rights, where it ends
-abbrev pub reach : OperationSet → Walk → Reach
-reach rights (arrives node masks) = at_node node (limit_of rights masks)
-reach rights (missing directory name masks) = at_nothing directory name (limit_of rights masks)
-reach rights (crosses mount rest masks) = at_mount mount rest (limit_of rights masks)
-reach rights (stops status) = nowhere status
-
--- the edge that was found
-abbrev pub edge_of : Entry → EdgeTo
-edge_of found = record { child = number_of found.node; mask = found.mask }
 
 -- the end that one of the code stands for
 abbrev pub reached : Walked → Reach
@@ -75,7 +56,7 @@ pub record IsMissing (graph : Kept) (word : ℕ) (directory : NodeRef) (name : L
   pub named : Names graph directory
   pub kind : kind_at graph (number_of directory) ≡ Some Directory
   pub valid : IsName name
-  pub absent : finite.get graph.edges (record { directory = number_of directory; name = name }) ≡ None
+  pub absent : finite.get graph.edges (name_in (number_of directory) name) ≡ None
   pub explicit : IsTrue (is_within (explicit_rights word) limit)
 
 abbrev pub Arrived : Kept → ℕ → Walked → Type 0

@@ -11,10 +11,11 @@ ghost use Rattle.node_graph.specs.Graph.{Leads, Names, StandsFor, kind_at, numbe
 ghost use Rattle.node_graph.specs.Tree.{Tree, fill, is_linked};
 ghost use Rattle.conn_rules.specs.Births.{born};
 ghost use Rattle.conn_rules.specs.Nodes.{is_file, is_mount};
-ghost use Rattle.conn_rules.specs.Opens.{arrival, arrival_refusals, birth_for, connects_without_right, flag_of, is_other_kind, marks_file, other_kind_status, protocol_of, truncation};
+ghost use Rattle.conn_rules.specs.Opens.{arrival, arrival_refusals, birth_for, connects_without_right, flag_of, is_other_kind, marks_file, other_kind_status, protocol_of, truncation, act_at};
 ghost use Rattle.conn_rules.specs.Shared.{is_spoken_at};
-ghost use Rattle.dir_conn.specs.Opened.{IsOpened, Keeps, act_at};
-ghost use Rattle.dir_conn.specs.Reaches.{IsReached, at_node};
+ghost use Rattle.dir_conn.specs.Opened.{IsOpened, Keeps};
+ghost use Rattle.conn_rules.specs.Walks.{at_node};
+ghost use Rattle.dir_conn.specs.Reaches.{IsReached};
 
 use crate::served::DirServed;
 use conn_rules::{Birth, Changes, Room};
@@ -34,7 +35,9 @@ pub(crate) fn bind<'a>(
     limit: Rights,
 ) -> DirServed<'a>
     requires reached { IsReached graph.old flags node kind limit }
-    ensures opened { IsOpened (λ tree position. act_at position room tree flags (at_node (number_of node) limit)) result graph.old graph.new }
+    ensures opened { IsOpened
+        (λ tree position. act_at position room tree flags (at_node (number_of node) limit)) result
+        graph.old graph.new }
 {
     match refusal(flags, room, kind) {
         Some(status) => DirServed::Refused(status),
@@ -53,7 +56,8 @@ fn bind_arrived<'a>(
     requires reached { IsReached graph.old flags node kind limit }
     requires file { has flags Flag.FileTruncate ≡ true → is_file kind ≡ true }
     requires connects { connects_without_right flags kind ≡ false }
-    ensures opened { IsOpened (λ tree position. arrival position flags limit (number_of node) kind) result graph.old graph.new }
+    ensures opened { IsOpened (λ tree position. arrival position flags limit (number_of node) kind)
+        result graph.old graph.new }
 {
     truncate(graph, flags, node);
     DirServed::Bind(birth_for(flags, node, kind, limit), Changes::none())
@@ -62,11 +66,15 @@ fn bind_arrived<'a>(
 /// Empties the file, where the flags ask for it.
 fn truncate(graph: &mut Graph, flags: OpenFlags, node: NodeRef)
     requires named { Names graph.old node }
-    requires file { has flags Flag.FileTruncate ≡ true → kind_at graph.old (number_of node) ≡ Some File }
-    requires linked { has flags Flag.FileTruncate ≡ true → is_linked graph.old.edges (number_of node) ≡ true }
+    requires file { has flags Flag.FileTruncate ≡ true →
+        kind_at graph.old (number_of node) ≡ Some File }
+    requires linked { has flags Flag.FileTruncate ≡ true →
+        is_linked graph.old.edges (number_of node) ≡ true }
     ensures change { Leads graph.old graph.new (truncation flags (number_of node)) }
     ensures keeps { Keeps graph.old graph.new }
-    ensures same { (tree : Tree) → StandsFor graph.old tree → Names graph.new node × (kind_at graph.new (number_of node) ≡ kind_at graph.old (number_of node)) }
+    ensures same { (tree : Tree) → StandsFor graph.old tree →
+        Names graph.new node
+        × (kind_at graph.new (number_of node) ≡ kind_at graph.old (number_of node)) }
 {
     if flags.has(Flag::FileTruncate) {
         empty(graph, node);
@@ -166,7 +174,8 @@ pub(crate) fn birth_for(flags: OpenFlags, node: NodeRef, kind: NodeKind, limit: 
     ensures node { result.node ≡ node }
     ensures announce { result.announce ≡ has flags Flag.SendRepresentation }
     ensures spoken { is_spoken_at result.protocol kind ≡ true }
-    ensures connects { result.protocol ≡ Protocol.Echo → IsTrue (is_within (single op.Connect) result.rights) }
+    ensures connects { result.protocol ≡ Protocol.Echo →
+        IsTrue (is_within (single op.Connect) result.rights) }
 {
     Birth {
         node,

@@ -1,4 +1,4 @@
-ghost use Rattle.std.specs.Prelude.{◌≡◌, ◌≢◌, ◌<◌, ◌^◌, ℕ, true, IfOk, Option, Some};
+ghost use Rattle.std.specs.Prelude.{◌≡◌, ◌≢◌, ◌<◌, ◌^◌, ℕ, true, Option, Some};
 ghost use Rattle.std.specs.Option.{option_map};
 ghost use Rattle.io_messages.specs.Asked.{asked, method_of};
 ghost use Rattle.io_messages.specs.Protocols.{has_method};
@@ -25,19 +25,17 @@ use crate::unlink::unlink;
 use crate::watch::watch;
 use conn_rules::{Birth, Room, fail, method_refusal, serve_node};
 use dirents::Place;
-use fidl_names::NoMemory;
 use fidl_wire::{Ordinals, Out};
 use io_messages::{Protocol, Request};
 use node_graph::{Graph, NodeRef};
-use std::alloc::Global;
 use std::marker::Model;
 
-/// A connection to a directory. Contracts see its birth and its position. Where its listing goes on is large, for
-/// the name, and lies apart, so that connections lie close together in a table.
+/// A connection to a directory. Contracts see its birth and its position. The name behind which its
+/// listing goes on makes it large, so a table of connections keeps it in a box of its own.
 #[derive(Drop)]
 pub struct DirConn {
     birth: Birth,
-    place: Box<Place>,
+    place: Place,
 }
 
 impl Model for DirConn {
@@ -49,17 +47,19 @@ impl Model for DirConn {
 
     ghost coded = { connection_code };
 
-    ghost view = { λ conn. record { birth = conn.birth; position = standing_at conn.place.value } };
+    ghost view = { λ conn. record { birth = conn.birth; position = standing_at conn.place } };
 }
 
 impl DirConn {
     /// A connection that was just bound.
-    pub fn new(alloc: Global, birth: Birth) -> Result<DirConn, NoMemory>
-        ensures birth { IfOk result (λ conn. conn.birth ≡ birth) }
-        ensures position { IfOk result (λ conn. conn.position ≡ fresh) }
+    pub fn new(birth: Birth) -> DirConn
+        ensures birth { result.birth ≡ birth }
+        ensures position { result.position ≡ fresh }
     {
-        let place = Box::new(alloc, Place::Start)?;
-        Ok(DirConn { birth, place })
+        DirConn {
+            birth,
+            place: Place::Start,
+        }
     }
 
     /// The directory that it is to.
@@ -88,20 +88,26 @@ impl DirConn {
     ) -> DirServed<'a>
         requires can { CanBeBound graph.old self.old.birth }
         requires protocol { self.old.birth.protocol ≡ Protocol.Directory }
-        requires target { (node : NodeRef) → target ≡ Some node → Names graph.old node × (kind_at graph.old (number_of node) ≡ Some Directory) }
+        requires target { (node : NodeRef) → target ≡ Some node →
+            Names graph.old node × (kind_at graph.old (number_of node) ≡ Some Directory) }
         requires made { graph.old.made < 2 ^ 63 }
         requires method { has_method Protocol.Directory (method_of (asked request)) ≡ true }
         requires txid { has_txid (is_one_way (method_of (asked request))) txid ≡ true }
         requires empty { HasNothing out.old }
         ensures serves { (tree : Tree) (directory : ℕ → Option ℕ) → StandsFor graph.old tree →
-            directory_named directory (asked request.entry) ≡ option_map number_of target → result ≢ DirServed.NoMemory →
-            IsDirServed (act_of (context_of self.old room tree directory) (asked request.entry)) txid result out.new self.new graph.old graph.new }
+            directory_named directory (asked request.entry) ≡ option_map number_of target →
+            result ≢ DirServed.NoMemory →
+            IsDirServed (act_of (context_of self.old room tree directory) (asked request.entry))
+            txid result out.new self.new graph.old graph.new }
         ensures holds { KeepsHolds self.old self.new graph.old graph.new }
         // Only a change that takes memory finds it wanting.
         ensures memory { (tree : Tree) (directory : ℕ → Option ℕ) → StandsFor graph.old tree →
-            directory_named directory (asked request.entry) ≡ option_map number_of target → result ≡ DirServed.NoMemory →
-            takes_memory (act_of (context_of self.old room tree directory) (asked request.entry)).change ≡ true }
-        ensures untouched { result ≡ DirServed.NoMemory → IsUntouched out.new self.old self.new graph.old graph.new }
+            directory_named directory (asked request.entry) ≡ option_map number_of target →
+            result ≡ DirServed.NoMemory →
+            takes_memory (act_of (context_of self.old room tree directory)
+            (asked request.entry)).change ≡ true }
+        ensures untouched { result ≡ DirServed.NoMemory →
+            IsUntouched out.new self.old self.new graph.old graph.new }
     {
         let method = request.method();
         match method_refusal(&self.birth, method) {
@@ -134,20 +140,27 @@ fn serve_row<'a>(
     out: &mut Out,
 ) -> DirServed<'a>
     requires can { CanBeBound graph.old birth.now }
-    requires target { (node : NodeRef) → target ≡ Some node → Names graph.old node × (kind_at graph.old (number_of node) ≡ Some Directory) }
+    requires target { (node : NodeRef) → target ≡ Some node →
+        Names graph.old node × (kind_at graph.old (number_of node) ≡ Some Directory) }
     requires made { graph.old.made < 2 ^ 63 }
     requires protocol { birth.now.protocol ≡ Protocol.Directory }
     requires method { has_method Protocol.Directory (method_of (asked request)) ≡ true }
     requires txid { has_txid (is_one_way (method_of (asked request))) txid ≡ true }
     requires empty { HasNothing out.old }
     ensures served { (tree : Tree) (directory : ℕ → Option ℕ) → StandsFor graph.old tree →
-        directory_named directory (asked request.entry) ≡ option_map number_of target → result ≢ DirServed.NoMemory →
-        IsDirServed (row_act (context_with (born birth.now) (standing_at place.old) room tree directory) (asked request.entry)) txid result out.new
+        directory_named directory (asked request.entry) ≡ option_map number_of target →
+        result ≢ DirServed.NoMemory →
+        IsDirServed (row_act
+        (context_with (born birth.now) (standing_at place.old) room tree directory)
+        (asked request.entry)) txid result out.new
         (connection_with birth.now (standing_at place.new)) graph.old graph.new }
     ensures keeps { Keeps graph.old graph.new }
     ensures memory { (tree : Tree) (directory : ℕ → Option ℕ) → StandsFor graph.old tree →
-        directory_named directory (asked request.entry) ≡ option_map number_of target → result ≡ DirServed.NoMemory →
-        takes_memory (row_act (context_with (born birth.now) (standing_at place.old) room tree directory) (asked request.entry)).change ≡ true }
+        directory_named directory (asked request.entry) ≡ option_map number_of target →
+        result ≡ DirServed.NoMemory →
+        takes_memory (row_act
+        (context_with (born birth.now) (standing_at place.old) room tree directory)
+        (asked request.entry)).change ≡ true }
     ensures untouched { result ≡ DirServed.NoMemory → graph.new ≡ graph.old }
     ensures stays { result ≡ DirServed.NoMemory → place.new ≡ place.old }
     ensures empty { result ≡ DirServed.NoMemory → HasNothing out.new }

@@ -50,7 +50,9 @@ pub(crate) fn enter<'a>(birth: &Birth, text: &'a [u8], word: u64) -> Result<Ente
 /// A path other than `.` wants TRAVERSE, and every path what the flags ask for.
 #[tactic(auto, using(io_rights::proofs::OperationSets::within_trans))]
 fn lacks_rights(have: Rights, text: &[u8], flags: OpenFlags) -> bool
-    ensures lacks { result ≡ ((not (bytes_eq text.now dot) && lacks have (single op.Traverse)) || lacks have (asked_rights flags)) }
+    ensures lacks { result ≡
+        ((not (bytes_eq text.now dot) && lacks have (single op.Traverse)) || lacks have
+        (asked_rights flags)) }
     ensures explicit { result ≡ false → IsTrue (is_within (explicit_rights flags) have) }
 {
     if !is_dot(text) && !Rights::of(Operation::Traverse).within(have) {

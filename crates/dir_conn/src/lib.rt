@@ -4,7 +4,6 @@
 mod arrive;
 mod conn;
 mod entry;
-mod laws;
 mod link;
 mod listing;
 mod make;
@@ -19,5 +18,4 @@ mod walk;
 mod watch;
 
 pub use conn::DirConn;
-pub use laws::opens_only_narrow;
 pub use served::DirServed;

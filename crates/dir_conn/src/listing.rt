@@ -21,7 +21,8 @@ use io_messages::Reply;
 use message_writer::begin_listing;
 use node_graph::Graph;
 
-/// Lists the directory from a place on, in at most so many bytes. The place goes behind what was listed.
+/// Lists the directory from a place on, in at most so many bytes. The place goes behind what was
+/// listed.
 pub(crate) fn list<'a>(
     birth: &Birth,
     place: &mut Place,
@@ -35,8 +36,11 @@ pub(crate) fn list<'a>(
     requires kind { kind_at graph.now (number_of birth.now.node) ≡ Some Directory }
     requires txid { has_txid false txid ≡ true }
     requires empty { HasNothing out.old }
-    ensures served { (tree : Tree) (room : Room) (directory : ℕ → Option ℕ) → StandsFor graph.now tree →
-        IsDirServed (listing_act (context_with (born birth.now) (standing_at place.old) room tree directory) most) txid result out.new
+    ensures served { (tree : Tree) (room : Room) (directory : ℕ → Option ℕ) →
+        StandsFor graph.now tree →
+        IsDirServed (listing_act
+        (context_with (born birth.now) (standing_at place.old) room tree directory) most) txid
+        result out.new
         (connection_with birth.now (standing_at place.new)) graph.now graph.now }
     ensures memory { result ≢ DirServed.NoMemory }
 {
@@ -74,7 +78,9 @@ pub(crate) fn rewind<'a>(
     requires txid { has_txid false txid ≡ true }
     requires empty { HasNothing out.old }
     ensures served { (tree : Tree) (room : Room) (directory : ℕ → Option ℕ) (graph : Kept) →
-        IsDirServed (rewind_act (context_with (born birth.now) (standing_at place.old) room tree directory)) txid result out.new
+        IsDirServed (rewind_act
+        (context_with (born birth.now) (standing_at place.old) room tree directory)) txid result
+        out.new
         (connection_with birth.now (standing_at place.new)) graph graph }
     ensures memory { result ≢ DirServed.NoMemory }
 {

@@ -5,10 +5,10 @@ ghost use Rattle.node_graph.specs.declared.nodes.NodeKind.TheVariants.{Directory
 ghost use Rattle.node_graph.specs.Graph.{Names, kind_at, number_of};
 ghost use Rattle.conn_rules.specs.Births.{born};
 ghost use Rattle.conn_rules.specs.Contexts.{context_with};
-ghost use Rattle.conn_rules.specs.Opens.{open_act};
-ghost use Rattle.conn_rules.specs.Walks.{walk};
-ghost use Rattle.dir_conn.specs.Opened.{IsOpened, act_at};
-ghost use Rattle.dir_conn.specs.Reaches.{reach, reached, Arrived};
+ghost use Rattle.conn_rules.specs.Opens.{open_act, act_at};
+ghost use Rattle.conn_rules.specs.Walks.{walk, reach};
+ghost use Rattle.dir_conn.specs.Opened.{IsOpened};
+ghost use Rattle.dir_conn.specs.Reaches.{reached, Arrived};
 
 use crate::arrive::bind;
 use crate::entry::enter;
@@ -34,7 +34,9 @@ pub(crate) fn open<'a>(
     requires made { graph.old.made < 2 ^ 63 }
     requires kind { kind_at graph.old (number_of birth.now.node) ≡ Some Directory }
     ensures opened { (directory : ℕ → Option ℕ) →
-        IsOpened (λ tree position. open_act (context_with (born birth.now) position room tree directory) text.now word) result graph.old graph.new }
+        IsOpened (λ tree position. open_act
+        (context_with (born birth.now) position room tree directory) text.now word) result graph.old
+        graph.new }
 {
     match enter(birth, text, word) {
         Err(status) => DirServed::Refused(status),
@@ -54,7 +56,10 @@ fn follow<'a>(
     requires made { graph.old.made < 2 ^ 63 }
     requires kind { kind_at graph.old (number_of birth.now.node) ≡ Some Directory }
     requires explicit { IsTrue (is_within (explicit_rights flags) birth.now.rights) }
-    ensures opened { IsOpened (λ tree position. act_at position room tree flags (reach birth.now.rights (walk tree flags path.entry (number_of birth.now.node)))) result graph.old graph.new }
+    ensures opened { IsOpened
+        (λ tree position. act_at position room tree flags
+        (reach birth.now.rights (walk tree flags path.entry (number_of birth.now.node)))) result
+        graph.old graph.new }
 {
     let start = Spot {
         directory: birth.node,
@@ -68,7 +73,8 @@ fn follow<'a>(
 fn answer<'a>(graph: &mut Graph, flags: OpenFlags, room: Room, end: Walked<'a>) -> DirServed<'a>
     requires made { graph.old.made < 2 ^ 63 }
     requires arrived { Arrived graph.old flags end }
-    ensures opened { IsOpened (λ tree position. act_at position room tree flags (reached end.entry)) result graph.old graph.new }
+    ensures opened { IsOpened (λ tree position. act_at position room tree flags (reached end.entry))
+        result graph.old graph.new }
 {
     match end {
         Walked::Arrives { node, kind, limit } => bind(graph, flags, room, node, kind, limit),

@@ -35,11 +35,15 @@ pub(crate) fn rename<'a>(
 ) -> DirServed<'a>
     requires named { Names graph.old birth.now.node }
     requires kind { kind_at graph.old (number_of birth.now.node) ≡ Some Directory }
-    requires target { (node : NodeRef) → target ≡ Some node → Names graph.old node × (kind_at graph.old (number_of node) ≡ Some Directory) }
+    requires target { (node : NodeRef) → target ≡ Some node →
+        Names graph.old node × (kind_at graph.old (number_of node) ≡ Some Directory) }
     requires txid { has_txid false txid ≡ true }
     requires empty { HasNothing out.old }
-    ensures tried { (room : Room) (directory : ℕ → Option ℕ) (token : ℕ) → directory token ≡ option_map number_of target →
-        IsTried (λ tree position. rename_act (context_with (born birth.now) position room tree directory) src.now token dst.now) birth.now txid result
+    ensures tried { (room : Room) (directory : ℕ → Option ℕ) (token : ℕ) →
+        directory token ≡ option_map number_of target →
+        IsTried (λ tree position. rename_act
+        (context_with (born birth.now) position room tree directory) src.now token dst.now)
+        birth.now txid result
         out.new graph.old graph.new }
 {
     match directory_for(src, dst, target) {
@@ -67,7 +71,9 @@ fn rename_into<'a>(
     requires txid { has_txid false txid ≡ true }
     requires empty { HasNothing out.old }
     ensures tried { (room : Room) (directory : ℕ → Option ℕ) →
-        IsTried (λ tree position. rename_into (context_with (born birth.now) position room tree directory) src.now dst.now (Some (number_of into)))
+        IsTried (λ tree position. rename_into
+        (context_with (born birth.now) position room tree directory) src.now dst.now
+        (Some (number_of into)))
         birth.now txid result out.new graph.old graph.new }
 {
     let dir = graph.number(birth.node);
@@ -91,7 +97,9 @@ fn rename_into<'a>(
 /// A name is gone from its place and new at another, and the directory is gone that stood there.
 /// Nothing is told of a name that is what it was.
 fn moved_name<'a>(from: At<'a>, to: At<'a>, moved: Moved) -> Changes<'a>
-    ensures told { told_by result ≡ (if moved.changed then removed (key_at from.entry) ∷ added (key_at to.entry) ∷ gone moved.replaced else nothing_told) }
+    ensures told { told_by result
+        ≡ (if moved.changed then removed (key_at from.entry) ∷ added (key_at to.entry) ∷ gone
+        moved.replaced else nothing_told) }
 {
     if !moved.changed {
         return Changes::none();

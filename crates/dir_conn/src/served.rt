@@ -24,7 +24,8 @@ pub enum DirServed<'a> {
     /// The reply to Watch stands in the output, and the endpoint that the request carries is to watch
     /// the directory, with this mask.
     WatchBy(u32),
-    /// The Open goes on behind a mount, by the mount's index, with these flags and the names that are left.
+    /// The Open goes on behind a mount, by the mount's index, with these flags and the names that are
+    /// left.
     Forward {
         mount: u32,
         flags: OpenFlags,
@@ -39,8 +40,10 @@ pub enum DirServed<'a> {
 /// The answer of a request that is served alike on every node.
 pub(crate) fn of_node<'a>(served: Served) -> DirServed<'a>
     requires lives { (last : Status) → served ≢ Served.End last }
-    ensures served { (act : Act) (txid : ℕ) (out : Written) (connection : Connection) (graph : Kept) →
-        IsAnswered act txid served out connection graph → IsDirServed act txid result out connection graph graph }
+    ensures served { (act : Act) (txid : ℕ) (out : Written) (connection : Connection) (graph : Kept)
+        →
+        IsAnswered act txid served out connection graph →
+        IsDirServed act txid result out connection graph graph }
     ensures memory { served ≢ Served.NoMemory → result ≢ DirServed.NoMemory }
 {
     match served {

@@ -3,13 +3,14 @@ ghost use Rattle.std.specs.FinMap as finite;
 ghost use Rattle.std.specs.Option.{option_map};
 ghost use Rattle.io_flags.specs.Grants.{explicit_rights};
 ghost use Rattle.io_rights.specs.Operations.{is_within, meet};
+ghost use Rattle.node_graph.specs.Ends.{end_of};
 ghost use Rattle.node_graph.specs.declared.nodes.NodeKind.TheVariants.{Directory};
 ghost use Rattle.node_graph.specs.Graph.{Kept, number_of, Names, kind_at, StandsFor};
 ghost use Rattle.node_graph.specs.Tree.{Tree};
 ghost use Rattle.path_walk.specs.Names.{IsName};
 ghost use Rattle.conn_rules.specs.Nodes.{edge_at, is_mount, kind_here};
-ghost use Rattle.conn_rules.specs.Walks.{Walk, walk, last_by_kind, inner_by_kind};
-ghost use Rattle.dir_conn.specs.Reaches.{reach, reached, leading, edge_of, IsKept, Stands, Arrived, GoesOn};
+ghost use Rattle.conn_rules.specs.Walks.{Walk, walk, last_by_kind, inner_by_kind, reach};
+ghost use Rattle.dir_conn.specs.Reaches.{reached, leading, IsKept, Stands, Arrived, GoesOn};
 
 use fidl_names::Status;
 use io_flags::{OpenFlags, asked, explicit};
@@ -56,7 +57,8 @@ pub(crate) enum Step<'a> {
 pub(crate) fn take_name<'a>(graph: &Graph, flags: OpenFlags, spot: Spot, path: Path<'a>) -> Step<'a>
     requires stands { Stands graph.now flags spot }
     ensures leads { (tree : Tree) → StandsFor graph.now tree →
-        leading result (walk tree flags) ≡ reach spot.limit (walk tree flags path.entry (number_of spot.directory)) }
+        leading result (walk tree flags)
+        ≡ reach spot.limit (walk tree flags path.entry (number_of spot.directory)) }
     ensures goes_on { GoesOn graph.now flags (length path.entry) result }
 {
     let name = match path.first() {
@@ -93,7 +95,8 @@ fn take_last<'a>(
     requires stands { Stands graph.now flags spot }
     requires end { end ≡ [] }
     ensures leads { (tree : Tree) → StandsFor graph.now tree →
-        reached result ≡ reach spot.limit (walk tree flags (name.now ∷ []) (number_of spot.directory)) }
+        reached result ≡ reach spot.limit
+        (walk tree flags (name.now ∷ []) (number_of spot.directory)) }
     ensures arrived { Arrived graph.now flags result }
 {
     match look(graph, spot.directory, name) {
@@ -117,7 +120,8 @@ fn take_inner<'a>(
     requires stands { Stands graph.now flags spot }
     requires more { rest ≢ [] }
     ensures leads { (tree : Tree) → StandsFor graph.now tree →
-        leading result (walk tree flags) ≡ reach spot.limit (walk tree flags (name.now ∷ rest.entry) (number_of spot.directory)) }
+        leading result (walk tree flags)
+        ≡ reach spot.limit (walk tree flags (name.now ∷ rest.entry) (number_of spot.directory)) }
     ensures goes_on { GoesOn graph.now flags (length rest.entry + 1) result }
 {
     match look(graph, spot.directory, name) {
@@ -126,11 +130,13 @@ fn take_inner<'a>(
     }
 }
 
-/// What the last name leads to. A mount wants what the flags ask for, any other node what they name.
+/// What the last name leads to. A mount wants what the flags ask for, any other node what they
+/// name.
 fn last_name<'a>(flags: OpenFlags, found: Entry, limit: Rights, end: Path<'a>) -> Walked<'a>
     requires end { end ≡ [] }
-    ensures leads { reached result ≡ reach limit (last_by_kind flags (edge_of found) found.kind) }
-    ensures arrived { (graph : Kept) → IsKept graph found → IsTrue (is_within (explicit_rights flags) limit) → Arrived graph flags result }
+    ensures leads { reached result ≡ reach limit (last_by_kind flags (end_of found) found.kind) }
+    ensures arrived { (graph : Kept) → IsKept graph found →
+        IsTrue (is_within (explicit_rights flags) limit) → Arrived graph flags result }
 {
     match found.kind {
         NodeKind::Mount(mount) => {
@@ -145,8 +151,11 @@ fn last_name<'a>(flags: OpenFlags, found: Entry, limit: Rights, end: Path<'a>) -
 #[tactic(auto, using(io_rights::proofs::OperationSets::within_meet))]
 fn arrive<'a>(flags: OpenFlags, found: Entry, limit: Rights) -> Walked<'a>
     requires crossed { is_mount found.kind ≡ false }
-    ensures leads { result ≡ if is_within (explicit_rights flags) found.mask then Walked.Arrives found.node found.kind (meet limit found.mask) else Walked.Stops Status.AccessDenied }
-    ensures arrived { (graph : Kept) → IsKept graph found → IsTrue (is_within (explicit_rights flags) limit) → Arrived graph flags result }
+    ensures leads { result ≡ if is_within (explicit_rights flags) found.mask
+        then Walked.Arrives found.node found.kind (meet limit found.mask)
+        else Walked.Stops Status.AccessDenied }
+    ensures arrived { (graph : Kept) → IsKept graph found →
+        IsTrue (is_within (explicit_rights flags) limit) → Arrived graph flags result }
 {
     if explicit(flags).within(found.mask) {
         Walked::Arrives {
@@ -161,7 +170,9 @@ fn arrive<'a>(flags: OpenFlags, found: Entry, limit: Rights) -> Walked<'a>
 
 /// A mount is passed where its mask has the rights that are wanted.
 fn cross<'a>(wanted: Rights, mask: Rights, mount: u32, rest: Path<'a>, limit: Rights) -> Walked<'a>
-    ensures { result ≡ if is_within wanted mask then Walked.Crosses mount rest.entry limit else Walked.Stops Status.AccessDenied }
+    ensures { result ≡ if is_within wanted mask
+        then Walked.Crosses mount rest.entry limit
+        else Walked.Stops Status.AccessDenied }
 {
     if wanted.within(mask) {
         Walked::Crosses { mount, rest, limit }
@@ -170,11 +181,16 @@ fn cross<'a>(wanted: Rights, mask: Rights, mount: u32, rest: Path<'a>, limit: Ri
     }
 }
 
-/// What a name before the last leads to: it wants TRAVERSE and what the flags ask for, and leads to a directory or a mount.
+/// What a name before the last leads to: it wants TRAVERSE and what the flags ask for, and leads to
+/// a directory or a mount.
 fn inner_name<'a>(flags: OpenFlags, found: Entry, limit: Rights, rest: Path<'a>) -> Step<'a>
     ensures leads { (onward : List (List ℕ) → ℕ → Walk) →
-        leading result onward ≡ reach limit (inner_by_kind flags rest.entry (edge_of found) found.kind (onward rest.entry (number_of found.node))) }
-    ensures goes_on { (graph : Kept) → IsKept graph found → IsTrue (is_within (explicit_rights flags) limit) → GoesOn graph flags (length rest.entry + 1) result }
+        leading result onward
+        ≡ reach limit (inner_by_kind flags rest.entry (end_of found) found.kind
+        (onward rest.entry (number_of found.node))) }
+    ensures goes_on { (graph : Kept) → IsKept graph found →
+        IsTrue (is_within (explicit_rights flags) limit) →
+        GoesOn graph flags (length rest.entry + 1) result }
 {
     let wanted = Rights::of(Operation::Traverse).join(asked(flags));
     let left = limit.meet(found.mask);
@@ -200,9 +216,14 @@ fn look(graph: &Graph, directory: NodeRef, name: &[u8]) -> Option<Entry>
     requires named { Names graph.now directory }
     requires directory { kind_at graph.now (number_of directory) ≡ Some Directory }
     ensures edge { (tree : Tree) → StandsFor graph.now tree →
-        edge_at tree (record { directory = number_of directory; name = name.now }) ≡ option_map edge_of result }
-    ensures absent { result ≡ None → finite.get graph.now.edges (record { directory = number_of directory; name = name.now }) ≡ None }
-    ensures row { IfSome result (λ found. (tree : Tree) → StandsFor graph.now tree → kind_here tree (number_of found.node) ≡ found.kind) }
+        edge_at tree (record { directory = number_of directory; name = name.now })
+        ≡ option_map end_of result }
+    ensures absent { result ≡ None →
+        finite.get graph.now.edges (record { directory = number_of directory; name = name.now })
+        ≡ None }
+    ensures row { IfSome result
+        (λ found. (tree : Tree) → StandsFor graph.now tree →
+        kind_here tree (number_of found.node) ≡ found.kind) }
     ensures kept { IfSome result (IsKept graph.now) }
 {
     graph.lookup(directory, name)

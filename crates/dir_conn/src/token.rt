@@ -27,7 +27,8 @@ pub(crate) fn get_token<'a>(
     requires txid { has_txid false txid ≡ true }
     requires empty { HasNothing out.old }
     ensures served { (tree : Tree) (position : Position) (directory : ℕ → Option ℕ) (graph : Kept) →
-        IsDirServed (token_act (context_with (born birth.now) position room tree directory)) txid result out.new (connection_with birth.now position) graph
+        IsDirServed (token_act (context_with (born birth.now) position room tree directory)) txid
+        result out.new (connection_with birth.now position) graph
         graph }
     ensures memory { result ≢ DirServed.NoMemory }
 {

@@ -29,7 +29,8 @@ pub(crate) fn directory_for(
     dst: &[u8],
     target: Option<NodeRef>,
 ) -> Result<NodeRef, Status>
-    ensures refusal { result_err result ≡ two_names_refusal src.now dst.now (option_map number_of target) }
+    ensures refusal { result_err result
+        ≡ two_names_refusal src.now dst.now (option_map number_of target) }
     ensures failure { IfErr result (λ status. status ≢ Status.Ok) }
     ensures target { IfOk result (λ into. target ≡ Some into) }
     ensures name { IfOk result (λ _. IsName dst.now) }
@@ -56,7 +57,8 @@ pub(crate) fn refused<'a>(
     requires txid { has_txid (is_one_way method) txid ≡ true }
     requires form { can_fail method ≡ true }
     ensures fails { (connection : Connection) (graph : Kept) → result ≢ DirServed.NoMemory →
-        IsDirServed (only connection.position (failure_of method (fault_status fault))) txid result out.new connection graph graph }
+        IsDirServed (only connection.position (failure_of method (fault_status fault))) txid result
+        out.new connection graph graph }
     ensures wants { result ≡ DirServed.NoMemory → fault ≡ GraphFault.NoMemory }
     ensures wanting { fault ≡ GraphFault.NoMemory → result ≡ DirServed.NoMemory }
     ensures empty { result ≡ DirServed.NoMemory → HasNothing out.new }

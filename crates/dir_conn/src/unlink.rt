@@ -39,8 +39,10 @@ pub(crate) fn unlink<'a>(
     requires kind { kind_at graph.old (number_of birth.now.node) ≡ Some Directory }
     requires txid { has_txid false txid ≡ true }
     requires empty { HasNothing out.old }
-    ensures served { (tree : Tree) (position : Position) (room : Room) (directory : ℕ → Option ℕ) → StandsFor graph.old tree →
-        IsDirServed (unlink_act (context_with (born birth.now) position room tree directory) name.now flags) txid result out.new
+    ensures served { (tree : Tree) (position : Position) (room : Room) (directory : ℕ → Option ℕ) →
+        StandsFor graph.old tree →
+        IsDirServed (unlink_act (context_with (born birth.now) position room tree directory)
+        name.now flags) txid result out.new
         (connection_with birth.now position) graph.old graph.new }
     ensures keeps { Keeps graph.old graph.new }
     ensures memory { result ≢ DirServed.NoMemory }
@@ -66,7 +68,8 @@ fn lost_name<'a>(dir: u64, name: &'a [u8], directory: Option<u64>) -> Changes<'a
     }
 }
 
-/// Takes a name out, and answers the number of the directory that went with it, unless it is refused.
+/// Takes a name out, and answers the number of the directory that went with it, unless it is
+/// refused.
 fn take_out(
     graph: &mut Graph,
     directory: NodeRef,
@@ -76,11 +79,15 @@ fn take_out(
     requires named { Names graph.old directory }
     requires directory { kind_at graph.old (number_of directory) ≡ Some Directory }
     ensures refusal { (tree : Tree) → StandsFor graph.old tree →
-        result_err result ≡ first_of (unlink_refusals tree (name_in (number_of directory) name.now) flags) }
+        result_err result ≡ first_of
+        (unlink_refusals tree (name_in (number_of directory) name.now) flags) }
     ensures failure { IfErr result (λ status. status ≢ Status.Ok) }
     ensures unchanged { OnErr result (graph.new ≡ graph.old) }
-    ensures change { OnOk result (Leads graph.old graph.new (cut (name_in (number_of directory) name.now))) }
-    ensures gone { IfOk result (λ gone. (tree : Tree) → StandsFor graph.old tree → gone ≡ directory_behind tree (name_in (number_of directory) name.now)) }
+    ensures change { OnOk result
+        (Leads graph.old graph.new (cut (name_in (number_of directory) name.now))) }
+    ensures gone { IfOk result
+        (λ gone. (tree : Tree) → StandsFor graph.old tree →
+        gone ≡ directory_behind tree (name_in (number_of directory) name.now)) }
     ensures keeps { Keeps graph.old graph.new }
 {
     if is_bad(name, flags) {

@@ -1,8 +1,8 @@
 ghost use Rattle.std.specs.Prelude.{◌≡◌};
 ghost use Rattle.node_graph.specs.Graph.{number_of, StandsFor};
 ghost use Rattle.node_graph.specs.Tree.{Tree};
-ghost use Rattle.conn_rules.specs.Walks.{walk};
-ghost use Rattle.dir_conn.specs.Reaches.{reach, reached, Stands, Arrived};
+ghost use Rattle.conn_rules.specs.Walks.{walk, reach};
+ghost use Rattle.dir_conn.specs.Reaches.{reached, Stands, Arrived};
 
 use crate::steps::{Spot, Step, Walked, take_name};
 use io_flags::OpenFlags;

@@ -33,7 +33,8 @@ pub(crate) fn watch<'a>(
     requires txid { has_txid false txid ≡ true }
     requires empty { HasNothing out.old }
     ensures served { (tree : Tree) (position : Position) (directory : ℕ → Option ℕ) (graph : Kept) →
-        IsDirServed (watch_act (context_with (born birth.now) position room tree directory) mask options) txid result out.new
+        IsDirServed (watch_act (context_with (born birth.now) position room tree directory) mask
+        options) txid result out.new
         (connection_with birth.now position) graph graph }
     ensures memory { result ≢ DirServed.NoMemory }
 {

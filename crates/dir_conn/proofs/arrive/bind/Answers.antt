@@ -1,8 +1,7 @@
 -- The node is of the kind that each tree has there.
 use Rattle.node_graph.specs.Graph.{number_of}
-use Rattle.conn_rules.specs.Opens.{arrival}
-use Rattle.dir_conn.specs.Opened.{act_at}
-use Rattle.dir_conn.specs.Reaches.{at_node}
+use Rattle.conn_rules.specs.Opens.{arrival, act_at}
+use Rattle.conn_rules.specs.Walks.{at_node}
 use Rattle.dir_conn.proofs.Opening.{refused, opened_as, arrived_refused, arrived_bound}
 use Rattle.dir_conn.proofs.arrive.bind.Goals as goal
 

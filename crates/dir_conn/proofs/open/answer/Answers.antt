@@ -1,6 +1,7 @@
 -- A node is bound where the walk arrives, and made where it is missing.
 use Rattle.std.proofs.Common.{sym, subst}
-use Rattle.dir_conn.specs.Opened.{IsOpened, act_at}
+use Rattle.conn_rules.specs.Opens.{act_at}
+use Rattle.dir_conn.specs.Opened.{IsOpened}
 use Rattle.dir_conn.specs.Reaches.{reached}
 use Rattle.dir_conn.proofs.open.answer.Goals as goal
 

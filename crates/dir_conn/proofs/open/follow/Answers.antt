@@ -1,9 +1,9 @@
 -- An Open does what is done where its walk ends.
 use Rattle.std.proofs.Common.{ap, sym}
 use Rattle.node_graph.specs.Graph.{number_of}
-use Rattle.conn_rules.specs.Walks.{walk}
-use Rattle.dir_conn.specs.Opened.{act_at}
-use Rattle.dir_conn.specs.Reaches.{reach, reached}
+use Rattle.conn_rules.specs.Walks.{walk, reach}
+use Rattle.conn_rules.specs.Opens.{act_at}
+use Rattle.dir_conn.specs.Reaches.{reached}
 use Rattle.dir_conn.proofs.Opening.{opened_as}
 use Rattle.dir_conn.proofs.open.follow.Goals as goal
 

@@ -2,10 +2,8 @@
 use Rattle.node_graph.specs.Graph.{number_of}
 use Rattle.conn_rules.specs.Births.{born}
 use Rattle.conn_rules.specs.Contexts.{context_with}
-use Rattle.conn_rules.specs.Opens.{open_act}
-use Rattle.conn_rules.specs.Walks.{walk}
-use Rattle.dir_conn.specs.Opened.{act_at}
-use Rattle.dir_conn.specs.Reaches.{reach}
+use Rattle.conn_rules.specs.Opens.{open_act, act_at}
+use Rattle.conn_rules.specs.Walks.{walk, reach}
 use Rattle.dir_conn.proofs.Opening.{opened_as, act_of_open}
 use Rattle.dir_conn.proofs.open.open.Goals as goal
 

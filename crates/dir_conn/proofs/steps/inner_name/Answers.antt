@@ -5,7 +5,7 @@ use Rattle.io_rights.specs.declared.operations.Operation.TheVariants as op
 use Rattle.io_rights.specs.Operations.{is_within, join, single}
 use Rattle.io_rights.proofs.OperationSets.{within_meet, within_trans}
 use Rattle.conn_rules.specs.Walks.{inner_rights}
-use Rattle.dir_conn.proofs.Narrow.{named_in_inner}
+use Rattle.conn_rules.proofs.EveryWalk.{named_in_inner}
 use Rattle.dir_conn.proofs.steps.inner_name.Goals as goal
 
 pub returns-then-within-clause-goes_on : goal.returns-then-within-clause-goes_on

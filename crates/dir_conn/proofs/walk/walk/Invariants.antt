@@ -1,8 +1,8 @@
 use Rattle.std.proofs.Common.{◌≡◌, length}
 use Rattle.node_graph.specs.Graph.{number_of, StandsFor}
 use Rattle.node_graph.specs.Tree.{Tree}
-use Rattle.conn_rules.specs.Walks.{walk}
-use Rattle.dir_conn.specs.Reaches.{reach, Stands}
+use Rattle.conn_rules.specs.Walks.{walk, reach}
+use Rattle.dir_conn.specs.Reaches.{Stands}
 use Rattle.dir_conn.proofs.walk.walk.Given as goal
 
 abbrev pub invariant-loop-next : goal.invariant-loop-next

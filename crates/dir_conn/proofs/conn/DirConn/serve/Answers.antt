@@ -1,5 +1,5 @@
 -- A refusal for the method stands before the rows.
-use Rattle.std.proofs.Common.{◌≡◌, ◌∙◌, true, ap, refl, subst}
+use Rattle.std.proofs.Common.{◌≡◌, true, ap, refl, subst}
 use Rattle.io_messages.specs.Asked.{asked}
 use Rattle.conn_rules.specs.Acts.{act_of}
 use Rattle.conn_rules.specs.Answers.{failure_of, only}
@@ -23,12 +23,11 @@ returns-in-Some-clause-serves c = λ tree directory stands named some.
 pub returns-in-None-clause-serves : goal.returns-in-None-clause-serves
 returns-in-None-clause-serves c = λ tree directory stands named some.
     let now = connection_with c.self.inside.birth (standing_at c.serve_row.new.place) in
-    let there = ap (λ place. connection_with c.self.inside.birth (standing_at place)) c.deref_mut.ensures.value ∙ c.self.view_is in
     subst
     (λ (was : Connection). IsDirServed (act_of (context_of was c.args.room tree directory) (asked c.args.request)) c.args.txid c.serve_row.result
-    c.serve_row.new.out now c.args.graph.now c.serve_row.new.graph) there
+    c.serve_row.new.out now c.args.graph.now c.serve_row.new.graph) c.self.view_is
     (rw (
-    taken_as_row c.self.inside.birth (connection_with c.self.inside.birth (standing_at c.deref_mut.result.now)) c.args.room tree directory
+    taken_as_row c.self.inside.birth (connection_with c.self.inside.birth (standing_at c.self.inside.place)) c.args.room tree directory
     (asked c.args.request) c.method-method.result refl c.method-method.ensures c.in-None.ensures.first
     )
     (c.serve_row.ensures.served tree directory stands named some))
@@ -36,9 +35,9 @@ returns-in-None-clause-serves c = λ tree directory stands named some.
 pub returns-in-None-clause-memory : goal.returns-in-None-clause-memory
 returns-in-None-clause-memory c = λ tree directory stands named wants.
     subst (λ (was : Connection). takes_memory (act_of (context_of was c.args.room tree directory) (asked c.args.request)).change ≡ true)
-    (ap (λ place. connection_with c.self.inside.birth (standing_at place)) c.deref_mut.ensures.value ∙ c.self.view_is)
+    c.self.view_is
     (rw (
-    taken_as_row c.self.inside.birth (connection_with c.self.inside.birth (standing_at c.deref_mut.result.now)) c.args.room tree directory
+    taken_as_row c.self.inside.birth (connection_with c.self.inside.birth (standing_at c.self.inside.place)) c.args.room tree directory
     (asked c.args.request) c.method-method.result refl c.method-method.ensures c.in-None.ensures.first
     )
     (c.serve_row.ensures.memory tree directory stands named wants))
