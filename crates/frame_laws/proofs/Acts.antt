@@ -41,7 +41,7 @@ use Rattle.conn_rules.specs.Nodes.{edge_at, kind_behind, kind_here, protocol_nam
 use Rattle.conn_rules.specs.Opens.{arrival, arrival_refusals, by_walk, entry_refusals, is_full, making, making_refusals, truncation}
 use Rattle.conn_rules.specs.Refusals.{as_status, unless}
 use Rattle.conn_rules.specs.Walks.{Walk, arrives, behind, crosses, inner_by_kind, inner_rights, inner_step, last_by_kind, last_step, limit_of, missing, passing, stops, walk}
-use Rattle.journal_laws.proofs.Acts.{none_there, not_refused, path_passes, unless_holds}
+use Rattle.journal_laws.proofs.Acts.{none_there, not_refused, path_passes, unless_holds, MissesOnly, misses_only}
 use Rattle.frame_laws.proofs.Fields.{AsksInBytes}
 use Rattle.frame_laws.proofs.Listings.{listing_written}
 use Rattle.frame_laws.proofs.Replies.{HasFrame, replies_within}
@@ -124,55 +124,6 @@ overwritten_bytes old offset bytes h new =
 write_brings : (number : ℕ) (old : List ℕ) (offset : ℕ) (bytes : List ℕ) → AreBytes old → AreBytes bytes → BringsBytes (write_change number old offset bytes)
 write_brings number old offset [] h new = tt
 write_brings number old offset (byte ∷ bytes) h new = overwritten_bytes old offset (byte ∷ bytes) h new
-
--- ---- a name that a walk misses
-
-abbrev MissesOnly : (List ℕ → Type 0) → Walk → Type 0
-MissesOnly P (missing directory name masks) = P name
-MissesOnly P (arrives node masks) = Unit {0}
-MissesOnly P (crosses mount rest masks) = Unit {0}
-MissesOnly P (stops status) = Unit {0}
-
-module _ (P : List ℕ → Type 0) where
-  misses_behind : (mask : OperationSet) (w : Walk) → MissesOnly P w → MissesOnly P (behind mask w)
-  misses_behind mask (arrives node masks) h = tt
-  misses_behind mask (missing directory name masks) h = h
-  misses_behind mask (crosses mount rest masks) h = tt
-  misses_behind mask (stops status) h = tt
-
-  misses_passing : (wanted mask : OperationSet) (w : Walk) → MissesOnly P w → MissesOnly P (passing wanted mask w)
-  misses_passing wanted mask w h = by_test (is_within wanted mask) where
-    by_test : (b : Bool) → MissesOnly P (cond b (behind mask w) (stops status.AccessDenied))
-    by_test true = misses_behind mask w h
-    by_test false = tt
-
-  last_misses : (word : ℕ) (edge : EdgeTo) (k : NodeKind) → MissesOnly P (last_by_kind word edge k)
-  last_misses word edge (Mount index) = misses_passing (asked_rights word) edge.mask (crosses index [] []) tt
-  last_misses word edge Directory = misses_passing (explicit_rights word) edge.mask (arrives edge.child []) tt
-  last_misses word edge File = misses_passing (explicit_rights word) edge.mask (arrives edge.child []) tt
-  last_misses word edge Service = misses_passing (explicit_rights word) edge.mask (arrives edge.child []) tt
-
-  last_edge : (tree : Tree) (word directory : ℕ) (name : List ℕ) → P name → (o : Option EdgeTo) → MissesOnly P (last_step tree word directory name o)
-  last_edge tree word directory name h None = h
-  last_edge tree word directory name h (Some edge) = last_misses word edge (kind_behind tree edge)
-
-  inner_misses : (word : ℕ) (names : List (List ℕ)) (edge : EdgeTo) (w : Walk) → MissesOnly P w → (k : NodeKind) → MissesOnly P (inner_by_kind word names edge k w)
-  inner_misses word names edge w h Directory = misses_passing (inner_rights word) edge.mask w h
-  inner_misses word names edge w h File = tt
-  inner_misses word names edge w h Service = tt
-  inner_misses word names edge w h (Mount index) = misses_passing (inner_rights word) edge.mask (crosses index names []) tt
-
-  inner_edge : (tree : Tree) (word : ℕ) (names : List (List ℕ)) (on : ℕ → Walk) → ((n : ℕ) → MissesOnly P (on n)) → (o : Option EdgeTo) → MissesOnly P (inner_step tree word names o on)
-  inner_edge tree word names on h None = tt
-  inner_edge tree word names on h (Some edge) = inner_misses word names edge (on edge.child) (h edge.child) (kind_behind tree edge)
-
-  misses_only : (tree : Tree) (word : ℕ) (names : List (List ℕ)) (directory : ℕ) → All P names → MissesOnly P (walk tree word names directory)
-  unfolding walk
-  misses_only tree word [] directory h = tt
-  misses_only tree word (name ∷ []) directory h = last_edge tree word directory name (All-head P name [] h) (edge_at tree (record { directory = directory; name = name }))
-  misses_only tree word (name ∷ next ∷ names) directory h =
-      inner_edge tree word (next ∷ names) (walk tree word (next ∷ names)) (λ n. misses_only tree word (next ∷ names) n (All-tail P name (next ∷ names) h))
-      (edge_at tree (record { directory = directory; name = name }))
 
 -- ---- Open
 

@@ -1,6 +1,8 @@
 -- What acts answer: an Open binds, is refused or goes on; only GetToken gives a token, the next one.
 use Rattle.std.proofs.Common.{◌≡◌, ℕ, ◌<◌, Bool, true, false, cond, nat_lt, is_some, if◌then◌else◌, List, [], ◌∷◌, ◌++◌, length, Option, Some, None, refl, ap, ◌∙◌, subst, arith}
 use Rattle.std.specs.Option.{option_map, option_map_or}
+use Rattle.std.specs.Prelude.{All}
+use Rattle.std.proofs.lemmas.List.Elements.{All-head, All-tail}
 use Rattle.fidl_names.specs.declared.methods.Method.{Method}
 use Rattle.fidl_names.specs.declared.methods.Method.TheVariants as method
 use Rattle.fidl_names.specs.declared.statuses.Status.{Status}
@@ -21,6 +23,7 @@ use Rattle.node_graph.specs.Refusals.{is_same_name}
 use Rattle.node_graph.specs.Tree.{Tree, EdgeTo, Change, add, make, move, fill, stay}
 use Rattle.node_graph.specs.declared.faults.GraphFault.{GraphFault}
 use Rattle.path_walk.specs.Paths.{path_fault, names_of}
+use Rattle.conn_rules.proofs.EveryWalk.{HoldsAlong, every_walk}
 use Rattle.conn_rules.specs.declared.births.Room.{Room}
 use Rattle.conn_rules.specs.Acts.{act_of, row_act, method_refusals}
 use Rattle.conn_rules.specs.Answers.{Answer, replies, closes, binds, watches, forwards, refuses, Act, only, failure_of}
@@ -33,7 +36,7 @@ use Rattle.conn_rules.specs.Nodes.{bytes_of, edge_at, kind_here, kind_behind}
 use Rattle.conn_rules.specs.Opens.{is_full, open_act, by_walk, entry_refusals, arrival_refusals, making_refusals}
 use Rattle.fidl_names.specs.First.{cause_if, first_of}
 use Rattle.conn_rules.specs.Refusals.{as_status, unless}
-use Rattle.conn_rules.specs.Walks.{Walk, arrives, missing, crosses, stops, behind, passing, last_by_kind, last_step, inner_rights, inner_by_kind, inner_step, walk, limit_of}
+use Rattle.conn_rules.specs.Walks.{Walk, arrives, missing, crosses, stops, behind, walk, limit_of}
 
 -- ---- a walk that crosses a mount
 
@@ -57,54 +60,53 @@ crossed_behind mask (missing directory name more) mount rest masks e = absurd (c
 crossed_behind mask (crosses index names more) mount rest masks e = (more, cc)
 crossed_behind mask (stops status) mount rest masks e = absurd (cc)
 
-crossed_passing : (b : Bool) (s : Status) (mask : OperationSet) (w : Walk) (mount : ℕ) (rest : List (List ℕ)) (masks : List OperationSet) → cond b (behind mask w) (stops s) ≡ crosses mount rest masks → (more : List OperationSet) × (w ≡ crosses mount rest more)
-crossed_passing true s mask w mount rest masks e = crossed_behind mask w mount rest masks e
-crossed_passing false s mask w mount rest masks e = absurd (cc)
+-- a walk that crosses a mount crosses it behind some of its names
+abbrev CrossesThere : Tree → ℕ → List (List ℕ) → Walk → Type 0
+CrossesThere tree directory names w = (mount : ℕ) (rest : List (List ℕ)) (masks : List OperationSet) → w ≡ crosses mount rest masks → Crossing tree names mount rest
 
-passed : (wanted mask : OperationSet) (w : Walk) (mount : ℕ) (rest : List (List ℕ)) (masks : List OperationSet) → passing wanted mask w ≡ crosses mount rest masks → (more : List OperationSet) × (w ≡ crosses mount rest more)
-passed wanted mask w mount rest masks e = crossed_passing (is_within wanted mask) _ mask w mount rest masks e
-
-last_crossing : (tree : Tree) (word : ℕ) (name : List ℕ) (edge : EdgeTo) (k : NodeKind) → kind_behind tree edge ≡ k → (mount : ℕ) (rest : List (List ℕ)) (masks : List OperationSet) →
-    last_by_kind word edge k ≡ crosses mount rest masks → Crossing tree (name ∷ []) mount rest
-last_crossing tree word name edge (Mount index) is mount rest masks e =
-    let at = passed (asked_rights word) edge.mask (crosses index [] []) mount rest masks e in
-    let same : index ≡ mount = cc at.1 in
-    let none : [] ≡ rest = cc at.1 in
-    subst (λ names. Crossing tree (name ∷ []) mount names) none (crossing_at tree name [] mount edge.child (is ∙ ap (λ (n : ℕ). Mount n) same))
-last_crossing tree word name edge Directory is mount rest masks e = let at = passed (explicit_rights word) edge.mask (arrives edge.child []) mount rest masks e in absurd (cc at.1)
-last_crossing tree word name edge File is mount rest masks e = let at = passed (explicit_rights word) edge.mask (arrives edge.child []) mount rest masks e in absurd (cc at.1)
-last_crossing tree word name edge Service is mount rest masks e = let at = passed (explicit_rights word) edge.mask (arrives edge.child []) mount rest masks e in absurd (cc at.1)
-
-inner_crossing : (tree : Tree) (word : ℕ) (name : List ℕ) (names : List (List ℕ)) (edge : EdgeTo) (w : Walk) (k : NodeKind) → kind_behind tree edge ≡ k → (mount : ℕ) (rest : List (List ℕ)) (masks : List OperationSet) →
-    ((more : List OperationSet) → w ≡ crosses mount rest more → Crossing tree names mount rest) → inner_by_kind word names edge k w ≡ crosses mount rest masks → Crossing tree (name ∷ names) mount rest
-inner_crossing tree word name names edge w (Mount index) is mount rest masks later e =
-    let at = passed (inner_rights word) edge.mask (crosses index names []) mount rest masks e in
-    let same : index ≡ mount = cc at.1 in
-    let left : names ≡ rest = cc at.1 in
-    subst (λ ns. Crossing tree (name ∷ names) mount ns) left (crossing_at tree name names mount edge.child (is ∙ ap (λ (n : ℕ). Mount n) same))
-inner_crossing tree word name names edge w Directory is mount rest masks later e =
-    let at = passed (inner_rights word) edge.mask w mount rest masks e in
-    crossing_later tree name names mount rest (later at.0 at.1)
-inner_crossing tree word name names edge w File is mount rest masks later e = absurd (cc)
-inner_crossing tree word name names edge w Service is mount rest masks later e = absurd (cc)
-
-last_edge : (tree : Tree) (word directory : ℕ) (name : List ℕ) (o : Option EdgeTo) (mount : ℕ) (rest : List (List ℕ)) (masks : List OperationSet) →
-    last_step tree word directory name o ≡ crosses mount rest masks → Crossing tree (name ∷ []) mount rest
-last_edge tree word directory name None mount rest masks e = absurd (cc)
-last_edge tree word directory name (Some edge) mount rest masks e = last_crossing tree word name edge (kind_behind tree edge) refl mount rest masks e
-
-inner_edge : (tree : Tree) (word : ℕ) (name : List ℕ) (names : List (List ℕ)) (o : Option EdgeTo) (on : ℕ → Walk) (mount : ℕ) (rest : List (List ℕ)) (masks : List OperationSet) →
-    ((node : ℕ) (more : List OperationSet) → on node ≡ crosses mount rest more → Crossing tree names mount rest) → inner_step tree word names o on ≡ crosses mount rest masks → Crossing tree (name ∷ names) mount rest
-inner_edge tree word name names None on mount rest masks later e = absurd (cc)
-inner_edge tree word name names (Some edge) on mount rest masks later e = inner_crossing tree word name names edge (on edge.child) (kind_behind tree edge) refl mount rest masks (later edge.child) e
+crosses_there : (tree : Tree) (word : ℕ) → HoldsAlong tree word (CrossesThere tree)
+crosses_there tree word = record {
+  here = λ directory mount rest masks e. absurd (cc);
+  absent = λ directory name none mount rest masks e. absurd (cc);
+  node = λ directory name edge there other has mount rest masks e. absurd (cc);
+  mount = λ directory name names edge index there leads has mount rest masks e.
+      let same : index ≡ mount = cc in
+      let left : names ≡ rest = cc in
+      subst (λ (ns : List (List ℕ)). Crossing tree (name ∷ names) mount ns) left (crossing_at tree name names mount edge.child (leads ∙ ap (λ (n : ℕ). Mount n) same));
+  nowhere = λ directory name rest why mount left masks e. absurd (cc);
+  further = λ directory name next rest edge there leads has onward later mount left masks e.
+      let at = crossed_behind edge.mask onward mount left masks e in
+      crossing_later tree name (next ∷ rest) mount left (later mount left at.0 at.1);
+}
 
 pub crossing : (tree : Tree) (word : ℕ) (names : List (List ℕ)) (directory mount : ℕ) (rest : List (List ℕ)) (masks : List OperationSet) → walk tree word names directory ≡ crosses mount rest masks → Crossing tree names mount rest
-unfolding walk
-crossing tree word [] directory mount rest masks e = absurd (cc)
-crossing tree word (name ∷ []) directory mount rest masks e = last_edge tree word directory name (edge_at tree (record { directory = directory; name = name })) mount rest masks e
-crossing tree word (name ∷ next ∷ names) directory mount rest masks e =
-    inner_edge tree word name (next ∷ names) (edge_at tree (record { directory = directory; name = name })) (walk tree word (next ∷ names)) mount rest masks
-    (λ node more f. crossing tree word (next ∷ names) node mount rest more f) e
+crossing tree word names directory = every_walk tree word (CrossesThere tree) (crosses_there tree word) names directory
+
+-- the name that a walk misses is one of its names
+abbrev pub MissesOnly : (List ℕ → Type 0) → Walk → Type 0
+MissesOnly P (missing directory name masks) = P name
+MissesOnly P (arrives node masks) = Unit {0}
+MissesOnly P (crosses mount rest masks) = Unit {0}
+MissesOnly P (stops status) = Unit {0}
+
+misses_behind : (P : List ℕ → Type 0) (mask : OperationSet) (w : Walk) → MissesOnly P w → MissesOnly P (behind mask w)
+misses_behind P mask (arrives node masks) h = tt
+misses_behind P mask (missing directory name masks) h = h
+misses_behind P mask (crosses mount rest masks) h = tt
+misses_behind P mask (stops status) h = tt
+
+misses_along : (P : List ℕ → Type 0) (tree : Tree) (word : ℕ) → HoldsAlong tree word (λ directory names w. All P names → MissesOnly P w)
+misses_along P tree word = record {
+  here = λ directory all. tt;
+  absent = λ directory name none all. All-head P name [] all;
+  node = λ directory name edge there other has all. tt;
+  mount = λ directory name rest edge index there leads has all. tt;
+  nowhere = λ directory name rest why all. tt;
+  further = λ directory name next rest edge there leads has onward later all. misses_behind P edge.mask onward (later (All-tail P name (next ∷ rest) all));
+}
+
+pub misses_only : (P : List ℕ → Type 0) (tree : Tree) (word : ℕ) (names : List (List ℕ)) (directory : ℕ) → All P names → MissesOnly P (walk tree word names directory)
+misses_only P tree word names directory = every_walk tree word (λ directory names w. All P names → MissesOnly P w) (misses_along P tree word) names directory
 
 -- ---- refusals
 

@@ -24,7 +24,7 @@ use Rattle.journal_laws.proofs.Lists.{pairs-append, pairs-head, pairs-tail}
 use Rattle.journal_laws.proofs.Members.{contains_here, contains_later, contains_cases, contains_none}
 use Rattle.journal_laws.proofs.Sound.{view, IsView, Transit, nothing_left}
 use Rattle.journal_laws.proofs.Served.{IsAnswered}
-use Rattle.journal_laws.proofs.Stepping.{stepped}
+use Rattle.journal_laws.proofs.Stepping.{GoesOn, at_each, onward_of, stepped}
 use Rattle.journal_laws.proofs.Steps.{refusals_change_nothing, sendings_wait_last, servings_take_effect}
 use Rattle.journal_laws.proofs.Views.{is_view}
 
@@ -44,12 +44,6 @@ more_born bounds None apart new = subst (AllPairs OtherEndpoint) (sym (append-ni
 more_born bounds (Some x) apart new =
     all_pairs_push OtherEndpoint bounds x apart (λ k d l. All-weaker (Contains bounds) (λ b. b.endpoint ≢ x.endpoint) (λ b h. new x refl b h) bounds (All-contains_itself bounds) k d l)
 
-forward_born : (start : Start) (journal : Journal) (origin : ℕ) (o : Option Forwarded) → AllPairs OtherEndpoint (births start (history_of start journal)) → AllPairs OtherEndpoint (births start (history_of start (with_forward origin journal o)))
-unfolding history_of
-forward_born start journal origin None h = h
-forward_born start journal origin (Some f) h =
-    subst (AllPairs OtherEndpoint) (sym (sendings_wait_last start (history_of start journal) (sent_behind journal f.endpoint (message f.bytes (f.object ∷ [])) (Some origin))).same.born) h
-
 served_born : Below → (start : Start) (earlier : Journal) (k : Sent) → IsStart start → Lawful start earlier → head start (history_of start earlier) k.endpoint ≡ Some k → AllPairs OtherEndpoint (births start (history_of start earlier)) →
     AllPairs OtherEndpoint (births start (history_of start (serves k ∷ earlier)))
 unfolding history_of event_of
@@ -61,18 +55,20 @@ served_born below start earlier k s h first past =
     subst (AllPairs OtherEndpoint) (sym (servings_take_effect start history k).born)
     (more_born (births start history) (outcome_of start history k).bound past (λ x e. new_born start history k (outcome_of start history k) x (is_view start earlier steps) kept.transit answered e))
 
-pub births_apart : Below → (start : Start) → IsStart start → (journal : Journal) → Lawful start journal → AllPairs OtherEndpoint (births start (history_of start journal))
+births_go_on : Below → (start : Start) → IsStart start → GoesOn start (λ journal. AllPairs OtherEndpoint (births start (history_of start journal)))
 unfolding history_of
-births_apart below start s journal lawful.begun = subst (AllPairs OtherEndpoint) (sym (append-nil (start.firsts ++ start.mounts))) s.apart
-births_apart below start s journal (lawful.refused earlier frame why h is admits) =
-    subst (AllPairs OtherEndpoint) (sym (refusals_change_nothing start (history_of start earlier) frame.endpoint why).same.born) (births_apart below start s earlier h)
-births_apart below start s journal (lawful.sent earlier frame h is at admits) =
-    subst (AllPairs OtherEndpoint) (sym (sendings_wait_last start (history_of start earlier) (sent_behind earlier frame.endpoint (message frame.bytes frame.handles) None)).same.born) (births_apart below start s earlier h)
-births_apart below start s journal (lawful.closed earlier frame h is at admits) =
-    subst (AllPairs OtherEndpoint) (sym (sendings_wait_last start (history_of start earlier) (sent_behind earlier frame.endpoint hang_up None)).same.born) (births_apart below start s earlier h)
-births_apart below start s journal (lawful.served earlier entry h is) =
-    forward_born start (serves entry ∷ earlier) entry.place (outcome_of start (history_of start earlier) entry).forward
-    (served_born below start earlier entry s h is (births_apart below start s earlier h))
+births_go_on below start s = record {
+  begins = subst (AllPairs OtherEndpoint) (sym (append-nil (start.firsts ++ start.mounts))) s.apart;
+  refuses_on = λ earlier endpoint why h. subst (AllPairs OtherEndpoint) (sym (refusals_change_nothing start (history_of start earlier) endpoint why).same.born) h;
+  sends_on = λ earlier one is alone h. subst (AllPairs OtherEndpoint) (sym (sendings_wait_last start (history_of start earlier) one).same.born) h;
+  serves_on = λ earlier one all first h. served_born below start earlier one s all first h;
+  forwards_on = λ earlier one forward all first e old h.
+      subst (AllPairs OtherEndpoint) (sym (sendings_wait_last start (history_of start (serves one ∷ earlier)) (onward_of earlier one forward)).same.born) h;
+}
+
+pub births_apart : Below → (start : Start) → IsStart start → (journal : Journal) → Lawful start journal → AllPairs OtherEndpoint (births start (history_of start journal))
+births_apart below start s journal h =
+    at_each start (λ past. AllPairs OtherEndpoint (births start (history_of start past))) (births_go_on below start s) journal (stepped start journal h)
 
 -- ---- what travels
 

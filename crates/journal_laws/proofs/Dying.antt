@@ -1,5 +1,5 @@
 -- Who dies of a serving: the least endpoints that are closed, told by their members.
-use Rattle.std.proofs.Common.{◌≡◌, ℕ, ◌+◌, ◌==◌, ◌||◌, ◌⊎◌, Bool, true, false, not, cond, if◌then◌else◌, List, [], ◌∷◌, ◌++◌, map, filter, find, option_to_list, Option, Some, None, Contains, refl, sym, ap, ◌∙◌, subst, inl, inr, arith}
+use Rattle.std.proofs.Common.{◌≡◌, ℕ, ◌+◌, ◌==◌, ◌||◌, ◌⊎◌, Bool, true, false, not, cond, if◌then◌else◌, List, [], ◌∷◌, ◌++◌, map, filter, find, option_to_list, Option, Some, None, Contains, refl, sym, ap, ◌∙◌, subst, inl, inr, arith, drop}
 use Rattle.std.specs.FinMap as finite
 use Rattle.std.specs.FinMap.{nat_cmp-IsAntisymmetric, entries-insert, get-from_entries, len-empty, len-entries, same_map}
 use Rattle.std.specs.FinMap.Entries as entry
@@ -25,7 +25,6 @@ use Rattle.vfs_journal.specs.Output.{rising}
 use Rattle.vfs_journal.specs.Starts.{Bound}
 use Rattle.vfs_journal.specs.View.{View, deaths_in, head_in, moved, others_in, outcome_in, queue_in}
 use Rattle.vfs_journal.specs.Watching.{first_frames, told_frames}
-use Rattle.journal_laws.specs.Behind.{later_of}
 use Rattle.journal_laws.specs.Choosing.{AreAllThatDie, IsClosedOver, IsToldByMembers, queue_beside}
 use Rattle.journal_laws.proofs.Among.{among_of, member_of}
 use Rattle.journal_laws.proofs.KnowingCount.{same_bool}
@@ -57,17 +56,18 @@ beside view sent fit h n =
     let first = is_first view sent h in
     by_test first.first first.waits (sent.endpoint == n) refl where
       by_test : find (λ one. one.endpoint == sent.endpoint) view.waiting ≡ Some sent → Contains view.waiting sent → (b : Bool) → (sent.endpoint == n) ≡ b →
-          filter (λ one. one.endpoint == n) (others_in view sent) ≡ (if b then later_of (queue_in view n) else queue_in view n)
+          filter (λ one. one.endpoint == n) (others_in view sent) ≡ (if b then drop 1 (queue_in view n) else queue_in view n)
       by_test first waits true e = own_queue n sent view.waiting fit.rise (ap (λ (m : ℕ). find (λ one. one.endpoint == m) view.waiting) (sym (eqb-true sent.endpoint n e)) ∙ first)
       by_test first waits false e = other_queue n sent view.waiting fit.rise waits e
 
-pub deaths_are_least : (view : View) (sent : Sent) (deaths : List ℕ) → IsFit view → head_in view sent.endpoint ≡ Some sent →
-    AreAllThatDie (queue_beside view sent) (first_deaths sent (outcome_in view sent)) deaths → (endpoint : ℕ) → among endpoint deaths ≡ among endpoint (deaths_in view sent)
-deaths_are_least view sent deaths fit h all n =
+pub all_that_die : (view : View) (sent : Sent) → IsFit view → head_in view sent.endpoint ≡ Some sent → AreAllThatDie (queue_beside view sent) (first_deaths sent (outcome_in view sent)) (deaths_in view sent)
+all_that_die view sent fit h =
     let dying = first_deaths sent (outcome_in view sent) in
-    same_bool (among n deaths) (among n (deaths_in view sent))
-    (all.least (λ m. among m (deaths_in view sent)) (λ m g. spread_keeps m dying (others_in view sent) g) closed n)
-    (spread_within (λ m. among m deaths) dying (others_in view sent) all.first (λ one p dead m c. all.closed one.endpoint m one dead (on_queue one p) c) n) where
+    record {
+      first = λ m g. spread_keeps m dying (others_in view sent) g;
+      closed = closed;
+      least = λ dies first shut n. spread_within dies dying (others_in view sent) first (λ one p dead m c. shut one.endpoint m one dead (on_queue one p) c) n;
+    } where
       closed : IsClosedOver (queue_beside view sent) (λ m. among m (deaths_in view sent))
       closed endpoint carried other dead p c =
           let at = kept_of (λ (one : Sent). one.endpoint == endpoint) (others_in view sent) other (subst (λ (ones : List Sent). Contains ones other) (sym (beside view sent fit h endpoint)) p) in
@@ -77,6 +77,15 @@ deaths_are_least view sent deaths fit h all n =
       on_queue one p =
           subst (λ (ones : List Sent). Contains ones one) (beside view sent fit h one.endpoint)
           (kept (λ (other : Sent). other.endpoint == one.endpoint) (others_in view sent) one p (eq-eqb one.endpoint one.endpoint refl))
+
+-- all lists of them have the same members
+pub deaths_are_least : (view : View) (sent : Sent) (deaths : List ℕ) → IsFit view → head_in view sent.endpoint ≡ Some sent →
+    AreAllThatDie (queue_beside view sent) (first_deaths sent (outcome_in view sent)) deaths → (endpoint : ℕ) → among endpoint deaths ≡ among endpoint (deaths_in view sent)
+deaths_are_least view sent deaths fit h all n =
+    let pass = all_that_die view sent fit h in
+    same_bool (among n deaths) (among n (deaths_in view sent))
+    (all.least (λ m. among m (deaths_in view sent)) pass.first pass.closed n)
+    (pass.least (λ m. among m deaths) all.first all.closed n)
 
 -- ---- numbers once each, from the least on
 

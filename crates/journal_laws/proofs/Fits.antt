@@ -13,7 +13,6 @@ use Rattle.vfs_journal.specs.Entries.{Sent, Journal, message, endpoints_in, hand
 use Rattle.vfs_journal.specs.Fit.{IsFit, ServesFit, handles_out}
 use Rattle.vfs_journal.specs.History.{History, all_sent, births, is_bound, is_dead, living, travelling, waiting, waits, was_carried}
 use Rattle.vfs_journal.specs.Lawful.{Lawful}
-use Rattle.vfs_journal.specs.Lawful as lawful
 use Rattle.vfs_journal.specs.Outcomes.{Given, Outcome}
 use Rattle.vfs_journal.specs.Past.{history_of}
 use Rattle.vfs_journal.specs.Serving.{outcome_of}
@@ -22,7 +21,7 @@ use Rattle.vfs_journal.specs.Starts.{Bound, Start}
 use Rattle.vfs_journal.specs.Tokens.{all_given, is_held, was_given}
 use Rattle.vfs_journal.specs.View.{View, deaths_in, head_in, is_bound_in, is_held_in, then_in, view_of, with_position}
 use Rattle.journal_laws.specs.Soundness.{IsStart, OtherEndpoint}
-use Rattle.journal_laws.specs.Viewing.{IsReached, view_behind}
+use Rattle.journal_laws.specs.Viewing.{view_behind}
 use Rattle.journal_laws.proofs.Among.{carried_from, from_many, passes_any}
 use Rattle.journal_laws.proofs.Apart.{births_apart, carry_apart, many_apart}
 use Rattle.journal_laws.proofs.Below.{Below}
@@ -38,7 +37,6 @@ use Rattle.journal_laws.proofs.Stepping.{stepped}
 use Rattle.journal_laws.proofs.TokensGiven.{lawful_given}
 use Rattle.journal_laws.proofs.TransitLaws.{deaths_reach_all, in_transit}
 use Rattle.journal_laws.proofs.ViewParts.{bound_is, deaths_are, head_is_in, held_is, outcome_is_in, token_is}
-use Rattle.journal_laws.proofs.ViewLaws.{served_behind_viewed}
 use Rattle.journal_laws.proofs.Views.{is_view}
 
 -- ---- who lives, and what is in transit
@@ -158,23 +156,3 @@ views_fit below start journal s h =
       held = All-filter (λ (one : Given). not (was_carried past one.token)) (Contains (all_given past)) (all_given past) (All-contains_itself (all_given past));
       heads = λ sent e. serves_fit below start journal s h sent e;
     }
-
--- ---- what is reached
-
-fit_by : Below → (view : View) → IsReached view → IsFit view
-fit_by below view r = subst IsFit r.seen (views_fit below r.start r.journal r.sound r.lawful)
-
-reached_on : Below → (view : View) → IsReached view → (sent : Sent) → head_in view sent.endpoint ≡ Some sent → IsReached (then_in view sent)
-reached_on below view r sent e =
-    let first : head r.start (history_of r.start r.journal) sent.endpoint ≡ Some sent =
-    head_is_in r.start (history_of r.start r.journal) sent.endpoint ∙ ap (λ (v : View). head_in v sent.endpoint) r.seen ∙ e in
-    record {
-      start = r.start;
-      journal = after_serving r.start r.journal sent;
-      sound = r.sound;
-      lawful = lawful.served r.journal sent r.lawful first;
-      seen = served_behind_viewed below r.start r.journal sent r.sound r.lawful first ∙ ap (λ (v : View). then_in v sent) r.seen;
-    }
-
-pub reached_go_on : Below → (view : View) → IsReached view → IsFit view × ((sent : Sent) → head_in view sent.endpoint ≡ Some sent → IsReached (then_in view sent))
-reached_go_on below view r = (fit_by below view r, λ sent e. reached_on below view r sent e)

@@ -1,5 +1,5 @@
 -- A hang-up waits until its endpoint is dead.
-use Rattle.std.proofs.Common.{◌≡◌, ℕ, ◌==◌, ◌&&◌, ◌||◌, ◌⊎◌, Bool, true, false, not, if◌then◌else◌, List, [], ◌∷◌, Option, Some, None, Contains, inl, inr, refl, sym, ap, ◌∙◌, subst, arith}
+use Rattle.std.proofs.Common.{◌≡◌, ℕ, ◌==◌, ◌&&◌, ◌||◌, ◌⊎◌, Bool, true, false, not, if◌then◌else◌, List, [], ◌∷◌, length, Option, Some, None, Contains, inl, inr, refl, sym, ap, ◌∙◌, subst, arith}
 use Rattle.std.specs.List.{list_any}
 use Rattle.std.proofs.lemmas.List.Elements.{Contains-append_left}
 use Rattle.std.proofs.lemmas.Bool.{eq-eqb, eqb-true, or_cases, or_left, and_parts}
@@ -15,7 +15,7 @@ use Rattle.journal_laws.proofs.Among.{one_place, passes_any, some_found}
 use Rattle.journal_laws.proofs.Members.{kept}
 use Rattle.journal_laws.proofs.Places.{head_is, waiting_rises}
 use Rattle.journal_laws.proofs.Spreading.{among_front, spread_keeps}
-use Rattle.journal_laws.proofs.Stepping.{Stepped, stepped, none, refusing, sending, serving}
+use Rattle.journal_laws.proofs.Stepping.{Stepped, stepped, none, refusing, sending, serving, place_next}
 use Rattle.journal_laws.proofs.Steps.{refusals_change_nothing, sendings_wait_last, servings_take_effect}
 use Rattle.journal_laws.proofs.Views.{fresh_unserved, new_waits}
 
@@ -67,12 +67,12 @@ hung_up_waits : (start : Start) (journal : Journal) → Stepped start journal �
     WaitsOn (history_of start journal) endpoint
 unfolding history_of event_of
 hung_up_waits start journal none endpoint h alive = absurd cc
-hung_up_waits start journal (refusing earlier at why steps) endpoint h alive =
+hung_up_waits start journal (refusing earlier at why steps all) endpoint h alive =
     let past = history_of start earlier in
     let same = refusals_change_nothing start past at why in
     let w = hung_up_waits start earlier steps endpoint (sym (ap (list_any (hangs_up_on endpoint)) same.sent) ∙ h) (sym (same.same.dead endpoint) ∙ alive) in
     record { one = w.one; there = subst (λ (xs : List Sent). Contains xs w.one) (sym same.queue) w.there; hangs = w.hangs }
-hung_up_waits start journal (sending earlier new steps place) endpoint h alive =
+hung_up_waits start journal (sending earlier new steps next) endpoint h alive =
     let past = history_of start earlier in
     let is = sendings_wait_last start past new in
     let undead : is_dead past endpoint ≡ false = sym (is.same.dead endpoint) ∙ alive in
@@ -89,10 +89,10 @@ hung_up_waits start journal (sending earlier new steps place) endpoint h alive =
         let at = eqb-true new.endpoint endpoint parts.1 in
         record {
           one = new;
-          there = new_waits start past new (fresh_unserved start earlier new steps (omega (arith, place))) (ap (is_dead past) at ∙ undead);
+          there = new_waits start past new (fresh_unserved start earlier new steps (let place : new.place ≡ length earlier = place_next start earlier new next in omega (arith, place))) (ap (is_dead past) at ∙ undead);
           hangs = hangs;
         }
-hung_up_waits start journal (serving earlier served steps first) endpoint h alive =
+hung_up_waits start journal (serving earlier served steps all first) endpoint h alive =
     let past = history_of start earlier in
     let is = servings_take_effect start past served in
     let undead = neither (among endpoint (deaths_in past)) (is_dead past endpoint) (sym (is.dead endpoint) ∙ alive) in

@@ -40,7 +40,7 @@ use Rattle.journal_laws.proofs.Places.{head_is, in_order}
 use Rattle.journal_laws.proofs.Requests.{IsCarried, among_here}
 use Rattle.journal_laws.proofs.Served.{IsAnswered, goes_on_with, gone_on, serving_sound, serving_transit}
 use Rattle.journal_laws.proofs.Sound.{View, view, IsView, Sound, Transit, IsRight, IsForwarded, ByOrigin, IsKnown, used, bound_in, travels, bytes_in, nothing_left, still_used, carried_used, end_apart, end_born, sending_sound, sending_transit}
-use Rattle.journal_laws.proofs.Stepping.{Stepped, stepped, serving}
+use Rattle.journal_laws.proofs.Stepping.{Stepped, stepped, served_next}
 use Rattle.journal_laws.proofs.Views.{is_view, refused_view, sent_view, served_view, new_waits, fresh_unserved, tree_mounted, mount_there}
 
 -- ---- numbers of clients
@@ -213,17 +213,18 @@ one_handle n m h = by_test (cases_Bool (m == n)) where
   by_test (inl e) = sym (eqb-true m n e)
   by_test (inr e) = let wrong : false ≡ true = sym (ap (λ (b : Bool). b || false) e) ∙ h in absurd (cc)
 
-forward_kept : Below → (start : Start) (earlier : Journal) (k : Sent) (f : Forwarded) → IsStart start → Stepped start earlier → IsKept start earlier → head start (history_of start earlier) k.endpoint ≡ Some k →
+forward_kept : Below → (start : Start) (earlier : Journal) (k : Sent) (f : Forwarded) → IsStart start → Lawful start earlier → IsKept start earlier → head start (history_of start earlier) k.endpoint ≡ Some k →
     (outcome_of start (history_of start earlier) k).forward ≡ Some f → IsKept start (with_forward k.place (serves k ∷ earlier) (Some f))
 unfolding history_of
-forward_kept below start earlier k f s steps past h e =
+forward_kept below start earlier k f s lawful past h e =
+    let steps = stepped start earlier lawful in
     let history = history_of start earlier in
     let o = outcome_of start history k in
     let is = is_view start earlier steps in
     let serving' = is_serving below start earlier k s steps past.sound h in
     let serves' = served_view start history k serving'.keeps in
     let mid = behind start (serves k) history in
-    let mid_steps : Stepped start (serves k ∷ earlier) = serving earlier k steps h in
+    let mid_steps : Stepped start (serves k ∷ earlier) = served_next start earlier k lawful h in
     let mid_sound = serving_sound start (view start history) (view start mid) k o s past.sound is serving'.answered serves' in
     let mid_transit = serving_transit start (view start history) (view start mid) k o s past.sound is past.transit serving'.answered serves' in
     let mid_is = is_view start (serves k ∷ earlier) mid_steps in
@@ -423,11 +424,12 @@ admitted_kept start earlier endpoint sending' s steps past admitted bytes =
 
 -- ---- every lawful journal
 
-served_kept : Below → (start : Start) (earlier : Journal) (k : Sent) → IsStart start → Stepped start earlier → IsKept start earlier → head start (history_of start earlier) k.endpoint ≡ Some k →
+served_kept : Below → (start : Start) (earlier : Journal) (k : Sent) → IsStart start → Lawful start earlier → IsKept start earlier → head start (history_of start earlier) k.endpoint ≡ Some k →
     (o : Option Forwarded) → (outcome_of start (history_of start earlier) k).forward ≡ o → IsKept start (with_forward k.place (serves k ∷ earlier) o)
 unfolding history_of
-served_kept below start earlier k s steps past h (Some f) e = forward_kept below start earlier k f s steps past h e
-served_kept below start earlier k s steps past h None e =
+served_kept below start earlier k s lawful past h (Some f) e = forward_kept below start earlier k f s lawful past h e
+served_kept below start earlier k s lawful past h None e =
+    let steps = stepped start earlier lawful in
     let history = history_of start earlier in
     let o = outcome_of start history k in
     let is = is_view start earlier steps in
@@ -500,5 +502,5 @@ lawful_kept below start s journal (closed earlier frame h is at admits) =
     admitted_kept start earlier frame.endpoint hang_up s (stepped start earlier h) (lawful_kept below start s earlier h)
     (close_admitted start (history_of start earlier) frame.endpoint frame.handles (refusal_of (look_ups start (history_of start earlier)) frame kind.Close at admits)) (λ k d l. absurd (omega arith))
 lawful_kept below start s journal (served earlier entry h is) =
-    served_kept below start earlier entry s (stepped start earlier h) (lawful_kept below start s earlier h) is
+    served_kept below start earlier entry s h (lawful_kept below start s earlier h) is
     (outcome_of start (history_of start earlier) entry).forward refl

@@ -26,7 +26,7 @@ use Rattle.journal_laws.proofs.Requests.{among_here}
 use Rattle.journal_laws.proofs.Served.{IsAnswered, Serves, Dies, ended, carried, dropped, dying, others_of, how_it_dies, is_other, deaths_closed, goes_on_with, gone_on, serving_sound, serving_transit}
 use Rattle.journal_laws.proofs.Sound.{View, view, IsView, Adds, Sound, Transit, used, bound_in, travels, nothing_left, carried_used}
 use Rattle.journal_laws.proofs.Spreading.{spread_keeps, among_front, among_back}
-use Rattle.journal_laws.proofs.Stepping.{Stepped, stepped, serving}
+use Rattle.journal_laws.proofs.Stepping.{Stepped, stepped, served_next}
 use Rattle.journal_laws.proofs.Steps.{sendings_wait_last, servings_take_effect}
 use Rattle.journal_laws.proofs.Views.{is_view, sent_view, served_view, new_waits, fresh_unserved}
 
@@ -215,18 +215,19 @@ sent_lives v w new n adds waits =
         never (inr e) = true≢false (sym e)
 
 -- what is dead, known and alive behind a serving that forwards nothing
-after_alone : Below → (start : Start) (earlier : Journal) (k : Sent) → IsStart start → Stepped start earlier → IsKept start earlier → head start (history_of start earlier) k.endpoint ≡ Some k →
+after_alone : Below → (start : Start) (earlier : Journal) (k : Sent) → IsStart start → Lawful start earlier → IsKept start earlier → head start (history_of start earlier) k.endpoint ≡ Some k →
     (outcome_of start (history_of start earlier) k).forward ≡ None →
     After start (history_of start earlier) (behind start (serves k) (history_of start earlier)) (dying (waiting (history_of start earlier)) k (outcome_of start (history_of start earlier) k))
 unfolding history_of
-after_alone below start earlier k s steps past h none =
+after_alone below start earlier k s lawful past h none =
+    let steps = stepped start earlier lawful in
     let history = history_of start earlier in
     let o = outcome_of start history k in
     let now = behind start (serves k) history in
     let is = is_view start earlier steps in
     let serving' = is_serving below start earlier k s steps past.sound h in
     let serves' = served_view start history k serving'.keeps in
-    let is_now = is_view start (serves k ∷ earlier) (serving earlier k steps h) in
+    let is_now = is_view start (serves k ∷ earlier) (served_next start earlier k lawful h) in
     let transit_now = serving_transit start (view start history) (view start now) k o s past.sound is past.transit serving'.answered serves' in
     let h = leaves start (view start history) (view start now) k o s past.sound is is_now past.transit transit_now serving'.answered serves' in
     record {
@@ -252,7 +253,7 @@ after_forward below start earlier k f s lawful h e kept_now =
     let new = sent_behind (serves k ∷ earlier) f.endpoint (message f.bytes (f.object ∷ [])) (Some k.place) in
     let now = behind start (sends new) mid in
     let is = is_view start earlier steps in
-    let mid_steps : Stepped start (serves k ∷ earlier) = serving earlier k steps h in
+    let mid_steps : Stepped start (serves k ∷ earlier) = served_next start earlier k lawful h in
     let serving' = is_serving below start earlier k s steps past.sound h in
     let serves' = served_view start history k serving'.keeps in
     let is_mid = is_view start (serves k ∷ earlier) mid_steps in
@@ -310,7 +311,7 @@ unfolding history_of
 after_served below start earlier k s lawful h = by_forward (outcome_of start (history_of start earlier) k).forward refl where
   by_forward : (x : Option Forwarded) → (outcome_of start (history_of start earlier) k).forward ≡ x →
       After start (history_of start earlier) (history_of start (with_forward k.place (serves k ∷ earlier) x)) (deaths_of (history_of start earlier) k (outcome_of start (history_of start earlier) k))
-  by_forward None e = after_alone below start earlier k s (stepped start earlier lawful) (lawful_kept below start s earlier lawful) h e
+  by_forward None e = after_alone below start earlier k s lawful (lawful_kept below start s earlier lawful) h e
   by_forward (Some f) e =
       after_forward below start earlier k f s lawful h e
       (lawful_kept below start s (with_forward k.place (serves k ∷ earlier) (Some f)) (subst (λ x. Lawful start (with_forward k.place (serves k ∷ earlier) x)) e (served earlier k lawful h)))

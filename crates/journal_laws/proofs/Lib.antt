@@ -40,12 +40,10 @@ pub mod LeastPlaces
 pub mod Dying
 pub mod Spent
 pub mod KnowingBehind
-pub mod Hears
 pub mod Waits
 pub mod Orderly
 pub mod Placed
 pub mod OnTrees
 pub mod SoundTrees
-pub mod Rooms
 pub mod Growing
 pub mod HangUps

@@ -1,5 +1,5 @@
 -- What is looked up behind a serving.
-use Rattle.std.proofs.Common.{◌≡◌, ◌≢◌, ℕ, ◌<◌, ◌==◌, ◌⊎◌, Bool, true, false, not, cond, is_some, if◌then◌else◌, List, [], ◌∷◌, ◌++◌, map, filter, find, option_to_list, Option, Some, None, AllPairs, Contains, refl, sym, ap, ◌∙◌, inl, inr, append-nil, arith}
+use Rattle.std.proofs.Common.{◌≡◌, ◌≢◌, ℕ, ◌<◌, ◌==◌, ◌⊎◌, Bool, true, false, not, cond, is_some, if◌then◌else◌, List, [], ◌∷◌, ◌++◌, map, filter, find, option_to_list, Option, Some, None, AllPairs, Contains, refl, sym, ap, ◌∙◌, inl, inr, append-nil, arith, drop}
 use Rattle.std.specs.Option.{option_map, option_map_or, option_or}
 use Rattle.std.proofs.lemmas.Bool.{cases_Bool, eqb-true, eq-eqb, ne_eqb, true≢false}
 use Rattle.std.proofs.lemmas.List.Elements.{All-contains, filter-append}
@@ -11,7 +11,7 @@ use Rattle.vfs_journal.specs.Fit.{IsFit}
 use Rattle.vfs_journal.specs.Outcomes.{Forwarded}
 use Rattle.vfs_journal.specs.Starts.{Bound}
 use Rattle.vfs_journal.specs.View.{View, at_in, deaths_in, event_in, head_in, is_bound_in, moved, onward_in, onward_sent, others_in, outcome_in, queue_in, sending_in, serving_in}
-use Rattle.journal_laws.specs.Behind.{IsBehind, at_behind, later_of, onward_to, queue_behind}
+use Rattle.journal_laws.specs.Behind.{IsBehind, at_behind, onward_to, queue_behind}
 use Rattle.journal_laws.proofs.Among.{carrier_travels, one_place}
 use Rattle.journal_laws.proofs.Lists.{pairs-head, pairs-tail}
 use Rattle.journal_laws.proofs.Members.{contains_here, contains_later, found}
@@ -144,7 +144,7 @@ not_eq a b apart = ap not (ne_eqb a b apart)
 
 -- without its first entry
 pub own_queue : (n : ℕ) (sent : Sent) (ones : List Sent) → AllPairs (λ one later. one.place < later.place) ones → find (λ one. one.endpoint == n) ones ≡ Some sent →
-    filter (λ one. one.endpoint == n) (filter (λ one. not (one.place == sent.place)) ones) ≡ later_of (filter (λ one. one.endpoint == n) ones)
+    filter (λ one. one.endpoint == n) (filter (λ one. not (one.place == sent.place)) ones) ≡ drop 1 (filter (λ one. one.endpoint == n) ones)
 own_queue n sent [] rises h = absurd (cc)
 own_queue n sent (one ∷ ones) rises h =
     filter_cond (λ x. x.endpoint == n) one (not (one.place == sent.place)) (filter (λ x. not (x.place == sent.place)) ones)
@@ -158,10 +158,10 @@ own_queue n sent (one ∷ ones) rises h =
           omega (arith, after, at, e)))
 
       by_test : (b c : Bool) → (one.endpoint == n) ≡ b → (one.place == sent.place) ≡ c → cond b (Some one) (find (λ x. x.endpoint == n) ones) ≡ Some sent →
-          (find (λ x. x.endpoint == n) ones ≡ Some sent → filter (λ x. x.endpoint == n) (filter (λ x. not (x.place == sent.place)) ones) ≡ later_of (filter (λ x. x.endpoint == n) ones)) →
+          (find (λ x. x.endpoint == n) ones ≡ Some sent → filter (λ x. x.endpoint == n) (filter (λ x. not (x.place == sent.place)) ones) ≡ drop 1 (filter (λ x. x.endpoint == n) ones)) →
           cond (not c) (cond b (one ∷ filter (λ x. x.endpoint == n) (filter (λ x. not (x.place == sent.place)) ones)) (filter (λ x. x.endpoint == n) (filter (λ x. not (x.place == sent.place)) ones)))
           (filter (λ x. x.endpoint == n) (filter (λ x. not (x.place == sent.place)) ones))
-          ≡ later_of (cond b (one ∷ filter (λ x. x.endpoint == n) ones) (filter (λ x. x.endpoint == n) ones))
+          ≡ drop 1 (cond b (one ∷ filter (λ x. x.endpoint == n) ones) (filter (λ x. x.endpoint == n) ones))
       by_test true true e f g rest = behind (cc)
       by_test true false e f g rest =
           let same : one ≡ sent = cc in
@@ -199,7 +199,7 @@ queue_served view sent fit first n =
     filter_kept n (λ m. not (among m deaths)) (λ (one : Sent). one.endpoint) (others_in view sent)
     ∙ alive_queue (among n deaths) (filter (λ one. one.endpoint == n) (others_in view sent))
     ∙ ap (λ (x : List Sent). if among n deaths then [] else x) (by_test (sent.endpoint == n) refl) where
-      by_test : (b : Bool) → (sent.endpoint == n) ≡ b → filter (λ one. one.endpoint == n) (others_in view sent) ≡ (if b then later_of (queue_in view n) else queue_in view n)
+      by_test : (b : Bool) → (sent.endpoint == n) ≡ b → filter (λ one. one.endpoint == n) (others_in view sent) ≡ (if b then drop 1 (queue_in view n) else queue_in view n)
       by_test true e =
           own_queue n sent view.waiting fit.rise (ap (λ (m : ℕ). find (λ one. one.endpoint == m) view.waiting) (sym (eqb-true sent.endpoint n e)) ∙ first.first)
       by_test false e = other_queue n sent view.waiting fit.rise first.waits e

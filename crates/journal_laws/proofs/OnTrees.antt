@@ -31,7 +31,7 @@ use Rattle.journal_laws.proofs.Kept.{is_serving, lawful_kept}
 use Rattle.journal_laws.proofs.Members.{found}
 use Rattle.journal_laws.proofs.Orderly.{HasChildren, IsOrderly, children_stay, edge_stays, kind_stays, mount_back}
 use Rattle.journal_laws.proofs.Placed.{IsPlacedOutcome, sending_placed}
-use Rattle.journal_laws.proofs.Stepping.{stepped}
+use Rattle.journal_laws.proofs.Stepping.{GoesOn, Stepped, at_each, onward_of, stepped}
 use Rattle.journal_laws.proofs.Steps.{refusals_change_nothing, sendings_wait_last, servings_take_effect}
 
 -- names lead to nodes beside that
@@ -193,14 +193,6 @@ served_stand below start journal sent s lawful' first h =
     (subst (λ (trees : List Tree). Stand start trees (but_for event.deaths (living start past) ++ newly_living now event.outcome.bound) (all_given past ++ option_to_list event.outcome.token)) (sym effect.trees)
     (served_by start (trees_of start past) (living start past) (all_given past) bound event.outcome (λ b. not (among b.endpoint event.deaths)) (λ b. not (is_dead now b.endpoint)) h on.server placed' event.outcome.server refl placed'.server)))
 
-onward_stand : (start : Start) (journal : Journal) (origin : ℕ) (o : Option Forwarded) → StandAt start (history_of start journal) → StandAt start (history_of start (with_forward origin journal o))
-unfolding history_of
-onward_stand start journal origin None h = h
-onward_stand start journal origin (Some f) h =
-    let past = history_of start journal in
-    let new = sent_behind journal f.endpoint (message f.bytes (f.object ∷ [])) (Some origin) in
-    same_stand start (behind start (sends new) past) past (sendings_wait_last start past new).same h
-
 -- ---- the start
 
 pub some_kind : (tree : Tree) (n : ℕ) → IsSome (row_of tree.nodes n) → (kind : NodeKind) × (kind_of tree n ≡ Some kind)
@@ -241,21 +233,23 @@ first_stand start s = record {
   given = All-nil (NamesDirectory start.trees);
 }
 
-pub lawful_stand : Below → (start : Start) (journal : Journal) → IsStart start → Lawful start journal → StandAt start (history_of start journal)
+stand_goes_on : Below → (start : Start) → IsStart start → GoesOn start (λ journal. StandAt start (history_of start journal))
 unfolding history_of
-lawful_stand below start journal s lawful.begun = first_stand start s
-lawful_stand below start journal s (lawful.refused earlier frame why h is admits) =
-    let past = history_of start earlier in
-    same_stand start _ past (refusals_change_nothing start past frame.endpoint why).same (lawful_stand below start earlier s h)
-lawful_stand below start journal s (lawful.sent earlier frame h is at admits) =
-    let past = history_of start earlier in
-    same_stand start _ past (sendings_wait_last start past (sent_behind earlier frame.endpoint (message frame.bytes frame.handles) None)).same (lawful_stand below start earlier s h)
-lawful_stand below start journal s (lawful.closed earlier frame h is at admits) =
-    let past = history_of start earlier in
-    same_stand start _ past (sendings_wait_last start past (sent_behind earlier frame.endpoint hang_up None)).same (lawful_stand below start earlier s h)
-lawful_stand below start journal s (lawful.served earlier entry h is) =
-    onward_stand start (serves entry ∷ earlier) entry.place (outcome_of start (history_of start earlier) entry).forward
-    (served_stand below start earlier entry s h is (lawful_stand below start earlier s h))
+stand_goes_on below start s = record {
+  begins = first_stand start s;
+  refuses_on = λ earlier endpoint why h. same_stand start _ (history_of start earlier) (refusals_change_nothing start (history_of start earlier) endpoint why).same h;
+  sends_on = λ earlier one is alone h. same_stand start _ (history_of start earlier) (sendings_wait_last start (history_of start earlier) one).same h;
+  serves_on = λ earlier one all first h. served_stand below start earlier one s all first h;
+  forwards_on = λ earlier one forward all first e old h.
+      same_stand start _ (history_of start (serves one ∷ earlier)) (sendings_wait_last start (history_of start (serves one ∷ earlier)) (onward_of earlier one forward)).same h;
+}
+
+-- at each time
+pub stand_at : Below → (start : Start) (past : Journal) → IsStart start → Stepped start past → StandAt start (history_of start past)
+stand_at below start past s h = at_each start (λ journal. StandAt start (history_of start journal)) (stand_goes_on below start s) past h
+
+pub lawful_stand : Below → (start : Start) (journal : Journal) → IsStart start → Lawful start journal → StandAt start (history_of start journal)
+lawful_stand below start journal s h = stand_at below start journal s (stepped start journal h)
 
 pub stand_on_trees : Below → (start : Start) (journal : Journal) → IsStart start → Lawful start journal → StandOnTrees start (history_of start journal)
 stand_on_trees below start journal s h =

@@ -37,6 +37,7 @@ use Rattle.path_walk.specs.Paths.{names_of}
 use Rattle.conn_rules.specs.Acts.{act_of, is_beyond, is_of_every_node, method_refusals, row_act}
 use Rattle.conn_rules.specs.Answers.{Answer, replies, closes, binds, watches, forwards, refuses, ends, hangs_up, silent, Act, only, failure_of}
 use Rattle.conn_rules.specs.Births.{Birth, Position}
+use Rattle.conn_rules.proofs.EveryWalk.{HoldsAlong, every_walk}
 use Rattle.conn_rules.specs.Contexts.{Context}
 use Rattle.conn_rules.specs.FileRows.{is_no_position, is_too_much, reading_refusal, seek_sum, write_start, writing_refusal}
 use Rattle.dirents.specs.Listings.{fits_none, listing}
@@ -44,7 +45,7 @@ use Rattle.conn_rules.specs.NameRows.{is_bad_name, link_into, linked, name_in, r
 use Rattle.conn_rules.specs.Nodes.{bytes_of, edge_at, is_directory, is_mount, kind_behind, kind_here}
 use Rattle.conn_rules.specs.Opens.{arrival, arrival_refusals, by_walk, entry_refusals, is_full, kind_made, making, making_refusals, protocol_of, truncation}
 use Rattle.conn_rules.specs.Refusals.{as_status}
-use Rattle.conn_rules.specs.Walks.{Walk, arrives, missing, crosses, stops, behind, passing, last_by_kind, last_step, inner_rights, inner_by_kind, inner_step, walk, limit_of}
+use Rattle.conn_rules.specs.Walks.{Walk, arrives, missing, crosses, stops, behind, walk, limit_of}
 use Rattle.vfs_journal.specs.Entries.{Sending, message, hang_up}
 use Rattle.vfs_journal.specs.Outcomes.{Given, Outcome, bound_of, outcome_with, token_of, watcher_birth}
 use Rattle.vfs_journal.specs.Serving.{context_at, Moment, Read, asker_of, object_of, outcome_of_message, outcome_of_read, outcome_of_sending, read_by, request_act}
@@ -72,39 +73,18 @@ leads_behind tree mask (missing directory name masks) h = h
 leads_behind tree mask (crosses mount rest masks) h = tt
 leads_behind tree mask (stops status) h = tt
 
-leads_passing : (tree : Tree) (wanted mask : OperationSet) (w : Walk) → LeadsToNode tree w → LeadsToNode tree (passing wanted mask w)
-leads_passing tree wanted mask w h = by_test (is_within wanted mask) where
-  by_test : (b : Bool) → LeadsToNode tree (if b then behind mask w else stops status.AccessDenied)
-  by_test true = leads_behind tree mask w h
-  by_test false = tt
-
-last_leads : (tree : Tree) (word : ℕ) (edge : EdgeTo) (k : NodeKind) → IsNode tree edge.child → LeadsToNode tree (last_by_kind word edge k)
-last_leads tree word edge (Mount index) h = leads_passing tree (asked_rights word) edge.mask (crosses index [] []) tt
-last_leads tree word edge Directory h = leads_passing tree (explicit_rights word) edge.mask (arrives edge.child []) h
-last_leads tree word edge File h = leads_passing tree (explicit_rights word) edge.mask (arrives edge.child []) h
-last_leads tree word edge Service h = leads_passing tree (explicit_rights word) edge.mask (arrives edge.child []) h
-
-inner_leads : (tree : Tree) (word : ℕ) (names : List (List ℕ)) (edge : EdgeTo) (k : NodeKind) (w : Walk) → LeadsToNode tree w → LeadsToNode tree (inner_by_kind word names edge k w)
-inner_leads tree word names edge Directory w h = leads_passing tree (inner_rights word) edge.mask w h
-inner_leads tree word names edge File w h = tt
-inner_leads tree word names edge Service w h = tt
-inner_leads tree word names edge (Mount index) w h = leads_passing tree (inner_rights word) edge.mask (crosses index names []) tt
-
-last_edge : (tree : Tree) (word directory : ℕ) (name : List ℕ) → HasChildren tree → (o : Option EdgeTo) → edge_at tree (record { directory = directory; name = name }) ≡ o → LeadsToNode tree (last_step tree word directory name o)
-last_edge tree word directory name children None e = e
-last_edge tree word directory name children (Some edge) e = last_leads tree word edge (kind_behind tree edge) (children (record { directory = directory; name = name }) edge e)
-
-inner_edge : (tree : Tree) (word : ℕ) (names : List (List ℕ)) (key : EdgeKey) (on : ℕ → Walk) → HasChildren tree → ((n : ℕ) → IsNode tree n → LeadsToNode tree (on n)) → (o : Option EdgeTo) → edge_at tree key ≡ o → LeadsToNode tree (inner_step tree word names o on)
-inner_edge tree word names key on children later None e = tt
-inner_edge tree word names key on children later (Some edge) e = inner_leads tree word names edge (kind_behind tree edge) (on edge.child) (later edge.child (children key edge e))
+leads_along : (tree : Tree) (word : ℕ) → HasChildren tree → HoldsAlong tree word (λ directory names w. IsNode tree directory → LeadsToNode tree w)
+leads_along tree word children = record {
+  here = λ directory at. at;
+  absent = λ directory name none at. none;
+  node = λ directory name edge there other has at. children (record { directory = directory; name = name }) edge there;
+  mount = λ directory name rest edge index there leads has at. tt;
+  nowhere = λ directory name rest why at. tt;
+  further = λ directory name next rest edge there leads has onward later at. leads_behind tree edge.mask onward (later (children (record { directory = directory; name = name }) edge there));
+}
 
 pub leads_to_node : (tree : Tree) (word : ℕ) (names : List (List ℕ)) (directory : ℕ) → HasChildren tree → IsNode tree directory → LeadsToNode tree (walk tree word names directory)
-unfolding walk
-leads_to_node tree word [] directory children here = here
-leads_to_node tree word (name ∷ []) directory children here = last_edge tree word directory name children (edge_at tree (record { directory = directory; name = name })) refl
-leads_to_node tree word (name ∷ next ∷ names) directory children here =
-    inner_edge tree word (next ∷ names) (record { directory = directory; name = name }) (walk tree word (next ∷ names)) children (λ n there. leads_to_node tree word (next ∷ names) n children there)
-    (edge_at tree (record { directory = directory; name = name })) refl
+leads_to_node tree word names directory children = every_walk tree word (λ directory names w. IsNode tree directory → LeadsToNode tree w) (leads_along tree word children) names directory
 
 -- ---- what an act binds and changes
 

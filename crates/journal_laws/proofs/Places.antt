@@ -14,7 +14,7 @@ use Rattle.vfs_journal.specs.Past.{event_of, behind, history_of}
 use Rattle.vfs_journal.specs.Session.{head}
 use Rattle.vfs_journal.specs.Starts.{Start}
 use Rattle.journal_laws.proofs.Members.{kept_of, found, first_found, contains_cases, contains_none}
-use Rattle.journal_laws.proofs.Stepping.{Stepped, none, refusing, sending, serving, stepped}
+use Rattle.journal_laws.proofs.Stepping.{Stepped, none, refusing, sending, serving, stepped, place_next}
 use Rattle.journal_laws.proofs.Steps.{refusals_change_nothing, sendings_wait_last, servings_take_effect}
 
 abbrev Before : Sent → Sent → Type 0
@@ -43,7 +43,7 @@ head_is start history one h = head_by start history one (is_bound start history 
 pub in_order : (start : Start) (journal : Journal) → Stepped start journal → AreInOrder journal (history_of start journal)
 unfolding history_of
 in_order start journal none = record { at = tt; below = All-nil (λ one. one.place < 0); rise = λ i j d l m. absurd (omega arith) }
-in_order start journal (refusing earlier endpoint why h) =
+in_order start journal (refusing earlier endpoint why h all) =
     let past = in_order start earlier h in
     let same = sym (refusals_change_nothing start (history_of start earlier) endpoint why).sent in
     record {
@@ -52,10 +52,11 @@ in_order start journal (refusing earlier endpoint why h) =
           (All-weaker (λ one. one.place < length earlier) (λ one. one.place < suc (length earlier)) (λ one l. omega arith) (all_sent (history_of start earlier)) past.below);
       rise = subst (AllPairs Before) same past.rise;
     }
-in_order start journal (sending earlier new h at) =
+in_order start journal (sending earlier new h next) =
     let past = in_order start earlier h in
     let sent = all_sent (history_of start earlier) in
     let more = sym (sendings_wait_last start (history_of start earlier) new).sent_last in
+    let at : new.place ≡ length earlier = place_next start earlier new next in
     record {
       at = (at, past.at);
       below = subst (All (λ one. one.place < suc (length earlier))) more
@@ -64,7 +65,7 @@ in_order start journal (sending earlier new h at) =
       rise = subst (AllPairs Before) more
           (all_pairs_push Before sent new past.rise (λ k d l. let low : (slice_index_or sent k d).place < length earlier = past.below k d l in omega arith));
     }
-in_order start journal (serving earlier new h is) =
+in_order start journal (serving earlier new h all is) =
     let past = in_order start earlier h in
     let same = sym (servings_take_effect start (history_of start earlier) new).sent_same in
     record {
@@ -148,7 +149,7 @@ servings_of start journal none = record {
   known = record { sent_before = All-nil (Contains []); once = λ i j d l m. absurd (omega arith); in_order = λ i j d l m. absurd (omega arith) };
   ahead = All-nil (IsAhead []);
 }
-servings_of start journal (refusing earlier endpoint why h) =
+servings_of start journal (refusing earlier endpoint why h all) =
     let past = servings_of start earlier h in
     let history = history_of start earlier in
     let now = behind start (refuses endpoint why) history in
@@ -161,12 +162,13 @@ servings_of start journal (refusing earlier endpoint why h) =
       };
       ahead = All-weaker (IsAhead history) (IsAhead now) (λ served ahead one w e. ahead one (subst (λ ones. Contains ones one) kept.queue w) e) (servings earlier) past.ahead;
     }
-servings_of start journal (sending earlier new h at) =
+servings_of start journal (sending earlier new h next) =
     let past = servings_of start earlier h in
     let history = history_of start earlier in
     let now = behind start (sends new) history in
     let places = in_order start earlier h in
     let more = (sendings_wait_last start history new).sent_last in
+    let at : new.place ≡ length earlier = place_next start earlier new next in
     record {
       known = record {
         sent_before = All-weaker (Contains (all_sent history)) (Contains (all_sent now)) (λ served c. subst (λ ones. Contains ones served) (sym more) (Contains-append_left (all_sent history) (new ∷ []) served c)) (servings earlier) past.known.sent_before;
@@ -179,7 +181,7 @@ servings_of start journal (sending earlier new h at) =
           let before : Before served new = omega arith in
           λ one w e. ahead_by history new served one before (past.ahead k d l) (waited_or_sent start history new one w) e;
     }
-servings_of start journal (serving earlier new h is) =
+servings_of start journal (serving earlier new h all is) =
     let past = servings_of start earlier h in
     let history = history_of start earlier in
     let now = behind start (serves new) history in

@@ -13,7 +13,7 @@ use Rattle.journal_laws.proofs.Below.{Below}
 use Rattle.journal_laws.proofs.Kept.{lawful_kept, is_serving, is_forwarded, end_lives, mounts_born}
 use Rattle.journal_laws.proofs.Served.{serving_sound}
 use Rattle.journal_laws.proofs.Sound.{view}
-use Rattle.journal_laws.proofs.Stepping.{Stepped, stepped, serving}
+use Rattle.journal_laws.proofs.Stepping.{Stepped, stepped, served_next}
 use Rattle.journal_laws.proofs.Steps.{sendings_wait_last}
 use Rattle.journal_laws.proofs.Views.{is_view, served_view, fresh_unserved}
 
@@ -48,7 +48,7 @@ end_alive below start journal sent forward s h first e =
     let served = is_serving below start journal sent s steps kept.sound first in
     let new = sent_behind (serves sent ∷ journal) forward.endpoint (message forward.bytes (forward.object ∷ [])) (Some sent.place) in
     let sound = serving_sound start (view start history) (view start mid) sent (outcome_of start history sent) s kept.sound is served.answered (served_view start history sent served.keeps) in
-    let mid_is = is_view start (serves sent ∷ journal) (serving journal sent steps first) in
+    let mid_is = is_view start (serves sent ∷ journal) (served_next start journal sent h first) in
     (end_lives start (view start mid) forward.endpoint s sound mid_is (mounts_born start mid) (is_forwarded below start history sent new forward s kept.sound is served e refl refl).end).0
 
 pub what_goes_on_waits : Below → (start : Start) (journal : Journal) (sent : Sent) (forward : Forwarded) → IsStart start → Lawful start journal → head start (history_of start journal) sent.endpoint ≡ Some sent →
@@ -58,5 +58,5 @@ pub what_goes_on_waits : Below → (start : Start) (journal : Journal) (sent : S
     ++ sent_behind (serves sent ∷ journal) forward.endpoint (message forward.bytes (forward.object ∷ [])) (Some sent.place) ∷ []
 what_goes_on_waits below start journal sent forward s h first e =
     ap (λ (o : Option Forwarded). waiting (history_of start (with_forward sent.place (serves sent ∷ journal) o))) e
-    ∙ sent_queue start (serves sent ∷ journal) forward.endpoint (message forward.bytes (forward.object ∷ [])) (Some sent.place) (serving journal sent (stepped start journal h) first)
+    ∙ sent_queue start (serves sent ∷ journal) forward.endpoint (message forward.bytes (forward.object ∷ [])) (Some sent.place) (served_next start journal sent h first)
     (end_alive below start journal sent forward s h first e)

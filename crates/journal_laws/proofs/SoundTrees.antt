@@ -40,7 +40,8 @@ use Rattle.dirents.specs.Listings.{fits_none, listing}
 use Rattle.conn_rules.specs.NameRows.{watch_refusals, is_bad_name, link_into, linked, name_in, rename_into, renamed, two_names_refusal, unlink_refusals}
 use Rattle.conn_rules.specs.Nodes.{bytes_of, edge_at, is_file, kind_behind, kind_here}
 use Rattle.conn_rules.specs.Opens.{arrival, arrival_refusals, by_walk, entry_refusals, is_full, is_other_kind, kind_made, making, making_refusals, marks_file, other_kind_status}
-use Rattle.conn_rules.specs.Walks.{Walk, arrives, missing, crosses, stops, behind, passing, last_by_kind, last_step, inner_rights, inner_by_kind, inner_step, walk, limit_of}
+use Rattle.conn_rules.proofs.EveryWalk.{HoldsAlong, every_walk}
+use Rattle.conn_rules.specs.Walks.{Walk, arrives, missing, crosses, stops, behind, walk, limit_of}
 use Rattle.vfs_journal.specs.Entries.{Journal, Sending, Sent, message, hang_up, serves}
 use Rattle.vfs_journal.specs.History.{living, tree_at, trees_of}
 use Rattle.vfs_journal.specs.Lawful.{Lawful}
@@ -59,7 +60,7 @@ use Rattle.journal_laws.proofs.Members.{found}
 use Rattle.journal_laws.proofs.OnTrees.{lawful_stand, sound_children}
 use Rattle.journal_laws.proofs.Orderly.{HasChildren}
 use Rattle.journal_laws.proofs.Placed.{IsNode, LeadsToNode, has_read, kind_there, leads_to_node, on_directory}
-use Rattle.journal_laws.proofs.Stepping.{stepped}
+use Rattle.journal_laws.proofs.Stepping.{GoesOn, Stepped, at_each, onward_of, stepped}
 use Rattle.journal_laws.proofs.Steps.{refusals_change_nothing, sendings_wait_last, servings_take_effect}
 use Rattle.conn_rules.specs.Refusals.{as_status}
 use Rattle.vfs_journal.specs.Tokens.{all_given, directory_among}
@@ -77,39 +78,21 @@ misses_behind tree mask (missing directory name masks) h = h
 misses_behind tree mask (crosses mount rest masks) h = tt
 misses_behind tree mask (stops status) h = tt
 
-misses_passing : (tree : Tree) (wanted mask : OperationSet) (w : Walk) → MissesName tree w → MissesName tree (passing wanted mask w)
-misses_passing tree wanted mask w h = by_test (is_within wanted mask) where
-  by_test : (b : Bool) → MissesName tree (if b then behind mask w else stops status.AccessDenied)
-  by_test true = misses_behind tree mask w h
-  by_test false = tt
-
-last_misses : (tree : Tree) (word : ℕ) (edge : EdgeTo) (k : NodeKind) → MissesName tree (last_by_kind word edge k)
-last_misses tree word edge (Mount index) = misses_passing tree (asked_rights word) edge.mask (crosses index [] []) tt
-last_misses tree word edge Directory = misses_passing tree (explicit_rights word) edge.mask (arrives edge.child []) tt
-last_misses tree word edge File = misses_passing tree (explicit_rights word) edge.mask (arrives edge.child []) tt
-last_misses tree word edge Service = misses_passing tree (explicit_rights word) edge.mask (arrives edge.child []) tt
-
-last_edge : (tree : Tree) (word directory : ℕ) (name : List ℕ) → kind_of tree directory ≡ Some Directory → IsName name → (o : Option EdgeTo) → MissesName tree (last_step tree word directory name o)
-last_edge tree word directory name here valid None = (here, valid)
-last_edge tree word directory name here valid (Some edge) = last_misses tree word edge (kind_behind tree edge)
-
-inner_misses : (tree : Tree) (word : ℕ) (names : List (List ℕ)) (edge : EdgeTo) (w : Walk) → IsNode tree edge.child → (kind_of tree edge.child ≡ Some Directory → MissesName tree w) → (k : NodeKind) → kind_behind tree edge ≡ k → MissesName tree (inner_by_kind word names edge k w)
-inner_misses tree word names edge w there later Directory is = misses_passing tree (inner_rights word) edge.mask w (later (kind_there tree edge.child there ∙ ap Some is))
-inner_misses tree word names edge w there later File is = tt
-inner_misses tree word names edge w there later Service is = tt
-inner_misses tree word names edge w there later (Mount index) is = misses_passing tree (inner_rights word) edge.mask (crosses index names []) tt
-
-inner_edge : (tree : Tree) (word : ℕ) (names : List (List ℕ)) (key : EdgeKey) (on : ℕ → Walk) → HasChildren tree → ((n : ℕ) → kind_of tree n ≡ Some Directory → MissesName tree (on n)) → (o : Option EdgeTo) → edge_at tree key ≡ o → MissesName tree (inner_step tree word names o on)
-inner_edge tree word names key on children later None e = tt
-inner_edge tree word names key on children later (Some edge) e = inner_misses tree word names edge (on edge.child) (children key edge e) (later edge.child) (kind_behind tree edge) refl
+misses_along : (tree : Tree) (word : ℕ) → HasChildren tree → HoldsAlong tree word (λ directory names w. kind_of tree directory ≡ Some Directory → All IsName names → MissesName tree w)
+misses_along tree word children = record {
+  here = λ directory at valid. tt;
+  absent = λ directory name none at valid. (at, All-head IsName name [] valid);
+  node = λ directory name edge there other has at valid. tt;
+  mount = λ directory name rest edge index there leads has at valid. tt;
+  nowhere = λ directory name rest why at valid. tt;
+  further = λ directory name next rest edge there leads has onward later at valid.
+      misses_behind tree edge.mask onward
+      (later (kind_there tree edge.child (children (record { directory = directory; name = name }) edge there) ∙ ap Some leads) (All-tail IsName name (next ∷ rest) valid));
+}
 
 misses_name : (tree : Tree) (word : ℕ) (names : List (List ℕ)) (directory : ℕ) → HasChildren tree → kind_of tree directory ≡ Some Directory → All IsName names → MissesName tree (walk tree word names directory)
-unfolding walk
-misses_name tree word [] directory children here valid = tt
-misses_name tree word (name ∷ []) directory children here valid = last_edge tree word directory name here (All-head IsName name [] valid) (edge_at tree (record { directory = directory; name = name }))
-misses_name tree word (name ∷ next ∷ names) directory children here valid =
-    inner_edge tree word (next ∷ names) (record { directory = directory; name = name }) (walk tree word (next ∷ names)) children
-    (λ n there. misses_name tree word (next ∷ names) n children there (All-tail IsName name (next ∷ names) valid)) (edge_at tree (record { directory = directory; name = name })) refl
+misses_name tree word names directory children =
+    every_walk tree word (λ directory names w. kind_of tree directory ≡ Some Directory → All IsName names → MissesName tree w) (misses_along tree word children) names directory
 
 -- ---- what acts leave
 
@@ -350,21 +333,20 @@ served_sound below start journal sent s h first sound =
           IsSound (after (tree_at trees (outcome_of_sending moment sending).server) (outcome_of_sending moment sending).change)
       same_server moment sending trees h = subst (λ (n : ℕ). IsSound (after (tree_at trees n) (outcome_of_sending moment sending).change)) (sym (server_is moment sending)) h
 
-onward_sound : (start : Start) (journal : Journal) (origin : ℕ) (o : Option Forwarded) → All IsSound (trees_of start (history_of start journal)) → All IsSound (trees_of start (history_of start (with_forward origin journal o)))
+sound_goes_on : Below → (start : Start) → IsStart start → GoesOn start (λ journal. All IsSound (trees_of start (history_of start journal)))
 unfolding history_of
-onward_sound start journal origin None sound = sound
-onward_sound start journal origin (Some f) sound =
-    subst (All IsSound) (sym (sendings_wait_last start (history_of start journal) (sent_behind journal f.endpoint (message f.bytes (f.object ∷ [])) (Some origin))).same.trees) sound
+sound_goes_on below start s = record {
+  begins = s.trees;
+  refuses_on = λ earlier endpoint why h. subst (All IsSound) (sym (refusals_change_nothing start (history_of start earlier) endpoint why).same.trees) h;
+  sends_on = λ earlier one is alone h. subst (All IsSound) (sym (sendings_wait_last start (history_of start earlier) one).same.trees) h;
+  serves_on = λ earlier one all first h. served_sound below start earlier one s all first h;
+  forwards_on = λ earlier one forward all first e old h.
+      subst (All IsSound) (sym (sendings_wait_last start (history_of start (serves one ∷ earlier)) (onward_of earlier one forward)).same.trees) h;
+}
+
+-- at each time
+pub sound_at : Below → (start : Start) (past : Journal) → IsStart start → Stepped start past → All IsSound (trees_of start (history_of start past))
+sound_at below start past s h = at_each start (λ journal. All IsSound (trees_of start (history_of start journal))) (sound_goes_on below start s) past h
 
 pub trees_sound : Below → (start : Start) (journal : Journal) → IsStart start → Lawful start journal → All IsSound (trees_of start (history_of start journal))
-unfolding history_of
-trees_sound below start journal s lawful.begun = s.trees
-trees_sound below start journal s (lawful.refused earlier frame why h is admits) =
-    subst (All IsSound) (sym (refusals_change_nothing start (history_of start earlier) frame.endpoint why).same.trees) (trees_sound below start earlier s h)
-trees_sound below start journal s (lawful.sent earlier frame h is at admits) =
-    subst (All IsSound) (sym (sendings_wait_last start (history_of start earlier) (sent_behind earlier frame.endpoint (message frame.bytes frame.handles) None)).same.trees) (trees_sound below start earlier s h)
-trees_sound below start journal s (lawful.closed earlier frame h is at admits) =
-    subst (All IsSound) (sym (sendings_wait_last start (history_of start earlier) (sent_behind earlier frame.endpoint hang_up None)).same.trees) (trees_sound below start earlier s h)
-trees_sound below start journal s (lawful.served earlier entry h is) =
-    onward_sound start (serves entry ∷ earlier) entry.place (outcome_of start (history_of start earlier) entry).forward
-    (served_sound below start earlier entry s h is (trees_sound below start earlier s h))
+trees_sound below start journal s h = sound_at below start journal s (stepped start journal h)

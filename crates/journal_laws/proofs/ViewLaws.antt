@@ -19,9 +19,9 @@ use Rattle.vfs_journal.specs.Serving.{outcome_of}
 use Rattle.vfs_journal.specs.Session.{after_serving, head, look_ups, next, oldest, sent_behind, serving, serving_one, weight, with_forward}
 use Rattle.vfs_journal.specs.Starts.{Start}
 use Rattle.vfs_journal.specs.Tokens.{all_given}
-use Rattle.vfs_journal.specs.View.{View, view_of, event_in, frames_in, head_in, next_in, oldest_in, servings_in, onward_in, sending_in, serving_in, then_in}
+use Rattle.vfs_journal.specs.View.{View, view_of, event_in, frames_in, head_in, next_in, oldest_in, onward_in, sending_in, serving_in, then_in}
 use Rattle.journal_laws.specs.Soundness.{IsStart}
-use Rattle.journal_laws.specs.Viewing.{AreViewed, view_behind}
+use Rattle.journal_laws.specs.Viewing.{view_behind}
 use Rattle.journal_laws.proofs.Among.{is_found, one_passes}
 use Rattle.journal_laws.proofs.Below.{Below}
 use Rattle.journal_laws.proofs.Draining.{ChoosesHeads, next_is_head, oldest_is_head, pick_is_head}
@@ -123,37 +123,3 @@ serving_writes start journal sent =
     forward_writes start (serves sent ∷ journal) sent.place (outcome_of start past sent).forward
     ∙ flat_map-append spelling (frames_of start past) (frames_of_serving (trees_of start past) (living start past) (event_of start past (serves sent)))
     ∙ ap (λ (frames : List Frame). spellings (frames_of start past) ++ spellings frames) (frames_are start past sent)
-
--- ---- several servings
-
-one_viewed : Below → (start : Start) (choice : History → Option Sent) (chosen : View → Option Sent) (journal : Journal) (on : Journal → Journal) (more : ℕ) → ChoosesHeads start choice → IsStart start → Lawful start journal →
-    ((j : Journal) → Lawful start j → view_behind start (on j) ≡ servings_in more chosen (view_behind start j)) →
-    (o : Option Sent) → choice (history_of start journal) ≡ o →
-    view_behind start (serving_one on (after_serving start journal) journal o) ≡ option_map_or (λ sent. servings_in more chosen (then_in (view_behind start journal) sent)) o (view_behind start journal)
-one_viewed below start choice chosen journal on more heads s h rest None e = refl
-one_viewed below start choice chosen journal on more heads s h rest (Some one) e =
-    let first = heads (history_of start journal) one e in
-    rest (after_serving start journal one) (lawful.served journal one h first)
-    ∙ ap (servings_in more chosen) (served_behind_viewed below start journal one s h first)
-
--- a choice that the view tells
-servings_viewed : Below → (times : ℕ) (start : Start) (choice : History → Option Sent) (chosen : View → Option Sent) (journal : Journal) → ChoosesHeads start choice →
-    ((history : History) → choice history ≡ chosen (view_of start history)) → IsStart start → Lawful start journal →
-    view_behind start (serving times start choice journal) ≡ servings_in times chosen (view_behind start journal)
-unfolding serving servings_in
-servings_viewed below zero start choice chosen journal heads same s h = refl
-servings_viewed below (suc more) start choice chosen journal heads same s h =
-    one_viewed below start choice chosen journal (serving more start choice) more heads s h (λ j g. servings_viewed below more start choice chosen j heads same s g)
-    (choice (history_of start journal)) refl
-    ∙ ap (λ (o : Option Sent). option_map_or (λ sent. servings_in more chosen (then_in (view_behind start journal) sent)) o (view_behind start journal)) (same (history_of start journal))
-
-pub turns_viewed : Below → (start : Start) (journal : Journal) → IsStart start → Lawful start journal → AreViewed start journal
-turns_viewed below start journal s h = record {
-  turn = λ server times.
-      servings_viewed below times start (λ history. oldest start history server) (λ view. oldest_in view server) journal (oldest_is_head start server)
-      (λ history. oldest_is start history server) s h;
-  pick = λ endpoint.
-      servings_viewed below 1 start (λ history. head start history endpoint) (λ view. head_in view endpoint) journal (pick_is_head start endpoint)
-      (λ history. head_is_in start history endpoint) s h;
-  drain = servings_viewed below (weight (history_of start journal)) start (next start) next_in journal (next_is_head start) (next_is start) s h;
-}

@@ -87,9 +87,9 @@ new_waits start past new unserved alive =
 pub fresh_unserved : (start : Start) (journal : Journal) (one : Sent) → Stepped start journal → length journal ≤ one.place → was_served (history_of start journal) one ≡ false
 unfolding history_of event_of
 fresh_unserved start journal one none h = refl
-fresh_unserved start journal one (refusing earlier endpoint why s) h = fresh_unserved start earlier one s (omega arith)
-fresh_unserved start journal one (sending earlier new s at) h = fresh_unserved start earlier one s (omega arith)
-fresh_unserved start journal one (serving earlier new s is) h =
+fresh_unserved start journal one (refusing earlier endpoint why s all) h = fresh_unserved start earlier one s (omega arith)
+fresh_unserved start journal one (sending earlier new s next) h = fresh_unserved start earlier one s (omega arith)
+fresh_unserved start journal one (serving earlier new s all is) h =
     let first = head_is start (history_of start earlier) new is in
     let below : new.place < length earlier =
     All-contains (λ (sent : Sent). sent.place < length earlier) (all_sent (history_of start earlier)) new (in_order start earlier s).below (waits_of_sent (history_of start earlier) new first.waits) in

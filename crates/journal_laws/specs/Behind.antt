@@ -1,5 +1,5 @@
 -- What is looked up in the view behind a serving: each endpoint by itself, whatever else there is.
-use Rattle.std.specs.Prelude.{◌≡◌, ◌+◌, ◌==◌, ℕ, false, if◌then◌else◌, List, [], ◌∷◌, ◌++◌, Option, Some, None}
+use Rattle.std.specs.Prelude.{◌≡◌, ◌+◌, ◌==◌, ℕ, false, if◌then◌else◌, List, [], ◌∷◌, ◌++◌, drop, Option, Some, None}
 use Rattle.std.specs.Option.{option_map, option_map_or}
 use Rattle.endpoint_link.specs.Numbering.{among}
 use Rattle.conn_rules.specs.Births.{Position, fresh}
@@ -16,16 +16,11 @@ at_behind view sent endpoint =
     then option_map (λ bound. (bound, fresh)) (outcome_in view sent).bound
     else option_map (moved sent.endpoint (outcome_in view sent).position) (at_in view endpoint)
 
--- all but the first
-abbrev pub later_of : List Sent → List Sent
-later_of [] = []
-later_of (sent ∷ later) = later
-
 -- nothing waits on a dead endpoint, on the served one all but the first, and on any other what waited
 abbrev pub queue_behind : View → Sent → ℕ → List Sent
 queue_behind view sent endpoint =
     if among endpoint (deaths_in view sent) then []
-    else if sent.endpoint == endpoint then later_of (queue_in view endpoint)
+    else if sent.endpoint == endpoint then drop 1 (queue_in view endpoint)
     else queue_in view endpoint
 
 -- what goes on to this endpoint

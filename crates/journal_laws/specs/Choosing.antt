@@ -1,5 +1,5 @@
 -- What the queues of endpoints tell of which entry is served next, and of who dies.
-use Rattle.std.specs.Prelude.{◌≡◌, ◌≢◌, ◌≤◌, ◌==◌, ℕ, Bool, true, false, if◌then◌else◌, List, [], AllPairs, Contains, filter, length, slice_get, Option, Some, None}
+use Rattle.std.specs.Prelude.{◌≡◌, ◌≢◌, ◌≤◌, ◌==◌, ℕ, Bool, true, false, if◌then◌else◌, List, [], AllPairs, Contains, drop, filter, length, slice_get, Option, Some, None}
 use Rattle.std.specs.List.Sorted.{IsStrictlySortedBy}
 use Rattle.std.specs.Option.{option_map_or}
 use Rattle.std.specs.Ordering.{nat_cmp}
@@ -12,7 +12,6 @@ use Rattle.vfs_journal.specs.History.{Event}
 use Rattle.vfs_journal.specs.Output.{frames_of_serving, rising}
 use Rattle.vfs_journal.specs.Starts.{Bound}
 use Rattle.vfs_journal.specs.View.{View, at_in, deaths_in, head_in, is_bound_in, next_in, oldest_in, outcome_in, queue_in, serving_in}
-use Rattle.journal_laws.specs.Behind.{later_of}
 
 -- ---- what is served next
 
@@ -54,7 +53,7 @@ QueuesCountWhatWaits =
 
 -- what waits on an endpoint beside an entry that is served
 abbrev pub queue_beside : View → Sent → ℕ → List Sent
-queue_beside view sent endpoint = if sent.endpoint == endpoint then later_of (queue_in view endpoint) else queue_in view endpoint
+queue_beside view sent endpoint = if sent.endpoint == endpoint then drop 1 (queue_in view endpoint) else queue_in view endpoint
 
 -- what waits on an endpoint among these carries endpoints among these
 abbrev pub IsClosedOver : (ℕ → List Sent) → (ℕ → Bool) → Type 0
@@ -67,12 +66,11 @@ pub record AreAllThatDie (queue : ℕ → List Sent) (dying deaths : List ℕ) :
   pub least : (dies : ℕ → Bool) → ((endpoint : ℕ) → among endpoint dying ≡ true → dies endpoint ≡ true) → IsClosedOver queue dies →
       (endpoint : ℕ) → among endpoint deaths ≡ true → dies endpoint ≡ true
 
--- they have the members of the one pass over what waits
+-- the one pass over what waits reaches them
 abbrev pub DeathsAreTheLeast : Type 0
 DeathsAreTheLeast =
-    (view : View) (sent : Sent) (deaths : List ℕ) → IsFit view → head_in view sent.endpoint ≡ Some sent →
-    AreAllThatDie (queue_beside view sent) (first_deaths sent (outcome_in view sent)) deaths →
-    (endpoint : ℕ) → among endpoint deaths ≡ among endpoint (deaths_in view sent)
+    (view : View) (sent : Sent) → IsFit view → head_in view sent.endpoint ≡ Some sent →
+    AreAllThatDie (queue_beside view sent) (first_deaths sent (outcome_in view sent)) (deaths_in view sent)
 
 -- no number but these, each once, in any order
 pub record IsListOf (numbers listed : List ℕ) : Type 0 where

@@ -12,10 +12,10 @@ use Rattle.vfs_journal.specs.Lawful.{Lawful}
 use Rattle.vfs_journal.specs.Output.{frames_of_serving, output_of}
 use Rattle.vfs_journal.specs.Past.{behind, event_of, history_of}
 use Rattle.vfs_journal.specs.Serving.{outcome_of}
-use Rattle.vfs_journal.specs.Session.{after_serving, drained, head, look_ups, next, oldest, picked, sent_behind, turned}
+use Rattle.vfs_journal.specs.Session.{after_serving, head, look_ups, next, oldest, sent_behind}
 use Rattle.vfs_journal.specs.Starts.{Start}
 use Rattle.vfs_journal.specs.Tokens.{is_held, next_token}
-use Rattle.vfs_journal.specs.View.{View, view_of, at_in, bounds_in, next_in, head_in, oldest_in, outcome_in, deaths_in, frames_in, refusing_in, sending_in, then_in, next_token_in, is_held_in, turned_in, picked_in, drained_in}
+use Rattle.vfs_journal.specs.View.{View, view_of, at_in, bounds_in, next_in, head_in, oldest_in, outcome_in, deaths_in, frames_in, refusing_in, sending_in, then_in, next_token_in, is_held_in}
 use Rattle.vfs_journal.specs.Fit.{IsFit}
 use Rattle.journal_laws.specs.Soundness.{IsStart}
 
@@ -74,28 +74,7 @@ ServingsAreViewed =
     head start (history_of start journal) sent.endpoint ≡ Some sent →
     view_behind start (after_serving start journal sent) ≡ then_in (view_behind start journal) sent
 
--- and behind the servings of a Turn, a Pick and a drain
-pub record AreViewed (start : Start) (journal : Journal) : Type 0 where
-  pub turn : (server times : ℕ) → view_behind start (turned start server times journal) ≡ turned_in (view_behind start journal) server times
-  pub pick : (endpoint : ℕ) → view_behind start (picked start endpoint journal) ≡ picked_in (view_behind start journal) endpoint
-  pub drain : view_behind start (drained start journal) ≡ drained_in (view_behind start journal)
-
-abbrev pub TurnsAreViewed : Type 0
-TurnsAreViewed = (start : Start) (journal : Journal) → IsStart start → Lawful start journal → AreViewed start journal
-
 -- ---- what holds of each view
 
 abbrev pub ViewsAreFit : Type 0
 ViewsAreFit = (start : Start) (journal : Journal) → IsStart start → Lawful start journal → IsFit (view_behind start journal)
-
--- a view is that of some lawful journal
-pub record IsReached (view : View) : Type 0 where
-  pub start : Start
-  pub journal : Journal
-  pub sound : IsStart start
-  pub lawful : Lawful start journal
-  pub seen : view_behind start journal ≡ view
-
--- such a view is fit, and so is each that a serving leads to
-abbrev pub ReachedViewsGoOn : Type 0
-ReachedViewsGoOn = (view : View) → IsReached view → IsFit view × ((sent : Sent) → head_in view sent.endpoint ≡ Some sent → IsReached (then_in view sent))

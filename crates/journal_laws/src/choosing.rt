@@ -12,7 +12,8 @@ pub fn queues_count_what_waits()
     ensures { QueuesCountWhatWaits }
 {}
 
-/// In a fit view who dies of a serving are the least endpoints that have the first deaths and all that waits on them carries.
+/// In a fit view who dies of a serving has the first deaths and all that waits on them carries, and
+/// is the least that has: the one pass over what waits misses none and adds none.
 pub fn deaths_are_the_least()
     ensures { DeathsAreTheLeast }
 {}

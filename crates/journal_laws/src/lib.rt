@@ -22,8 +22,7 @@ pub use laws::{
     sessions_are_lawful, sessions_serve_all, what_goes_on_waits, what_is_sent_waits,
 };
 pub use viewing::{
-    connections_are_few, reached_views_go_on, reached_views_hear, refusals_are_viewed,
-    sendings_are_looked_up, sendings_are_viewed, servings_are_in_view, servings_are_looked_up,
-    servings_are_viewed, servings_write_their_frames, trees_grow_slowly, trees_stay_sound,
-    turns_are_viewed, views_are_fit, who_lives_stands_on_trees,
+    refusals_are_viewed, sendings_are_looked_up, sendings_are_viewed, servings_are_in_view,
+    servings_are_looked_up, servings_are_viewed, servings_write_their_frames, trees_grow_slowly,
+    trees_stay_sound, views_are_fit, who_lives_stands_on_trees,
 };

@@ -2,10 +2,8 @@
 
 ghost use Rattle.fidl_wire.specs.Names.{AreDistinct};
 ghost use Rattle.journal_laws.specs.Behind.{SendingsAreLookedUp, ServingsAreLookedUp};
-ghost use Rattle.journal_laws.specs.Hearing.{ReachedViewsHear};
-ghost use Rattle.journal_laws.specs.Rooms.{ConnectionsAreFew};
 ghost use Rattle.journal_laws.specs.Trees.{TreesGrowSlowly, TreesStaySound, WhoLivesStandsOnTrees};
-ghost use Rattle.journal_laws.specs.Viewing.{ReachedViewsGoOn, RefusalsAreViewed, SendingsAreViewed, ServingsAreInView, ServingsAreViewed, ServingsWriteTheirFrames, TurnsAreViewed, ViewsAreFit};
+ghost use Rattle.journal_laws.specs.Viewing.{RefusalsAreViewed, SendingsAreViewed, ServingsAreInView, ServingsAreViewed, ServingsWriteTheirFrames, ViewsAreFit};
 
 /// Who is bound, what is served next, what that answers, who dies of it and what is written for it can be told from the view of a past.
 pub fn servings_are_in_view()
@@ -32,20 +30,9 @@ pub fn servings_write_their_frames()
     ensures { ServingsWriteTheirFrames }
 {}
 
-/// Behind the servings of a Turn, a Pick or a drain the view is what the same servings make of the view before; where no two names have
-/// equal ordinals.
-pub fn turns_are_viewed()
-    ensures { AreDistinct → TurnsAreViewed }
-{}
-
 /// The view of each lawful journal is fit; where no two names have equal ordinals.
 pub fn views_are_fit()
     ensures { AreDistinct → ViewsAreFit }
-{}
-
-/// A view that a lawful journal reached is fit, and each serving leads to another; where no two names have equal ordinals.
-pub fn reached_views_go_on()
-    ensures { AreDistinct → ReachedViewsGoOn }
 {}
 
 /// Behind a serving of a fit view each endpoint is bound, and has what waits on it, as its deaths and its outcome say: nothing waits on a
@@ -57,16 +44,6 @@ pub fn servings_are_looked_up()
 /// Behind a sending its endpoint's queue alone is longer, and the same endpoints are bound.
 pub fn sendings_are_looked_up()
     ensures { SendingsAreLookedUp }
-{}
-
-/// In a lawful journal no server has more connections than it may have, where none has more at the start: what binds found fewer.
-pub fn connections_are_few()
-    ensures { ConnectionsAreFew }
-{}
-
-/// A view that a lawful journal reached leads to another by each frame: by a refusal, and by an admitted message or hang-up.
-pub fn reached_views_hear()
-    ensures { ReachedViewsHear }
 {}
 
 /// In a lawful journal mounts have their one edge, who lives stands on a node of its server's tree, of a kind that its protocol is for, and

@@ -2,8 +2,11 @@
 
 ghost use Rattle.lineage_rows.specs.Rows.{LineagesNameEachSet};
 
-/// What is opened on what an Open bound that went over two mounts has in its lineage the rights of the first connection, then each mask and
-/// each mount's rights in the order in which it came through them, then the rights of what the first Open bound, and then its own.
+/// What an Open that goes over two mounts sends on has in its trail the rights of the first
+/// connection, then each mask and each mount's rights in the order in which it came through them.
+/// What is opened on what it binds has in its lineage these, the masks behind the last mount, the
+/// rights of what the first Open bound, and then its own; a Clone of that, and a watcher on it, have
+/// all of these and then their own, and a name that is made there all nine rights before its own.
 pub fn lineages_name_each_set()
     ensures { LineagesNameEachSet }
 {}

@@ -14,7 +14,7 @@ use Rattle.journal_laws.proofs.Members.{found, kept_of}
 use Rattle.journal_laws.proofs.Places.{IsHead, head_is, in_order, waits_of_sent}
 use Rattle.journal_laws.proofs.Views.{fresh_unserved}
 use Rattle.journal_laws.proofs.Steps.{refusals_change_nothing, sendings_wait_last, servings_take_effect}
-use Rattle.reply_laws.proofs.Grown.{Grown, none, refusing, sending, serving, stepped}
+use Rattle.journal_laws.proofs.Stepping.{IsSentNext, Stepped, none, refusing, sending, serving, place_next}
 use Rattle.journal_laws.proofs.Filters.{all_kept, all_of, found_first}
 use Rattle.reply_laws.specs.Pipelined.{is_on, sent_on, served_on, unserved_on}
 
@@ -142,13 +142,13 @@ unserved_kept past new endpoint is true = ap (λ (b : Bool). cond (not b) (new �
 unserved_kept past new endpoint is false = refl
 
 -- what is sent next wasn't served
-pub new_unserved : (start : Start) (earlier : Journal) (new : Sent) → Grown start earlier → new.place ≡ length earlier → was_served (history_of start earlier) new ≡ false
-new_unserved start earlier new h at = fresh_unserved start earlier new (stepped start earlier h) (omega (arith, at))
+pub new_unserved : (start : Start) (earlier : Journal) (new : Sent) → Stepped start earlier → IsSentNext start earlier new → was_served (history_of start earlier) new ≡ false
+new_unserved start earlier new h next = fresh_unserved start earlier new h (let at : new.place ≡ length earlier = place_next start earlier new next in omega (arith, at))
 
-pub front : (start : Start) (journal : Journal) (endpoint : ℕ) → Grown start journal → HasFront (history_of start journal) endpoint
+pub front : (start : Start) (journal : Journal) (endpoint : ℕ) → Stepped start journal → HasFront (history_of start journal) endpoint
 unfolding history_of event_of
 front start journal endpoint none = refl
-front start journal endpoint (refusing earlier at why h) =
+front start journal endpoint (refusing earlier at why h all) =
     let past = history_of start earlier in
     let now = behind start (refuses at why) past in
     let kept = refusals_change_nothing start past at why in
@@ -157,7 +157,7 @@ front start journal endpoint (refusing earlier at why h) =
     filter_agree (not_served now) (not_served past) (λ one. ap not (kept.served one)) (sent_on now endpoint)
     ∙ ap (λ ones. filter (not_served past) (filter (is_on endpoint) ones)) kept.sent in
     ap (filter (is_on endpoint)) kept.sent ∙ front start earlier endpoint h ∙ sym (ap (λ ones. ones ++ unserved_on now endpoint) served ∙ ap (λ ones. served_on past endpoint ++ ones) unserved)
-front start journal endpoint (sending earlier new h at short) =
+front start journal endpoint (sending earlier new h next) =
     let past = history_of start earlier in
     let now = behind start (sends new) past in
     let more = sendings_wait_last start past new in
@@ -168,15 +168,15 @@ front start journal endpoint (sending earlier new h at short) =
     filter_agree (not_served now) (not_served past) (λ one. ap not (more.served one)) (sent_on now endpoint)
     ∙ ap (filter (not_served past)) sent
     ∙ filter-append (not_served past) (sent_on past endpoint) last
-    ∙ ap (λ ones. unserved_on past endpoint ++ ones) (unserved_kept past new endpoint (new_unserved start earlier new h at) (is_on endpoint new)) in
+    ∙ ap (λ ones. unserved_on past endpoint ++ ones) (unserved_kept past new endpoint (new_unserved start earlier new h next) (is_on endpoint new)) in
     sent ∙ ap (λ ones. ones ++ last) (front start earlier endpoint h) ∙ append_assoc (served_on past endpoint) (unserved_on past endpoint) last
     ∙ sym (ap (λ ones. ones ++ unserved_on now endpoint) served ∙ ap (λ ones. served_on past endpoint ++ ones) unserved)
-front start journal endpoint (serving earlier new h is) =
+front start journal endpoint (serving earlier new h all is) =
     let past = history_of start earlier in
     let now = behind start (serves new) past in
     let first = cond (is_on endpoint new) (new ∷ []) [] in
     let served = served_more (event_of start past (serves new)) past endpoint in
-    let places = in_order start earlier (stepped start earlier h) in
+    let places = in_order start earlier h in
     let unserved = served_first start past new endpoint places.rise (head_is start past new is) (is_on endpoint new) refl in
     ap (filter (is_on endpoint)) (servings_take_effect start past new).sent_same
     ∙ front start earlier endpoint h

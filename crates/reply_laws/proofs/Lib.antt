@@ -1,6 +1,6 @@
 pub mod Forms
 pub mod Framed
-pub mod Grown
+pub mod ShortIds
 pub mod Front
 pub mod Written
 pub mod Served

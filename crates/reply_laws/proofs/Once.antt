@@ -16,7 +16,7 @@ use Rattle.journal_laws.proofs.Places.{head_is, waits_unserved}
 use Rattle.journal_laws.proofs.Steps.{births-more}
 use Rattle.reply_laws.proofs.Framed.{AreFramed, HasReply, IsReplied}
 use Rattle.reply_laws.proofs.Front.{bound_lives}
-use Rattle.reply_laws.proofs.Grown.{Grown, none, refusing, sending, serving}
+use Rattle.journal_laws.proofs.Stepping.{Stepped, none, refusing, sending, serving}
 use Rattle.journal_laws.proofs.Filters.{all_of}
 use Rattle.reply_laws.proofs.Served.{IsServedOn, answer_before, answer_now, new_elsewhere, served_cases, served_on_bound}
 use Rattle.reply_laws.specs.Laws.{IsAnswered}
@@ -99,24 +99,24 @@ served_side : (start : Start) (past : History) (new one : Sent) → (Contains (s
 served_side start past new one before now (inl there) = before there
 served_side start past new one before now (inr e) = subst (λ (s : Sent). IsAnswered start (behind start (serves new) past) s) (cc) now
 
-pub answered : (start : Start) (journal : Journal) (one : Sent) → Grown start journal → Contains (served_on (history_of start journal) one.endpoint) one → IsAnswered start (history_of start journal) one
+pub answered : (start : Start) (journal : Journal) (one : Sent) → Stepped start journal → Contains (served_on (history_of start journal) one.endpoint) one → IsAnswered start (history_of start journal) one
 unfolding history_of event_of
 answered start journal one none there = absurd (contains_none one there)
-answered start journal one (refusing earlier at why grown) there =
+answered start journal one (refusing earlier at why steps all) there =
     let past = history_of start earlier in
     let event = event_of start past (refuses at why) in
-    still_answered start event past one refl (answered start earlier one grown (served_earlier event past one.endpoint one refl there))
-answered start journal one (sending earlier new grown at short) there =
+    still_answered start event past one refl (answered start earlier one steps (served_earlier event past one.endpoint one refl there))
+answered start journal one (sending earlier new steps next) there =
     let past = history_of start earlier in
     let event = event_of start past (sends new) in
-    still_answered start event past one refl (answered start earlier one grown (served_earlier event past one.endpoint one refl there))
-answered start journal one (serving earlier new grown is) there =
+    still_answered start event past one refl (answered start earlier one steps (served_earlier event past one.endpoint one refl there))
+answered start journal one (serving earlier new steps all is) there =
     let past = history_of start earlier in
     let event = event_of start past (serves new) in
     let not_yet = waits_unserved past new (head_is start past new is).waits in
     served_side start past new one
-    (λ before. still_answered start event past one (answer_before start past new one (new_elsewhere past new one one.endpoint before not_yet)) (answered start earlier one grown before))
-    (now_answered start past new (served_on_bound start earlier new grown is))
+    (λ before. still_answered start event past one (answer_before start past new one (new_elsewhere past new one one.endpoint before not_yet)) (answered start earlier one steps before))
+    (now_answered start past new (served_on_bound start earlier new steps is))
     (served_cases event past one.endpoint one there)
 
 -- ---- the last serving
@@ -142,19 +142,19 @@ serving_behind past endpoint later new same lives true is =
     let wrong : true ≡ false = sym dies ∙ died past endpoint event alive there in
     absurd (cc))
 
-pub last_served : (start : Start) (journal : Journal) (endpoint : ℕ) → Grown start journal → AllPairs (EndsBefore endpoint) (history_of start journal)
+pub last_served : (start : Start) (journal : Journal) (endpoint : ℕ) → Stepped start journal → AllPairs (EndsBefore endpoint) (history_of start journal)
 unfolding history_of event_of
 last_served start journal endpoint none = λ i j d l m. absurd (omega arith)
-last_served start journal endpoint (refusing earlier at why grown) =
+last_served start journal endpoint (refusing earlier at why steps all) =
     let past = history_of start earlier in
     let event = event_of start past (refuses at why) in
-    AllPairs-cons (EndsBefore endpoint) event past (idle_behind past endpoint event refl) (last_served start earlier endpoint grown)
-last_served start journal endpoint (sending earlier new grown at short) =
+    AllPairs-cons (EndsBefore endpoint) event past (idle_behind past endpoint event refl) (last_served start earlier endpoint steps)
+last_served start journal endpoint (sending earlier new steps next) =
     let past = history_of start earlier in
     let event = event_of start past (sends new) in
-    AllPairs-cons (EndsBefore endpoint) event past (idle_behind past endpoint event refl) (last_served start earlier endpoint grown)
-last_served start journal endpoint (serving earlier new grown is) =
+    AllPairs-cons (EndsBefore endpoint) event past (idle_behind past endpoint event refl) (last_served start earlier endpoint steps)
+last_served start journal endpoint (serving earlier new steps all is) =
     let past = history_of start earlier in
     let event = event_of start past (serves new) in
     let alive = bound_lives start past new.endpoint (head_is start past new is).bound in
-    AllPairs-cons (EndsBefore endpoint) event past (serving_behind past endpoint event new refl alive (new.endpoint == endpoint) refl) (last_served start earlier endpoint grown)
+    AllPairs-cons (EndsBefore endpoint) event past (serving_behind past endpoint event new refl alive (new.endpoint == endpoint) refl) (last_served start earlier endpoint steps)

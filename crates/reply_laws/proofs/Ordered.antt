@@ -13,7 +13,7 @@ use Rattle.vfs_journal.specs.Serving.{outcome_of}
 use Rattle.vfs_journal.specs.Starts.{Start}
 use Rattle.journal_laws.proofs.Places.{head_is, waits_unserved}
 use Rattle.reply_laws.proofs.Front.{served_more}
-use Rattle.reply_laws.proofs.Grown.{Grown, none, refusing, sending, serving}
+use Rattle.journal_laws.proofs.Stepping.{Stepped, none, refusing, sending, serving}
 use Rattle.journal_laws.proofs.Filters.{all_of, joined_same}
 use Rattle.reply_laws.proofs.Served.{IsServedOn, answer_before, answer_now, new_elsewhere, served_on_bound}
 use Rattle.reply_laws.proofs.Written.{no_watcher_before, serving_replies}
@@ -46,26 +46,26 @@ replied_before start past new endpoint not_yet =
     (all_of (λ one. replies_to past one ≡ replies_to (behind start (serves new) past) one) (served_on past endpoint)
     (λ one there. ap (filter (is_reply_on one.endpoint)) (sym (answer_before start past new one (new_elsewhere past new one endpoint there not_yet)))))
 
-pub ordered : (start : Start) (journal : Journal) (endpoint : ℕ) → Grown start journal → was_watcher start (history_of start journal) endpoint ≡ false →
+pub ordered : (start : Start) (journal : Journal) (endpoint : ℕ) → Stepped start journal → was_watcher start (history_of start journal) endpoint ≡ false →
     replies_on start (history_of start journal) endpoint ≡ flat_map (replies_to (history_of start journal)) (served_on (history_of start journal) endpoint)
 unfolding history_of event_of
 ordered start journal endpoint none h = refl
-ordered start journal endpoint (refusing earlier at why grown) h =
+ordered start journal endpoint (refusing earlier at why steps all) h =
     let past = history_of start earlier in
     let event = event_of start past (refuses at why) in
     let served = served_more event past endpoint ∙ append-nil (served_on past endpoint) in
     filter-append (is_reply_on endpoint) (frames_of start past) (refused_frame at why ∷ [])
     ∙ append-nil (replies_on start past endpoint)
-    ∙ ordered start earlier endpoint grown (no_watcher_before start event past endpoint h)
+    ∙ ordered start earlier endpoint steps (no_watcher_before start event past endpoint h)
     ∙ sym (ap (flat_map (replies_to (event ∷ past))) served)
-ordered start journal endpoint (sending earlier new grown at short) h =
+ordered start journal endpoint (sending earlier new steps next) h =
     let past = history_of start earlier in
     let event = event_of start past (sends new) in
     let served = served_more event past endpoint ∙ append-nil (served_on past endpoint) in
     ap (filter (is_reply_on endpoint)) (append-nil (frames_of start past))
-    ∙ ordered start earlier endpoint grown (no_watcher_before start event past endpoint h)
+    ∙ ordered start earlier endpoint steps (no_watcher_before start event past endpoint h)
     ∙ sym (ap (flat_map (replies_to (event ∷ past))) served)
-ordered start journal endpoint (serving earlier new grown is) h =
+ordered start journal endpoint (serving earlier new steps all is) h =
     let past = history_of start earlier in
     let event = event_of start past (serves new) in
     let now = behind start (serves new) past in
@@ -73,8 +73,8 @@ ordered start journal endpoint (serving earlier new grown is) h =
     let first = cond (is_on endpoint new) (new ∷ []) [] in
     filter-append (is_reply_on endpoint) (frames_of start past) (frames_of_serving (trees_of start past) (living start past) event)
     ∙ ap (λ frames. replies_on start past endpoint ++ frames)
-    (serving_replies start past new endpoint h ∙ replied_now start past new endpoint (served_on_bound start earlier new grown is) (is_on endpoint new) refl)
+    (serving_replies start past new endpoint h ∙ replied_now start past new endpoint (served_on_bound start earlier new steps is) (is_on endpoint new) refl)
     ∙ ap (λ frames. frames ++ flat_map (replies_to now) first)
-    (ordered start earlier endpoint grown (no_watcher_before start event past endpoint h) ∙ replied_before start past new endpoint not_yet)
+    (ordered start earlier endpoint steps (no_watcher_before start event past endpoint h) ∙ replied_before start past new endpoint not_yet)
     ∙ sym (flat_map-append (replies_to now) (served_on past endpoint) first)
     ∙ sym (ap (flat_map (replies_to now)) (served_more event past endpoint))

@@ -15,7 +15,8 @@ use Rattle.journal_laws.proofs.Places.{head_is, waits_of_sent}
 use Rattle.journal_laws.proofs.Steps.{refusals_change_nothing, sendings_wait_last, servings_take_effect}
 use Rattle.reply_laws.proofs.Framed.{IsFramed, IsShort, sending_framed}
 use Rattle.reply_laws.proofs.Front.{served_more}
-use Rattle.reply_laws.proofs.Grown.{Grown, none, refusing, sending, serving}
+use Rattle.journal_laws.proofs.Stepping.{Stepped, none, refusing, sending, serving}
+use Rattle.reply_laws.proofs.ShortIds.{short_next}
 use Rattle.reply_laws.specs.Pipelined.{answer_to, is_on, served_on, serving_of, txid_of}
 
 -- ---- what is sent has ids of 32 bits
@@ -23,15 +24,15 @@ use Rattle.reply_laws.specs.Pipelined.{answer_to, is_on, served_on, serving_of, 
 abbrev HasShort : Sent → Type 0
 HasShort one = IsShort (txid_of one.sending)
 
-pub shorts : (start : Start) (journal : Journal) → Grown start journal → All HasShort (all_sent (history_of start journal))
+pub shorts : (start : Start) (journal : Journal) → Stepped start journal → All HasShort (all_sent (history_of start journal))
 unfolding history_of
 shorts start journal none = All-nil HasShort
-shorts start journal (refusing earlier endpoint why h) =
+shorts start journal (refusing earlier endpoint why h all) =
     subst (All HasShort) (sym (refusals_change_nothing start (history_of start earlier) endpoint why).sent) (shorts start earlier h)
-shorts start journal (sending earlier one h at short) =
+shorts start journal (sending earlier one h next) =
     subst (All HasShort) (sym (sendings_wait_last start (history_of start earlier) one).sent_last)
-    (All-push HasShort (all_sent (history_of start earlier)) one (shorts start earlier h) short)
-shorts start journal (serving earlier one h is) =
+    (All-push HasShort (all_sent (history_of start earlier)) one (shorts start earlier h) (short_next start earlier one next))
+shorts start journal (serving earlier one h all is) =
     subst (All HasShort) (sym (servings_take_effect start (history_of start earlier) one).sent_same) (shorts start earlier h)
 
 -- ---- how a head is served
@@ -55,7 +56,7 @@ served_by_bound start past new short (Some bound) is some =
           (sending_framed (moment_of start past bound) new.sending short);
     }
 
-pub served_on_bound : (start : Start) (earlier : Journal) (new : Sent) → Grown start earlier → head start (history_of start earlier) new.endpoint ≡ Some new →
+pub served_on_bound : (start : Start) (earlier : Journal) (new : Sent) → Stepped start earlier → head start (history_of start earlier) new.endpoint ≡ Some new →
     IsServedOn start (history_of start earlier) new
 served_on_bound start earlier new h is =
     let past = history_of start earlier in

@@ -18,14 +18,14 @@ use Rattle.journal_laws.proofs.Below.{Below}
 use Rattle.journal_laws.proofs.Draining.{drains_serve_all}
 use Rattle.reply_laws.proofs.Forms.{HasId, read_has}
 use Rattle.reply_laws.proofs.Front.{front, not_served}
-use Rattle.reply_laws.proofs.Grown.{Grown, earlier_grown, grown}
+use Rattle.journal_laws.proofs.Stepping.{Stepped, stepped, time_of}
 use Rattle.journal_laws.proofs.Filters.{all_of, none_kept}
 use Rattle.reply_laws.proofs.Once.{answered, last_served}
 use Rattle.reply_laws.proofs.Ordered.{ordered}
 use Rattle.reply_laws.specs.Laws.{ArePipelined, DrainsSettleAll, IsSettled, RepliesAreInOrder, RequestsAskByTheirIds, RestsAreSettled, ServedIsAnswered}
 use Rattle.reply_laws.specs.Pipelined.{answer_to, is_on, sent_on, served_on, txid_in}
 
-pipelined : (start : Start) (journal : Journal) (endpoint : ℕ) → Grown start journal → ArePipelined start (history_of start journal) endpoint
+pipelined : (start : Start) (journal : Journal) (endpoint : ℕ) → Stepped start journal → ArePipelined start (history_of start journal) endpoint
 pipelined start journal endpoint h = record {
   front = front start journal endpoint h;
   last = last_served start journal endpoint h;
@@ -33,10 +33,10 @@ pipelined start journal endpoint h = record {
 }
 
 pub replies_are_in_order : RepliesAreInOrder
-replies_are_in_order start newer journal endpoint h = pipelined start journal endpoint (earlier_grown start newer journal (grown start (newer ++ journal) h))
+replies_are_in_order start newer journal endpoint h = pipelined start journal endpoint (time_of start newer journal h)
 
 pub served_is_answered : ServedIsAnswered
-served_is_answered start newer journal h sent there = answered start journal sent (earlier_grown start newer journal (grown start (newer ++ journal) h)) there
+served_is_answered start newer journal h sent there = answered start journal sent (time_of start newer journal h) there
 
 -- ---- requests
 
@@ -52,16 +52,6 @@ requests_ask_by_their_ids protocol bytes handles txid asked e =
     (has.0, way_of (is_one_way (method_of asked)) (txid_in bytes == 0) has.1)
 
 -- ---- where nothing waits
-
--- what wasn't served has no answer
-none_serves : (place : ℕ) (history : History) → list_any (serves_place place) history ≡ false → find (serves_place place) history ≡ None
-none_serves place [] h = refl
-none_serves place (event ∷ past) h =
-    let parts = or_parts (serves_place place event) (list_any (serves_place place) past) h in
-    ap (λ (b : Bool). cond b (Some event) (find (serves_place place) past)) parts.0 ∙ none_serves place past parts.1
-
-no_answer : (history : History) (sent : Sent) → was_served history sent ≡ false → answer_to history sent ≡ []
-no_answer history sent h = ap (λ (o : Option Event). option_map_or (λ (event : Event). event.outcome.frames) o []) (none_serves sent.place history h)
 
 -- on an endpoint that lives all was served
 served_alive : (history : History) (endpoint : ℕ) → IsDrained history → is_dead history endpoint ≡ false → (one : Sent) → Contains (sent_on history endpoint) one → not_served history one ≡ false
@@ -79,7 +69,7 @@ dead_by : (history : History) (endpoint : ℕ) (one : Sent) → (is_on endpoint 
 dead_by history endpoint one on unserved (inl served) = let wrong : true ≡ false = sym served ∙ unserved in absurd (cc)
 dead_by history endpoint one on unserved (inr dead) = ap (is_dead history) (sym (eqb-true one.endpoint endpoint on)) ∙ dead
 
-settled : (start : Start) (journal : Journal) (endpoint : ℕ) → Grown start journal → IsDrained (history_of start journal) → IsSettled start (history_of start journal) endpoint
+settled : (start : Start) (journal : Journal) (endpoint : ℕ) → Stepped start journal → IsDrained (history_of start journal) → IsSettled start (history_of start journal) endpoint
 settled start journal endpoint h drained =
     let history = history_of start journal in
     let order = pipelined start journal endpoint h in
@@ -93,7 +83,7 @@ settled start journal endpoint h drained =
           ∙ append-nil (served_on history endpoint));
       dropped = λ one there unserved.
           let of = kept_of (is_on endpoint) (all_sent history) one there in
-          (dead_by history endpoint one of.1 unserved (drained.each one of.0), no_answer history one unserved);
+          dead_by history endpoint one of.1 unserved (drained.each one of.0);
     }
 
 -- where nothing waits each thing that was sent was served, or its endpoint is dead
@@ -108,10 +98,10 @@ served_or_dead history none one there = by_tests (was_served history one) (is_de
 
 pub rests_are_settled : RestsAreSettled
 rests_are_settled start newer journal endpoint h none =
-    settled start journal endpoint (earlier_grown start newer journal (grown start (newer ++ journal) h))
+    settled start journal endpoint (time_of start newer journal h)
     (record { none = none; each = λ sent there. served_or_dead (history_of start journal) none sent there })
 
 pub drains_settle_all : Below → DrainsSettleAll
 drains_settle_all below start journal endpoint is h =
     let behind = drains_serve_all below start journal is h in
-    settled start (drained start journal) endpoint (grown start (drained start journal) behind.0) behind.1
+    settled start (drained start journal) endpoint (stepped start (drained start journal) behind.0) behind.1

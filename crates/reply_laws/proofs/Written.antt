@@ -25,7 +25,7 @@ use Rattle.watch_events.specs.Messages as messages
 use Rattle.journal_laws.proofs.Members.{contains_here, kept_of, mapped_member, none_passes}
 use Rattle.journal_laws.proofs.Steps.{births-more}
 use Rattle.reply_laws.proofs.Framed.{other_reply}
-use Rattle.reply_laws.proofs.Grown.{outcome_holds}
+use Rattle.reply_laws.proofs.ShortIds.{outcome_holds}
 use Rattle.journal_laws.proofs.Filters.{all_of, none_in_front, none_joined, none_kept, none_mapped}
 use Rattle.reply_laws.specs.Pipelined.{is_reply_on, was_watcher}
 

@@ -63,11 +63,12 @@ RequestsAskByTheirIds =
 
 -- ---- where nothing waits
 
--- all that was sent on an endpoint that lives was served; what wasn't served was sent on one that is dead, and has no reply
+-- all that was sent on an endpoint that lives was served; what wasn't served was sent on one that is dead, and none of the replies there is
+-- to it, as `replies` says
 pub record IsSettled (start : Start) (history : History) (endpoint : ℕ) : Type 0 where
   pub pipelined : ArePipelined start history endpoint
   pub lives : is_dead history endpoint ≡ false → served_on history endpoint ≡ sent_on history endpoint
-  pub dropped : (sent : Sent) → Contains (sent_on history endpoint) sent → was_served history sent ≡ false → (is_dead history endpoint ≡ true) × (answer_to history sent ≡ [])
+  pub dropped : (sent : Sent) → Contains (sent_on history endpoint) sent → was_served history sent ≡ false → is_dead history endpoint ≡ true
 
 -- so it is whenever nothing waits
 abbrev pub RestsAreSettled : Type 0

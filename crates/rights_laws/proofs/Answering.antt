@@ -33,9 +33,9 @@ use Rattle.rights_laws.specs.Answering.{AnswerIsAllowed, AnswersAreAllowed, IsRe
 use Rattle.rights_laws.specs.Lineage.{lineage_of}
 use Rattle.rights_laws.specs.Rights.{AreWithinEach}
 use Rattle.rights_laws.proofs.Allowing.{rights_there}
-use Rattle.rights_laws.proofs.Changes.{joined}
+use Rattle.journal_laws.proofs.Stepping.{time_of}
 use Rattle.rights_laws.proofs.Keeping.{Holds}
-use Rattle.rights_laws.proofs.Times.{time_holds, time_of}
+use Rattle.rights_laws.proofs.Times.{head_holds}
 
 -- ---- one request
 
@@ -106,4 +106,4 @@ answer_allowed law start past sent holds bound txid request needed h needs = by_
 pub answers_allowed : Below → AnswersAreAllowed
 answers_allowed below start later past sent s h =
     answer_allowed below.spelled start (history_of start past) sent
-    (time_holds below start s past (time_of start (later ++ serves sent ∷ past) h (later ++ serves sent ∷ []) past (joined later past (serves sent))))
+    (head_holds below start s past sent (time_of start later (serves sent ∷ past) h))

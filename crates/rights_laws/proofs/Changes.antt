@@ -17,7 +17,7 @@ use Rattle.journal_laws.proofs.Below.{Below}
 use Rattle.journal_laws.proofs.Members.{kept_of}
 use Rattle.journal_laws.proofs.Places.{head_is, waits_of_sent}
 use Rattle.journal_laws.proofs.Requests.{opens_directory}
-use Rattle.journal_laws.proofs.Stepping.{Stepped, refusing, sending, serving, stepped}
+use Rattle.journal_laws.proofs.Stepping.{stepped, time_of, was_head}
 use Rattle.rights_laws.specs.Authority.{ChangesAreAllowed, HasAuthority, IsAllowed, IsGivenWith}
 use Rattle.rights_laws.specs.Lineage.{lineage_of, lines_of}
 use Rattle.rights_laws.specs.Rights.{AreWithinEach}
@@ -26,7 +26,7 @@ use Rattle.rights_laws.proofs.Heard.{Heard, heard, unheard, sending_heard}
 use Rattle.rights_laws.proofs.Keeping.{Holds}
 use Rattle.rights_laws.proofs.Opening.{OverIn, request_allowed}
 use Rattle.rights_laws.proofs.Serving.{AreTrailed}
-use Rattle.rights_laws.proofs.Times.{time_holds, time_of}
+use Rattle.rights_laws.proofs.Times.{head_holds}
 use Rattle.rights_laws.proofs.TokensGiven.{AreGiven, are_given, target_given}
 
 -- ---- one serving
@@ -72,25 +72,8 @@ head_allowed below start past k first holds given changes =
 
 -- ---- servings of a session
 
-stepped_tail : (start : Start) (entry : Entry) (rest : Journal) → Stepped start (entry ∷ rest) → Stepped start rest
-stepped_tail start entry rest (refusing earlier endpoint why h) = h
-stepped_tail start entry rest (sending earlier one h at) = h
-stepped_tail start entry rest (serving earlier one h first) = h
-
-pub stepped_before : (start : Start) (later past : Journal) → Stepped start (later ++ past) → Stepped start past
-stepped_before start [] past h = h
-stepped_before start (entry ∷ later) past h = stepped_before start later past (stepped_tail start entry (later ++ past) h)
-
--- what is served was the head of its endpoint
-served_head : (start : Start) (past : Journal) (k : Sent) → Stepped start (serves k ∷ past) → Stepped start past × (head start (history_of start past) k.endpoint ≡ Some k)
-served_head start past k (serving earlier one h first) = (h, first)
-
-pub joined : (later past : Journal) (entry : Entry) → (later ++ entry ∷ []) ++ past ≡ later ++ entry ∷ past
-joined [] past entry = refl
-joined (one ∷ later) past entry = ap (λ (rest : Journal). one ∷ rest) (joined later past entry)
-
 pub changes_allowed : Below → ChangesAreAllowed
 changes_allowed below start later past k s h =
-    let first = served_head start past k (stepped_before start later (serves k ∷ past) (stepped start (later ++ serves k ∷ past) h)) in
-    let holds = time_holds below start s past (time_of start (later ++ serves k ∷ past) h (later ++ serves k ∷ []) past (joined later past (serves k))) in
-    head_allowed below start (history_of start past) k first.1 holds (are_given start past first.0)
+    let time = time_of start later (serves k ∷ past) h in
+    let first = was_head start past k time in
+    head_allowed below start (history_of start past) k first.1 (head_holds below start s past k time) (are_given start past (stepped start past first.0))

@@ -13,7 +13,6 @@ use Rattle.node_graph.specs.Tree.{Change, make, add, cut, move, fill, stay}
 use Rattle.vfs_journal.specs.Entries.{Sent, Journal, serves}
 use Rattle.vfs_journal.specs.History.{bound_at}
 use Rattle.vfs_journal.specs.Lawful.{Lawful}
-use Rattle.vfs_journal.specs.Lawful as lawful
 use Rattle.vfs_journal.specs.Outcomes.{Forwarded}
 use Rattle.vfs_journal.specs.Past.{history_of}
 use Rattle.vfs_journal.specs.Serving.{Moment, moment_of, outcome_of}
@@ -27,38 +26,11 @@ use Rattle.rights_laws.specs.Authority.{EachHas, HasAuthority, IsAllowed, IsNarr
 use Rattle.rights_laws.specs.Lineage.{ancestors_of, lineage_of, lines_of, masks_along, sent_from, trail_of, walk_at}
 use Rattle.rights_laws.specs.Rights.{BeginsAt}
 use Rattle.rights_laws.proofs.Beginning.{IsOpen, own_begins, trail_begins}
-use Rattle.rights_laws.proofs.Changes.{changes_allowed, joined}
+use Rattle.rights_laws.proofs.Changes.{changes_allowed}
 use Rattle.rights_laws.proofs.Keeping.{Holds}
 use Rattle.rights_laws.proofs.Served.{IsBoundTo, bound_to, opens, over_begun, own_begun}
-use Rattle.rights_laws.proofs.Times.{IsTime, whole, owing, time_holds, time_of}
-
--- ---- what is served was the head in a lawful journal
-
-record IsHead (start : Start) (past : Journal) (k : Sent) : Type 0 where
-  all : Lawful start past
-  first : head start (history_of start past) k.endpoint ≡ Some k
-
-same_head : (start : Start) (earlier past : Journal) (one k : Sent) → IsHead start earlier one → serves one ∷ earlier ≡ serves k ∷ past → IsHead start past k
-same_head start earlier past one k h e =
-    let rest : earlier ≡ past = cc in
-    let same : one ≡ k = cc in
-    subst (λ (j : Journal). IsHead start j k) rest (subst (IsHead start earlier) same h)
-
-head_behind : (start : Start) (earlier past : Journal) (one k : Sent) (o : Option Forwarded) → IsHead start earlier one → with_forward one.place (serves one ∷ earlier) o ≡ serves k ∷ past → IsHead start past k
-head_behind start earlier past one k None h e = same_head start earlier past one k h e
-head_behind start earlier past one k (Some forward) h e = absurd (cc)
-
-head_in : (start : Start) (journal past : Journal) (k : Sent) → Lawful start journal → journal ≡ serves k ∷ past → IsHead start past k
-head_in start journal past k lawful.begun e = absurd (cc)
-head_in start journal past k (lawful.refused earlier frame why h is admits) e = absurd (cc)
-head_in start journal past k (lawful.sent earlier frame h is kind admits) e = absurd (cc)
-head_in start journal past k (lawful.closed earlier frame h is kind admits) e = absurd (cc)
-head_in start journal past k (lawful.served earlier one h first) e =
-    head_behind start earlier past one k (outcome_of start (history_of start earlier) one).forward (record { all = h; first = first }) e
-
-head_at : (start : Start) (journal past : Journal) (k : Sent) → IsTime start journal → journal ≡ serves k ∷ past → IsHead start past k
-head_at start journal past k (whole same h) e = head_in start journal past k h e
-head_at start journal past k (owing earlier one h first) e = same_head start earlier past one k (record { all = h; first = first }) e
+use Rattle.journal_laws.proofs.Stepping.{time_of, was_head}
+use Rattle.rights_laws.proofs.Times.{head_holds}
 
 -- ---- what has the right
 
@@ -127,11 +99,11 @@ same_bound e = cc
 
 -- ---- the law
 
-module _ (below : Below) (start : Start) (journal : Journal) (k : Sent) (s : IsStart start) (at : IsHead start journal k) (holds : Holds start (history_of start journal)) (first : Bound) (there : Contains start.firsts first) (from : sent_from (history_of start journal) k ≡ first.endpoint) (narrow : IsNarrow first) where
-  to_bound : (b : Bound) → bound_at start (history_of start journal) k.endpoint ≡ Some b → IsBoundTo below start journal k s at.all at.first holds b
+module _ (below : Below) (start : Start) (journal : Journal) (k : Sent) (s : IsStart start) (all : Lawful start journal) (at : head start (history_of start journal) k.endpoint ≡ Some k) (holds : Holds start (history_of start journal)) (first : Bound) (there : Contains start.firsts first) (from : sent_from (history_of start journal) k ≡ first.endpoint) (narrow : IsNarrow first) where
+  to_bound : (b : Bound) → bound_at start (history_of start journal) k.endpoint ≡ Some b → IsBoundTo below start journal k s all at holds b
   to_bound b e =
-      let to = bound_to below start journal k s at.all at.first holds in
-      subst (IsBoundTo below start journal k s at.all at.first holds) (same_bound (sym to.1.at ∙ e)) to.1
+      let to = bound_to below start journal k s all at holds in
+      subst (IsBoundTo below start journal k s all at holds) (same_bound (sym to.1.at ∙ e)) to.1
 
   nothing_allowed : (change : Change) → IsAllowed start (history_of start journal) k change → ⊥
   nothing_allowed change h =
@@ -139,9 +111,9 @@ module _ (below : Below) (start : Start) (journal : Journal) (k : Sent) (s : IsS
       let lines = lines_of start (history_of start journal) in
       let ancestors = ancestors_of (history_of start journal) in
       let to = to_bound h.bound h.at in
-      let own = own_begun below start journal k s at.all at.first holds h.bound to in
-      let over = over_begun below start journal k s at.all at.first holds in
-      let origins = opens below start journal k s at.all at.first holds h.bound to in
+      let own = own_begun below start journal k s all at holds h.bound to in
+      let over = over_begun below start journal k s all at holds in
+      let origins = opens below start journal k s all at holds h.bound to in
       denied start journal k moment first narrow
       (begun_in start first (sent_from (history_of start journal) k) (trail_of start (history_of start journal) k) s there from (trail_begins start moment lines ancestors k own over k.origin refl))
       h.request change
@@ -160,7 +132,8 @@ stays_unless (fill node bytes) h = absurd (h (λ e. cc))
 
 pub narrow_change_nothing : Below → NarrowAncestorsChangeNothing
 narrow_change_nothing below start later past k s h first there from is =
-    let at = head_at start (serves k ∷ past) past k (time_of start (later ++ serves k ∷ past) h later (serves k ∷ past) refl) refl in
-    let holds = time_holds below start s past (time_of start (later ++ serves k ∷ past) h (later ++ serves k ∷ []) past (joined later past (serves k))) in
+    let time = time_of start later (serves k ∷ past) h in
+    let at = was_head start past k time in
+    let holds = head_holds below start s past k time in
     stays_unless (outcome_of start (history_of start past) k).change
-    (λ changes. nothing_allowed below start past k s at holds first there from is (outcome_of start (history_of start past) k).change (changes_allowed below start later past k s h changes))
+    (λ changes. nothing_allowed below start past k s at.0 at.1 holds first there from is (outcome_of start (history_of start past) k).change (changes_allowed below start later past k s h changes))

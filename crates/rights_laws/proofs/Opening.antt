@@ -44,7 +44,8 @@ use Rattle.rights_laws.specs.Rights.{AreWithinEach, HasAllAsked}
 use Rattle.rights_laws.proofs.Allowing.{has_right, link_has_target, rename_has_target, stays_or_right}
 use Rattle.rights_laws.proofs.Opens.{asked_passes}
 use Rattle.rights_laws.proofs.Requests.{trail_each}
-use Rattle.rights_laws.proofs.Sets.{named_in_asked, within_join_right}
+use Rattle.conn_rules.proofs.EveryWalk.{named_in_asked}
+use Rattle.rights_laws.proofs.Sets.{within_join_right}
 use Rattle.rights_laws.proofs.Wanted.{HasWanted, walk_wanted}
 
 -- ---- what flags name

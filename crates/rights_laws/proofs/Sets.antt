@@ -10,6 +10,7 @@ use Rattle.io_flags.proofs.GrantLemmas.{onward-asked, onward-set, within_join_le
 use Rattle.io_rights.specs.declared.operations.Operation.TheVariants as op
 use Rattle.io_rights.specs.Operations.{OperationSet, has, none, all, single, meet, join, is_within}
 use Rattle.io_rights.proofs.OperationSets.{has-join, has-set_of, within_each, within_from_each, within_trans, meet_within_left, meet_within_right}
+use Rattle.conn_rules.proofs.EveryWalk.{named_in_asked}
 use Rattle.conn_rules.specs.Walks.{inner_rights, limit_of}
 use Rattle.dir_conn.specs.Laws.{IsWithinAll}
 use Rattle.rights_laws.specs.Rights.{AreWithinEach, HasAllAsked}
@@ -38,19 +39,6 @@ pub none_within_each : (members : List OperationSet) → AreWithinEach none memb
 none_within_each [] = All-nil (λ member. IsTrue (is_within none member))
 none_within_each (member ∷ members) =
     All-cons (λ member. IsTrue (is_within none member)) member members (none_within member) (none_within_each members)
-
--- ---- what is named is asked for
-
-named_by_case : (e m : OperationSet) (b : Bool) → is_within e (if b then join e m else e) ≡ true
-named_by_case e m true = within_join_left e m
-named_by_case e m false = within_self e
-
-pub named_in_asked : (word : ℕ) → is_within (explicit_rights word) (asked_rights word) ≡ true
-unfolding asked_rights explicit_rights
-named_in_asked word = named_by_case (explicit_rights word) (single op.ModifyDirectory) (creates word)
-
-pub asked_in_inner : (word : ℕ) → is_within (asked_rights word) (inner_rights word) ≡ true
-asked_in_inner word = within_join_right (single op.Traverse) (asked_rights word)
 
 -- ---- limits
 

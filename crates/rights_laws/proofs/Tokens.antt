@@ -1,14 +1,13 @@
 -- Each token was given with authority.
-use Rattle.std.proofs.Common.{◌++◌, refl}
+use Rattle.std.proofs.Common.{◌++◌}
 use Rattle.vfs_journal.specs.Past.{history_of}
 use Rattle.journal_laws.proofs.Below.{Below}
-use Rattle.journal_laws.proofs.Stepping.{stepped}
+use Rattle.journal_laws.proofs.Stepping.{time_of}
 use Rattle.rights_laws.specs.Authority.{TokensAreGivenWithAuthority}
-use Rattle.rights_laws.proofs.Changes.{stepped_before}
-use Rattle.rights_laws.proofs.Times.{time_holds, time_of}
+use Rattle.rights_laws.proofs.Times.{time_holds}
 use Rattle.rights_laws.proofs.TokensGiven.{are_given, given_with_authority}
 
 pub tokens_given : Below → TokensAreGivenWithAuthority
 tokens_given below start later past s h given there =
-    let holds = time_holds below start s past (time_of start (later ++ past) h later past refl) in
-    given_with_authority start (history_of start past) given holds (are_given start past (stepped_before start later past (stepped start (later ++ past) h)) given there)
+    let holds = time_holds below start s past (time_of start later past h) in
+    given_with_authority start (history_of start past) given holds (are_given start past (time_of start later past h) given there)

@@ -141,11 +141,11 @@ served_given start past k first h given there =
 pub are_given : (start : Start) (journal : Journal) → Stepped start journal → AreGiven start (history_of start journal)
 unfolding history_of
 are_given start journal none = λ given there. absurd (contains_none given there)
-are_given start journal (refusing earlier endpoint why h) =
+are_given start journal (refusing earlier endpoint why h all) =
     same_given_on start _ (history_of start earlier) (refusals_change_nothing start (history_of start earlier) endpoint why).same (are_given start earlier h)
-are_given start journal (sending earlier one h at) =
+are_given start journal (sending earlier one h next) =
     same_given_on start _ (history_of start earlier) (sendings_wait_last start (history_of start earlier) one).same (are_given start earlier h)
-are_given start journal (serving earlier one h first) = served_given start (history_of start earlier) one first (are_given start earlier h)
+are_given start journal (serving earlier one h all first) = served_given start (history_of start earlier) one first (are_given start earlier h)
 
 pub given_with_authority : (start : Start) (history : History) (given : Given) → Holds start history → IsGivenOn start history given → IsGivenWithAuthority start history given
 given_with_authority start history given holds one = record {

@@ -6,7 +6,7 @@ use Rattle.io_messages.specs.Asked.{Asked}
 use Rattle.io_messages.specs.Asked as asks
 use Rattle.io_rights.specs.Operations.{OperationSet, all}
 use Rattle.path_walk.specs.Paths.{names_of}
-use Rattle.conn_rules.specs.Walks.{Walk, arrives, missing, crosses, stops, walk}
+use Rattle.conn_rules.specs.Walks.{Walk, missing, crosses, walk}
 use Rattle.dir_conn.specs.Laws.{masks_of}
 use Rattle.vfs_journal.specs.Entries.{Sent, Sending, message, hang_up}
 use Rattle.vfs_journal.specs.History.{Event, History, served_by, serves_place, binds_endpoint, bound_at}
@@ -59,10 +59,8 @@ trail_in lines sent = trail_by lines sent.endpoint sent.origin
 
 -- the masks of a walk, and all nine rights for a name that is made
 abbrev pub masks_along : Walk → List OperationSet
-masks_along (arrives node masks) = masks
 masks_along (missing directory name masks) = masks ++ all ∷ []
-masks_along (crosses mount rest masks) = masks
-masks_along (stops status) = []
+masks_along walk = masks_of walk
 
 -- of what is bound all but its own rights: from an Open its trail, and then the masks of its walk; from a Clone or a Watch the lineage of
 -- the endpoint that it came on

@@ -14,7 +14,7 @@ use Rattle.vfs_journal.specs.Past.{history_of}
 use Rattle.vfs_journal.specs.Serving.{read_by}
 use Rattle.vfs_journal.specs.Starts.{Bound, Start}
 use Rattle.journal_laws.specs.Soundness.{IsStart}
-use Rattle.rights_laws.specs.Lineage.{ancestor_of, lineage_of, trail_of}
+use Rattle.rights_laws.specs.Lineage.{ancestor_of, lineage_of, sent_from, trail_of}
 
 -- rights lie within each of these sets
 abbrev pub AreWithinEach : OperationSet → List OperationSet → Type 0
@@ -48,6 +48,12 @@ LineagesBegin start history =
     (bound : Bound) → Contains (births start history) bound → is_client bound.endpoint ≡ true →
     BeginsAt start (ancestor_of history bound.endpoint) (lineage_of start history bound.endpoint)
 
+-- so does the trail of each Open that came over a mount, at the first connection that it comes from
+abbrev pub TrailsBegin : Start → History → Type 0
+TrailsBegin start history =
+    (sent : Sent) (origin : ℕ) → Contains (all_sent history) sent → sent.origin ≡ Some origin →
+    BeginsAt start (sent_from history sent) (trail_of start history sent)
+
 -- all that the flags of an Open can get which came over a mount lies within each member of its trail
 abbrev pub FlagsAreWithin : Start → History → Type 0
 FlagsAreWithin start history =
@@ -65,6 +71,11 @@ RightsStayWithinLineage =
 abbrev pub LineagesBeginAtFirsts : Type 0
 LineagesBeginAtFirsts =
     (start : Start) (later past : Journal) → IsStart start → Lawful start (later ++ past) → LineagesBegin start (history_of start past)
+
+abbrev pub TrailsBeginAtFirsts : Type 0
+TrailsBeginAtFirsts =
+    (start : Start) (later past : Journal) → IsStart start → Lawful start (later ++ past) →
+    TrailsBegin start (history_of start past)
 
 abbrev pub FlagsStayWithinTrail : Type 0
 FlagsStayWithinTrail =

@@ -9,4 +9,7 @@ pub use authority::{
     answers_are_allowed, changes_are_allowed, narrow_ancestors_change_nothing,
     tokens_are_given_with_authority,
 };
-pub use rights::{flags_stay_within_trail, lineages_begin_at_firsts, rights_stay_within_lineage};
+pub use rights::{
+    flags_stay_within_trail, lineages_begin_at_firsts, rights_stay_within_lineage,
+    trails_begin_at_firsts,
+};

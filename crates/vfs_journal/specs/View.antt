@@ -1,5 +1,5 @@
 -- A session as it is seen now. What is served next, and all that a serving does, is a function of this view, whatever past led to it.
-use Rattle.std.specs.Prelude.{ℕ, zero, suc, ◌+◌, ◌==◌, ◌||◌, Bool, false, not, is_some, if◌then◌else◌, List, [], ◌∷◌, ◌++◌, length, map, filter, find, count_by, sum_by, option_to_list, Option, Some, None}
+use Rattle.std.specs.Prelude.{ℕ, ◌+◌, ◌==◌, ◌||◌, Bool, false, not, is_some, if◌then◌else◌, List, [], ◌∷◌, ◌++◌, length, map, filter, find, count_by, option_to_list, Option, Some, None}
 use Rattle.std.specs.List.{list_any}
 use Rattle.std.specs.Option.{option_map_or}
 use Rattle.endpoint_link.specs.Frames.{Frame}
@@ -13,7 +13,6 @@ use Rattle.vfs_journal.specs.History.{Event, History, living, position_of, waiti
 use Rattle.vfs_journal.specs.Outcomes.{Forwarded, Given, Outcome, no_outcome}
 use Rattle.vfs_journal.specs.Output.{frames_of_serving}
 use Rattle.vfs_journal.specs.Serving.{Moment, outcome_of_sending}
-use Rattle.vfs_journal.specs.Session.{weight_of}
 use Rattle.vfs_journal.specs.Starts.{Bound, Start}
 use Rattle.vfs_journal.specs.Tokens.{all_given, directory_among, token_behind}
 
@@ -177,25 +176,3 @@ onward_in view sent (Some forward) = sending_in view (onward_sent view.places se
 -- the view behind a serving
 abbrev pub then_in : View → Sent → View
 then_in view sent = onward_in (serving_in view sent (event_in view sent)) sent (outcome_in view sent).forward
-
--- ---- several servings
-
--- at most so many servings of what is chosen, until nothing is
-unfoldable pub servings_in : ℕ → (View → Option Sent) → View → View
-servings_in zero choice view = view
-servings_in (suc more) choice view = option_map_or (λ sent. servings_in more choice (then_in view sent)) (choice view) view
-
--- a server's oldest entries, at most so many
-abbrev pub turned_in : View → ℕ → ℕ → View
-turned_in view server times = servings_in times (λ seen. oldest_in seen server) view
-
--- the first entry of an endpoint
-abbrev pub picked_in : View → ℕ → View
-picked_in view endpoint = servings_in 1 (λ seen. head_in seen endpoint) view
-
-abbrev pub weight_in : View → ℕ
-weight_in view = sum_by (λ sent. weight_of sent.sending) view.waiting
-
--- everything that can be served
-abbrev pub drained_in : View → View
-drained_in view = servings_in (weight_in view) next_in view

@@ -5,6 +5,7 @@ use Rattle.node_graph.specs.Tree.{Tree, names_in}
 use Rattle.path_walk.specs.Names.{dot}
 use Rattle.conn_rules.specs.Answers.{Happening}
 use Rattle.conn_rules.specs.Answers as news
+use Rattle.watch_events.specs.Events.{Event}
 use Rattle.watch_events.specs.Messages.{Watcher, added, deleted, removed, told}
 use Rattle.watch_events.specs.Messages as messages
 use Rattle.vfs_journal.specs.History.{watches_node}
@@ -26,11 +27,21 @@ watcher_of bound = record { endpoint = bound.endpoint; mask = bound.mask }
 abbrev pub told_of : List Bound → ℕ → ℕ → ℕ → List ℕ → List Frame
 told_of living server directory event name = told (map watcher_of (filter (watches_node server directory) living)) event name
 
--- a name is told to the watchers of its directory, and that a directory is gone to its own
+-- in which directory something happens, where a directory that is gone is its own
+abbrev pub place_of : Happening → ℕ
+place_of (news.removed name) = name.directory
+place_of (news.added name) = name.directory
+place_of (news.deleted directory) = directory
+
+-- the event that it is told as
+abbrev pub told_as : Happening → Event
+told_as (news.removed name) = record { event = removed; name = name.name }
+told_as (news.added name) = record { event = added; name = name.name }
+told_as (news.deleted directory) = record { event = deleted; name = dot }
+
+-- the watchers of the directory in which it happens are told of it
 abbrev pub told_by : List Bound → ℕ → Happening → List Frame
-told_by living server (news.removed name) = told_of living server name.directory removed name.name
-told_by living server (news.added name) = told_of living server name.directory added name.name
-told_by living server (news.deleted directory) = told_of living server directory deleted dot
+told_by living server happening = told_of living server (place_of happening) (told_as happening).event (told_as happening).name
 
 -- one happening after the other
 abbrev pub told_frames : List Bound → ℕ → List Happening → List Frame

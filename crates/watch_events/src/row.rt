@@ -54,12 +54,6 @@ impl Row {
         self.masks.len()
     }
 
-    pub(crate) fn contains(&self, endpoint: u32) -> bool
-        ensures { result ≡ is_among endpoint self.now }
-    {
-        self.masks.contains_key(&endpoint)
-    }
-
     /// Puts an endpoint behind the others. Of want of memory nothing changed.
     pub(crate) fn add(&mut self, endpoint: u32, mask: u32) -> Result<(), NoMemory>
         requires new { is_among endpoint self.old ≡ false }

@@ -85,16 +85,6 @@ impl Watchers {
         }
     }
 
-    /// Whether an endpoint watches a directory.
-    pub fn is_watching(&self, directory: u64, endpoint: u32) -> bool
-        ensures { result ≡ is_among endpoint (watchers_of self.now directory) }
-    {
-        match self.rows.get(&directory) {
-            Some(row) => row.contains(endpoint),
-            None => false,
-        }
-    }
-
     /// Lets an endpoint watch a directory, behind those that do. `mask` has the bits of the events that it
     /// asks for. Of want of memory nothing changed.
     pub fn add(&mut self, directory: u64, endpoint: u32, mask: u32) -> Result<(), NoMemory>

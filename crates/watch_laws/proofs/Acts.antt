@@ -40,7 +40,7 @@ use Rattle.conn_rules.specs.Refusals.{as_status}
 use Rattle.conn_rules.specs.Walks.{Walk, arrives, behind, crosses, inner_by_kind, inner_rights, inner_step, last_by_kind, last_step, limit_of, missing, passing, stops, walk}
 use Rattle.dirents.specs.Listings.{fits_none}
 use Rattle.vfs_journal.specs.History.{is_watcher}
-use Rattle.journal_laws.proofs.Acts.{graph_allows, none_there, not_refused, path_passes, unless_holds}
+use Rattle.journal_laws.proofs.Acts.{graph_allows, none_there, not_refused, path_passes, unless_holds, MissesOnly, misses_only}
 use Rattle.watch_laws.proofs.Names.{AreTold, IsOfName, cut_there, gone_leaves, is_there, left_behind, put_there}
 
 -- ---- what acts do
@@ -79,52 +79,6 @@ failed tree position m s = nothing tree position (failure_of m s) (by_way (is_on
 
 -- ---- an Open
 
--- what a walk misses is a name
-abbrev MissesName : Walk → Type 0
-MissesName (missing directory name masks) = IsName name
-MissesName _ = Unit {0}
-
-misses_behind : (mask : OperationSet) (w : Walk) → MissesName w → MissesName (behind mask w)
-misses_behind mask (arrives node masks) h = tt
-misses_behind mask (missing directory name masks) h = h
-misses_behind mask (crosses mount rest masks) h = tt
-misses_behind mask (stops s) h = tt
-
-misses_passing : (wanted mask : OperationSet) (w : Walk) → MissesName w → MissesName (passing wanted mask w)
-misses_passing wanted mask w h = by_test (is_within wanted mask) where
-  by_test : (b : Bool) → MissesName (cond b (behind mask w) (stops status.AccessDenied))
-  by_test true = misses_behind mask w h
-  by_test false = tt
-
-last_misses : (word : ℕ) (edge : EdgeTo) (k : NodeKind) → MissesName (last_by_kind word edge k)
-last_misses word edge (Mount index) = misses_passing (asked_rights word) edge.mask (crosses index [] []) tt
-last_misses word edge Directory = misses_passing (explicit_rights word) edge.mask (arrives edge.child []) tt
-last_misses word edge File = misses_passing (explicit_rights word) edge.mask (arrives edge.child []) tt
-last_misses word edge Service = misses_passing (explicit_rights word) edge.mask (arrives edge.child []) tt
-
-last_edge : (tree : Tree) (word directory : ℕ) (name : List ℕ) → IsName name → (o : Option EdgeTo) → MissesName (last_step tree word directory name o)
-last_edge tree word directory name valid None = valid
-last_edge tree word directory name valid (Some edge) = last_misses word edge (kind_behind tree edge)
-
-inner_misses : (word : ℕ) (names : List (List ℕ)) (edge : EdgeTo) (w : Walk) → MissesName w → (k : NodeKind) → MissesName (inner_by_kind word names edge k w)
-inner_misses word names edge w later Directory = misses_passing (inner_rights word) edge.mask w later
-inner_misses word names edge w later File = tt
-inner_misses word names edge w later Service = tt
-inner_misses word names edge w later (Mount index) = misses_passing (inner_rights word) edge.mask (crosses index names []) tt
-
-inner_edge : (tree : Tree) (word : ℕ) (names : List (List ℕ)) (on : ℕ → Walk) → ((n : ℕ) → MissesName (on n)) → (o : Option EdgeTo) → MissesName (inner_step tree word names o on)
-inner_edge tree word names on later None = tt
-inner_edge tree word names on later (Some edge) = inner_misses word names edge (on edge.child) (later edge.child) (kind_behind tree edge)
-
-misses_name : (tree : Tree) (word : ℕ) (names : List (List ℕ)) (directory : ℕ) → All IsName names → MissesName (walk tree word names directory)
-unfolding walk
-misses_name tree word [] directory valid = tt
-misses_name tree word (name ∷ []) directory valid =
-    last_edge tree word directory name (All-head IsName name [] valid) (nodes.edge_at tree (record { directory = directory; name = name }))
-misses_name tree word (name ∷ next ∷ names) directory valid =
-    inner_edge tree word (next ∷ names) (walk tree word (next ∷ names))
-    (λ n. misses_name tree word (next ∷ names) n (All-tail IsName name (next ∷ names) valid)) (nodes.edge_at tree (record { directory = directory; name = name }))
-
 opened_plain : (word : ℕ) (kind : NodeKind) → is_watcher (protocol_of word kind) ≡ false
 opened_plain word Directory = by_test (has word flag.ProtocolNode) where
   by_test : (b : Bool) → is_watcher (cond b protocol.Node protocol.Directory) ≡ false
@@ -157,7 +111,7 @@ made tree position word limit key valid = record {
   by_test true = opened_plain word Directory
   by_test false = opened_plain word File
 
-walked : (context : Context) (word : ℕ) (w : Walk) → MissesName w → IsToldWhole context.tree (by_walk context word w)
+walked : (context : Context) (word : ℕ) (w : Walk) → MissesOnly IsName w → IsToldWhole context.tree (by_walk context word w)
 walked context word (arrives node masks) misses =
     unless_holds (IsToldWhole context.tree) (first_of (arrival_refusals context.room word (kind_here context.tree node))) context.position method.OpenPath _ (λ s. failed context.tree context.position method.OpenPath s)
     (λ e. arrived context.tree context.position word (limit_of context.birth.rights masks) node (kind_here context.tree node))
@@ -278,7 +232,7 @@ module _ (sound : (text : List ℕ) → path_fault text ≡ None → IsPath text
   rows (asks.open_path path flags attributes object) plain =
       unless_holds (IsToldWhole context.tree) (first_of (entry_refusals context.birth flags path)) context.position method.OpenPath _ (refused method.OpenPath)
       (λ e. walked context flags (walk context.tree flags (names_of path) context.birth.node)
-      (misses_name context.tree flags (names_of path) context.birth.node (sound path (path_passes context.birth flags path e)).valid))
+      (misses_only IsName context.tree flags (names_of path) context.birth.node (sound path (path_passes context.birth flags path e)).valid))
   rows (asks.read_dirents most) plain =
       unless_holds (IsToldWhole context.tree) (first_of (cause_if (is_too_much most) status.InvalidArgs ∷ cause_if (fits_none (listing_here context) most) status.BufferTooSmall ∷ [])) context.position method.ReadDirents _ (refused method.ReadDirents)
       (λ e. nothing context.tree _ _ tt)

@@ -25,16 +25,17 @@ use Rattle.vfs_journal.specs.Outcomes.{Outcome}
 use Rattle.vfs_journal.specs.Past.{event_of, history_of}
 use Rattle.vfs_journal.specs.Serving.{context_at, moment_of, outcome_of}
 use Rattle.vfs_journal.specs.Starts.{Bound, Start}
-use Rattle.vfs_journal.specs.Watching.{first_messages}
+use Rattle.vfs_journal.specs.Watching.{first_messages, place_of, told_as}
 use Rattle.journal_laws.specs.Soundness.{IsOnDirectory, IsStart}
 use Rattle.journal_laws.specs.Trees.{IsOnNode}
 use Rattle.journal_laws.proofs.Below.{Below}
 use Rattle.journal_laws.proofs.Filters.{all_of, none_kept}
 use Rattle.journal_laws.proofs.OnTrees.{stand_on_trees}
 use Rattle.journal_laws.proofs.Members.{kept, kept_of}
+use Rattle.journal_laws.proofs.Stepping.{Stepped, none as begun, refusing, sending, serving, time_of}
 use Rattle.journal_laws.proofs.Steps.{births-more, trees_stay}
 use Rattle.watch_laws.specs.Laws.{AsksForNames, HasNames, WatchersKnowTheirNames}
-use Rattle.watch_laws.specs.Sight.{AreWritten, events_for, is_told, messages_on, place_of, sight, told_as}
+use Rattle.watch_laws.specs.Sight.{AreWritten, events_for, is_told, messages_on, sight}
 use Rattle.watch_laws.proofs.Acts.{acts}
 use Rattle.watch_laws.proofs.Messages.{BindsOther, sending_holds}
 use Rattle.watch_laws.proofs.Named.{all_said, among_is_there, bytes_same, is_existing, last_puts, named_there, snapshot_puts, there_is_among, told_puts}
@@ -42,7 +43,6 @@ use Rattle.watch_laws.proofs.Names.{AreTold, IsOfName, found_by, is_there, left_
 use Rattle.watch_laws.proofs.Seen.{binds_not, new_one, same_births, sight_on, sight_still, times_seen}
 use Rattle.watch_laws.proofs.Serving.{IsServedOn, served_on}
 use Rattle.watch_laws.proofs.Spelled.{AreSpelled, IsShort, first_events, first_spelled, joined, singles, written, written_once}
-use Rattle.watch_laws.proofs.Times.{Timed, begun, earlier_timed, refusing, sending, serving, timed}
 
 -- ---- the events of a sight
 
@@ -320,14 +320,14 @@ first_known start s names = record {
   at_start (tree ∷ trees) zero h = All-head HasNames tree trees h
   at_start (tree ∷ trees) (suc server) h = at_start trees server (All-tail HasNames tree trees h)
 
-times_known : Below → (start : Start) (journal : Journal) → IsStart start → All HasNames start.trees → Timed start journal → AreKnown start (history_of start journal)
+times_known : Below → (start : Start) (journal : Journal) → IsStart start → All HasNames start.trees → Stepped start journal → AreKnown start (history_of start journal)
 unfolding history_of event_of
 times_known below start journal s names begun = first_known start s names
-times_known below start journal s names (refusing earlier endpoint why h) =
+times_known below start journal s names (refusing earlier endpoint why h all) =
     idle_known start (history_of start earlier) (event_of start (history_of start earlier) (refuses endpoint why)) refl refl refl refl (times_known below start earlier s names h)
-times_known below start journal s names (sending earlier one h) =
+times_known below start journal s names (sending earlier one h next) =
     idle_known start (history_of start earlier) (event_of start (history_of start earlier) (sends one)) refl refl refl refl (times_known below start earlier s names h)
-times_known below start journal s names (serving earlier one all first h) =
+times_known below start journal s names (serving earlier one h all first) =
     let past = history_of start earlier in
     let on = served_on below start earlier one s all first in
     let placed = All-contains (IsOnNode (trees_of start past)) (living start past) on.at (stand_on_trees below start earlier s all).placed on.lives in
@@ -351,7 +351,7 @@ named_now tree directory events names knows name = by_test (bytes_eq name dot) r
 
 pub know_their_names : Below → WatchersKnowTheirNames
 know_their_names below start later past s names h watcher lives is asks =
-    let time = earlier_timed start later past (timed start (later ++ past) h) in
+    let time = time_of start later past h in
     let history = history_of start past in
     let tree = tree_at (trees_of start history) watcher.server in
     let known = times_known below start past s names time in

@@ -1,7 +1,6 @@
 pub mod Names
 pub mod Acts
 pub mod Messages
-pub mod Times
 pub mod Told
 pub mod Serving
 pub mod Seen

@@ -27,7 +27,8 @@ use Rattle.vfs_journal.specs.Starts.{Bound}
 use Rattle.journal_laws.proofs.Among.{one_passes, passes_any}
 use Rattle.journal_laws.proofs.Lists.{eqb_sym}
 use Rattle.watch_laws.specs.Laws.{AsksForNames}
-use Rattle.watch_laws.specs.Sight.{is_told, told_as}
+use Rattle.vfs_journal.specs.Watching.{told_as}
+use Rattle.watch_laws.specs.Sight.{is_told}
 use Rattle.watch_laws.proofs.Names.{is_there, left_behind, left_by}
 
 -- ---- tests

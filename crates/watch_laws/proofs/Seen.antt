@@ -26,13 +26,13 @@ use Rattle.journal_laws.proofs.Filters.{none_mapped}
 use Rattle.journal_laws.proofs.Lists.{eqb_sym}
 use Rattle.journal_laws.proofs.Members.{contains_cases, contains_here, contains_none, kept, kept_of}
 use Rattle.journal_laws.proofs.Spreading.{among_front, spread_keeps}
+use Rattle.journal_laws.proofs.Stepping.{Stepped, none as begun, refusing, sending, serving, time_of, was_head}
 use Rattle.journal_laws.proofs.Steps.{births-more, trees_stay}
 use Rattle.watch_laws.specs.Laws.{WatchersAreToldTheirSight, WatchersDieOfNoChange}
 use Rattle.watch_laws.specs.Sight.{events_for, is_message_on, messages_on, sight}
 use Rattle.watch_laws.proofs.Acts.{acts}
 use Rattle.watch_laws.proofs.Messages.{BindsOther, IsOther, IsSilent, NoneOn, Writes, act_writes, idle_plain, other_frame, sending_holds, watcher_silent}
 use Rattle.watch_laws.proofs.Serving.{IsServedOn, served_on}
-use Rattle.watch_laws.proofs.Times.{Timed, begun, earlier_timed, refusing, sending, serving, timed, was_head}
 use Rattle.watch_laws.proofs.Told.{is_at, messages_for, one_at, told_living, told_none}
 
 -- ---- what is kept
@@ -310,25 +310,25 @@ first_seen start s = record {
   seen = λ watcher born is. refl;
 }
 
-pub times_seen : Below → (start : Start) (journal : Journal) → IsStart start → Timed start journal → IsSeen start (history_of start journal)
+pub times_seen : Below → (start : Start) (journal : Journal) → IsStart start → Stepped start journal → IsSeen start (history_of start journal)
 unfolding history_of event_of
 times_seen below start journal s begun = first_seen start s
-times_seen below start journal s (refusing earlier endpoint why h) =
+times_seen below start journal s (refusing earlier endpoint why h all) =
     idle_seen start (history_of start earlier) (event_of start (history_of start earlier) (refuses endpoint why)) refl refl refl (λ n. refl) (times_seen below start earlier s h)
-times_seen below start journal s (sending earlier one h) =
+times_seen below start journal s (sending earlier one h next) =
     idle_seen start (history_of start earlier) (event_of start (history_of start earlier) (sends one)) refl refl refl (λ n. refl) (times_seen below start earlier s h)
-times_seen below start journal s (serving earlier one all first h) =
+times_seen below start journal s (serving earlier one h all first) =
     served_seen below start (history_of start earlier) one (served_on below start earlier one s all first) (times_seen below start earlier s h)
 
 -- ---- the laws
 
 pub told_their_sight : Below → WatchersAreToldTheirSight
 told_their_sight below start later past s h watcher born is =
-    (times_seen below start past s (earlier_timed start later past (timed start (later ++ past) h))).seen watcher born is
+    (times_seen below start past s (time_of start later past h)).seen watcher born is
 
 pub die_of_no_change : Below → WatchersDieOfNoChange
 die_of_no_change below start later past sent s h watcher lives is dead =
-    let first = was_head start past sent (earlier_timed start later (serves sent ∷ past) (timed start (later ++ serves sent ∷ past) h)) in
+    let first = was_head start past sent (time_of start later (serves sent ∷ past) h) in
     let history = history_of start past in
     let on = served_on below start past sent s first.0 first.1 in
     let births' = λ (b : Bound) (alive : Contains (living start history) b). (kept_of (λ (x : Bound). not (is_dead history x.endpoint)) (births start history) b alive).0 in

@@ -11,12 +11,12 @@ use Rattle.watch_events.specs.Events.{bytes_of, event_bytes}
 use Rattle.watch_events.specs.Messages.{Watcher, added, asks_for, deleted, removed, told, watch_frame}
 use Rattle.vfs_journal.specs.History.{watches_node}
 use Rattle.vfs_journal.specs.Starts.{Bound}
-use Rattle.vfs_journal.specs.Watching.{told_by, told_frames, told_of, watcher_of}
+use Rattle.vfs_journal.specs.Watching.{told_as, told_by, told_frames, told_of, watcher_of}
 use Rattle.journal_laws.specs.Soundness.{OtherEndpoint}
 use Rattle.journal_laws.proofs.Filters.{all_of, none_kept}
 use Rattle.journal_laws.proofs.Lists.{filter-filter, pairs-head, pairs-tail}
 use Rattle.journal_laws.proofs.Members.{contains_cases, contains_none}
-use Rattle.watch_laws.specs.Sight.{is_message_on, is_told, told_as}
+use Rattle.watch_laws.specs.Sight.{is_message_on, is_told}
 use Rattle.watch_laws.proofs.Messages.{IsOther, NoneOn}
 
 -- ---- filters

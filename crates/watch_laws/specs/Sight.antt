@@ -1,30 +1,16 @@
 -- What a watcher is told, looking back; and what was written on an endpoint.
 use Rattle.std.specs.Prelude.{◌≡◌, ℕ, ◌==◌, ◌&&◌, Bool, if◌then◌else◌, List, [], ◌∷◌, ◌++◌, filter, map}
 use Rattle.endpoint_link.specs.Frames.{Frame}
-use Rattle.path_walk.specs.Names.{dot}
 use Rattle.conn_rules.specs.Answers.{Happening}
-use Rattle.conn_rules.specs.Answers as news
 use Rattle.watch_events.specs.Events.{AreEvents, Event, bytes_of}
-use Rattle.watch_events.specs.Messages.{added, asks_for, deleted, removed}
+use Rattle.watch_events.specs.Messages.{asks_for}
 use Rattle.vfs_journal.specs.History.{History, binds_endpoint, is_dead, tree_at, trees_of, watches_node}
 use Rattle.vfs_journal.specs.Outcomes.{Outcome}
 use Rattle.vfs_journal.specs.Output.{frames_of, is_message}
 use Rattle.vfs_journal.specs.Starts.{Bound, Start}
-use Rattle.vfs_journal.specs.Watching.{first_messages}
+use Rattle.vfs_journal.specs.Watching.{first_messages, place_of, told_as}
 
 -- ---- what one serving tells a watcher
-
--- in which directory something happens
-abbrev pub place_of : Happening → ℕ
-place_of (news.removed name) = name.directory
-place_of (news.added name) = name.directory
-place_of (news.deleted directory) = directory
-
--- the event that it is told as
-abbrev pub told_as : Happening → Event
-told_as (news.removed name) = record { event = removed; name = name.name }
-told_as (news.added name) = record { event = added; name = name.name }
-told_as (news.deleted directory) = record { event = deleted; name = dot }
 
 -- it happens at the server and in the directory of a watcher, whose mask has the bit of the event
 abbrev pub is_told : ℕ → Bound → Happening → Bool

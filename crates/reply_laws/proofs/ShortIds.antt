@@ -1,10 +1,9 @@
--- A lawful journal entry by entry, and the transaction ids of what is sent.
-use Rattle.std.proofs.Common.{◌≡◌, ℕ, ◌<◌, List, [], ◌∷◌, ◌++◌, length, Option, Some, None, Ok, Err, refl, sym, zero, suc, subst, lit<, arith}
+-- The transaction ids of what is sent have 32 bits.
+use Rattle.std.proofs.Common.{◌≡◌, ℕ, ◌<◌, List, [], ◌∷◌, Option, Some, None, Ok, Err, refl, sym, zero, suc, subst, lit<, arith}
 use Rattle.std.specs.Prelude.{slice_index}
 use Rattle.std.proofs.lemmas.List.Elements.{All-head, All-tail}
 use Rattle.byteorder.specs.Numbers.{little_from-lt}
 use Rattle.fidl_names.specs.Numbers.{AreBytes, number_at}
-use Rattle.endpoint_link.specs.declared.kinds.Refusal.{Refusal}
 use Rattle.conn_rules.specs.Answers.{Act, Answer, replies, closes, binds, watches, forwards, refuses, ends, hangs_up, only, silent}
 use Rattle.fidl_wire.specs.Names.{method_ordinal}
 use Rattle.fidl_names.specs.declared.methods.Method.TheVariants as method
@@ -14,16 +13,13 @@ use Rattle.io_messages.specs.declared.protocols.Protocol.{Protocol}
 use Rattle.io_messages.specs.declared.protocols.Protocol.TheVariants as protocol
 use Rattle.path_walk.specs.Paths.{text_of}
 use Rattle.remote_forward.specs.Onward.{onward_bytes}
-use Rattle.vfs_journal.specs.Entries.{Entry, Journal, Sending, Sent, message, hang_up, sends, serves, refuses}
+use Rattle.vfs_journal.specs.Entries.{Journal, Sending, Sent, message, hang_up}
 use Rattle.vfs_journal.specs.History.{History, bound_at}
-use Rattle.vfs_journal.specs.Lawful.{Lawful, begun, refused, sent, closed, served}
 use Rattle.vfs_journal.specs.Outcomes.{Asker, Forwarded, Outcome, forward_of, no_outcome, outcome_with}
 use Rattle.vfs_journal.specs.Past.{history_of}
 use Rattle.vfs_journal.specs.Serving.{Moment, Read, asker_of, fault_answer, fault_txid, moment_of, object_of, request_act, outcome_at, outcome_of, outcome_of_message, outcome_of_read, outcome_of_sending, read_by}
-use Rattle.vfs_journal.specs.Session.{head, with_forward}
 use Rattle.vfs_journal.specs.Starts.{Bound, Start}
-use Rattle.journal_laws.proofs.Stepping.{Stepped}
-use Rattle.journal_laws.proofs.Stepping as steps
+use Rattle.journal_laws.proofs.Stepping.{IsSentNext, messaging, hanging_up, going_on}
 use Rattle.reply_laws.proofs.Framed.{IsShort, header_id}
 use Rattle.reply_laws.specs.Pipelined.{txid_in, txid_of}
 
@@ -88,41 +84,8 @@ short_id : (bytes : List ℕ) → AreBytes bytes → IsShort (txid_in bytes)
 unfolding number_at
 short_id bytes h = little_from-lt 0 4 bytes (byte_below bytes h)
 
--- ---- entry by entry
-
--- each entry is a refusal, a sending at the next place whose transaction id has 32 bits, or the serving of a head
-pub data Grown (start : Start) : Journal → Type 0 where
-  none : Grown start []
-  refusing : (earlier : Journal) (endpoint : ℕ) (why : Refusal) → Grown start earlier → Grown start (refuses endpoint why ∷ earlier)
-  sending : (earlier : Journal) (one : Sent) → Grown start earlier → one.place ≡ length earlier → IsShort (txid_of one.sending) → Grown start (sends one ∷ earlier)
-  serving : (earlier : Journal) (one : Sent) → Grown start earlier → head start (history_of start earlier) one.endpoint ≡ Some one → Grown start (serves one ∷ earlier)
-
-grown_on : (start : Start) (journal : Journal) (origin : ℕ) (forward : Option Forwarded) → ((f : Forwarded) → forward ≡ Some f → IsShort (txid_in f.bytes)) →
-    Grown start journal → Grown start (with_forward origin journal forward)
-grown_on start journal origin None short h = h
-grown_on start journal origin (Some forward) short h = sending journal _ h refl (short forward refl)
-
-pub grown : (start : Start) (journal : Journal) → Lawful start journal → Grown start journal
-grown start journal begun = none
-grown start journal (refused earlier frame why h is admits) = refusing earlier frame.endpoint why (grown start earlier h)
-grown start journal (sent earlier frame h is kind admits) = sending earlier _ (grown start earlier h) refl (short_id frame.bytes is.bytes)
-grown start journal (closed earlier frame h is kind admits) = sending earlier _ (grown start earlier h) refl (lit< tt)
-grown start journal (served earlier entry h is) =
-    grown_on start (serves entry ∷ earlier) entry.place (outcome_of start (history_of start earlier) entry).forward (goes_on_short start (history_of start earlier) entry)
-    (serving earlier entry (grown start earlier h) is)
-
--- so are the entries before any
-before : (start : Start) (entry : Entry) (earlier : Journal) → Grown start (entry ∷ earlier) → Grown start earlier
-before start entry earlier (refusing _ endpoint why h) = h
-before start entry earlier (sending _ one h at short) = h
-before start entry earlier (serving _ one h is) = h
-
-pub earlier_grown : (start : Start) (newer journal : Journal) → Grown start (newer ++ journal) → Grown start journal
-earlier_grown start [] journal h = h
-earlier_grown start (entry ∷ newer) journal h = earlier_grown start newer journal (before start entry (newer ++ journal) h)
-
-pub stepped : (start : Start) (journal : Journal) → Grown start journal → Stepped start journal
-stepped start journal none = steps.none
-stepped start journal (refusing earlier endpoint why h) = steps.refusing earlier endpoint why (stepped start earlier h)
-stepped start journal (sending earlier one h at short) = steps.sending earlier one (stepped start earlier h) at
-stepped start journal (serving earlier one h is) = steps.serving earlier one (stepped start earlier h) is
+-- what is sent next has an id of 32 bits
+pub short_next : (start : Start) (earlier : Journal) (one : Sent) → IsSentNext start earlier one → IsShort (txid_of one.sending)
+short_next start earlier one (messaging _ frame h is kind admits) = short_id frame.bytes is.bytes
+short_next start earlier one (hanging_up _ frame h is kind admits) = lit< tt
+short_next start earlier one (going_on before k forward h first e) = goes_on_short start (history_of start before) k forward e
