@@ -138,7 +138,8 @@ fn read_kind(bytes: &[u8]) -> Result<Protocol, WireFault>
 /// A branch that is an empty table, with which the message ends.
 fn read_empty_table(mut body: Body<'_, '_>) -> Result<(), WireFault>
     requires { body.opened ≡ None }
-    ensures value { IfOk result (λ _. variant_items an_empty_table body.entry ≡ Ok (members [] ∷ [])) }
+    ensures value { IfOk result (λ _.
+        variant_items an_empty_table body.entry ≡ Ok (members [] ∷ [])) }
     ensures fault { IfErr result (λ e. variant_items an_empty_table body.entry ≡ Err e) }
 {
     body.branch(16)?;

@@ -55,8 +55,9 @@ pub fn write_bytes(ordinals: &Ordinals, txid: u32, method: Method, bytes: &[u8],
     put_success(bytes, out);
 }
 
-/// Begins the reply of ReadDirents in an empty output, for a listing of so many bytes. The caller sees to it
-/// that the transaction id is not 0, appends these bytes behind it, as they are, and then pads.
+/// Begins the reply of ReadDirents in an empty output, for a listing of so many bytes. The caller
+/// sees to it that the transaction id is not 0, appends these bytes behind it, as they are, and then
+/// pads.
 pub fn begin_listing(ordinals: &Ordinals, txid: u32, bytes: u32, out: &mut Out)
     requires empty { out.old ≡ record { bytes = []; handles = [] } }
     requires way { 0 < txid }

@@ -13,7 +13,8 @@ use Rattle.io_messages.specs.Writing.{request_bytes, request_handles, IsRequest}
 -- two readings as a request are one, whatever their endpoints speak
 abbrev pub RequestsAreAskedOnce : Type 0
 RequestsAreAskedOnce =
-    (bytes : List ℕ) (handles : List Handle) (t u : ℕ) (a b : Asked) → IsAsked bytes handles t a → IsAsked bytes handles u b → (t ≡ u) × (a ≡ b)
+    (bytes : List ℕ) (handles : List Handle) (t u : ℕ) (a b : Asked) →
+    IsAsked bytes handles t a → IsAsked bytes handles u b → (t ≡ u) × (a ≡ b)
 
 -- so are two readings as a request to one protocol
 abbrev pub RequestsAreReadOnce : Type 0

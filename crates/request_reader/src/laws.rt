@@ -5,7 +5,8 @@ ghost use Rattle.request_reader.specs.Laws.{RequestsAreAskedOnce, RequestsAreRea
 
 use wire_laws::{body_is_read_where_spelled, spelling_is_read, written_header_is_read};
 
-/// Bytes and handles are at most one request, whatever their endpoint speaks, where each method has an ordinal of its own.
+/// Bytes and handles are at most one request, whatever their endpoint speaks, where each method has
+/// an ordinal of its own.
 pub fn request_is_read_once()
     ensures asked { MethodsHaveTheirOwn → RequestsAreAskedOnce }
     ensures read { MethodsHaveTheirOwn → RequestsAreReadOnce }
