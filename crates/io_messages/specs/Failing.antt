@@ -7,8 +7,8 @@ use Rattle.io_messages.specs.declared.replies.Shape.{Shape}
 use Rattle.io_messages.specs.declared.replies.Shape.TheVariants as shape
 use Rattle.io_messages.specs.Shapes.{shape_of}
 
--- what has no reply fails on the endpoint that it carries, and what has one fails in it; but a list of bytes and a string have no place
--- for a status
+-- what has no reply fails on the endpoint that it carries, and what has one fails in it; but a list
+-- of bytes and a string have no place for a status
 abbrev pub failing_with : Option Shape → Failing
 failing_with None = failing.Epitaph
 failing_with (Some shape.Done) = failing.Reply
