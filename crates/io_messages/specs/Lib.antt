@@ -1,6 +1,9 @@
 pub mod Protocols
 pub mod Asked
+pub mod Tokens
 pub mod Shapes
+pub mod Failing
+pub mod Kinds
 pub mod Requests
 pub mod Replies
 pub mod Writing

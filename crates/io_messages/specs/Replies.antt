@@ -1,5 +1,5 @@
 -- The replies and the event as messages: what a reply says, and the layout of each shape.
-use Rattle.std.specs.Prelude.{ℕ, ◌==◌, Bool, true, false, List, [], ◌∷◌, Option, Some, find}
+use Rattle.std.specs.Prelude.{ℕ, ◌==◌, Bool, true, false, List, [], ◌∷◌, Option, Some, find, map}
 use Rattle.fidl_names.specs.declared.methods.Method.{Method}
 use Rattle.fidl_names.specs.declared.statuses.Status.{Status}
 use Rattle.fidl_wire.specs.declared.kinds.HandleKind.TheVariants as kinds
@@ -10,6 +10,7 @@ use Rattle.io_messages.specs.declared.replies.Reply.{Reply}
 use Rattle.io_messages.specs.declared.replies.Reply.TheVariants as reply
 use Rattle.io_messages.specs.declared.replies.Shape.{Shape}
 use Rattle.io_messages.specs.declared.replies.Shape.TheVariants as shape
+use Rattle.io_messages.specs.Kinds.{branch_of_kind, told_kinds}
 use Rattle.io_messages.specs.Protocols.{all_methods}
 
 -- ---- what a reply says, without where its bytes lie in memory
@@ -89,7 +90,7 @@ abbrev pub an_empty_table : Variant
 an_empty_table = object (table [] ∷ [])
 
 abbrev pub event_layout : Layout
-event_layout = union ((1, an_empty_table) ∷ (2, an_empty_table) ∷ (3, an_empty_table) ∷ [])
+event_layout = union (map (λ kind. (branch_of_kind kind, an_empty_table)) told_kinds)
 
 -- ---- the payload
 

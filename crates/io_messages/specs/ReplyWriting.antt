@@ -16,22 +16,21 @@ use Rattle.fidl_wire.specs.Names.{method_ordinal, event_ordinal}
 use Rattle.fidl_wire.specs.Numbers.{padded}
 use Rattle.fidl_wire.specs.Spelling.{body_bytes, body_handles}
 use Rattle.io_messages.specs.declared.protocols.Protocol.{Protocol}
-use Rattle.io_messages.specs.declared.protocols.Protocol.TheVariants as protocol
 use Rattle.io_messages.specs.declared.replies.Attributes.{Attributes}
 use Rattle.io_messages.specs.declared.replies.Shape.{Shape}
 use Rattle.io_messages.specs.declared.replies.Shape.TheVariants as shape
 use Rattle.io_messages.specs.Replies.{Answered, beside_payload, reply_layout, framework_cells, framework_ordinal, framework_envelope, event_layout}
 use Rattle.io_messages.specs.Replies as answers
+use Rattle.io_messages.specs.Failing.{IsInReply, failing_with}
+pub use Rattle.io_messages.specs.Kinds.{branch_of_kind}
 use Rattle.io_messages.specs.Shapes.{shape_of}
 use Rattle.io_messages.specs.Writing.{plain_header}
 
 -- ---- which replies a method has
 
+-- a failure is a reply of this shape
 abbrev pub CanFail : Option Shape → Type 0
-CanFail None = ⊥
-CanFail (Some shape.Vector) = ⊥
-CanFail (Some shape.Text) = ⊥
-CanFail (Some _) = Unit {0}
+CanFail s = IsInReply (failing_with s)
 
 -- bytes may be a payload: where it is a string they are UTF-8
 abbrev pub CanCarry : Option Shape → List ℕ → Type 0
@@ -123,12 +122,6 @@ reply_bytes txid a = header_bytes (reply_header txid a) ++ reply_body a
 
 abbrev pub reply_handles : Answered → List Handle
 reply_handles a = body_handles (written_layout a) (content_of a)
-
--- the branch of each kind of node; a service announces itself as node
-abbrev pub branch_of_kind : Protocol → ℕ
-branch_of_kind protocol.Directory = 2
-branch_of_kind protocol.File = 3
-branch_of_kind _ = 1
 
 abbrev pub event_bytes : Protocol → List ℕ
 event_bytes kind = header_bytes (plain_header 0 event_ordinal) ++ body_bytes event_layout (branch (branch_of_kind kind) (members [] ∷ []))

@@ -20,7 +20,7 @@ use Rattle.io_messages.specs.declared.protocols.Protocol.{Protocol}
 use Rattle.io_messages.specs.declared.requests.RequestFault.{RequestFault}
 use Rattle.io_messages.specs.declared.requests.RequestFault.TheVariants.{Malformed, UnknownStrict, UnknownOneWay, UnknownTwoWay}
 use Rattle.io_messages.specs.declared.requests.Request.{Request}
-use Rattle.io_messages.specs.Asked.{Asked, asked}
+use Rattle.io_messages.specs.Asked.{Asked, asked, method_of}
 use Rattle.io_messages.specs.Asked as asks
 use Rattle.io_messages.specs.Protocols.{has_method, all_methods}
 use Rattle.io_messages.specs.Shapes.{is_one_way}
@@ -165,18 +165,22 @@ asked_from method.EchoString xs = asks.echo_string (seq_in 0 xs)
 abbrev pub has_txid : Bool → ℕ → Bool
 has_txid one_way txid = if one_way then txid == 0 else not (txid == 0)
 
--- bytes and handles are this request to this protocol, with this transaction id
-pub record Reads (protocol : Protocol) (bytes : List ℕ) (handles : List Handle) (txid : ℕ) (a : Asked) : Type 0 where
+-- bytes and handles are this request, with this transaction id, whatever their endpoint speaks
+pub record IsAsked (bytes : List ℕ) (handles : List Handle) (txid : ℕ) (a : Asked) : Type 0 where
   pub header : Header
   pub method : Method
   pub items : List Item
   pub header_is : header_of bytes ≡ Ok header
-  pub known : has_method protocol method ≡ true
   pub ordinal_is : method_ordinal method ≡ header.ordinal
   pub txid_is : header.txid ≡ txid
   pub way : has_txid (is_one_way method) txid ≡ true
   pub spelled : IsSpelled (struct (request_cells method)) (fields items) bytes handles
   pub fields_are : asked_from method items ≡ a
+
+-- and the protocol of their endpoint has its method
+pub record Reads (protocol : Protocol) (bytes : List ℕ) (handles : List Handle) (txid : ℕ) (a : Asked) : Type 0 where
+  pub is_asked : IsAsked bytes handles txid a
+  pub known : has_method protocol (method_of a) ≡ true
 
 -- the method of a protocol with this ordinal
 unfoldable pub method_in : Protocol → ℕ → Option Method

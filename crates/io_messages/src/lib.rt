@@ -3,12 +3,17 @@
 //! `io_replies` reads replies and the event.
 #![tactic(auto)]
 
+mod failing;
+mod kinds;
 mod protocols;
 mod replies;
 mod requests;
 
+pub use failing::{Failing, failing_of};
+pub use kinds::{branch_of_kind, kind_with};
 pub use protocols::{Protocol, has_method};
 pub use replies::{
-    Attributes, FRAMEWORK_ENVELOPE, FRAMEWORK_ORDINAL, Reply, Shape, is_one_way, shape_of,
+    Attributes, ERROR, FRAMEWORK_ENVELOPE, FRAMEWORK_ORDINAL, ORDINAL_PLACE, Reply, SUCCESS, Shape,
+    is_one_way, shape_of,
 };
 pub use requests::{Request, RequestFault, TooLong};

@@ -58,6 +58,15 @@ pub enum Shape {
     Token,
 }
 
+/// The branch of a result that is its success.
+pub const SUCCESS: u64 = 1;
+
+/// The branch of a result that is its error, whose number is that of a status.
+pub const ERROR: u64 = 2;
+
+/// Where the ordinal of a method stands in a message, in bytes from its beginning.
+pub const ORDINAL_PLACE: usize = 8;
+
 /// The framework's error: a union with the ordinal 3, and in its envelope the number -2.
 pub const FRAMEWORK_ORDINAL: u64 = 3;
 

@@ -1,5 +1,6 @@
 ghost use Rattle.std.specs.Prelude.{◌≡◌};
 ghost use Rattle.io_messages.specs.Asked.{asked, method_of};
+ghost use Rattle.io_messages.specs.Tokens.{token_of};
 
 use fidl_names::Method;
 use fidl_wire::WireFault;
@@ -103,6 +104,16 @@ impl<'a> Request<'a> {
             Request::Seek { .. } => Method::Seek,
             Request::Resize { .. } => Method::Resize,
             Request::EchoString { .. } => Method::EchoString,
+        }
+    }
+
+    /// The number of the token that it carries, which names the directory of its second name.
+    pub fn token(&self) -> Option<u32>
+        ensures { result ≡ token_of (asked self.now) }
+    {
+        match self {
+            Request::Rename { token, .. } | Request::Link { token, .. } => Some(*token),
+            _ => None,
         }
     }
 }

@@ -5,3 +5,4 @@ mod ReplyLaws
 mod WrittenReplies
 mod WrittenEvents
 mod Payloads
+mod ToldKinds

@@ -14,8 +14,9 @@ use Rattle.fidl_wire.specs.Reading.{◌>>=◌, body_of}
 use Rattle.io_messages.specs.declared.protocols.Protocol.{Protocol}
 use Rattle.io_messages.specs.declared.replies.Reply.{Reply}
 use Rattle.io_messages.specs.declared.replies.Shape.{Shape}
+use Rattle.io_messages.specs.Kinds.{kind_with}
 use Rattle.io_messages.specs.Replies.{Answered, answered, reply_layout, method_with, event_layout}
-use Rattle.io_replies.specs.Reading.{answered_from, reply_fields, is_framework_error, shaped_reply, named_reply, headed_reply, reply_of, IsFrameworkError, IsReply, ReadsReply, ReadsEvent, kind_of, ordinal_in, headed_event, event_of, reply_told}
+use Rattle.io_replies.specs.Reading.{answered_from, reply_fields, is_framework_error, shaped_reply, named_reply, headed_reply, reply_of, IsFrameworkError, IsReply, ReadsReply, ReadsEvent, kind_in, told_kind, ordinal_in, headed_event, event_of, reply_told}
 use Rattle.io_messages.specs.Replies as answers
 use Rattle.io_messages.specs.Shapes.{shape_of}
 use Rattle.io_replies.proofs.Framework.{no_framework_error}
@@ -178,13 +179,17 @@ same_number m n h = grind (arith, nat_tests)
 number_same : (m n : ℕ) → m ≡ n → nat_eq m n ≡ true
 number_same m n h = grind (arith, nat_tests)
 
+is_told : (o : Option Protocol) (k : Protocol) → told_kind o ≡ Ok k → o ≡ Some k
+is_told None k h = absurd (cc)
+is_told (Some kind) k h = let same : kind ≡ k = cc in ap (λ (v : Protocol). Some v) same
+
 event_read : (law : SpelledWhereRead) (bytes : List ℕ) (k : Protocol) (r : Result Header WireFault) → header_of bytes ≡ r → headed_event r bytes ≡ Ok k → ReadsEvent bytes k
 event_read law bytes k (Err e) header read = absurd (cc)
 event_read law bytes k (Ok h) header read =
     let ordinal = tested (nat_eq h.ordinal event_ordinal) (fault 8 Ordinal) _ k read in
     let way = tested (nat_eq h.txid 0) (fault 0 Txid) _ k ordinal.1 in
     let body = bind_ok (body_of event_layout bytes []) _ k way.1 in
-    let kind : kind_of (ordinal_in body.0) ≡ k = cc body.2 in
+    let kind = is_told (kind_with (ordinal_in body.0)) k body.2 in
     record {
       header = h;
       content = body.0;
@@ -201,15 +206,15 @@ event_found law bytes (Err e) h = tt
 
 abbrev chosen_event : Bool → Bool → List ℕ → Result Protocol WireFault
 chosen_event ordinal way bytes =
-    cond (not ordinal) (Err (fault 8 Ordinal)) (cond (not way) (Err (fault 0 Txid)) (body_of event_layout bytes [] >>= λ content. Ok (kind_of (ordinal_in content))))
+    cond (not ordinal) (Err (fault 8 Ordinal)) (cond (not way) (Err (fault 0 Txid)) (kind_in (body_of event_layout bytes [])))
 
 pub event_spelled : (law : ReadsWhatIsSpelled) (bytes : List ℕ) (k : Protocol) → ReadsEvent bytes k → event_of bytes ≡ Ok k
 event_spelled law bytes k r =
     ap (λ (x : Result Header WireFault). headed_event x bytes) r.header_is
     ∙ ap (λ (b : Bool). chosen_event b (nat_eq r.header.txid 0) bytes) (number_same r.header.ordinal event_ordinal r.ordinal_is)
     ∙ ap (λ (b : Bool). chosen_event true b bytes) (number_same r.header.txid 0 r.way)
-    ∙ ap (λ (x : Result Content WireFault). x >>= λ content. Ok (kind_of (ordinal_in content))) (law event_layout r.content bytes [] r.spelled)
-    ∙ ap (λ (v : Protocol). Ok v) r.kind_is
+    ∙ ap kind_in (law event_layout r.content bytes [] r.spelled)
+    ∙ ap told_kind r.kind_is
 
 -- ---- at most one
 

@@ -1,5 +1,5 @@
 -- What is written for the event is read.
-use Rattle.std.proofs.Common.{◌≡◌, ℕ, ◌^◌, ◌<◌, List, [], ◌∷◌, ◌++◌, length, refl, subst, lit<, arith}
+use Rattle.std.proofs.Common.{◌≡◌, ℕ, ◌^◌, ◌<◌, List, [], ◌∷◌, ◌++◌, length, Some, refl, subst, lit<, arith}
 use Rattle.fidl_wire.specs.Headers.{header_bytes}
 use Rattle.fidl_names.specs.declared.methods.Handle.{Handle}
 use Rattle.fidl_wire.specs.Grammar.{IsSpelled, join, nothing}
@@ -11,8 +11,9 @@ use Rattle.io_messages.specs.declared.protocols.Protocol.{Protocol}
 use Rattle.io_messages.specs.declared.protocols.Protocol.TheVariants as protocol
 use Rattle.io_messages.specs.Writing.{plain_header}
 use Rattle.io_messages.specs.Replies.{event_layout, an_empty_table}
-use Rattle.io_replies.specs.Reading.{ReadsEvent, kind_of}
-use Rattle.io_messages.specs.ReplyWriting.{event_bytes, branch_of_kind}
+use Rattle.io_messages.specs.Kinds.{announced_as, kind_with}
+use Rattle.io_replies.specs.Reading.{ReadsEvent}
+use Rattle.io_messages.specs.ReplyWriting.{event_bytes}
 use Rattle.fidl_wire.proofs.Rows.{small_rest}
 use Rattle.message_writer.proofs.Lengths.{length-header, length-count, padded_none}
 use Rattle.message_writer.proofs.Unions.{cat, object_length}
@@ -24,9 +25,9 @@ table_small =
 empty_fits : FitsVariant an_empty_table (members [] ∷ [])
 empty_fits = (((lit< tt, tt), tt), lit< tt, table_small, lit< tt)
 
-event_as : (n : ℕ) → FitsBody event_layout (branch n (members [] ∷ [])) → body_handles event_layout (branch n (members [] ∷ [])) ≡ [] → SpellingIsSpelled → HeadersAreRead →
-    ReadsEvent (header_bytes (plain_header 0 event_ordinal) ++ body_bytes event_layout (branch n (members [] ∷ []))) (kind_of n)
-event_as n fits none law header_again = record {
+event_as : (n : ℕ) (k : Protocol) → kind_with n ≡ Some k → FitsBody event_layout (branch n (members [] ∷ [])) → body_handles event_layout (branch n (members [] ∷ [])) ≡ [] → SpellingIsSpelled → HeadersAreRead →
+    ReadsEvent (header_bytes (plain_header 0 event_ordinal) ++ body_bytes event_layout (branch n (members [] ∷ []))) k
+event_as n k is fits none law header_again = record {
   header = plain_header 0 event_ordinal;
   content = branch n (members [] ∷ []);
   header_is = header_again (plain_header 0 event_ordinal) (body_bytes event_layout (branch n (members [] ∷ []))) (lit< tt) (small_rest _);
@@ -34,12 +35,13 @@ event_as n fits none law header_again = record {
   way = refl;
   spelled = subst (λ (hs : List Handle). IsSpelled event_layout (branch n (members [] ∷ [])) (header_bytes (plain_header 0 event_ordinal) ++ body_bytes event_layout (branch n (members [] ∷ []))) hs) none
       (law event_layout (branch n (members [] ∷ [])) (header_bytes (plain_header 0 event_ordinal)) (length-header (plain_header 0 event_ordinal)) fits);
-  kind_is = refl;
+  kind_is = is;
 }
 
-pub written_event : SpellingIsSpelled → HeadersAreRead → (k : Protocol) → ReadsEvent (event_bytes k) (kind_of (branch_of_kind k))
-written_event law header_again protocol.Directory = event_as 2 (lit< tt, empty_fits) refl law header_again
-written_event law header_again protocol.File = event_as 3 (lit< tt, empty_fits) refl law header_again
-written_event law header_again protocol.Node = event_as 1 (lit< tt, empty_fits) refl law header_again
-written_event law header_again protocol.Echo = event_as 1 (lit< tt, empty_fits) refl law header_again
-written_event law header_again protocol.Watcher = event_as 1 (lit< tt, empty_fits) refl law header_again
+pub written_event : SpellingIsSpelled → HeadersAreRead → (k : Protocol) → ReadsEvent (event_bytes k) (announced_as k)
+unfolding kind_with
+written_event law header_again protocol.Directory = event_as 2 protocol.Directory refl (lit< tt, empty_fits) refl law header_again
+written_event law header_again protocol.File = event_as 3 protocol.File refl (lit< tt, empty_fits) refl law header_again
+written_event law header_again protocol.Node = event_as 1 protocol.Node refl (lit< tt, empty_fits) refl law header_again
+written_event law header_again protocol.Echo = event_as 1 protocol.Node refl (lit< tt, empty_fits) refl law header_again
+written_event law header_again protocol.Watcher = event_as 1 protocol.Node refl (lit< tt, empty_fits) refl law header_again

@@ -2,10 +2,11 @@
 use Rattle.std.specs.Prelude.{◌≡◌, ℕ, ◌^◌, ◌<◌, List, Option, IfSome}
 use Rattle.fidl_names.specs.declared.methods.Handle.{Handle}
 use Rattle.io_messages.specs.declared.protocols.Protocol.{Protocol}
+use Rattle.io_messages.specs.Kinds.{announced_as}
 use Rattle.io_messages.specs.Replies.{Answered}
 use Rattle.io_messages.specs.Replies as answers
-use Rattle.io_messages.specs.ReplyWriting.{HasReply, PayloadFits, reply_bytes, reply_handles, event_bytes, branch_of_kind}
-use Rattle.io_replies.specs.Reading.{IsFrameworkError, IsReply, ReadsReply, ReadsEvent, kind_of}
+use Rattle.io_messages.specs.ReplyWriting.{HasReply, PayloadFits, reply_bytes, reply_handles, event_bytes}
+use Rattle.io_replies.specs.Reading.{IsFrameworkError, IsReply, ReadsReply, ReadsEvent}
 
 -- two readings as a reply are one
 abbrev pub RepliesAreReadOnce : Type 0
@@ -38,6 +39,6 @@ abbrev pub WrittenRepliesAreRead : Type 0
 WrittenRepliesAreRead =
     (t : ℕ) (a : Answered) → 0 < t → t < 2 ^ 32 → HasReply a → PayloadFits a → NumbersFit a → ReadsReply (reply_bytes t a) (reply_handles a) t a
 
--- what is written for a kind is an event that tells it, or node for a service
+-- what is written for a kind is an event that tells what it announces itself as
 abbrev pub WrittenEventsAreRead : Type 0
-WrittenEventsAreRead = (k : Protocol) → ReadsEvent (event_bytes k) (kind_of (branch_of_kind k))
+WrittenEventsAreRead = (k : Protocol) → ReadsEvent (event_bytes k) (announced_as k)

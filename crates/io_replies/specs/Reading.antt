@@ -17,12 +17,12 @@ use Rattle.fidl_wire.specs.Layout.{Item, Content, struct, fields, branch, word, 
 use Rattle.fidl_wire.specs.Names.{method_ordinal, event_ordinal}
 use Rattle.fidl_wire.specs.Reading.{◌>>=◌, body_of, variant_items}
 use Rattle.io_messages.specs.declared.protocols.Protocol.{Protocol}
-use Rattle.io_messages.specs.declared.protocols.Protocol.TheVariants as protocol
 use Rattle.io_messages.specs.declared.replies.Attributes.{Attributes}
 use Rattle.io_messages.specs.declared.replies.Reply.{Reply}
 use Rattle.io_messages.specs.declared.replies.Shape.{Shape}
 use Rattle.io_messages.specs.declared.replies.Shape.TheVariants as shape
 use Rattle.fidl_names.specs.HandleNumber.{number_of_handle}
+use Rattle.io_messages.specs.Kinds.{kind_with}
 use Rattle.io_messages.specs.Requests.{IsPartAt, item, num_in, seq_in, items_in}
 use Rattle.io_messages.specs.Shapes.{shape_of}
 use Rattle.io_messages.specs.Replies.{Answered, done, fails, counted, payload, settled, token, attributes, unknown, answered, reply_layout, framework_cells, framework_ordinal, framework_envelope, method_with, event_layout, beside_payload}
@@ -143,15 +143,20 @@ reply_of bytes handles = headed_reply (header_of bytes) bytes handles
 
 -- ---- the event
 
-abbrev pub kind_of : ℕ → Protocol
-kind_of ordinal = if ordinal == 1 then protocol.Node else if ordinal == 2 then protocol.Directory else protocol.File
+abbrev pub told_kind : Option Protocol → Result Protocol WireFault
+told_kind None = Err (fault 16 Ordinal)
+told_kind (Some kind) = Ok kind
+
+-- the kind that an event's body tells
+abbrev pub kind_in : Result Content WireFault → Result Protocol WireFault
+kind_in body = body >>= λ content. told_kind (kind_with (ordinal_in content))
 
 abbrev pub headed_event : Result Header WireFault → List ℕ → Result Protocol WireFault
 headed_event (Err e) bytes = Err e
 headed_event (Ok h) bytes =
     if not (h.ordinal == event_ordinal) then Err (fault 8 Ordinal)
     else if not (h.txid == 0) then Err (fault 0 Txid)
-    else (body_of event_layout bytes [] >>= λ content. Ok (kind_of (ordinal_in content)))
+    else kind_in (body_of event_layout bytes [])
 
 -- the kind that an event tells, or why the bytes are no event
 abbrev pub event_of : List ℕ → Result Protocol WireFault
@@ -195,7 +200,7 @@ pub record ReadsEvent (bytes : List ℕ) (kind : Protocol) : Type 0 where
   pub ordinal_is : header.ordinal ≡ event_ordinal
   pub way : header.txid ≡ 0
   pub spelled : IsSpelled event_layout content bytes []
-  pub kind_is : kind_of (ordinal_in content) ≡ kind
+  pub kind_is : kind_with (ordinal_in content) ≡ Some kind
 
 -- ---- the part that a reply lends
 

@@ -7,18 +7,13 @@ ghost use Rattle.io_replies.specs.Reading.{status_with, failed, answer_told, rep
 use body_reader::Body;
 use fidl_names::{Handle, Method, Status};
 use fidl_wire::{WireFault, WireWhat};
-use io_messages::{Attributes, Reply, Shape};
+use io_messages::{Attributes, ERROR, Reply, SUCCESS, Shape};
 
 /// Where the union of a result, or a reply's status, stands.
 const STATUS_PLACE: usize = 16;
 
 /// Where the number of a result's error stands.
 const ERROR_PLACE: usize = 24;
-
-/// The branch of a result that is its success, and of its error.
-const SUCCESS: u64 = 1;
-
-const ERROR: u64 = 2;
 
 /// Protocols, abilities, the content's size, not the storage's, the count of links, and the id.
 const KNOWN_ATTRIBUTES: [bool; 6] = [true, true, true, false, true, true];
@@ -74,7 +69,7 @@ fn read_error<'a>(method: Method, mut body: Body<'_, '_>) -> Result<Reply<'a>, W
     let branch = body.branch(4)?;
     body.finish()?;
     match branch.inlined {
-        None => failed(method, ERROR_PLACE, 0),
+        None => unreachable!(),
         Some(number) => failed(method, ERROR_PLACE, number),
     }
 }

@@ -1,18 +1,17 @@
 ghost use Rattle.std.specs.Prelude.{◌≡◌, [], ◌∷◌, Ok, Err, IfOk, IfErr, ℕ};
 ghost use Rattle.fidl_wire.specs.Layout.{struct, fields, branch, num, members};
-ghost use Rattle.fidl_wire.specs.Reading.{body_of};
+ghost use Rattle.fidl_wire.specs.Reading.{body_of, variant_items};
 ghost use Rattle.io_messages.specs.declared.protocols.Protocol.{Protocol};
-ghost use Rattle.io_messages.specs.Replies.{Answered, answered, method_with, event_layout, framework_cells};
-ghost use Rattle.io_replies.specs.Reading.{IsPayloadOf, ReadsReply, ReadsEvent, is_framework_error, reply_of, reply_told, event_of, kind_of};
+ghost use Rattle.io_messages.specs.Replies.{Answered, answered, method_with, an_empty_table, event_layout, framework_cells};
+ghost use Rattle.io_replies.specs.Reading.{IsPayloadOf, ReadsReply, ReadsEvent, is_framework_error, reply_of, reply_told, event_of, kind_in};
 
 use crate::reply_fields::read_fields;
 use body_reader::Body;
 use fidl_names::{Handle, Method};
 use fidl_wire::{Header, Ordinals, WireFault, WireWhat};
-use io_messages::{FRAMEWORK_ENVELOPE, FRAMEWORK_ORDINAL, Protocol, Reply, shape_of};
-
-/// Where a header's ordinal stands.
-const ORDINAL_PLACE: usize = 8;
+use io_messages::{
+    FRAMEWORK_ENVELOPE, FRAMEWORK_ORDINAL, ORDINAL_PLACE, Protocol, Reply, kind_with, shape_of,
+};
 
 /// The reply that bytes and handles are, and its transaction id.
 ///
@@ -120,35 +119,30 @@ fn event_in(ordinals: &Ordinals, bytes: &[u8]) -> Result<Protocol, WireFault>
     if header.txid != 0 {
         return Err(WireFault::new(0, WireWhat::Txid));
     }
-    let kind = read_kind(bytes)?;
-    Ok(kind_of(kind))
+    read_kind(bytes)
 }
 
-/// The branch of an event's union, each of which is an empty table.
-fn read_kind(bytes: &[u8]) -> Result<u64, WireFault>
-    ensures value { IfOk result (λ n. body_of event_layout bytes.now [] ≡ Ok (branch n (members [] ∷ []))) }
-    ensures fault { IfErr result (λ e. body_of event_layout bytes.now [] ≡ Err e) }
+/// The kind that the branch of an event's union tells.
+fn read_kind(bytes: &[u8]) -> Result<Protocol, WireFault>
+    ensures { result ≡ kind_in (body_of event_layout bytes.now []) }
 {
-    let mut body = Body::new(bytes, &[], 16)?;
+    let body = Body::new(bytes, &[], 16)?;
     let ordinal = body.peek()?;
-    match ordinal {
-        1..=3 => {
-            body.branch(16)?;
-            body.table(&[], &mut [])?;
-            body.finish()?;
-            Ok(ordinal)
-        }
-        _ => Err(WireFault::new(16, WireWhat::Ordinal)),
-    }
+    let Some(kind) = kind_with(ordinal) else {
+        return Err(WireFault::new(16, WireWhat::Ordinal));
+    };
+    read_empty_table(body)?;
+    Ok(kind)
 }
 
-/// The kind of node that a branch tells.
-fn kind_of(ordinal: u64) -> Protocol
-    ensures { result ≡ kind_of ordinal }
+/// A branch that is an empty table, with which the message ends.
+fn read_empty_table(mut body: Body<'_, '_>) -> Result<(), WireFault>
+    requires { body.opened ≡ None }
+    ensures value { IfOk result (λ _.
+        variant_items an_empty_table body.entry ≡ Ok (members [] ∷ [])) }
+    ensures fault { IfErr result (λ e. variant_items an_empty_table body.entry ≡ Err e) }
 {
-    match ordinal {
-        1 => Protocol::Node,
-        2 => Protocol::Directory,
-        _ => Protocol::File,
-    }
+    body.branch(16)?;
+    body.table(&[], &mut [])?;
+    body.finish()
 }

@@ -7,19 +7,15 @@ ghost use Rattle.fidl_wire.specs.Spelling.{object_bytes, count_bytes, envelope_b
 ghost use Rattle.message_writer.specs.Fields.{list_object, parts_of};
 ghost use Rattle.io_messages.specs.Shapes.{shape_of};
 ghost use Rattle.io_messages.specs.Replies.{answered, attributes, beside_payload, payload};
-ghost use Rattle.io_messages.specs.ReplyWriting.{HasReply, PayloadFits, CanFail, CanCarry, reply_bytes, reply_body, reply_handles, reply_header, layout_of, failure, carried, event_bytes, branch_of_kind, status_word};
+ghost use Rattle.io_messages.specs.ReplyWriting.{HasReply, PayloadFits, CanFail, CanCarry, reply_bytes, reply_body, reply_handles, reply_header, layout_of, failure, carried, event_bytes, status_word};
 
 use crate::fields::{Field, put_count, put_object, put_padded, size_of};
 use fidl_names::{Handle, MAX_BYTES, Method, Status, long_array, word_array};
 use fidl_wire::{Header, Ordinals, Out, padding_after};
 use io_messages::{
-    Attributes, FRAMEWORK_ENVELOPE, FRAMEWORK_ORDINAL, Protocol, Reply, Shape, shape_of,
+    Attributes, ERROR, FRAMEWORK_ENVELOPE, FRAMEWORK_ORDINAL, Protocol, Reply, SUCCESS, Shape,
+    branch_of_kind, shape_of,
 };
-
-/// The branches of a result.
-const SUCCESS: u64 = 1;
-
-const ERROR: u64 = 2;
 
 /// Behind the value in an envelope: no handle, and the flag that the value stands there.
 const INLINED: u32 = 0x0001_0000;
@@ -59,10 +55,12 @@ pub fn write_bytes(ordinals: &Ordinals, txid: u32, method: Method, bytes: &[u8],
     put_success(bytes, out);
 }
 
-/// Begins the reply of ReadDirents in an empty output, for a listing of so many bytes. The caller appends
-/// these bytes behind it, as they are, and then pads.
+/// Begins the reply of ReadDirents in an empty output, for a listing of so many bytes. The caller
+/// sees to it that the transaction id is not 0, appends these bytes behind it, as they are, and then
+/// pads.
 pub fn begin_listing(ordinals: &Ordinals, txid: u32, bytes: u32, out: &mut Out)
-    requires { out.old ≡ record { bytes = []; handles = [] } }
+    requires empty { out.old ≡ record { bytes = []; handles = [] } }
+    requires way { 0 < txid }
     ensures bytes { (listed : List ℕ) → length listed ≡ bytes → padded_bytes (out.new.bytes ++ listed) ≡ reply_bytes txid (payload Method.ReadDirents listed) }
     ensures len { length out.new.bytes ≡ 40 }
     ensures handles { (listed : List ℕ) → out.new.handles ≡ reply_handles (payload Method.ReadDirents listed) }
@@ -263,17 +261,4 @@ pub fn write_event(ordinals: &Ordinals, kind: Protocol, out: &mut Out)
         ordinal: ordinals.event(),
     });
     put_branch(branch_of_kind(kind), &[Field::Table(&[])], out);
-}
-
-/// The branch of a kind of node.
-fn branch_of_kind(kind: Protocol) -> u64
-    ensures { result ≡ branch_of_kind kind }
-{
-    match kind {
-        Protocol::Directory => 2,
-        Protocol::File => 3,
-        Protocol::Node => 1,
-        Protocol::Echo => 1,
-        Protocol::Watcher => 1,
-    }
 }

@@ -88,4 +88,6 @@ carries_by method.Resize items bytes handles h = tt
 carries_by method.EchoString items bytes handles h = tt
 
 pub carries : RequestsCarryTheirEndpoints
-carries p bytes handles txid a r = subst (λ (b : Asked). Carries b handles) r.fields_are (carries_by r.method r.items bytes handles r.spelled)
+carries p bytes handles txid a reads =
+    let r = reads.is_asked in
+    subst (λ (b : Asked). Carries b handles) r.fields_are (carries_by r.method r.items bytes handles r.spelled)

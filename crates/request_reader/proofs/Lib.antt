@@ -2,3 +2,4 @@ pub mod RequestLaws
 pub mod Carrying
 pub mod Taking
 pub mod WrittenRequests
+pub mod AskedParts

@@ -14,9 +14,10 @@ use Rattle.io_messages.specs.declared.protocols.Protocol.{Protocol}
 use Rattle.io_messages.specs.declared.requests.RequestFault.{RequestFault}
 use Rattle.io_messages.specs.declared.requests.Request.{Request}
 use Rattle.io_messages.specs.Asked.{Asked, asked}
-use Rattle.io_messages.specs.Requests.{Reads, request_cells, asked_from, items_in, fields_of, has_txid, method_in, with_txid, or_malformed, known_request, behind_header, request_of, told}
+use Rattle.io_messages.specs.Protocols.{has_method}
+use Rattle.io_messages.specs.Requests.{IsAsked, Reads, request_cells, asked_from, items_in, fields_of, has_txid, method_in, with_txid, or_malformed, known_request, behind_header, request_of, told}
 use Rattle.io_messages.specs.Shapes.{is_one_way}
-use Rattle.io_messages.proofs.Known.{method_in-has, method_in-says, only_method}
+use Rattle.io_messages.proofs.Known.{method_asked, method_in-has, method_in-says, only_method}
 use Rattle.wire_laws.proofs.Leaving.{bind_ok}
 
 -- ---- what is read is spelled
@@ -47,18 +48,18 @@ fields_read law p bytes handles t a h m header named way read =
     let says = method_in-says p h.ordinal m named in
     let txid : h.txid ≡ t = ap (λ (v : Read). v.0) same in
     let from : asked_from m (items_in body.0) ≡ got.0 = cc body.2 in
-    record {
+    let is : IsAsked bytes handles t a = record {
       header = h;
       method = m;
       items = items_in body.0;
       header_is = header;
-      known = says.0;
       ordinal_is = says.1;
       txid_is = txid;
       way = subst (λ (n : ℕ). has_txid (is_one_way m) n ≡ true) txid way;
       spelled = subst (λ (c : Content). IsSpelled (struct (request_cells m)) c bytes handles) (content_is law m bytes handles body.0 body.1) (law (struct (request_cells m)) body.0 bytes handles body.1);
       fields_are = from ∙ ap (λ (v : Read). v.1) same;
-    }
+    } in
+    record { is_asked = is; known = ap (has_method p) (method_asked bytes handles t a is) ∙ says.0 }
 
 named_read : (law : SpelledWhereRead) (p : Protocol) (bytes : List ℕ) (handles : List Handle) (t : ℕ) (a : Asked) (h : Header) (o : Option Method) → header_of bytes ≡ Ok h →
     method_in p h.ordinal ≡ o → known_request h o bytes handles ≡ Ok (t, a) → Reads p bytes handles t a
@@ -98,17 +99,32 @@ told_known h m bytes handles t a txid way read =
     ∙ ap (λ (r : Result Asked WireFault). or_malformed (with_txid true t r)) read
 
 pub what_is_spelled : (law : ReadsWhatIsSpelled) → MethodsHaveTheirOwn → (p : Protocol) (bytes : List ℕ) (handles : List Handle) (t : ℕ) (a : Asked) → Reads p bytes handles t a → request_of p bytes handles ≡ Ok (t, a)
-what_is_spelled law apart p bytes handles t a r =
-    let named = method_in-has p r.header.ordinal r.method r.known r.ordinal_is (only_method apart r.method r.header.ordinal r.ordinal_is) in
+what_is_spelled law apart p bytes handles t a reads =
+    let r = reads.is_asked in
+    let known : has_method p r.method ≡ true = ap (has_method p) (sym (method_asked bytes handles t a r)) ∙ reads.known in
+    let named = method_in-has p r.header.ordinal r.method known r.ordinal_is (only_method apart r.method r.header.ordinal r.ordinal_is) in
     ap (λ (x : Result Header WireFault). behind_header p x bytes handles) r.header_is
     ∙ ap (λ (o : Option Method). known_request r.header o bytes handles) named
     ∙ told_known r.header r.method bytes handles t a r.txid_is r.way (spelled_fields law r.method r.items bytes handles a r.spelled r.fields_are)
 
--- two readings are one
+-- ---- two readings are one
+
+same_header : (g h : Header) (r : Result Header WireFault) → r ≡ Ok g → r ≡ Ok h → g ≡ h
+same_header g h r one other = cc
+
+same_asked : (a b : Asked) (r : Result Asked WireFault) → r ≡ Ok a → r ≡ Ok b → a ≡ b
+same_asked a b r one other = cc
+
+-- whatever their endpoints speak
+pub asked_once : (law : ReadsWhatIsSpelled) → MethodsHaveTheirOwn → (bytes : List ℕ) (handles : List Handle) (t u : ℕ) (a b : Asked) → IsAsked bytes handles t a → IsAsked bytes handles u b → (t ≡ u) × (a ≡ b)
+asked_once law apart bytes handles t u a b r s =
+    let headers : r.header ≡ s.header = same_header r.header s.header (header_of bytes) r.header_is s.header_is in
+    let methods : r.method ≡ s.method = apart r.method s.method (r.ordinal_is ∙ ap (λ (h : Header). h.ordinal) headers ∙ sym s.ordinal_is) in
+    let one = spelled_fields law r.method r.items bytes handles a r.spelled r.fields_are in
+    let other = spelled_fields law s.method s.items bytes handles b s.spelled s.fields_are in (
+      sym r.txid_is ∙ ap (λ (h : Header). h.txid) headers ∙ s.txid_is,
+      same_asked a b (fields_of r.method bytes handles) one (ap (λ (m : Method). fields_of m bytes handles) methods ∙ other),
+    )
+
 pub read_once : (law : ReadsWhatIsSpelled) → MethodsHaveTheirOwn → (p : Protocol) (bytes : List ℕ) (handles : List Handle) (t u : ℕ) (a b : Asked) → Reads p bytes handles t a → Reads p bytes handles u b → (t ≡ u) × (a ≡ b)
-read_once law apart p bytes handles t u a b r s =
-    let one = what_is_spelled law apart p bytes handles t a r in
-    let other = what_is_spelled law apart p bytes handles u b s in
-    let x : Read = (t, a) in
-    let same : x ≡ (u, b) = cc (one, other) in
-    (ap (λ (v : Read). v.0) same, ap (λ (v : Read). v.1) same)
+read_once law apart p bytes handles t u a b r s = asked_once law apart bytes handles t u a b r.is_asked s.is_asked

@@ -11,7 +11,7 @@ use Rattle.io_messages.specs.declared.protocols.Protocol.{Protocol}
 use Rattle.io_messages.specs.Asked.{Asked, method_of}
 use Rattle.io_messages.specs.Asked as asks
 use Rattle.io_messages.specs.Protocols.{has_method}
-use Rattle.io_messages.specs.Requests.{Reads, has_txid, request_cells, items_of, asked_from, flags_member}
+use Rattle.io_messages.specs.Requests.{IsAsked, Reads, has_txid, request_cells, items_of, asked_from, flags_member}
 use Rattle.io_messages.specs.Shapes.{is_one_way}
 use Rattle.io_messages.specs.Writing.{plain_header, request_bytes, request_body, request_handles, HasOffset, IsRequest}
 use Rattle.fidl_wire.proofs.Rows.{small_ordinal}
@@ -47,17 +47,20 @@ request_again (asks.seek origin offset) h = ap (asks.seek origin) (to_z-of_z w64
 request_again (asks.resize size) h = refl
 request_again (asks.echo_string value) h = refl
 
-pub written_request : SpellingIsSpelled → HeadersAreRead → (p : Protocol) (t : ℕ) (a : Asked) → has_method p (method_of a) ≡ true → t < 2 ^ 32 → has_txid (is_one_way (method_of a)) t ≡ true → IsRequest a →
-    Reads p (request_bytes t a) (request_handles a) t a
-written_request law header_again p t a known small way is = record {
+pub written_asked : SpellingIsSpelled → HeadersAreRead → (t : ℕ) (a : Asked) → t < 2 ^ 32 → has_txid (is_one_way (method_of a)) t ≡ true → IsRequest a →
+    IsAsked (request_bytes t a) (request_handles a) t a
+written_asked law header_again t a small way is = record {
   header = plain_header t (method_ordinal (method_of a));
   method = method_of a;
   items = items_of a;
   header_is = header_again (plain_header t (method_ordinal (method_of a))) (request_body a) small (small_ordinal (method_of a));
-  known = known;
   ordinal_is = refl;
   txid_is = refl;
   way = way;
   spelled = law (struct (request_cells (method_of a))) (fields (items_of a)) (header_bytes (plain_header t (method_ordinal (method_of a)))) (length-header (plain_header t (method_ordinal (method_of a)))) is.fits;
   fields_are = request_again a is.offset;
 }
+
+pub written_request : SpellingIsSpelled → HeadersAreRead → (p : Protocol) (t : ℕ) (a : Asked) → has_method p (method_of a) ≡ true → t < 2 ^ 32 → has_txid (is_one_way (method_of a)) t ≡ true → IsRequest a →
+    Reads p (request_bytes t a) (request_handles a) t a
+written_request law header_again p t a known small way is = record { is_asked = written_asked law header_again t a small way is; known = known }

@@ -6,11 +6,17 @@ use Rattle.io_messages.specs.declared.protocols.Protocol.{Protocol}
 use Rattle.io_messages.specs.Asked.{Asked, method_of}
 use Rattle.io_messages.specs.Asked as asks
 use Rattle.io_messages.specs.Protocols.{has_method}
-use Rattle.io_messages.specs.Requests.{Reads, has_txid, request_of}
+use Rattle.io_messages.specs.Requests.{IsAsked, Reads, has_txid, request_of}
 use Rattle.io_messages.specs.Shapes.{is_one_way}
 use Rattle.io_messages.specs.Writing.{request_bytes, request_handles, IsRequest}
 
--- two readings as a request are one
+-- two readings as a request are one, whatever their endpoints speak
+abbrev pub RequestsAreAskedOnce : Type 0
+RequestsAreAskedOnce =
+    (bytes : List ℕ) (handles : List Handle) (t u : ℕ) (a b : Asked) →
+    IsAsked bytes handles t a → IsAsked bytes handles u b → (t ≡ u) × (a ≡ b)
+
+-- so are two readings as a request to one protocol
 abbrev pub RequestsAreReadOnce : Type 0
 RequestsAreReadOnce =
     (p : Protocol) (bytes : List ℕ) (handles : List Handle) (t u : ℕ) (a b : Asked) → Reads p bytes handles t a → Reads p bytes handles u b → (t ≡ u) × (a ≡ b)

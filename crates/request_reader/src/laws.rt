@@ -1,13 +1,15 @@
 //! Laws of requests. They compute nothing: what they say is in their clauses.
 
 ghost use Rattle.fidl_wire.specs.Names.{MethodsHaveTheirOwn};
-ghost use Rattle.request_reader.specs.Laws.{RequestsAreReadOnce, RequestsAreFound, FoundRequestsAreRead, RequestsCarryTheirEndpoints, WrittenRequestsAreRead};
+ghost use Rattle.request_reader.specs.Laws.{RequestsAreAskedOnce, RequestsAreReadOnce, RequestsAreFound, FoundRequestsAreRead, RequestsCarryTheirEndpoints, WrittenRequestsAreRead};
 
 use wire_laws::{body_is_read_where_spelled, spelling_is_read, written_header_is_read};
 
-/// Bytes and handles are at most one request to a protocol, where each method has an ordinal of its own.
+/// Bytes and handles are at most one request, whatever their endpoint speaks, where each method has
+/// an ordinal of its own.
 pub fn request_is_read_once()
-    ensures { MethodsHaveTheirOwn → RequestsAreReadOnce }
+    ensures asked { MethodsHaveTheirOwn → RequestsAreAskedOnce }
+    ensures read { MethodsHaveTheirOwn → RequestsAreReadOnce }
 {
     body_is_read_where_spelled();
 }

@@ -14,7 +14,7 @@ use Rattle.message_writer.proofs.reply_writer.begin_listing.Goals as goal
 pub returns-clause-bytes : goal.returns-clause-bytes
 returns-clause-bytes c = λ listed size.
     let head = header_bytes (plain_header c.args.txid c.of.result) in
-    let first : c.begin.new.self.bytes ≡ head = c.begin.ensures.bytes ∙ ap (λ (out : Written). out.bytes ++ head) c.requires in
+    let first : c.begin.new.self.bytes ≡ head = c.begin.ensures.bytes ∙ ap (λ (out : Written). out.bytes ++ head) c.requires.empty in
     let begun = c.put_count.ensures.bytes
     ∙ ap (λ (bs : List ℕ). bs ++ count_bytes c.args.bytes) (c.put_u64.ensures.bytes ∙ ap (λ (bs : List ℕ). bs ++ number_bytes 8 0) first) in
     listing_begun head c.put_count.new.out.bytes listed c.args.bytes (length-header (plain_header c.args.txid c.of.result)) size begun
