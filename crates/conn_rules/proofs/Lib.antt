@@ -1,5 +1,4 @@
 pub mod EveryWalk
-mod Failing
 pub mod KeptRows
 pub mod Narrow
 pub mod Taking

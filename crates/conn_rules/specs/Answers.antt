@@ -1,9 +1,11 @@
 -- What the serving of one request does.
-use Rattle.std.specs.Prelude.{ℕ, Bool, List, [], ◌∷◌, Option, Some, None, if◌then◌else◌}
+use Rattle.std.specs.Prelude.{ℕ, Bool, List, [], ◌∷◌, Option, Some, None}
 use Rattle.fidl_names.specs.declared.methods.Method.{Method}
 use Rattle.fidl_names.specs.declared.statuses.Status.{Status}
 use Rattle.io_messages.specs.Replies.{Answered, fails}
-use Rattle.io_messages.specs.Shapes.{is_one_way}
+use Rattle.io_messages.specs.Failing.{failing_of}
+use Rattle.io_messages.specs.declared.failing.Failing.{Failing}
+use Rattle.io_messages.specs.declared.failing.Failing.TheVariants as failing
 use Rattle.node_graph.specs.Tree.{EdgeKey, Change, stay}
 use Rattle.conn_rules.specs.Births.{Birth, Position}
 
@@ -52,6 +54,12 @@ pub record Act : Type 0 where
 abbrev pub only : Position → Answer → Act
 only position answer = record { answer = answer; position = position; change = stay; told = nothing_told }
 
--- how a request of a method fails: on the endpoint that it carries where the method has no reply, else in its reply
+-- how a request fails, by the form of its method's failures: in its reply, or on the endpoint that it carries. A method whose reply has no
+-- place for a status never fails; what stands here for it is no reply that is written
+abbrev pub failure_by : Failing → Method → Status → Answer
+failure_by failing.Reply method status = replies (fails method status)
+failure_by failing.Epitaph method status = refuses status
+failure_by failing.Never method status = replies (fails method status)
+
 abbrev pub failure_of : Method → Status → Answer
-failure_of method status = if is_one_way method then refuses status else replies (fails method status)
+failure_of method status = failure_by (failing_of method) method status

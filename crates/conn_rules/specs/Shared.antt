@@ -1,8 +1,7 @@
 -- Words of what the connections of all nodes do alike.
 use Rattle.std.specs.Prelude.{◌≡◌, Bool, true, false, not, IsTrue}
 use Rattle.std.specs.Option.{option_map_or}
-use Rattle.fidl_names.specs.declared.methods.Method.{Method}
-use Rattle.fidl_names.specs.declared.methods.Method.TheVariants as method
+pub use Rattle.io_messages.specs.Failing.{can_fail}
 use Rattle.io_messages.specs.declared.protocols.Protocol.{Protocol}
 use Rattle.io_messages.specs.declared.protocols.Protocol.TheVariants as protocol
 use Rattle.node_graph.specs.declared.nodes.NodeKind.{NodeKind}
@@ -11,12 +10,6 @@ use Rattle.conn_rules.specs.declared.births.Birth as code
 use Rattle.io_rights.specs.declared.operations.Operation.TheVariants as op
 use Rattle.io_rights.specs.Operations.{single, is_within}
 use Rattle.conn_rules.specs.Nodes.{is_directory, is_file, is_mount, is_service}
-
--- a method whose failure has a form: the replies of Query and EchoString have none, so these never fail
-abbrev pub can_fail : Method → Bool
-can_fail method.Query = false
-can_fail method.EchoString = false
-can_fail _ = true
 
 -- where a protocol is spoken: each at its kind of node, and a reference at any but a mount
 abbrev pub is_spoken_at : Protocol → NodeKind → Bool

@@ -27,7 +27,7 @@ use crate::node_attributes::attributes;
 use crate::served::Served;
 use fidl_names::{Method, Status};
 use fidl_wire::{Ordinals, Out};
-use io_messages::{Protocol, Reply, Request};
+use io_messages::{Failing, Protocol, Reply, Request, failing_of};
 use message_writer::{write_bytes, write_reply};
 use node_graph::Graph;
 
@@ -81,9 +81,10 @@ pub fn fail(ordinals: &Ordinals, txid: u32, method: Method, status: Status, out:
     ensures memory { result ≢ Served.NoMemory }
     ensures lives { (last : Status) → result ≢ Served.End last }
 {
-    match method {
-        Method::Clone | Method::OpenPath => Served::Refused(status),
-        _ => reply(ordinals, txid, Reply::Fails(method, status), out),
+    match failing_of(method) {
+        Failing::Epitaph => Served::Refused(status),
+        Failing::Reply => reply(ordinals, txid, Reply::Fails(method, status), out),
+        Failing::Never => unreachable!(),
     }
 }
 

@@ -1,10 +1,10 @@
 -- What a directory's connection answers, what then stands in its output, and what watchers are told.
-use Rattle.std.specs.Prelude.{◌≡◌, ℕ, List, Option, None}
+use Rattle.std.specs.Prelude.{◌≡◌, ℕ, List, Option, Some, None}
 use Rattle.fidl_names.specs.declared.methods.Method.TheVariants as method
 use Rattle.fidl_wire.specs.Written.{Written}
 use Rattle.io_messages.specs.Asked.{Asked}
-use Rattle.io_messages.specs.Asked as asks
 use Rattle.io_messages.specs.Replies.{done, settled}
+use Rattle.io_messages.specs.Tokens.{token_of}
 use Rattle.node_graph.specs.Graph.{Kept, Leads}
 use Rattle.conn_rules.specs.declared.births.Birth as code
 use Rattle.conn_rules.specs.declared.changes.Changes.{Changes}
@@ -42,11 +42,14 @@ pub record IsDirServed (act : Act) (txid : ℕ) (result : DirServed) (out : Writ
   pub change : Leads before after act.change
   pub bound : (found : code.Birth) (changes : Changes) → result ≡ served.Bind found changes → CanBeBound after found
 
+-- the directory that a token names, where there is a token
+abbrev pub named_by : (ℕ → Option ℕ) → Option ℕ → Option ℕ
+named_by directory None = None
+named_by directory (Some token) = directory token
+
 -- the directory that a request's token names; none where it has no token
 abbrev pub directory_named : (ℕ → Option ℕ) → Asked → Option ℕ
-directory_named directory (asks.rename src token dst) = directory token
-directory_named directory (asks.link src token dst) = directory token
-directory_named directory _ = None
+directory_named directory request = named_by directory (token_of request)
 
 -- where a connection to a directory stands, by the place of its listing
 abbrev pub standing_at : Place → Position
