@@ -9,8 +9,7 @@ ghost use Rattle.std.specs.List.{flat_map};
 
 use crate::fixed::{FIXED_LEN, MAX_FRAME_LEN, number_of};
 use crate::kinds::{FrameKind, Refusal};
-use byteorder::{ByteOrder, LittleEndian};
-use fidl_names::{Handle, MAX_BYTES, MAX_HANDLES, NoMemory};
+use fidl_names::{Handle, MAX_BYTES, MAX_HANDLES, NoMemory, word_array};
 use std::alloc::Global;
 use std::marker::Model;
 
@@ -297,17 +296,6 @@ pub fn write_message(
     to.frames.put_handles(handles);
     to.frames.put_bytes(bytes);
     Ok(())
-}
-
-/// A number of 32 bits as bytes.
-#[tactic(auto, unfolding(fidl_names::specs::Numbers::number_bytes))]
-#[inline]
-fn word_array(word: u32) -> [u8; 4]
-    ensures { result ≡ word_of word }
-{
-    let mut part = [0; 4];
-    LittleEndian::write_u32(&mut part, word);
-    part
 }
 
 /// A fixed part, as it is put at once.
