@@ -5,7 +5,7 @@ use Rattle.std.proofs.lemmas.Bool.{cases_lt}
 use Rattle.std.proofs.lemmas.List.{take_all, take-append-drop, append-nil, length-take, take_at, drop_at, take_min, nil_from_length}
 use Rattle.std.proofs.lemmas.List.Elements.{All-append, All-take}
 use Rattle.endpoint_link.specs.declared.kinds.FrameReason.{FrameReason}
-use Rattle.endpoint_link.specs.declared.kinds.LinkFault.{LinkFault}
+use Rattle.endpoint_link.specs.declared.deframer.LinkFault.{LinkFault}
 use Rattle.endpoint_link.specs.declared.kinds.Side.{Side}
 use Rattle.fidl_names.specs.Numbers.{AreBytes}
 use Rattle.endpoint_link.specs.Numbers.{word_in, half_in}

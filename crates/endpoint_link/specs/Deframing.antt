@@ -3,7 +3,7 @@ use Rattle.std.specs.Prelude.{◌≡◌, ◌≢◌, ◌≤◌, ◌+◌, ◌^◌,
 use Rattle.std.specs.List.{flat_map}
 use Rattle.endpoint_link.specs.declared.fixed.TheConstants.{FIXED_LEN, MAX_FRAME_LEN}
 use Rattle.endpoint_link.specs.declared.kinds.FrameReason.{FrameReason}
-use Rattle.endpoint_link.specs.declared.kinds.LinkFault.{LinkFault}
+use Rattle.endpoint_link.specs.declared.deframer.LinkFault.{LinkFault}
 use Rattle.endpoint_link.specs.declared.kinds.Side.{Side}
 use Rattle.fidl_names.specs.Numbers.{AreBytes}
 use Rattle.endpoint_link.specs.Frames.{Frame, Frames, Bad, IsFrame, IsPartial, spelling, first_reason, size_of}

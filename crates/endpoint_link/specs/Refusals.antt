@@ -1,6 +1,12 @@
 -- What a refusal is told as.
+use Rattle.std.specs.Prelude.{ℕ, []}
+use Rattle.std.specs.Int.{w32, cast_unsigned}
+use Rattle.fidl_names.specs.Numbers.{number_bytes}
+use Rattle.fidl_names.specs.StatusNumber.{number_of}
 use Rattle.fidl_names.specs.declared.statuses.Status.{Status}
 use Rattle.fidl_names.specs.declared.statuses.Status.TheVariants as status
+use Rattle.endpoint_link.specs.Frames.{Frame, frame_with}
+use Rattle.endpoint_link.specs.declared.kinds.FrameKind.TheVariants as kind
 use Rattle.endpoint_link.specs.declared.kinds.Refusal.{Refusal}
 use Rattle.endpoint_link.specs.declared.kinds.Refusal.TheVariants as refusal
 
@@ -10,3 +16,7 @@ status_of refusal.PeerClosed = status.PeerClosed
 status_of refusal.BadHandle = status.BadHandle
 status_of refusal.ShouldWait = status.ShouldWait
 status_of refusal.NoResources = status.NoResources
+
+-- the frame that answers one that is refused: on its endpoint, with the status as a number of 32 bits
+abbrev pub refused_frame : ℕ → Refusal → Frame
+refused_frame endpoint why = frame_with endpoint kind.Refused [] (number_bytes 4 (cast_unsigned w32 (number_of (status_of why))))

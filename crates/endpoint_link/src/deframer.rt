@@ -1,14 +1,22 @@
-// A stream of frames, in whatever pieces it comes.
+// A stream of frames, in whatever pieces it comes: for users of this library that get a stream so. The programs here
+// look for frames in one buffer, by `frame_at`.
 
 ghost use Rattle.std.specs.Prelude.{◌≡◌, ◌≤◌, ◌+◌, ◌-◌, ◌^◌, ◌++◌, length, take, drop, min, vec_len, vec_capacity, IfOk, IfSome, IfNone};
 
 use crate::fixed::{FIXED_LEN, MAX_FRAME_LEN, first_reason, size_of};
 use crate::frame::{FrameView, Reading};
-use crate::kinds::{LinkFault, Side};
+use crate::kinds::{FrameReason, Side};
 use crate::reading::frame_at;
 use fidl_names::NoMemory;
 use std::alloc::Global;
 use std::marker::Model;
+
+/// A bad fixed part: the offset of its first byte in the stream, and the first reason against it.
+#[derive(Clone, Copy)]
+pub struct LinkFault {
+    pub at: u64,
+    pub reason: FrameReason,
+}
 
 /// Cuts a stream of bytes into frames. It reserves one frame when it is made, and takes no memory afterwards.
 #[derive(Drop)]

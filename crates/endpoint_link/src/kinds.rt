@@ -47,13 +47,6 @@ pub enum Mode {
     Given,
 }
 
-/// A bad fixed part: the offset of its first byte in the stream, and the first reason against it.
-#[derive(Clone, Copy)]
-pub struct LinkFault {
-    pub at: u64,
-    pub reason: FrameReason,
-}
-
 /// How an endpoint's number stands.
 #[derive(Clone, Copy)]
 pub enum Standing {

@@ -2,7 +2,6 @@
 
 ghost use Rattle.std.specs.Prelude.{◌≡◌, ◌≤◌, ◌<◌, ◌⊎◌, ◌+◌, ℕ, List, [], ◌∷◌, ◌++◌, length, drop, None};
 ghost use Rattle.endpoint_link.specs.Frames.{Frame, Frames, Bad, IsFrame, IsPartial, spelling, first_reason, size_of};
-ghost use Rattle.endpoint_link.specs.Deframing.{Deframing, Call, Run, fresh, stream_of, dropped_by, Follows};
 ghost use Rattle.endpoint_link.specs.Laws.{HasFrames, IsBad};
 ghost use Rattle.endpoint_link.specs.declared.fixed.TheConstants.{FIXED_LEN, MAX_FRAME_LEN};
 ghost use Rattle.fidl_names.specs.Numbers.{AreBytes};
@@ -44,11 +43,4 @@ pub fn joined_streams()
     ensures frames_stay { (s : TheSide) (b more : List ℕ) (frames all : List Frame) (rest left : List ℕ)
         → Frames s b frames rest → Frames s (b ++ more) all left → (later : List Frame) × (all ≡ frames ++ later) }
     ensures short { (s : TheSide) (rest : List ℕ) → IsPartial s rest → length rest < MAX_FRAME_LEN }
-{}
-
-/// In any cut: whatever calls a deframer gets, the frames that were dropped and the one that is kept are those of the
-/// bytes that were taken, and it is at fault exactly where these are bad.
-pub fn in_any_cut()
-    ensures { (s : TheSide) (calls : List Call) (now : Deframing)
-        → AreBytes (stream_of calls) → Run (fresh s) calls now → Follows s (stream_of calls) (dropped_by calls) now }
 {}

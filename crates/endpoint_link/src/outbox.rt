@@ -4,12 +4,12 @@ ghost use Rattle.std.specs.Prelude.{◌≡◌, ◌≤◌, ◌+◌, ◌*◌, ◌+
 ghost use Rattle.fidl_names.specs.HandleNumber.{number_of_handle};
 ghost use Rattle.endpoint_link.specs.Frames.{HasShape, fixed_part, spelling, spelled_len, frame_with};
 ghost use Rattle.endpoint_link.specs.Numbers.{word_of};
+ghost use Rattle.endpoint_link.specs.Refusals.{refused_frame};
 ghost use Rattle.std.specs.List.{flat_map};
 
 use crate::fixed::{FIXED_LEN, MAX_FRAME_LEN, number_of};
-use crate::kinds::FrameKind;
-use byteorder::{ByteOrder, LittleEndian};
-use fidl_names::{Handle, MAX_BYTES, MAX_HANDLES, NoMemory};
+use crate::kinds::{FrameKind, Refusal};
+use fidl_names::{Handle, MAX_BYTES, MAX_HANDLES, NoMemory, word_array};
 use std::alloc::Global;
 use std::marker::Model;
 
@@ -148,6 +148,15 @@ impl FrameRoom {
         self.put_bytes(bytes);
     }
 
+    /// Appends the frame that tells on this endpoint why a frame is refused. It takes no memory.
+    pub fn put_refused(&mut self, endpoint: u32, why: Refusal)
+        requires room { length self.old.bytes + spelled_len 0 4 ≤ self.old.size }
+        ensures written { self.new ≡ record self.old { bytes = self.old.bytes ++ spelling (refused_frame endpoint why) } }
+    {
+        let number = word_array(why.status().number().cast_unsigned());
+        self.put_frame(endpoint, FrameKind::Refused, &[], &number);
+    }
+
     /// Takes room for so many bytes more, where there isn't.
     #[inline(always)]
     fn reserve(&mut self, more: usize) -> Result<(), NoMemory>
@@ -258,6 +267,16 @@ pub fn write_frame(
     Ok(())
 }
 
+/// Appends the frame that tells on this endpoint why a frame is refused, or for want of memory nothing.
+pub fn write_refused(to: &mut Outbox, endpoint: u32, why: Refusal) -> Result<(), NoMemory>
+    ensures written { OnOk result (to.new ≡ to.old ++ spelling (refused_frame endpoint why)) }
+    ensures no_memory { OnErr result (to.new ≡ to.old) }
+{
+    to.frames.reserve(spelled_len(0, 4))?;
+    to.frames.put_refused(endpoint, why);
+    Ok(())
+}
+
 /// Appends the whole frame of a message with these handles, or for want of memory nothing.
 #[inline(always)]
 pub fn write_message(
@@ -277,17 +296,6 @@ pub fn write_message(
     to.frames.put_handles(handles);
     to.frames.put_bytes(bytes);
     Ok(())
-}
-
-/// A number of 32 bits as bytes.
-#[tactic(auto, unfolding(fidl_names::specs::Numbers::number_bytes))]
-#[inline]
-fn word_array(word: u32) -> [u8; 4]
-    ensures { result ≡ word_of word }
-{
-    let mut part = [0; 4];
-    LittleEndian::write_u32(&mut part, word);
-    part
 }
 
 /// A fixed part, as it is put at once.

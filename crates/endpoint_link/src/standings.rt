@@ -9,7 +9,7 @@ ghost use Rattle.endpoint_link.specs.Numbering.{among};
 use crate::frame::HandleBytes;
 use crate::kinds::Standing;
 use crate::pages::Pages;
-use fidl_names::{FIRST_MOUNT_END, MAX_LIVE, NoMemory, is_client};
+use fidl_names::{FIRST_MOUNT_END, MAX_LIVE, NoMemory, end_of_mount, is_client};
 use std::alloc::Global;
 use std::marker::Model;
 
@@ -176,7 +176,7 @@ impl Standings {
         ensures live { OnOk result (self.new.live ≡ self.old.live + mounts) }
     {
         for i in 0..mounts {
-            self.make(FIRST_MOUNT_END + i)?;
+            self.make(end_of_mount(i))?;
         }
         Ok(())
     }

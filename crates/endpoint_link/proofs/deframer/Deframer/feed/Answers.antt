@@ -1,7 +1,7 @@
 use Rattle.std.proofs.Common.{◌≡◌, ◌+◌, ◌-◌, ◌^◌, ◌<◌, ◌≤◌, ℕ, length, take, drop, min, sym, ap, ◌∙◌, subst, arith, refl}
 use Rattle.std.proofs.lemmas.List.{take_rest}
 use Rattle.std.specs.Prelude.{None, Some, Result, Ok, Err, MatchOption, vec_capacity}
-use Rattle.endpoint_link.specs.declared.kinds.LinkFault.{LinkFault}
+use Rattle.endpoint_link.specs.declared.deframer.LinkFault.{LinkFault}
 use Rattle.endpoint_link.specs.Frames.{first_reason, size_of}
 use Rattle.endpoint_link.specs.Deframing.{Deframing, flaw, Fed}
 use Rattle.endpoint_link.proofs.Words.{are_bytes}
