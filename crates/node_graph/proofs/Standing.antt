@@ -1,11 +1,11 @@
 -- A tree that a graph stands for: the rows that it keeps, and empty directories for the nodes that are gone.
-use Rattle.std.proofs.Common.{◌≡◌, ℕ, zero, suc, ◌+◌, ◌≤◌, List, [], ◌∷◌, ◌++◌, length, Option, Some, None, refl, ap, sym, ◌∙◌, subst, arith, length-append}
+use Rattle.std.proofs.Common.{◌≡◌, ℕ, zero, suc, ◌+◌, ◌≤◌, List, [], ◌∷◌, ◌++◌, length, Some, refl, ap, sym, ◌∙◌, subst, arith, length-append}
 use Rattle.std.specs.Option.{option_map_or}
 use Rattle.slab.specs.Slab.{Slab}
 use Rattle.node_graph.specs.declared.nodes.NodeKind.TheVariants.{Directory}
 use Rattle.node_graph.specs.Cell.{Cell}
 use Rattle.node_graph.specs.Tree.{NodeRow, Tree, new_row, row_of}
-use Rattle.node_graph.specs.Graph.{Seat, Kept, seat_of, StandsFor}
+use Rattle.node_graph.specs.Graph.{Seat, seat_of, StandsFor}
 use Rattle.node_graph.specs.Ends.{Ends}
 use Rattle.node_graph.specs.Rows.{AreRows, kept_of}
 use Rattle.node_graph.proofs.RowLists.{cases, same, other, row_of-push_same, row_of-push_other}
