@@ -1,6 +1,6 @@
 ghost use Rattle.dirents.specs.Reading.{EntriesAreReadOnce, WrittenEntriesAreRead};
 
-/// A law: any bytes are one list of entries and one rest.
+/// A law: any bytes are at most one list of entries and one rest.
 pub fn entries_are_read_once()
     ensures { EntriesAreReadOnce }
 {}

@@ -1,5 +1,5 @@
 -- A node is made: what a graph keeps then.
-use Rattle.std.proofs.Common.{◌≡◌, ◌≢◌, ℕ, ◌+◌, ◌<◌, ◌^◌, List, [], Option, Some, None, refl, ap, sym, ◌∙◌, subst, arith, Bool, true, false, not, nat_lt, nat_le}
+use Rattle.std.proofs.Common.{◌≡◌, ◌≢◌, ℕ, ◌+◌, ◌<◌, ◌^◌, List, Option, Some, None, refl, ap, sym, ◌∙◌, subst, arith, Bool, true, false, not, nat_lt, nat_le}
 use Rattle.std.specs.Prelude.{◌==◌, ◌||◌, ◌&&◌, is_some, slice_index_or}
 use Rattle.std.specs.Option.{option_map}
 use Rattle.std.specs.FinMap as finite

@@ -1,6 +1,6 @@
 -- Short names are told apart by their numbers, and what keeps an index of them.
-use Rattle.std.proofs.Common.{◌≡◌, ℕ, zero, suc, List, [], ◌∷◌, Option, Bool, true, false, cond, refl, ap, sym, ◌∙◌, subst, arith, get_or, eqb-true}
-use Rattle.std.specs.Prelude.{◌+◌, ◌*◌, ◌^◌, ◌<◌, ◌≤◌, ◌==◌, ◌&&◌, length, take}
+use Rattle.std.proofs.Common.{◌≡◌, ℕ, zero, suc, List, [], ◌∷◌, Option, Some, None, Bool, true, false, cond, refl, ap, sym, ◌∙◌, subst, arith, get_or, eqb-true, inl, inr}
+use Rattle.std.specs.Prelude.{◌+◌, ◌*◌, ◌^◌, ◌<◌, ◌≤◌, ◌==◌, ◌&&◌, ◌||◌, ◌⊎◌, is_some, length, take}
 use Rattle.std.specs.BTreeMap.{BTreeMap, UpdatesBy}
 use Rattle.std.specs.FinMap as finite
 use Rattle.std.specs.Cmp.{eq_by_cmp_equiv}
@@ -16,7 +16,7 @@ use Rattle.node_graph.specs.declared.short.ShortName.{ShortName}
 use Rattle.node_graph.specs.declared.short.TheConstants as limit
 use Rattle.node_graph.specs.Tree.{EdgeKey, edge_cmp}
 use Rattle.node_graph.specs.Ends.{Ends, name_in}
-use Rattle.node_graph.specs.Short.{IsIndex, IsShort, IsKeyOf, is_same_key, key_of, packed}
+use Rattle.node_graph.specs.Short.{FindsAlike, FindsNow, IsIndex, IsKeyOf, IsPut, IsShort, LeadsAs, is_same_key, key_of, packed}
 use Rattle.node_graph.proofs.Ordered.{edges_total, same_or_other, same, other, both_true, map_of, get-map_of, get-changed}
 
 -- ---- the number of a name
@@ -112,25 +112,68 @@ ChangesAt key found old new = (q : EdgeKey) → finite.get new q ≡ cond (eq_by
 pub changed_at : (old new : BTreeMap EdgeKey Entry) (key name : EdgeKey) (found : Option Entry) → UpdatesBy edge_cmp (edge_cmp key) old new found → key ≡ name → ChangesAt name found (map_of old.entries) (map_of new.entries)
 changed_at old new key name found u is = subst (λ k. ChangesAt k found (map_of old.entries) (map_of new.entries)) is (get-changed old new key found u)
 
-pub no_index : IsIndex [] (map_of [])
-no_index = record { leads = λ d n short. sym (get-map_of [] (name_in d n)) }
+pub no_index : IsIndex [] true (map_of [])
+no_index = record { leads = λ d n short. inl (sym (get-map_of [] (name_in d n))) }
 
-pub index_changes : (old new : List (ShortName × Entry)) (names after : Ends) (key : ShortName) (directory : ℕ) (name : List ℕ) (found : Option Entry) → IsKeyOf key directory name → IsIndex old names
-    → ((q : ShortName) → lookup (is_same_key q) new ≡ cond (is_same_key key q) found (lookup (is_same_key q) old)) → ChangesAt (name_in directory name) found names after → IsIndex new after
-index_changes old new names after key directory name found of index changed kept = record {
+-- from the key of a short name this is found, where the names have it
+changed_key : (old new : List (ShortName × Entry)) (directory : ℕ) (name : List ℕ) (found : Option Entry) (key : ShortName) → IsKeyOf key directory name → FindsNow key found old new → (d : ℕ) (n : List ℕ) → IsShort n
+    → lookup (is_same_key (key_of d n)) new ≡ cond (eq_by_cmp edge_cmp (name_in d n) (name_in directory name)) found (lookup (is_same_key (key_of d n)) old)
+changed_key old new directory name found key of changed d n short =
+    changed (key_of d n)
+    ∙ ap (λ k. cond (is_same_key k (key_of d n)) found (lookup (is_same_key (key_of d n)) old)) of.is
+    ∙ ap (λ b. cond b found (lookup (is_same_key (key_of d n)) old)) (same_test directory d name n of.short.bytes short.bytes ∙ (eq_by_cmp_equiv edges_total).symm (name_in directory name) (name_in d n))
+
+-- what is found changes with the names, or both stay
+moves_along : (is : Bool) (was now before after found : Option Entry) (whole : Bool) → now ≡ cond is found was → after ≡ cond is found before → (was ≡ before) ⊎ ((was ≡ None) × (whole ≡ false)) → (now ≡ after) ⊎ ((now ≡ None) × (whole ≡ false))
+moves_along true was now before after found whole here there old = inl (here ∙ sym there)
+moves_along false was now before after found whole here there (inl alike) = inl (here ∙ alike ∙ sym there)
+moves_along false was now before after found whole here there (inr lacks) = inr (here ∙ lacks.0, lacks.1)
+
+-- what is left out isn't found, and from each other key what was
+left_out : (is : Bool) (was before after found : Option Entry) (whole : Bool) → (is ≡ true → was ≡ None) → after ≡ cond is found before → (was ≡ before) ⊎ ((was ≡ None) × (whole ≡ false)) → (was ≡ after) ⊎ ((was ≡ None) × (false ≡ false))
+left_out true was before after found whole none there old = inr (none refl, refl)
+left_out false was before after found whole none there (inl alike) = inl (alike ∙ sym there)
+left_out false was before after found whole none there (inr lacks) = inr (lacks.0, refl)
+
+pub index_changes : (old new : List (ShortName × Entry)) (whole : Bool) (names after : Ends) (key : ShortName) (directory : ℕ) (name : List ℕ) (found : Option Entry) → IsKeyOf key directory name → IsIndex old whole names
+    → FindsNow key found old new → ChangesAt (name_in directory name) found names after → IsIndex new whole after
+index_changes old new whole names after key directory name found of index changed kept = record {
   leads = λ d n short.
-      changed (key_of d n)
-      ∙ ap (λ k. cond (is_same_key k (key_of d n)) found (lookup (is_same_key (key_of d n)) old)) of.is
-      ∙ ap (λ b. cond b found (lookup (is_same_key (key_of d n)) old)) (same_test directory d name n of.short.bytes short.bytes ∙ (eq_by_cmp_equiv edges_total).symm (name_in directory name) (name_in d n))
-      ∙ ap (cond (eq_by_cmp edge_cmp (name_in d n) (name_in directory name)) found) (index.leads d n short)
-      ∙ sym (kept (name_in d n));
+      moves_along (eq_by_cmp edge_cmp (name_in d n) (name_in directory name)) (lookup (is_same_key (key_of d n)) old) _ (finite.get names (name_in d n)) _ found whole
+      (changed_key old new directory name found key of changed d n short) (kept (name_in d n)) (index.leads d n short);
 }
 
+-- a name is cut
+pub index_cut : (old new : List (ShortName × Entry)) (was is : Bool) (names after : Ends) (key : ShortName) (directory : ℕ) (name : List ℕ) → IsKeyOf key directory name → IsIndex old was names
+    → FindsNow key None old new → is ≡ was → ChangesAt (name_in directory name) None names after → IsIndex new is after
+index_cut old new was is names after key directory name of index changed stays kept =
+    subst (λ w. IsIndex new w after) (sym stays) (index_changes old new was names after key directory name None of index changed kept)
+
+-- a name is put, or left out
+pub index_puts : (old new : List (ShortName × Entry)) (was is : Bool) (names after : Ends) (key : ShortName) (directory : ℕ) (name : List ℕ) (to : Entry) → IsKeyOf key directory name → IsIndex old was names
+    → IsPut key to old new was is → ChangesAt (name_in directory name) (Some to) names after → IsIndex new is after
+index_puts old new was is names after key directory name to of index (inl put) kept =
+    subst (λ w. IsIndex new w after) (sym put.1) (index_changes old new was names after key directory name (Some to) of index put.0 kept)
+index_puts old new was is names after key directory name to of index (inr out) kept =
+    subst (λ w. IsIndex new w after) (sym out.2) (subst (λ es. IsIndex es false after) (sym out.1) (record {
+      leads = λ d n short.
+          left_out (eq_by_cmp edge_cmp (name_in d n) (name_in directory name)) (lookup (is_same_key (key_of d n)) old) (finite.get names (name_in d n)) _ (Some to) was
+          (λ tied. none d n short tied) (kept (name_in d n)) (index.leads d n short);
+    }))
+  where
+    none : (d : ℕ) (n : List ℕ) → IsShort n → eq_by_cmp edge_cmp (name_in d n) (name_in directory name) ≡ true → lookup (is_same_key (key_of d n)) old ≡ None
+    none d n short tied = elim (same_or_other (name_in d n) (name_in directory name)) [
+      | same e b ↦ ap (λ (k : EdgeKey). lookup (is_same_key (key_of k.directory k.name)) old) e ∙ ap (λ k. lookup (is_same_key k) old) (sym of.is) ∙ out.0
+      | other e b ↦ absurd (let wrong : false ≡ true = sym b ∙ tied in cc)
+    ]
+
 -- a longer name concerns no index
-pub index_stays : (index : List (ShortName × Entry)) (names after : Ends) (directory : ℕ) (name : List ℕ) (found : Option Entry) → limit.SHORT < length name → IsIndex index names
-    → ChangesAt (name_in directory name) found names after → IsIndex index after
-index_stays index names after directory name found long is kept = record {
-  leads = λ d n short. is.leads d n short ∙ sym (kept (name_in d n) ∙ ap (λ b. cond b found (finite.get names (name_in d n))) (apart d n short));
+pub index_stays : (index : List (ShortName × Entry)) (whole : Bool) (names after : Ends) (directory : ℕ) (name : List ℕ) (found : Option Entry) → limit.SHORT < length name → IsIndex index whole names
+    → ChangesAt (name_in directory name) found names after → IsIndex index whole after
+index_stays index whole names after directory name found long is kept = record {
+  leads = λ d n short.
+      let P : Option Entry → Type 0 = λ to. LeadsAs index whole (key_of d n) to in
+      subst P (sym (kept (name_in d n) ∙ ap (λ b. cond b found (finite.get names (name_in d n))) (apart d n short))) (is.leads d n short);
 }
   where
     apart : (d : ℕ) (n : List ℕ) → IsShort n → eq_by_cmp edge_cmp (name_in d n) (name_in directory name) ≡ false
@@ -140,5 +183,23 @@ index_stays index names after directory name found long is kept = record {
     ]
 
 -- an index in another order
-pub index_reordered : (old new : List (ShortName × Entry)) (names : Ends) → ((q : ShortName) → lookup (is_same_key q) new ≡ lookup (is_same_key q) old) → IsIndex old names → IsIndex new names
-index_reordered old new names same_found index = record { leads = λ d n short. same_found (key_of d n) ∙ index.leads d n short }
+pub index_kept : (old new : List (ShortName × Entry)) (was is : Bool) (names : Ends) → FindsAlike old new → is ≡ was → IsIndex old was names → IsIndex new is names
+index_kept old new was is names same_found stays index = subst (λ w. IsIndex new w names) (sym stays) (record {
+  leads = λ d n short.
+      let P : Option Entry → Type 0 = λ found. (found ≡ finite.get names (name_in d n)) ⊎ ((found ≡ None) × (was ≡ false)) in
+      subst P (sym (same_found (key_of d n))) (index.leads d n short);
+})
+
+-- what is found in an index is where the name leads; what isn't leads nowhere, where the index is whole
+pub index_found : (index : List (ShortName × Entry)) (whole : Bool) (names : Ends) (key : ShortName) (directory : ℕ) (name : List ℕ) (found : Option Entry) → IsKeyOf key directory name → IsIndex index whole names
+    → found ≡ lookup (is_same_key key) index → is_some found || whole ≡ true → found ≡ finite.get names (name_in directory name)
+index_found index whole names key directory name found of is there told =
+    by_cases found whole (finite.get names (name_in directory name)) told
+    (let P : Option Entry → Type 0 = λ f. (f ≡ finite.get names (name_in directory name)) ⊎ ((f ≡ None) × (whole ≡ false)) in
+    subst P (sym (there ∙ ap (λ k. lookup (is_same_key k) index) of.is)) (is.leads directory name of.short))
+  where
+    by_cases : (f : Option Entry) (w : Bool) (to : Option Entry) → is_some f || w ≡ true → (f ≡ to) ⊎ ((f ≡ None) × (w ≡ false)) → f ≡ to
+    by_cases f w to told (inl alike) = alike
+    by_cases None true to told (inr lacks) = absurd (let wrong : true ≡ false = lacks.1 in cc)
+    by_cases None false to told (inr lacks) = absurd (cc)
+    by_cases (Some x) w to told (inr lacks) = absurd (let wrong : Some x ≡ None = lacks.0 in cc)

@@ -19,6 +19,7 @@ mod Sheds
 mod Shifts
 pub mod SoundNames
 pub mod Soundness
+mod Standing
 mod States
 mod Steps
 mod Ways

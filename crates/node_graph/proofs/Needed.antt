@@ -116,7 +116,7 @@ module _ (nodes : Slab Cell) (ends : Ends) (made : ℕ) (rows : AreRows nodes en
       let child = rows.children edge.0 one.0 one.1 in
       some_seat one.0.node.place n child.0 child.1 (child.2 ∙ ap (λ (to : EdgeTo). to.child) one.2 ∙ edge.3)
 
-  pub seated : (n : ℕ) → is_kept graph n ≡ true → is_some (seat_of graph n) ≡ true
+  seated : (n : ℕ) → is_kept graph n ≡ true → is_some (seat_of graph n) ≡ true
   seated n kept =
       elim (n == 1) as (λ b. n == 1 ≡ b → (b || (is_linked (edges_of ends) n || nat_lt 0 (holds_at graph n))) ≡ true → is_some (seat_of graph n) ≡ true) [
         | true ↦ λ e kept. some_seat 0 n rows.root.0 rows.root.1 (rows.root.2 ∙ sym (eqb-true n 1 e))
@@ -136,7 +136,7 @@ module _ (nodes : Slab Cell) (ends : Ends) (made : ℕ) (rows : AreRows nodes en
       let holds : one.cell.holds ≡ holds_at graph n = ap (λ (s : Seat). s.holds) (sym one.seat_is) ∙ ap (λ s. option_map_or (λ (s : Seat). s.holds) s 0) (sym there) in
       sym (ap (λ n. n == 1 || (nat_lt 0 one.cell.links || nat_lt 0 one.cell.holds)) one.number ∙ ap (λ b. n == 1 || (b || nat_lt 0 one.cell.holds)) links ∙ ap (λ h. n == 1 || (is_linked (edges_of ends) n || nat_lt 0 h)) holds) ∙ needed
 
-  kept_seat : (n : ℕ) → is_kept graph n ≡ is_some (seat_of graph n)
+  pub kept_seat : (n : ℕ) → is_kept graph n ≡ is_some (seat_of graph n)
   kept_seat n = by_cases (is_kept graph n) (seat_of graph n) refl refl
     where
       by_cases : (b : Bool) (o : Option Seat) → is_kept graph n ≡ b → seat_of graph n ≡ o → is_kept graph n ≡ is_some (seat_of graph n)

@@ -5,12 +5,11 @@ use Rattle.fidl_names.specs.First.{cause_if, first_of}
 use Rattle.fidl_names.specs.declared.limits.TheConstants as limit
 use Rattle.node_graph.specs.declared.faults.GraphFault.{GraphFault}
 use Rattle.node_graph.specs.declared.faults.GraphFault.TheVariants as fault
-use Rattle.node_graph.specs.declared.nodes.NodeKind.{NodeKind}
 use Rattle.node_graph.specs.declared.nodes.NodeRef.{NodeRef}
 use Rattle.std.specs.Prelude.{is_some}
 use Rattle.std.specs.Option.{option_map, option_map_or}
 use Rattle.std.proofs.lemmas.Bool.Decides.{nat_tests}
-use Rattle.node_graph.specs.Tree.{NodeRow, Tree, Edges, EdgeKey, EdgeTo, row_of, make, new_row, fill, stay, filled, is_removed}
+use Rattle.node_graph.specs.Tree.{NodeRow, Tree, Edges, EdgeKey, EdgeTo, row_of, make, fill, stay, filled, is_removed}
 use Rattle.node_graph.specs.Graph.{Seat, Kept, seat_of, Names, kind_at, bytes_at, StandsFor, Leads, SameHolds, HoldsNow, KeepsNames, create_refusal}
 use Rattle.node_graph.proofs.RowLists.{same_some, row_within, row_of-set_same, row_of-set_other, length-set_row, row_of-push_same, row_of-push_other, cases, same, other, filled_rows}
 

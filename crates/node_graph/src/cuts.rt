@@ -3,7 +3,7 @@ ghost use Rattle.slab.specs.Slab.{ContainsKey, get};
 ghost use Rattle.fidl_names.specs.First.{cause_if, first_of};
 ghost use Rattle.node_graph.specs.declared.nodes.NodeKind.TheVariants.{Directory};
 ghost use Rattle.node_graph.specs.declared.faults.GraphFault.TheVariants as fault;
-ghost use Rattle.node_graph.specs.Tree.{Tree, cut};
+ghost use Rattle.node_graph.specs.Tree.{Tree, cut, name_in};
 ghost use Rattle.node_graph.specs.Refusals.{unlink_refusal, directory_behind, is_directory, is_mount, is_no_directory, has_names};
 ghost use Rattle.node_graph.specs.Ends.{edges_of, HasNamesAsDirectory};
 ghost use Rattle.node_graph.specs.Rows.{LosesName};
@@ -31,10 +31,10 @@ impl Graph {
     ) -> Result<Option<u64>, GraphFault>
         requires named { Names self.old dir }
         requires directory { kind_at self.old (number_of dir) ≡ Some Directory }
-        ensures answer { (tree : Tree) → StandsFor self.old tree → Settles result (unlink_refusal tree (record { directory = number_of dir; name = name.now }) must_be_dir) }
+        ensures answer { (tree : Tree) → StandsFor self.old tree → Settles result (unlink_refusal tree (name_in (number_of dir) name.now) must_be_dir) }
         ensures unchanged { OnErr result (self.new ≡ self.old) }
-        ensures unlinked { OnOk result (Leads self.old self.new (cut (record { directory = number_of dir; name = name.now }))) }
-        ensures removed { IfOk result (λ gone. (tree : Tree) → StandsFor self.old tree → gone ≡ directory_behind tree (record { directory = number_of dir; name = name.now })) }
+        ensures unlinked { OnOk result (Leads self.old self.new (cut (name_in (number_of dir) name.now))) }
+        ensures removed { IfOk result (λ gone. (tree : Tree) → StandsFor self.old tree → gone ≡ directory_behind tree (name_in (number_of dir) name.now)) }
         ensures made { self.new.made ≡ self.old.made }
         ensures holds { SameHolds self.old self.new }
         ensures names { KeepsNames self.old self.new }

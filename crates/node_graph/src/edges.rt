@@ -5,13 +5,14 @@ ghost use Rattle.node_graph.specs.Ends.{edges_of, HasNamesAsDirectory, ends_afte
 ghost use Rattle.node_graph.specs.Refusals.{has_names};
 ghost use Rattle.node_graph.specs.Short.{IsKeyOf};
 
+use crate::index::NameIndex;
 use crate::keys::EdgeName;
 use crate::nodes::{Entry, NodeKind, NodeRef};
 use crate::short::ShortName;
 use fidl_names::{MAX_NAME, NoMemory};
 use std::alloc::Global;
+use std::collections::BTreeMap;
 use std::collections::btree_map::Range;
-use std::collections::{BTreeMap, HashMap};
 use std::marker::Model;
 use std::ops::Bound;
 
@@ -19,8 +20,8 @@ use std::ops::Bound;
 #[derive(Drop)]
 pub struct Edges {
     names: BTreeMap<EdgeName, Entry>,
-    // The short ones among them a second time, which are found by hash.
-    short: HashMap<ShortName, Entry>,
+    // Short ones among them a second time, which are found by hash.
+    short: NameIndex,
 }
 
 impl Model for Edges {
@@ -35,7 +36,7 @@ impl Model for Edges {
 
     ghost view = { λ edges. finite.from_entries edges.names.entries };
 
-    ghost invariant = { λ edges. IsNamed edges.names.entries × IsIndex edges.short.entries (finite.from_entries edges.names.entries) };
+    ghost invariant = { λ edges. IsNamed edges.names.entries × IsIndex edges.short.found.entries edges.short.whole (finite.from_entries edges.names.entries) };
 }
 
 impl Edges {
@@ -44,7 +45,7 @@ impl Edges {
     {
         Edges {
             names: BTreeMap::new(alloc),
-            short: HashMap::new(alloc),
+            short: NameIndex::new(alloc),
         }
     }
 
@@ -58,10 +59,14 @@ impl Edges {
         ensures found { result ≡ finite.get self.now (name_in directory name.now) }
         ensures few { OnSome result (length name.now ≤ MAX_NAME) }
     {
-        match ShortName::of(directory, name) {
-            Some(short) => self.short.get(&short).copied(),
-            None => self.find_in_order(directory, name),
+        let Some(short) = ShortName::of(directory, name) else {
+            return self.find_in_order(directory, name);
+        };
+        let found = self.short.get(&short);
+        if found.is_some() || self.short.whole {
+            return found;
         }
+        self.find_in_order(directory, name)
     }
 
     // No name is longer than a name may be.
@@ -108,9 +113,9 @@ impl Edges {
         ensures put { OnOk result (self.new ≡ finite.insert self.old (name_in directory name.now) to.now) }
         ensures unchanged { OnErr result (self.new ≡ self.old) }
     {
-        self.short.reserve(1)?;
+        self.short.reserve()?;
         self.names.insert(EdgeName::new(directory, name), *to)?;
-        self.short.insert(short, *to)?;
+        self.short.put(short, *to);
         Ok(())
     }
 
@@ -123,7 +128,7 @@ impl Edges {
         let Some(short) = ShortName::of(directory, name) else {
             return;
         };
-        self.short.remove(&short);
+        self.short.cut(&short);
     }
 
     // A name leads where another one led, which is taken out. Room is made before anything changes.

@@ -2,7 +2,8 @@ ghost use Rattle.std.specs.Prelude.{◌≡◌, ℕ, true, is_some, IfOk, IfSome,
 ghost use Rattle.std.specs.Option.{option_map};
 ghost use Rattle.std.specs.FinMap as finite;
 ghost use Rattle.node_graph.specs.declared.nodes.NodeKind.TheVariants.{Directory, File};
-ghost use Rattle.node_graph.specs.Tree.{bare_tree, link_count, is_removed};
+ghost use Rattle.node_graph.specs.Tree.{Tree, bare_tree, link_count, is_removed, name_in};
+ghost use Rattle.node_graph.specs.Ends.{end_of};
 ghost use Rattle.node_graph.specs.Graph.{number_of, Names, kind_at, bytes_at, holds_at, is_kept, seat_of, StandsFor, numbers_to};
 
 use crate::edges::Edges;
@@ -72,8 +73,9 @@ impl Graph {
         })
     }
 
-    /// The root of the tree.
+    /// The root of the tree. What the graph keeps is always what some tree has.
     pub fn root(&self) -> NodeRef
+        ensures stands { (tree : Tree) × StandsFor self.now tree }
         ensures named { Names self.now result }
         ensures number { number_of result ≡ 1 }
         ensures kind { kind_at self.now 1 ≡ Some Directory }
@@ -141,17 +143,17 @@ impl Graph {
     pub fn lookup(&self, dir: NodeRef, name: &[u8]) -> Option<Entry>
         requires named { Names self.now dir }
         requires directory { kind_at self.now (number_of dir) ≡ Some Directory }
-        ensures found { option_map (λ entry. record { child = number_of entry.node; mask = entry.mask }) result ≡ finite.get self.now.edges (record { directory = number_of dir; name = name.now }) }
+        ensures found { option_map end_of result ≡ finite.get self.now.edges (name_in (number_of dir) name.now) }
         ensures kept { IfSome result (λ entry. Names self.now entry.node) }
         ensures kind { IfSome result (λ entry. kind_at self.now (number_of entry.node) ≡ Some entry.kind) }
     {
         self.edges.find(dir.number, name)
     }
 
-    /// How many nodes are the root, linked or held. These and no others have to be kept.
+    /// How many nodes are the root, linked or held. These and no others are kept.
     pub fn kept(&self) -> usize
         ensures count { result ≡ count_by (is_kept self.now) (numbers_to self.now.made) }
-        ensures seated { (number : ℕ) → is_kept self.now number ≡ true → is_some (seat_of self.now number) ≡ true }
+        ensures seated { (number : ℕ) → is_some (seat_of self.now number) ≡ is_kept self.now number }
     {
         self.nodes.len()
     }

@@ -4,7 +4,7 @@ ghost use Rattle.std.specs.Ordering.{nat_cmp};
 ghost use Rattle.std.specs.Cmp.Lexicographic.{slice_cmp};
 ghost use Rattle.std.specs.Cmp.{partial_order_from_total, partial_equiv_from_equiv, eq_by_cmp_equiv};
 ghost use Rattle.std.specs.Ordering.{eq_by_cmp, as_partial_cmp};
-ghost use Rattle.node_graph.specs.Tree.{EdgeKey, edge_cmp};
+ghost use Rattle.node_graph.specs.Tree.{EdgeKey, edge_cmp, name_in};
 ghost use Rattle.node_graph.specs.Keys.{IsHead, edges_total};
 
 use fidl_names::MAX_NAME;
@@ -43,7 +43,7 @@ impl Model for EdgeName {
 impl EdgeName {
     pub fn new(directory: u64, name: &[u8]) -> EdgeName
         requires { length name.now ≤ MAX_NAME }
-        ensures { result ≡ record { directory = directory; name = name.now } }
+        ensures { result ≡ name_in directory name.now }
     {
         let mut key = EdgeName::in_directory(directory);
         key.set_name(name);
@@ -52,7 +52,7 @@ impl EdgeName {
 
     // The empty name in a directory.
     pub fn in_directory(directory: u64) -> EdgeName
-        ensures { result ≡ record { directory = directory; name = [] } }
+        ensures { result ≡ name_in directory [] }
     {
         EdgeName {
             directory,
@@ -65,7 +65,7 @@ impl EdgeName {
     // Changes the name in its place, so that a key that is only looked for is never copied.
     pub fn set_name(&mut self, name: &[u8])
         requires { length name.now ≤ MAX_NAME }
-        ensures { self.new ≡ record { directory = self.old.directory; name = name.now } }
+        ensures { self.new ≡ name_in self.old.directory name.now }
     {
         self.head = write_padded(&mut self.bytes, name);
         self.length = name.len();

@@ -6,6 +6,7 @@ mod cuts;
 mod edges;
 mod faults;
 mod graph;
+mod index;
 mod keys;
 mod laws;
 mod links;

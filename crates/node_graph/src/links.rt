@@ -4,7 +4,7 @@ ghost use Rattle.slab.specs.Slab.{ContainsKey, get};
 ghost use Rattle.fidl_names.specs.First.{cause_if, first_of};
 ghost use Rattle.node_graph.specs.declared.nodes.NodeKind.TheVariants.{Directory};
 ghost use Rattle.node_graph.specs.declared.faults.GraphFault.TheVariants as fault;
-ghost use Rattle.node_graph.specs.Tree.{Tree};
+ghost use Rattle.node_graph.specs.Tree.{Tree, name_in};
 ghost use Rattle.node_graph.specs.Refusals.{is_directory, is_mount};
 ghost use Rattle.node_graph.specs.Ends.{name_in};
 ghost use Rattle.node_graph.specs.Rows.{GainsName};
@@ -37,9 +37,9 @@ impl Graph {
         requires directory_into { kind_at self.old (number_of into) ≡ Some Directory }
         requires some { 1 ≤ length dst.now }
         requires few { length dst.now ≤ MAX_NAME }
-        ensures answer { (tree : Tree) → StandsFor self.old tree → Answers result (link_refusal tree (record { directory = number_of dir; name = src.now }) (record { directory = number_of into; name = dst.now })) }
+        ensures answer { (tree : Tree) → StandsFor self.old tree → Answers result (link_refusal tree (name_in (number_of dir) src.now) (name_in (number_of into) dst.now)) }
         ensures unchanged { OnErr result (self.new ≡ self.old) }
-        ensures linked { OnOk result (LeadsBy self.old self.new (λ tree. link_change tree (record { directory = number_of dir; name = src.now }) (record { directory = number_of into; name = dst.now }))) }
+        ensures linked { OnOk result (LeadsBy self.old self.new (λ tree. link_change tree (name_in (number_of dir) src.now) (name_in (number_of into) dst.now))) }
         ensures made { self.new.made ≡ self.old.made }
         ensures holds { SameHolds self.old self.new }
         ensures names { KeepsNames self.old self.new }

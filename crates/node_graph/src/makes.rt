@@ -1,6 +1,6 @@
 ghost use Rattle.std.specs.Prelude.{◌≡◌, ◌⊎◌, ◌^◌, ◌<◌, ◌≤◌, ◌+◌, [], length, OnOk, OnErr, IfOk, Some, None};
 ghost use Rattle.node_graph.specs.declared.nodes.NodeKind.TheVariants.{Directory, File};
-ghost use Rattle.node_graph.specs.Tree.{make, new_row};
+ghost use Rattle.node_graph.specs.Tree.{make, name_in, new_row};
 ghost use Rattle.node_graph.specs.Graph.{number_of, Names, kind_at, Leads, SameHolds, KeepsNames, Answers, create_refusal};
 
 use crate::faults::GraphFault;
@@ -27,9 +27,9 @@ impl Graph {
         requires some { 1 ≤ length name.now }
         requires few { length name.now ≤ MAX_NAME }
         requires room { self.old.made < 2 ^ 63 }
-        ensures answer { Answers result (create_refusal self.old.edges (record { directory = number_of dir; name = name.now })) }
+        ensures answer { Answers result (create_refusal self.old.edges (name_in (number_of dir) name.now)) }
         ensures unchanged { OnErr result (self.new ≡ self.old) }
-        ensures created { OnOk result (Leads self.old self.new (make (record { directory = number_of dir; name = name.now }) (new_row kind) mask)) }
+        ensures created { OnOk result (Leads self.old self.new (make (name_in (number_of dir) name.now) (new_row kind) mask)) }
         ensures number { IfOk result (λ node. number_of node ≡ self.old.made + 1) }
         ensures kept { IfOk result (λ node. Names self.new node) }
         ensures kind { OnOk result (kind_at self.new (self.old.made + 1) ≡ Some kind) }
@@ -59,11 +59,11 @@ impl Graph {
         requires some { 1 ≤ length name.now }
         requires few { length name.now ≤ MAX_NAME }
         requires room { self.old.made < 2 ^ 63 }
-        requires free { create_refusal self.old.edges (record { directory = number_of dir; name = name.now }) ≡ None }
+        requires free { create_refusal self.old.edges (name_in (number_of dir) name.now) ≡ None }
         requires bytes { (kind ≡ File) ⊎ (bytes.now ≡ []) }
         requires short { length bytes.now ≤ MAX_FILE }
         ensures unchanged { OnErr result (self.new ≡ self.old) }
-        ensures created { OnOk result (Leads self.old self.new (make (record { directory = number_of dir; name = name.now }) (record { kind = kind; bytes = bytes.now }) mask)) }
+        ensures created { OnOk result (Leads self.old self.new (make (name_in (number_of dir) name.now) (record { kind = kind; bytes = bytes.now }) mask)) }
         ensures number { IfOk result (λ node. number_of node ≡ self.old.made + 1) }
         ensures kept { IfOk result (λ node. Names self.new node) }
         ensures kind { OnOk result (kind_at self.new (self.old.made + 1) ≡ Some kind) }
@@ -89,10 +89,11 @@ impl Graph {
         Ok(child)
     }
 
-    // Why no node is made at this name.
-    pub(crate) fn create_fault(&self, dir: NodeRef, name: &[u8]) -> Option<GraphFault>
+    /// Why no node can be made with this name in the directory, as `create` answers; `None` where one
+    /// can be.
+    pub fn create_fault(&self, dir: NodeRef, name: &[u8]) -> Option<GraphFault>
         requires { Names self.now dir }
-        ensures { result ≡ create_refusal self.now.edges (record { directory = number_of dir; name = name.now }) }
+        ensures { result ≡ create_refusal self.now.edges (name_in (number_of dir) name.now) }
     {
         if self.removed(dir) {
             return Some(GraphFault::Removed);

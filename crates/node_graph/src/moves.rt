@@ -5,7 +5,7 @@ ghost use Rattle.slab.specs.Slab.{ContainsKey, get};
 ghost use Rattle.fidl_names.specs.First.{cause_if, first_of};
 ghost use Rattle.node_graph.specs.declared.nodes.NodeKind.TheVariants.{Directory};
 ghost use Rattle.node_graph.specs.declared.faults.GraphFault.TheVariants as fault;
-ghost use Rattle.node_graph.specs.Tree.{Tree, is_removed};
+ghost use Rattle.node_graph.specs.Tree.{Tree, is_removed, name_in};
 ghost use Rattle.node_graph.specs.Refusals.{is_directory, is_mount, is_no_directory, has_names, parents_of, lies_within, is_same_name, replaced_directory};
 ghost use Rattle.node_graph.specs.Ends.{edges_of, HasNamesAsDirectory};
 ghost use Rattle.node_graph.specs.Rows.{LosesName};
@@ -51,12 +51,12 @@ impl Graph {
         requires directory_into { kind_at self.old (number_of into) ≡ Some Directory }
         requires some { 1 ≤ length dst.now }
         requires few { length dst.now ≤ MAX_NAME }
-        ensures answer { (tree : Tree) → StandsFor self.old tree → Answers result (rename_refusal tree (record { directory = number_of dir; name = src.now }) (record { directory = number_of into; name = dst.now })) }
+        ensures answer { (tree : Tree) → StandsFor self.old tree → Answers result (rename_refusal tree (name_in (number_of dir) src.now) (name_in (number_of into) dst.now)) }
         ensures unchanged { OnErr result (self.new ≡ self.old) }
-        ensures renamed { OnOk result (Leads self.old self.new (rename_change (record { directory = number_of dir; name = src.now }) (record { directory = number_of into; name = dst.now }))) }
-        ensures changed { IfOk result (λ moved. moved.changed ≡ not (is_same_name (record { directory = number_of dir; name = src.now }) (record { directory = number_of into; name = dst.now }))) }
-        ensures replaced { IfOk result (λ moved. (tree : Tree) → StandsFor self.old tree → moved.replaced ≡ replaced_directory tree (record { directory = number_of dir; name = src.now }) (record { directory = number_of into; name = dst.now })) }
-        ensures same { is_same_name (record { directory = number_of dir; name = src.now }) (record { directory = number_of into; name = dst.now }) ≡ true → IfErr result (λ given. given ≢ fault.NoMemory) }
+        ensures renamed { OnOk result (Leads self.old self.new (rename_change (name_in (number_of dir) src.now) (name_in (number_of into) dst.now))) }
+        ensures changed { IfOk result (λ moved. moved.changed ≡ not (is_same_name (name_in (number_of dir) src.now) (name_in (number_of into) dst.now))) }
+        ensures replaced { IfOk result (λ moved. (tree : Tree) → StandsFor self.old tree → moved.replaced ≡ replaced_directory tree (name_in (number_of dir) src.now) (name_in (number_of into) dst.now)) }
+        ensures same { is_same_name (name_in (number_of dir) src.now) (name_in (number_of into) dst.now) ≡ true → IfErr result (λ given. given ≢ fault.NoMemory) }
         ensures made { self.new.made ≡ self.old.made }
         ensures holds { SameHolds self.old self.new }
         ensures names { KeepsNames self.old self.new }
@@ -177,7 +177,7 @@ fn moved_over(gone: &Option<Entry>) -> Moved
 
 // Whether two names are one.
 fn is_same_name(dir: NodeRef, src: &[u8], into: NodeRef, dst: &[u8]) -> bool
-    ensures { result ≡ is_same_name (record { directory = number_of dir; name = src.now }) (record { directory = number_of into; name = dst.now }) }
+    ensures { result ≡ is_same_name (name_in (number_of dir) src.now) (name_in (number_of into) dst.now) }
 {
     dir.number == into.number && src == dst
 }

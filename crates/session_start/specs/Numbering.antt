@@ -1,5 +1,5 @@
 -- How the nodes of a start are numbered, the tree that each server begins with, and the ends of mounts.
-use Rattle.std.specs.Prelude.{ℕ, ◌+◌, ◌==◌, if◌then◌else◌, List, [], ◌∷◌, ◌++◌, length, map, filter, position}
+use Rattle.std.specs.Prelude.{ℕ, ◌+◌, ◌==◌, if◌then◌else◌, List, [], ◌∷◌, ◌++◌, map, filter, position}
 use Rattle.std.specs.List.{enumerate_from}
 use Rattle.std.specs.FinMap as finite
 use Rattle.std.specs.Option.{option_map_or}
@@ -9,7 +9,7 @@ use Rattle.io_rights.specs.Operations.{OperationSet}
 use Rattle.path_walk.specs.Parts.{is_dot, last_name, parent_of}
 use Rattle.node_graph.specs.declared.nodes.NodeKind.{NodeKind}
 use Rattle.node_graph.specs.declared.nodes.NodeKind.TheVariants.{Directory, Mount}
-use Rattle.node_graph.specs.Tree.{NodeRow, EdgeKey, EdgeTo, Tree}
+use Rattle.node_graph.specs.Tree.{NodeRow, EdgeKey, EdgeTo, Tree, after, make, name_in}
 use Rattle.session_start.specs.Items.{NodeItem, MountItem, Lists}
 
 -- what a path of a server leads to: a node's kind and bytes, and the rights that pass through its name
@@ -39,7 +39,7 @@ number_at named path = if is_dot path then 1 else option_map_or (λ place. place
 -- the edge of a path: from its parent, by its last name
 abbrev pub edge_of : List Named → Named → EdgeKey × EdgeTo
 edge_of named one = (
-  record { directory = number_at named (parent_of one.path); name = last_name one.path },
+  name_in (number_at named (parent_of one.path)) (last_name one.path),
   record { child = number_at named one.path; mask = one.mask },
 )
 
@@ -55,11 +55,7 @@ tree_from named =
 
 -- a tree with one node more, of the next number, and its name
 abbrev pub with_node : Tree → EdgeKey → NodeKind → OperationSet → List ℕ → Tree
-with_node tree key kind mask bytes =
-    record {
-      nodes = tree.nodes ++ record { kind = kind; bytes = bytes } ∷ [];
-      edges = finite.insert tree.edges key (record { child = length tree.nodes + 1; mask = mask });
-    }
+with_node tree key kind mask bytes = after tree (make key (record { kind = kind; bytes = bytes }) mask)
 
 -- the tree that a server begins with
 abbrev pub tree_of : Lists → ℕ → Tree

@@ -40,7 +40,7 @@ impl Start {
         Start { lists }
     }
 
-    /// How many servers there are: 1 to 8.
+    /// How many servers there are: at most 8.
     pub fn servers(&self) -> u32
         ensures count { result ≡ length self.now.servers }
         ensures accepted { AreAccepted self.now }

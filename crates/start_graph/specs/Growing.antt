@@ -7,7 +7,7 @@ use Rattle.io_rights.specs.Operations.{OperationSet}
 use Rattle.node_graph.specs.declared.nodes.NodeKind.{NodeKind}
 use Rattle.node_graph.specs.declared.nodes.NodeRef.{NodeRef}
 use Rattle.node_graph.specs.Graph.{Kept, KeepsNames, Names, SameHolds, StandsFor, number_of}
-use Rattle.node_graph.specs.Tree.{EdgeKey, Tree}
+use Rattle.node_graph.specs.Tree.{EdgeKey, Tree, name_in}
 use Rattle.path_walk.specs.Parts.{last_name}
 use Rattle.session_start.specs.Accepted.{AreAccepted}
 use Rattle.session_start.specs.Items.{Lists}
@@ -42,4 +42,4 @@ pub record Makes (old new : Kept) (tree : Tree) (key : EdgeKey) (kind : NodeKind
 
 -- the key of a node's name in a directory
 abbrev pub key_in : ℕ → List ℕ → EdgeKey
-key_in directory path = record { directory = directory; name = last_name path }
+key_in directory path = name_in directory (last_name path)

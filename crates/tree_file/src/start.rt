@@ -196,7 +196,7 @@ fn start_in(alloc: Global, document: &Value) -> Result<Start, TreeFault>
 }
 
 /// The start that a tree file stands for, or the first rule that it breaks, with the first item that
-/// fails it. Rule 1 is that it is TOML 1.1. What is accepted keeps the rules of a tree, and a start is
+/// fails it. Rule 1 is that it is TOML 1.1, nested no deeper than 80. What is accepted keeps the rules of a tree, and a start is
 /// sound (`starts_are_sound`).
 pub fn start_of(alloc: Global, text: &[u8]) -> Result<Start, TreeFault>
     ensures start { IfOk result (λ start. start_from text.now ≡ Some start) }

@@ -5,7 +5,7 @@ use Rattle.node_graph.specs.declared.nodes.Entry.{Entry}
 use Rattle.node_graph.specs.Tree.{EdgeKey, edge_cmp}
 use Rattle.node_graph.specs.Ends.{Ends, name_in}
 use Rattle.node_graph.proofs.Ordered.{map_of, map_cut, named_cut}
-use Rattle.node_graph.proofs.Indexed.{changed_at, index_changes, index_stays}
+use Rattle.node_graph.proofs.Indexed.{changed_at, index_cut, index_stays}
 use Rattle.node_graph.proofs.edges.Edges.cut.Goals as goal
 
 -- the names without a key are those without the name that it is
@@ -15,7 +15,7 @@ removed old new names key name u is view = map_cut old new key u ∙ ap (finite.
 pub invariant_of-self : goal.invariant_of-self
 invariant_of-self c = (
   named_cut c.self.inside.names c.remove.new.self c.new-key.result c.self.invariant.0 c.remove.ensures.updates c.remove.ensures.ordered,
-  index_stays c.self.inside.short.entries (map_of c.self.inside.names.entries) (map_of c.remove.new.self.entries) c.args.directory c.args.name.now None c.in_default.ensures c.self.invariant.1
+  index_stays c.self.inside.short.found.entries c.self.inside.short.whole (map_of c.self.inside.names.entries) (map_of c.remove.new.self.entries) c.args.directory c.args.name.now None c.in_default.ensures c.self.invariant.1
       (changed_at c.self.inside.names c.remove.new.self c.new-key.result _ None c.remove.ensures.updates c.new-key.ensures),
 )
 
@@ -25,7 +25,7 @@ returns-in_default c = removed c.self.inside.names c.remove.new.self _ c.new-key
 pub invariant_of-self-2 : goal.invariant_of-self-2
 invariant_of-self-2 c = (
   named_cut c.self.inside.names c.remove.new.self c.new-key.result c.self.invariant.0 c.remove.ensures.updates c.remove.ensures.ordered,
-  index_changes c.self.inside.short.entries c.remove-2.new.self.entries (map_of c.self.inside.names.entries) (map_of c.remove.new.self.entries) c.in-Some.short c.args.directory c.args.name.now None c.in-Some.ensures c.self.invariant.1 c.remove-2.ensures.updates.0
+  index_cut c.self.inside.short.found.entries c.cut.new.self.found.entries c.self.inside.short.whole c.cut.new.self.whole (map_of c.self.inside.names.entries) (map_of c.remove.new.self.entries) c.in-Some.short c.args.directory c.args.name.now c.in-Some.ensures c.self.invariant.1 c.cut.ensures.found c.cut.ensures.whole
       (changed_at c.self.inside.names c.remove.new.self c.new-key.result _ None c.remove.ensures.updates c.new-key.ensures),
 )
 

@@ -16,7 +16,7 @@ invariant_of-self-in-None c =
     let few = let P : EdgeKey → Type 0 = λ k. length k.name ≤ limit.MAX_NAME in subst P (sym c.new.ensures) c.requires.few in
     let changed = changed_at names after c.new.result (name_in c.args.directory c.args.name.now) (Some c.args.to) c.in_ok-insert-in-None.ensures.updates c.new.ensures in (
       named_put names after c.new.result c.args.to c.self.invariant.0 some few c.in_ok-insert-in-None.ensures.updates c.in_ok-insert-in-None.ensures.ordered,
-      index_stays c.self.inside.short.entries (map_of names.entries) (map_of after.entries) c.args.directory c.args.name.now (Some c.args.to) c.in-None.ensures c.self.invariant.1 changed,
+      index_stays c.self.inside.short.found.entries c.self.inside.short.whole (map_of names.entries) (map_of after.entries) c.args.directory c.args.name.now (Some c.args.to) c.in-None.ensures c.self.invariant.1 changed,
     )
 
 pub returns-in_ok-insert-in-None-clause-put : goal.returns-in_ok-insert-in-None-clause-put

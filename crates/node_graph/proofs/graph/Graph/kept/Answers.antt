@@ -1,7 +1,7 @@
-use Rattle.std.proofs.Common.{◌≡◌, ◌∙◌, ap, ℕ, true, subst}
+use Rattle.std.proofs.Common.{◌≡◌, ◌∙◌, ap, sym, ℕ, subst}
 use Rattle.std.specs.Prelude.{is_some, count_by}
 use Rattle.node_graph.specs.Graph.{Kept, seat_of, is_kept, numbers_to}
-use Rattle.node_graph.proofs.Needed.{seated, count_kept}
+use Rattle.node_graph.proofs.Needed.{kept_seat, count_kept}
 use Rattle.node_graph.proofs.graph.Graph.kept.Goals as goal
 
 pub returns-clause-count : goal.returns-clause-count
@@ -10,5 +10,5 @@ returns-clause-count c =
 
 pub returns-clause-seated : goal.returns-clause-seated
 returns-clause-seated c =
-    let P : Kept → Type 0 = λ g. (number : ℕ) → is_kept g number ≡ true → is_some (seat_of g number) ≡ true in
-    subst P c.self.view_is (seated c.self.inside.nodes c.self.inside.edges c.self.inside.made c.self.invariant)
+    let P : Kept → Type 0 = λ g. (number : ℕ) → is_some (seat_of g number) ≡ is_kept g number in
+    subst P c.self.view_is (λ number. sym (kept_seat c.self.inside.nodes c.self.inside.edges c.self.inside.made c.self.invariant number))
