@@ -7,7 +7,7 @@ ghost use Rattle.io_messages.specs.Writing.{HasTexts};
 
 mod rows;
 
-use crate::client::rows::{EXCHANGE, FILE, TAKEN};
+use crate::client::rows::{EACH, EXCHANGE, FILE, TAKEN};
 use endpoint_link::{FrameKind, Outbox, Reading, Side, frame_at};
 use fidl_names::Method;
 use fidl_wire::Ordinals;
@@ -17,8 +17,8 @@ use std::alloc::Global;
 use std::test::Fail;
 use test_rows::{Row, Table, all_hold};
 
-/// The requests of rows. The file is to be read, and to tell what it is; an Open makes endpoint 2.
-const REQUESTS: [(&str, Request<'static>); 8] = [
+/// The requests of rows, each method's beside those of `writes`. The file is to be read, and to tell what it is; an Open makes endpoint 2.
+const REQUESTS: [(&str, Request<'static>); 20] = [
     (
         "open d/f",
         Request::OpenPath {
@@ -50,6 +50,62 @@ const REQUESTS: [(&str, Request<'static>); 8] = [
             watcher: 3,
         },
     ),
+    ("clone", Request::Clone { request: 5 }),
+    ("entries", Request::ReadDirents { max_bytes: 8192 }),
+    ("rewind", Request::Rewind),
+    ("token", Request::GetToken),
+    (
+        "rename",
+        Request::Rename {
+            src: b"a",
+            token: 0x8000_0000,
+            dst: b"b",
+        },
+    ),
+    (
+        "link",
+        Request::Link {
+            src: b"f",
+            token: 0x8000_0001,
+            dst: b"g",
+        },
+    ),
+    (
+        "unlink",
+        Request::Unlink {
+            name: b"f",
+            flags: 0,
+        },
+    ),
+    (
+        "unlink a directory",
+        Request::Unlink {
+            name: b"f",
+            flags: 1,
+        },
+    ),
+    (
+        "read at",
+        Request::ReadAt {
+            count: 5,
+            offset: 6,
+        },
+    ),
+    (
+        "write at",
+        Request::WriteAt {
+            bytes: b"!!",
+            offset: 65535,
+        },
+    ),
+    (
+        "seek",
+        Request::Seek {
+            origin: 1,
+            offset: -1,
+        },
+    ),
+    ("resize", Request::Resize { length: 65537 }),
 ];
 
 const METHODS: [(&str, Method); 6] = [
@@ -69,16 +125,17 @@ struct Caller {
     outbox: Outbox,
 }
 
-/// The texts of a request are UTF-8. Of the requests here only Opens have one.
+/// The texts of a request are UTF-8.
 fn has_texts(request: &Request<'_>) -> bool
     ensures { IsTrue result → HasTexts (asked request.now) }
 {
     match request {
         Request::OpenPath { path, .. } => str::from_utf8(path).is_ok(),
-        Request::Rename { .. }
-        | Request::Link { .. }
-        | Request::Unlink { .. }
-        | Request::EchoString { .. } => false,
+        Request::Rename { src, dst, .. } | Request::Link { src, dst, .. } => {
+            str::from_utf8(src).is_ok() && str::from_utf8(dst).is_ok()
+        }
+        Request::Unlink { name, .. } => str::from_utf8(name).is_ok(),
+        Request::EchoString { value } => str::from_utf8(value).is_ok(),
         _ => true,
     }
 }
@@ -133,6 +190,14 @@ impl Caller {
     fn writes(&mut self, alloc: Global, row: &Row<'_>) -> bool {
         match row.bytes(alloc, 4) {
             Some(bytes) => self.sends_one(alloc, row, Request::Write { bytes: &bytes }),
+            None => false,
+        }
+    }
+
+    /// Whether an EchoString of the row's bytes is sent as that says.
+    fn echoes(&mut self, alloc: Global, row: &Row<'_>) -> bool {
+        match row.bytes(alloc, 4) {
+            Some(bytes) => self.sends_one(alloc, row, Request::EchoString { value: &bytes }),
             None => false,
         }
     }
@@ -200,6 +265,8 @@ impl Table for Caller {
             self.sends(alloc, row)
         } else if row.is(1, "write") {
             self.writes(alloc, row)
+        } else if row.is(1, "echo") {
+            self.echoes(alloc, row)
         } else if row.is(1, "note") {
             self.notes(alloc, row)
         } else if row.is(1, "waiting") {
@@ -228,6 +295,11 @@ fn exchanges_go(alloc: Global, text: &[u8]) -> Result<(), Fail> {
 #[test]
 fn exchanges_over_a_file_go_as_their_rows_say(rt: HostRuntime) -> Result<(), Fail> {
     exchanges_go(rt.alloc(), FILE)
+}
+
+#[test]
+fn each_request_is_sent_as_its_row_says(rt: HostRuntime) -> Result<(), Fail> {
+    exchanges_go(rt.alloc(), EACH)
 }
 
 #[test]

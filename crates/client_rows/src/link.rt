@@ -2,6 +2,7 @@
 ghost use Rattle.std.specs.Prelude.{◌≡◌, [], length};
 
 mod rows;
+mod streams;
 
 use crate::link::rows::ROWS;
 use endpoint_link::{

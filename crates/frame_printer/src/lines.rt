@@ -7,10 +7,10 @@ ghost use Rattle.frame_printer.specs.Shown.{lines_course};
 
 use endpoint_link::{FrameView, Side};
 use fidl_names::NoMemory;
-use fidl_wire::{OrdinalFault, Ordinals};
+use fidl_wire::Ordinals;
 use host_io::{Sink, Source};
 use link_session::{Input, Session, run};
-use run_status::Status;
+use run_status::{Status, ordinals};
 use std::alloc::Global;
 use vfs_script::{Outtext, print_frame};
 
@@ -22,9 +22,9 @@ pub fn show<S: Source, K: Sink>(alloc: Global, source: &mut S, sink: &mut K) -> 
         (streams_told S.left S.last S.faults K.written K.flushed K.faults source.new sink.new)
         (sink.new ≡ sink.old)) result }
 {
-    let ordinals = match Ordinals::new() {
+    let ordinals = match ordinals() {
         Ok(ordinals) => ordinals,
-        Err(OrdinalFault::Collision(first, second)) => return Status::Collision { first, second },
+        Err(collision) => return collision,
     };
     let Ok(mut input) = Input::new(alloc) else {
         return Status::NoMemory;

@@ -1,3 +1,4 @@
+mod Epitaphs
 mod Latest
 mod Passing
 mod Tables

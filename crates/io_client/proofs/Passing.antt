@@ -1,11 +1,10 @@
 -- A frame that passes: what is told of it, and what waits then.
 use Rattle.std.proofs.Common.{◌≡◌, Bool, true, false, refl, sym, ap, ◌∙◌}
-use Rattle.std.specs.Prelude.{ℕ, ℤ, map, Option, Some, None, Result, Ok}
+use Rattle.std.specs.Prelude.{ℕ, ℤ, ◌||◌, map, Option, Some, None, Result, Ok}
 use Rattle.std.specs.FinMap as finite
-use Rattle.std.specs.Int.{w32, cast_signed}
 use Rattle.std.proofs.lemmas.Bool.{eq-eqb, ne_eqb}
 use Rattle.fidl_names.specs.HandleNumber.{handle_with}
-use Rattle.fidl_names.specs.Numbers.{number_at}
+use Rattle.fidl_names.specs.Numbers.{AreBytes}
 use Rattle.fidl_names.specs.declared.methods.Method.{Method}
 use Rattle.fidl_wire.specs.declared.faults.WireFault.{WireFault}
 use Rattle.fidl_wire.specs.declared.headers.Header.{Header}
@@ -19,7 +18,8 @@ use Rattle.endpoint_link.specs.Frames.{Frame}
 use Rattle.io_messages.specs.Replies.{Answered}
 use Rattle.io_replies.specs.Reading.{reply_of}
 use Rattle.io_client.specs.Calls.{Calls, answered_at, call_at, call_cmp, is_watched}
-use Rattle.io_client.specs.Taking.{IsNoEpitaph, Takes, TakesMessage, Taking, answer_to, bad, by_call, by_header, closed, epitaph, is_from_servers, refused, reply, watch}
+use Rattle.io_client.specs.Taking.{IsNoEpitaph, TakesMessage, Taking, answer_to, bad, by_call, by_header, calls_behind, calls_behind_message, is_epitaph, reply}
+use Rattle.io_client.proofs.Epitaphs.{epitaph_told, is_told, none_told, not_told}
 use Rattle.io_client.proofs.Tables.{calls_total, calls_exact, remove-none}
 
 -- no call waits there, or one waits no more
@@ -48,46 +48,40 @@ pub reply_of_other : (h : Header) (m : Method) (txid ordinal : ℕ) (a : Answere
     ordinal ≡ method_ordinal m → e ≡ fault 8 Ordinal → bad e ≡ answer_to h m read
 reply_of_other h m txid ordinal a read e is other of flaw = rw (is, ne_eqb h.ordinal (method_ordinal m) (λ same. other (same ∙ sym of))) (ap bad flaw)
 
-clash : (b : Bool) → b ≡ true → b ≡ false → ⊥
-clash b on off = let wrong : true ≡ false = sym on ∙ off in cc
+-- what waits behind a message
+pub behind_watched : (calls : Calls) (f : Frame) → is_watched calls f.endpoint ≡ true → calls ≡ calls_behind_message calls f
+behind_watched calls f there = rw there refl
 
--- what is told of a message
-pub told_watched : (calls : Calls) (f : Frame) → is_watched calls f.endpoint ≡ true → (told : Taking) × TakesMessage calls f told calls
-told_watched calls f at = (
-  watch f.bytes,
-  record {
-    watched = λ _. (refl, refl);
-    ended = λ free status is. absurd (clash (is_watched calls f.endpoint) at free);
-    other = λ free none. absurd (clash (is_watched calls f.endpoint) at free);
-  },
-)
+or_true : (b : Bool) → b || true ≡ true
+or_true true = refl
+or_true false = refl
 
-pub told_epitaph : (calls : Calls) (f : Frame) (status : ℤ) → is_watched calls f.endpoint ≡ false → IsEpitaph f.bytes status →
-    ((other : ℤ) → IsEpitaph f.bytes other → status ≡ other) → (told : Taking) × TakesMessage calls f told calls
-told_epitaph calls f status free is only = (
-  epitaph status,
-  record {
-    watched = λ at. absurd (clash (is_watched calls f.endpoint) at free);
-    ended = λ _ other also. (ap epitaph (only other also), refl);
-    other = λ _ none. absurd (none status is);
-  },
-)
+pub behind_epitaph : (calls : Calls) (f : Frame) (status : ℤ) → IsEpitaph f.bytes status → calls ≡ calls_behind_message calls f
+behind_epitaph calls f status is = rw (is_told f.bytes status is, or_true (is_watched calls f.endpoint)) refl
 
-pub told_headed : (calls new : Calls) (f : Frame) → is_watched calls f.endpoint ≡ false → IsNoEpitaph f.bytes → new ≡ (by_header calls f (header_of f.bytes)).1 →
-    (told : Taking) × TakesMessage calls f told new
-told_headed calls new f free none is = (
-  (by_header calls f (header_of f.bytes)).0,
-  record {
-    watched = λ at. absurd (clash (is_watched calls f.endpoint) at free);
-    ended = λ _ status ends. absurd (none status ends);
-    other = λ _ _. ap (λ (n : Calls). ((by_header calls f (header_of f.bytes)).0, n)) is;
-  },
-)
+pub behind_other : (calls new : Calls) (f : Frame) → AreBytes f.bytes → is_watched calls f.endpoint ≡ false → IsNoEpitaph f.bytes →
+    new ≡ (by_header calls f (header_of f.bytes)).1 → new ≡ calls_behind_message calls f
+behind_other calls new f are free none is = rw (free, none_told f.bytes are none) is
 
--- what is told of another frame
-pub told_other : (k : FrameKind) (calls : Calls) (f : Frame) → is_from_servers k ≡ true → (k ≡ kind.Message → ⊥) → (told : Taking) × Takes k calls f told calls
-told_other kind.Message calls f way other = absurd (other refl)
-told_other kind.Close calls f way other = (closed, (refl, refl))
-told_other kind.Refused calls f way other = (refused (cast_signed w32 (number_at 4 0 f.bytes)), (refl, refl))
-told_other kind.Turn calls f way other = cc
-told_other kind.Pick calls f way other = cc
+-- what waits behind another frame
+pub behind_quiet : (k : FrameKind) (calls : Calls) (f : Frame) → (k ≡ kind.Message → ⊥) → calls ≡ calls_behind k calls f
+behind_quiet kind.Message calls f other = absurd (other refl)
+behind_quiet kind.Close calls f other = refl
+behind_quiet kind.Refused calls f other = refl
+behind_quiet kind.Turn calls f other = refl
+behind_quiet kind.Pick calls f other = refl
+
+-- what is told of a message says what waits behind it
+pub behind_taken : (calls new : Calls) (f : Frame) (told : Taking) → AreBytes f.bytes → TakesMessage calls f told new → new ≡ calls_behind_message calls f
+behind_taken calls new f told are takes = by_watched (is_watched calls f.endpoint) refl where
+  by_epitaph : (ends : Bool) → is_epitaph f.bytes ≡ ends → is_watched calls f.endpoint ≡ false → new ≡ calls_behind_message calls f
+  by_epitaph true e free =
+      let one = epitaph_told f.bytes are e in
+      (takes.ended free one.0 one.1).1 ∙ behind_epitaph calls f one.0 one.1
+  by_epitaph false e free =
+      let none : IsNoEpitaph f.bytes = not_told f.bytes e in
+      behind_other calls new f are free none (ap (λ (p : Taking × Calls). p.1) (takes.other free none))
+
+  by_watched : (watched : Bool) → is_watched calls f.endpoint ≡ watched → new ≡ calls_behind_message calls f
+  by_watched true there = (takes.watched there).1 ∙ behind_watched calls f there
+  by_watched false free = by_epitaph (is_epitaph f.bytes) refl free

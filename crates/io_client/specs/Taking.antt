@@ -1,5 +1,5 @@
 -- What a frame from the servers is to a client.
-use Rattle.std.specs.Prelude.{◌≡◌, ℕ, ℤ, Bool, true, false, ◌==◌, if◌then◌else◌, List, map, Option, Some, None, Result, Ok, Err}
+use Rattle.std.specs.Prelude.{◌≡◌, ℕ, ℤ, Bool, true, false, ◌==◌, ◌&&◌, ◌||◌, if◌then◌else◌, List, length, map, Option, Some, None, Result, Ok, Err}
 use Rattle.std.specs.Int.{w32, cast_signed}
 use Rattle.fidl_names.specs.declared.methods.Method.{Method}
 use Rattle.fidl_names.specs.HandleNumber.{handle_with}
@@ -9,7 +9,7 @@ use Rattle.fidl_wire.specs.declared.faults.WireWhat.TheVariants.{Ordinal}
 use Rattle.fidl_wire.specs.declared.headers.Header.{Header}
 use Rattle.fidl_wire.specs.Headers.{header_of, fault}
 use Rattle.fidl_wire.specs.Names.{method_ordinal, event_ordinal}
-use Rattle.fidl_wire.specs.Epitaphs.{IsEpitaph}
+use Rattle.fidl_wire.specs.Epitaphs.{IsEpitaph, epitaph_ordinal}
 use Rattle.endpoint_link.specs.declared.kinds.FrameKind.{FrameKind}
 use Rattle.endpoint_link.specs.declared.kinds.FrameKind.TheVariants as kind
 use Rattle.endpoint_link.specs.Frames.{Frame}
@@ -65,6 +65,14 @@ by_header calls f (Ok h) =
     if h.ordinal == event_ordinal then (told_event (event_of f.bytes), calls)
     else by_call calls f h (call_at calls f.endpoint h.txid)
 
+abbrev pub heads_epitaph : Result Header WireFault → Bool
+heads_epitaph (Err flaw) = false
+heads_epitaph (Ok header) = (header.txid == 0) && (header.ordinal == epitaph_ordinal)
+
+-- 24 bytes: a header without a flaw, with the transaction id 0 and the ordinal, a status, and four zero bytes
+abbrev pub is_epitaph : List ℕ → Bool
+is_epitaph bytes = (length bytes == 24) && (heads_epitaph (header_of bytes) && (number_at 4 20 bytes == 0))
+
 -- the bytes are no epitaph
 abbrev pub IsNoEpitaph : List ℕ → Type 0
 IsNoEpitaph bytes = (status : ℤ) → IsEpitaph bytes status → ⊥
@@ -82,6 +90,16 @@ Takes kind.Close old f t new = (t ≡ closed) × (new ≡ old)
 Takes kind.Refused old f t new = (t ≡ refused (cast_signed w32 (number_at 4 0 f.bytes))) × (new ≡ old)
 Takes kind.Turn old f t new = ⊥
 Takes kind.Pick old f t new = ⊥
+
+-- what waits behind a message: all that did behind one to a watcher and behind an epitaph, else what its header leaves
+abbrev pub calls_behind_message : Calls → Frame → Calls
+calls_behind_message calls f =
+    if is_watched calls f.endpoint || is_epitaph f.bytes then calls else (by_header calls f (header_of f.bytes)).1
+
+-- what waits behind a frame from the servers: behind any but a message all that did
+abbrev pub calls_behind : FrameKind → Calls → Frame → Calls
+calls_behind kind.Message calls f = calls_behind_message calls f
+calls_behind _ calls f = calls
 
 -- a frame that servers send
 abbrev pub is_from_servers : FrameKind → Bool

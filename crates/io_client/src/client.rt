@@ -13,7 +13,7 @@ ghost use Rattle.io_messages.specs.Requests.{has_txid};
 ghost use Rattle.io_messages.specs.Shapes.{is_one_way};
 ghost use Rattle.io_messages.specs.Writing.{HasTexts, request_bytes, request_handles};
 ghost use Rattle.io_client.specs.Calls.{Answers, call_at, none_yet, note_refusal, noted, request_frame, send_refusal, sent, watcher_of};
-ghost use Rattle.io_client.specs.Taking.{LendsPayload, Takes, TakesMessage, Taking, answer_to, by_header, is_from_servers, taking, told_event};
+ghost use Rattle.io_client.specs.Taking.{LendsPayload, Takes, TakesMessage, answer_to, by_header, calls_behind, calls_behind_message, is_from_servers, taking, told_event};
 
 use crate::calls::{Waiting, Watched};
 use crate::faults::ClientFault;
@@ -156,6 +156,7 @@ impl Client {
         requires sound { IsFrame side.Any (frame_of frame) }
         requires way { is_from_servers frame.kind ≡ true }
         ensures takes { Takes frame.entry.kind self.old (frame_of frame.entry) (taking result) self.new }
+        ensures calls { self.new ≡ calls_behind frame.entry.kind self.old (frame_of frame.entry) }
         // The payload of a reply is lent from where it stands in the message.
         ensures parts { LendsPayload frame.entry.bytes.now result }
     {
@@ -173,7 +174,7 @@ impl Client {
     pub fn pass(&mut self, ordinals: &Ordinals, frame: FrameView<'_>)
         requires sound { IsFrame side.Any (frame_of frame) }
         requires way { is_from_servers frame.kind ≡ true }
-        ensures passes { (told : Taking) × Takes frame.entry.kind self.old (frame_of frame.entry) told self.new }
+        ensures passes { self.new ≡ calls_behind frame.entry.kind self.old (frame_of frame.entry) }
     {
         if let FrameKind::Message = frame.kind {
             self.pass_message(ordinals, frame);
@@ -230,7 +231,8 @@ impl Client {
 
     /// A message passes.
     fn pass_message(&mut self, ordinals: &Ordinals, frame: FrameView<'_>)
-        ensures { (told : Taking) × TakesMessage self.old (frame_of frame.entry) told self.new }
+        requires { IsFrame side.Any (frame_of frame) }
+        ensures { self.new ≡ calls_behind_message self.old (frame_of frame.entry) }
     {
         let endpoint = frame.endpoint;
         if self.watched.has(endpoint) {

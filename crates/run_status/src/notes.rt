@@ -10,11 +10,15 @@ use endpoint_link::FrameReason;
 use host_io::{Failed, Sink, write_whole};
 use itoa::Buffer;
 
-/// A note by its form: a line that is a text alone or also has one number or two, or the line of a bad frame.
-enum Note {
+/// A note of any program, by its form. Numbers are written in decimal.
+pub enum Note {
+    /// A text, with its line end if it has one.
     Line(&'static str),
+    /// A text and a number, with a line end behind them.
     Number(&'static str, u64),
+    /// A text, a number, a text and a number, with a line end behind them.
     TwoNumbers(&'static str, u64, &'static str, u64),
+    /// The line of the bad frame at an offset of the input, with the first reason against it.
     Reason(u64, FrameReason),
 }
 
@@ -22,7 +26,14 @@ enum Note {
 pub fn tell<N: Sink>(notes: &mut N, status: Status)
     ensures { Tells (note_of status) (sink_told N.written N.flushed N.faults notes.old) (sink_told N.written N.flushed N.faults notes.new) }
 {
-    let _ = write_note(notes, status);
+    tell_note(notes, note_of(status));
+}
+
+/// Tells a note, and passes it on: for a program that has statuses of its own. Where that fails nothing else changes.
+pub fn tell_note<N: Sink>(notes: &mut N, note: Note)
+    ensures { Tells (line_of note) (sink_told N.written N.flushed N.faults notes.old) (sink_told N.written N.flushed N.faults notes.new) }
+{
+    let _ = write_note(notes, note);
 }
 
 /// What is told of a status.
@@ -55,10 +66,10 @@ fn note_of(status: Status) -> Note
     }
 }
 
-fn write_note<N: Sink>(notes: &mut N, status: Status) -> Result<(), Failed>
-    ensures { Writes (note_of status) (sink_told N.written N.flushed N.faults notes.old) (sink_told N.written N.flushed N.faults notes.new) result }
+fn write_note<N: Sink>(notes: &mut N, note: Note) -> Result<(), Failed>
+    ensures { Writes (line_of note) (sink_told N.written N.flushed N.faults notes.old) (sink_told N.written N.flushed N.faults notes.new) result }
 {
-    match note_of(status) {
+    match note {
         Note::Line(text) => pass_on(notes, text.as_bytes()),
         Note::Number(text, number) => write_number(notes, text, number),
         Note::TwoNumbers(text, number, between, second) => {

@@ -15,9 +15,9 @@ ghost use Rattle.script_session.specs.Workloads.{IsReport, Reports, report_with}
 
 use crate::{Measured, measure};
 use fidl_names::NoMemory;
-use fidl_wire::{OrdinalFault, Ordinals};
+use fidl_wire::Ordinals;
 use host_io::{Failed, Sink};
-use run_status::{Status, pass_on, put_number};
+use run_status::{Status, ordinals, pass_on, put_number};
 use session_start::Start;
 use std::alloc::{AllocError, Global};
 use tree_file::generated_start;
@@ -30,9 +30,9 @@ pub fn make<K: Sink>(alloc: Global, rounds: u32, sink: &mut K) -> Status
     ensures { AfterNames (sink.new ≡ sink.old) (AfterReport rounds (sink.new ≡ sink.old) (λ report. WritesText report ⊥
         (sink_told K.written K.flushed K.faults sink.old) (sink_told K.written K.flushed K.faults sink.new))) result }
 {
-    let ordinals = match Ordinals::new() {
+    let ordinals = match ordinals() {
         Ok(ordinals) => ordinals,
-        Err(OrdinalFault::Collision(first, second)) => return Status::Collision { first, second },
+        Err(collision) => return collision,
     };
     let Ok(report) = report_of(alloc, ordinals, rounds) else {
         return Status::NoMemory;

@@ -12,10 +12,10 @@ ghost use Rattle.script_session.specs.Scripts.{Says};
 
 use crate::playing::play;
 use fidl_names::MAX_TEXT;
-use fidl_wire::{OrdinalFault, Ordinals};
+use fidl_wire::Ordinals;
 use host_io::{Files, Sink};
 use named_files::{read_file, read_start};
-use run_status::Status;
+use run_status::{Status, ordinals};
 use std::alloc::Global;
 use transcripts::TranscriptFault;
 use vfs_script::{Script, ScriptFault, script_of};
@@ -35,9 +35,9 @@ pub fn run_script<F: Files, K: Sink>(
         (λ said. WritesPieces (transcript (start_of lists) said.by said.text) (wrote sink.old) (wrote sink.new)))) result }
     ensures reads { ReadsOnly F.reads (tree.now ∷ script.now ∷ []) files.old files.new }
 {
-    let ordinals = match Ordinals::new() {
+    let ordinals = match ordinals() {
         Ok(ordinals) => ordinals,
-        Err(OrdinalFault::Collision(first, second)) => return Status::Collision { first, second },
+        Err(collision) => return collision,
     };
     let start = match read_start(alloc, tree, files) {
         Ok(start) => start,

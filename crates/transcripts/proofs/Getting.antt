@@ -4,12 +4,9 @@ use Rattle.std.specs.Prelude.{◌&&◌, ◌||◌, ◌==◌, ℤ, All, is_some, m
 use Rattle.std.specs.FinMap as finite
 use Rattle.std.specs.Option.{option_map_or}
 use Rattle.std.proofs.lemmas.Bool.{eqb-true, eq-eqb}
-use Rattle.fidl_names.specs.HandleNumber.{handle_with}
-use Rattle.fidl_names.specs.Numbers.{AreBytes}
 use Rattle.fidl_names.specs.declared.methods.Method.{Method}
 use Rattle.fidl_wire.specs.declared.faults.WireFault.{WireFault}
 use Rattle.fidl_wire.specs.declared.headers.Header.{Header}
-use Rattle.fidl_wire.specs.Epitaphs.{IsEpitaph}
 use Rattle.fidl_wire.specs.Headers.{header_of}
 use Rattle.fidl_wire.specs.Names.{event_ordinal}
 use Rattle.endpoint_link.specs.declared.kinds.FrameKind.{FrameKind}
@@ -17,10 +14,9 @@ use Rattle.endpoint_link.specs.declared.kinds.FrameKind.TheVariants as kind
 use Rattle.endpoint_link.specs.Frames.{Frame}
 use Rattle.io_client.specs.Calls.{Calls, answered_at, call_at, is_waiting, is_watched}
 use Rattle.io_replies.specs.Reading.{event_of}
-use Rattle.io_client.specs.Taking.{Takes, Taking, TakesMessage, by_call, by_header, told_event}
-use Rattle.transcripts.specs.Answering.{Past, gets, count_answers, count_calls, headed_txid, is_answer, is_epitaph, is_open, is_reply_to, kind_txid, message_txid, one_if, txid_of, was_watched}
+use Rattle.io_client.specs.Taking.{by_call, by_header, calls_behind, calls_behind_message, is_epitaph, told_event}
+use Rattle.transcripts.specs.Answering.{Past, gets, count_answers, count_calls, headed_txid, is_answer, is_open, is_reply_to, kind_txid, message_txid, one_if, txid_of, was_watched}
 use Rattle.transcripts.specs.Telling.{IsWithin, Knows}
-use Rattle.transcripts.proofs.Epitaphs.{epitaph_told, no_epitaph}
 use Rattle.transcripts.proofs.Keys.{one_less, some_wait, waits_less}
 
 and_false : (a : Bool) → a && false ≡ false
@@ -147,43 +143,39 @@ no_message_id frame other = by_kind frame.kind other where
   by_kind kind.Pick h = refl
   by_kind kind.Refused h = refl
 
-module _ (past : Past) (old new : Calls) (frame : Frame) (t : Taking) (is : frame.kind ≡ kind.Message) (knows : Knows past old) where
+module _ (past : Past) (old new : Calls) (frame : Frame) (is : frame.kind ≡ kind.Message) (knows : Knows past old) where
   as_before : new ≡ old → Knows (gets frame ∷ past) old → Knows (gets frame ∷ past) new
   as_before same known = subst (Knows (gets frame ∷ past)) (sym same) known
 
   by_waiting : (h : Header) (found : Option Method) → call_at old frame.endpoint h.txid ≡ found → txid_of frame ≡ Some h.txid → was_watched past frame.endpoint ≡ false →
-      (t, new) ≡ by_call old frame h found → Knows (gets frame ∷ past) new
-  by_waiting h None found with_id free e =
-      as_before (ap (λ (p : Taking × Calls). p.1) e) (unmatched_known past old frame h.txid knows with_id free found)
-  by_waiting h (Some m) found with_id free e =
-      subst (Knows (gets frame ∷ past)) (sym (ap (λ (p : Taking × Calls). p.1) e)) (answered_known past old frame h.txid knows with_id free m found)
+      new ≡ (by_call old frame h found).1 → Knows (gets frame ∷ past) new
+  by_waiting h None found with_id free e = as_before e (unmatched_known past old frame h.txid knows with_id free found)
+  by_waiting h (Some m) found with_id free e = subst (Knows (gets frame ∷ past)) (sym e) (answered_known past old frame h.txid knows with_id free m found)
 
   by_ordinal : (h : Header) (event : Bool) → txid_of frame ≡ cond event None (Some h.txid) → was_watched past frame.endpoint ≡ false →
-      (t, new) ≡ cond event (told_event (event_of frame.bytes), old) (by_call old frame h (call_at old frame.endpoint h.txid)) → Knows (gets frame ∷ past) new
-  by_ordinal h true with_id free e = as_before (ap (λ (p : Taking × Calls). p.1) e) (without_known past old frame with_id knows)
+      new ≡ (cond event (told_event (event_of frame.bytes), old) (by_call old frame h (call_at old frame.endpoint h.txid))).1 → Knows (gets frame ∷ past) new
+  by_ordinal h true with_id free e = as_before e (without_known past old frame with_id knows)
   by_ordinal h false with_id free e = by_waiting h (call_at old frame.endpoint h.txid) refl with_id free e
 
-  by_head : (found : Result Header WireFault) → txid_of frame ≡ headed_txid found → was_watched past frame.endpoint ≡ false → (t, new) ≡ by_header old frame found →
+  by_head : (found : Result Header WireFault) → txid_of frame ≡ headed_txid found → was_watched past frame.endpoint ≡ false → new ≡ (by_header old frame found).1 →
       Knows (gets frame ∷ past) new
-  by_head (Err flaw) with_id free e = as_before (ap (λ (p : Taking × Calls). p.1) e) (without_known past old frame with_id knows)
+  by_head (Err flaw) with_id free e = as_before e (without_known past old frame with_id knows)
   by_head (Ok h) with_id free e = by_ordinal h (h.ordinal == event_ordinal) with_id free e
 
-  by_epitaph : AreBytes frame.bytes → (epitaph : Bool) → is_epitaph frame.bytes ≡ epitaph → is_watched old frame.endpoint ≡ false → TakesMessage old frame t new → Knows (gets frame ∷ past) new
-  by_epitaph are true told free takes =
-      let one = epitaph_told frame.bytes are told in
-      as_before (takes.ended free one.0 one.1).1
-      (without_known past old frame (id_is frame is ∙ ap (λ b. cond b None (headed_txid (header_of frame.bytes))) told) knows)
-  by_epitaph are false told free takes =
-      by_head (header_of frame.bytes) (id_is frame is ∙ ap (λ b. cond b None (headed_txid (header_of frame.bytes))) told) (sym (knows.watched frame.endpoint) ∙ free)
-      (takes.other free (no_epitaph frame.bytes told))
+  by_epitaph : (epitaph : Bool) → is_epitaph frame.bytes ≡ epitaph → is_watched old frame.endpoint ≡ false →
+      new ≡ cond epitaph old (by_header old frame (header_of frame.bytes)).1 → Knows (gets frame ∷ past) new
+  by_epitaph true told free e =
+      as_before e (without_known past old frame (id_is frame is ∙ ap (λ b. cond b None (headed_txid (header_of frame.bytes))) told) knows)
+  by_epitaph false told free e =
+      by_head (header_of frame.bytes) (id_is frame is ∙ ap (λ b. cond b None (headed_txid (header_of frame.bytes))) told) (sym (knows.watched frame.endpoint) ∙ free) e
 
-  by_watched : AreBytes frame.bytes → (watched : Bool) → is_watched old frame.endpoint ≡ watched → TakesMessage old frame t new → Knows (gets frame ∷ past) new
-  by_watched are true told takes =
-      as_before (takes.watched told).1 (watched_known past old frame (sym (knows.watched frame.endpoint) ∙ told) knows)
-  by_watched are false told takes = by_epitaph are (is_epitaph frame.bytes) refl told takes
+  by_watched : (watched : Bool) → is_watched old frame.endpoint ≡ watched →
+      new ≡ cond (watched || is_epitaph frame.bytes) old (by_header old frame (header_of frame.bytes)).1 → Knows (gets frame ∷ past) new
+  by_watched true told e = as_before e (watched_known past old frame (sym (knows.watched frame.endpoint) ∙ told) knows)
+  by_watched false told e = by_epitaph (is_epitaph frame.bytes) refl told e
 
-  pub message_known : AreBytes frame.bytes → TakesMessage old frame t new → Knows (gets frame ∷ past) new
-  message_known are takes = by_watched are (is_watched old frame.endpoint) refl takes
+  pub message_known : new ≡ calls_behind_message old frame → Knows (gets frame ∷ past) new
+  message_known e = by_watched (is_watched old frame.endpoint) refl e
 
 -- ---- which calls wait
 
@@ -191,7 +183,7 @@ still : (same waits : Bool) → cond same false waits ≡ true → waits ≡ tru
 still true waits h = cc
 still false waits h = h
 
-module _ (low most : ℕ) (old new : Calls) (frame : Frame) (t : Taking) (within : IsWithin low most old) where
+module _ (low most : ℕ) (old new : Calls) (frame : Frame) (within : IsWithin low most old) where
   same_within : new ≡ old → IsWithin low most new
   same_within same = subst (IsWithin low most) (sym same) within
 
@@ -204,31 +196,26 @@ module _ (low most : ℕ) (old new : Calls) (frame : Frame) (t : Taking) (within
         few = omega (arith, less, few);
       }
 
-  within_waiting : (h : Header) (found : Option Method) → call_at old frame.endpoint h.txid ≡ found → (t, new) ≡ by_call old frame h found → IsWithin low most new
-  within_waiting h None found e = same_within (ap (λ (p : Taking × Calls). p.1) e)
-  within_waiting h (Some m) found e = subst (IsWithin low most) (sym (ap (λ (p : Taking × Calls). p.1) e)) (less_within h.txid m found)
+  within_waiting : (h : Header) (found : Option Method) → call_at old frame.endpoint h.txid ≡ found → new ≡ (by_call old frame h found).1 → IsWithin low most new
+  within_waiting h None found e = same_within e
+  within_waiting h (Some m) found e = subst (IsWithin low most) (sym e) (less_within h.txid m found)
 
-  within_ordinal : (h : Header) (event : Bool) → (t, new) ≡ cond event (told_event (event_of frame.bytes), old) (by_call old frame h (call_at old frame.endpoint h.txid)) → IsWithin low most new
-  within_ordinal h true e = same_within (ap (λ (p : Taking × Calls). p.1) e)
+  within_ordinal : (h : Header) (event : Bool) →
+      new ≡ (cond event (told_event (event_of frame.bytes), old) (by_call old frame h (call_at old frame.endpoint h.txid))).1 → IsWithin low most new
+  within_ordinal h true e = same_within e
   within_ordinal h false e = within_waiting h (call_at old frame.endpoint h.txid) refl e
 
-  within_head : (found : Result Header WireFault) → (t, new) ≡ by_header old frame found → IsWithin low most new
-  within_head (Err flaw) e = same_within (ap (λ (p : Taking × Calls). p.1) e)
+  within_head : (found : Result Header WireFault) → new ≡ (by_header old frame found).1 → IsWithin low most new
+  within_head (Err flaw) e = same_within e
   within_head (Ok h) e = within_ordinal h (h.ordinal == event_ordinal) e
 
-  within_epitaph : AreBytes frame.bytes → (epitaph : Bool) → is_epitaph frame.bytes ≡ epitaph → is_watched old frame.endpoint ≡ false → TakesMessage old frame t new → IsWithin low most new
-  within_epitaph are true told free takes =
-      let one = epitaph_told frame.bytes are told in
-      same_within (takes.ended free one.0 one.1).1
-  within_epitaph are false told free takes = within_head (header_of frame.bytes) (takes.other free (no_epitaph frame.bytes told))
+  within_same : (same : Bool) → new ≡ cond same old (by_header old frame (header_of frame.bytes)).1 → IsWithin low most new
+  within_same true e = same_within e
+  within_same false e = within_head (header_of frame.bytes) e
 
-  within_watched : AreBytes frame.bytes → (watched : Bool) → is_watched old frame.endpoint ≡ watched → TakesMessage old frame t new → IsWithin low most new
-  within_watched are true told takes = same_within (takes.watched told).1
-  within_watched are false told takes = within_epitaph are (is_epitaph frame.bytes) refl told takes
+  pub message_within : new ≡ calls_behind_message old frame → IsWithin low most new
+  message_within e = within_same (is_watched old frame.endpoint || is_epitaph frame.bytes) e
 
-  pub message_within : AreBytes frame.bytes → TakesMessage old frame t new → IsWithin low most new
-  message_within are takes = within_watched are (is_watched old frame.endpoint) refl takes
-
--- what a message is taken for
-pub kind_takes : (old new : Calls) (frame : Frame) (t : Taking) (k : FrameKind) → k ≡ kind.Message → Takes k old frame t new → TakesMessage old frame t new
-kind_takes old new frame t k is takes = subst (λ q. Takes q old frame t new) is takes
+-- what waits behind a message
+pub kind_behind : (old new : Calls) (frame : Frame) (k : FrameKind) → k ≡ kind.Message → new ≡ calls_behind k old frame → new ≡ calls_behind_message old frame
+kind_behind old new frame k is behind = subst (λ q. new ≡ calls_behind q old frame) is behind

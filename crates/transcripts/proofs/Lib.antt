@@ -1,5 +1,4 @@
 mod Keys
-mod Epitaphs
 mod Sending
 mod Getting
 pub mod Fronts

@@ -1,15 +1,14 @@
 -- What happens in a session that is played from a script, and which of the frames that come back answer a call.
-use Rattle.std.specs.Prelude.{ℕ, ◌+◌, ◌==◌, ◌&&◌, ◌||◌, not, Bool, true, false, if◌then◌else◌, List, [], ◌∷◌, length, Option, Some, None, Result, Ok, Err}
+use Rattle.std.specs.Prelude.{ℕ, ◌+◌, ◌==◌, ◌&&◌, ◌||◌, not, Bool, true, false, if◌then◌else◌, List, [], ◌∷◌, Option, Some, None, Result, Ok, Err}
 use Rattle.std.specs.Option.{option_map_or}
-use Rattle.fidl_names.specs.Numbers.{number_at}
 use Rattle.fidl_wire.specs.declared.faults.WireFault.{WireFault}
 use Rattle.fidl_wire.specs.declared.headers.Header.{Header}
-use Rattle.fidl_wire.specs.Epitaphs.{epitaph_ordinal}
 use Rattle.fidl_wire.specs.Headers.{header_of}
 use Rattle.fidl_wire.specs.Names.{event_ordinal}
 use Rattle.endpoint_link.specs.declared.kinds.FrameKind.{FrameKind}
 use Rattle.endpoint_link.specs.declared.kinds.FrameKind.TheVariants as kind
 use Rattle.endpoint_link.specs.Frames.{Frame}
+use Rattle.io_client.specs.Taking.{is_epitaph}
 use Rattle.vfs_script.specs.declared.calls.Call.{Call}
 
 -- a frame of the script is sent, with the call that it makes, if any; or a frame comes back
@@ -22,14 +21,6 @@ abbrev pub Past : Type 0
 Past = List Happening
 
 -- ---- the transaction id of a message
-
-abbrev pub heads_epitaph : Result Header WireFault → Bool
-heads_epitaph (Err flaw) = false
-heads_epitaph (Ok header) = (header.txid == 0) && (header.ordinal == epitaph_ordinal)
-
--- 24 bytes: a header without a flaw, with the transaction id 0 and the ordinal, a status, and four zero bytes
-abbrev pub is_epitaph : List ℕ → Bool
-is_epitaph bytes = (length bytes == 24) && (heads_epitaph (header_of bytes) && (number_at 4 20 bytes == 0))
 
 -- a message with a flaw in its header has none, and the event has none
 abbrev pub headed_txid : Result Header WireFault → Option ℕ

@@ -14,11 +14,11 @@ ghost use Rattle.tree_session.specs.TreeSession.{tree_course, StandsBehind};
 
 use endpoint_link::{FrameView, Mode, Outbox, Side};
 use fidl_names::NoMemory;
-use fidl_wire::{OrdinalFault, Ordinals};
+use fidl_wire::Ordinals;
 use host_io::{Files, Sink, Source};
 use link_session::{Input, Session, run};
 use named_files::read_start;
-use run_status::Status;
+use run_status::{Status, ordinals};
 use session_start::Start;
 use std::alloc::Global;
 use vfs_world::World;
@@ -40,9 +40,9 @@ pub fn serve_tree<F: Files, S: Source, K: Sink>(
         (streams source.old sink.old) (streams source.new sink.new) (sink.new ≡ sink.old))) result }
     ensures reads { ReadsOnly F.reads (tree.now ∷ []) files.old files.new }
 {
-    let ordinals = match Ordinals::new() {
+    let ordinals = match ordinals() {
         Ok(ordinals) => ordinals,
-        Err(OrdinalFault::Collision(first, second)) => return Status::Collision { first, second },
+        Err(collision) => return collision,
     };
     let start = match read_start(alloc, tree, files) {
         Ok(start) => start,

@@ -2,12 +2,11 @@
 #![tactic(auto)]
 
 use host_io::{DirFiles, StdSink, StdSource};
-use run_status::Status;
 use std::io::ErrorKind;
 use std::process::ExitCode;
 use std::rt::Env;
 use std::{env, io};
-use vfs_program::run_words;
+use vfs_program::{Status, run_words};
 
 /// Where the words can't be had for another cause than memory, as when they aren't UTF-8.
 const NO_WORDS: u8 = 12;

@@ -5,3 +5,4 @@ mod run;
 mod words;
 
 pub use run::run_words;
+pub use run_status::Status;

@@ -1,7 +1,7 @@
 //! Outside values of a client: what it does in order, row by row. A row has a name and
 //!
-//! - `send`, an endpoint, a transaction id and a request, and the frame that is sent, or why none is; `write` has the bytes of a Write in place
-//!   of a request;
+//! - `send`, an endpoint, a transaction id and a request, and the frame that is sent, or why none is; `write` and `echo` have the bytes of a
+//!   Write and of an EchoString in place of a request;
 //! - `note`, the same with a method, the watcher that it brings, and what noting the call answers;
 //! - `take`, a frame, and what it is to the client;
 //! - `hang up`, an endpoint and the frame that is sent; or `waiting`, and how many calls wait.
@@ -18,6 +18,27 @@ a byte too many | write | 2 | 6 | [61*65505] | TooLong
 a directory is opened | send | 1 | 0 | open d | 01000000010100004800000002[00*7]02000001d6547cffbb4fbc2f01[00*7][ff*8]c001[00*14][ff*12][00*4]64[00*7]
 four calls wait | waiting | 4
 the longest message | write | 2 | 7 | [61*65504] | 0200000001[00*5]0100070000000200000185013bc628059049e0ff[00*6][ff*8][61*65504]
+";
+
+/// The requests that no other rows send, in frames around their outside values, and a text that is one byte too long.
+pub const EACH: &[u8] = b"
+a clone | send | 2 | 0 | clone | 02000000010100001800000005000000[00*4]02000001798a16a2aba7d820[ff*4][00*4]
+entries | send | 2 | 2 | entries | 020000000100000018000000020000000200000114916b2a59ccb0050020[00*6]
+from the front again | send | 2 | 3 | rewind | 0200000001000000100000000300000002000001594705f815b1c77d
+a token | send | 2 | 4 | token | 02000000010000001000000004000000020000010bea77552dcc1d2c
+a new name, with the token's number as a handle | send | 2 | 5 | rename | 020000000101000048000000000000800500000002000001de28993b72e7607001[00*7][ff*12][00*4]01[00*7][ff*8]61[00*7]62[00*7]
+a second name, with another token | send | 2 | 6 | link | 0200000001010000480000000100008006000000020000014681a69845b4aa0301[00*7][ff*12][00*4]01[00*7][ff*8]66[00*7]67[00*7]
+a name less | send | 2 | 7 | unlink | 0200000001000000380000000700000002000001ed7b8da726030a7501[00*7][ff*8][00*8][ff*8]66[00*7]
+a directory less | send | 2 | 8 | unlink a directory | 0200000001000000480000000800000002000001ed7b8da726030a7501[00*7][ff*8]01[00*7][ff*8]66[00*7]08[00*7]01[00*7]
+a part | send | 2 | 9 | read at | 02000000010000002000000009000000020000013e720da693a2071605[00*7]06[00*7]
+a byte | write | 2 | 10 | 78 | 0200000001000000280000000a0000000200000185013bc62805904901[00*7][ff*8]78[00*7]
+two bytes far behind | send | 2 | 11 | write at | 0200000001000000300000000b000000020000012b795e04c0ef3e7902[00*7][ff*10][00*6]2121[00*6]
+one back | send | 2 | 12 | seek | 0200000001000000200000000c0000000200000107522c166891077801[00*7][ff*8]
+a size | send | 2 | 13 | resize | 0200000001000000180000000d000000020000013a7435055f82802b010001[00*5]
+a word | echo | 2 | 14 | 6869 | 0200000001000000280000000e0000000200000116a6d9524e27b87502[00*7][ff*8]6869[00*6]
+a text that is a byte too long | echo | 2 | 15 | [61*65505] | TooLong
+thirteen calls wait | waiting | 13
+the longest text | echo | 2 | 15 | [61*65504] | 0200000001[00*5]01000f0000000200000116a6d9524e27b875e0ff[00*6][ff*8][61*65504]
 ";
 
 /// The exchange of the document of `io_client`.

@@ -21,5 +21,5 @@ returns-clause-answers g c =
       ),
     )
 
-pub returns-in-Err-clause-answers : goal.returns-in-Err-clause-answers
-returns-in-Err-clause-answers g c = inr (tt, c.in-Ok.ensures.distinct, inl (c.in-Err.ensures.refused, (refl, refl)))
+pub returns-in-Err-read_start-clause-answers : goal.returns-in-Err-read_start-clause-answers
+returns-in-Err-read_start-clause-answers g c = inr (tt, c.in-Ok.ensures.distinct, inl (c.in-Err-read_start.ensures.refused, (refl, refl)))

@@ -2,20 +2,20 @@ use Rattle.std.proofs.Common.{List, ℕ, ◌≡◌, ◌++◌, sym, ap, ◌∙◌
 use Rattle.endpoint_link.specs.Views.{frame_of}
 use Rattle.vfs_script.specs.Transcripts.{frame_line}
 use Rattle.transcripts.specs.Telling.{IsWithin, Knows, Scribe}
-use Rattle.transcripts.proofs.Getting.{kind_takes, message_known, message_within, no_message_id, without_known}
+use Rattle.transcripts.proofs.Getting.{kind_behind, message_known, message_within, no_message_id, without_known}
 use Rattle.transcripts.proofs.scribe.Scribe.gets.Goals as goal
 
 pub returns-in-Message-clause-knows : goal.returns-in-Message-clause-knows
 returns-in-Message-clause-knows c = λ past knows.
     let calls : c.self.inside.client ≡ c.args.self.now.calls = ap (λ (s : Scribe). s.calls) c.self.view_is in
-    let takes = kind_takes c.self.inside.client c.pass.new.self (frame_of c.args.frame) c.pass.ensures.passes.0 c.args.frame.kind c.in-Message.is c.pass.ensures.passes.1 in
-    message_known past c.self.inside.client c.pass.new.self (frame_of c.args.frame) c.pass.ensures.passes.0 c.in-Message.is (subst (Knows past) (sym calls) knows) c.requires.bytes takes
+    let behind = kind_behind c.self.inside.client c.pass.new.self (frame_of c.args.frame) c.args.frame.kind c.in-Message.is c.pass.ensures.passes in
+    message_known past c.self.inside.client c.pass.new.self (frame_of c.args.frame) c.in-Message.is (subst (Knows past) (sym calls) knows) behind
 
 pub returns-in-Message-clause-within : goal.returns-in-Message-clause-within
 returns-in-Message-clause-within c = λ low most within.
     let calls : c.self.inside.client ≡ c.args.self.now.calls = ap (λ (s : Scribe). s.calls) c.self.view_is in
-    let takes = kind_takes c.self.inside.client c.pass.new.self (frame_of c.args.frame) c.pass.ensures.passes.0 c.args.frame.kind c.in-Message.is c.pass.ensures.passes.1 in
-    message_within low most c.self.inside.client c.pass.new.self (frame_of c.args.frame) c.pass.ensures.passes.0 (subst (IsWithin low most) (sym calls) within) c.requires.bytes takes
+    let behind = kind_behind c.self.inside.client c.pass.new.self (frame_of c.args.frame) c.args.frame.kind c.in-Message.is c.pass.ensures.passes in
+    message_within low most c.self.inside.client c.pass.new.self (frame_of c.args.frame) (subst (IsWithin low most) (sym calls) within) behind
 
 pub returns-in_default : goal.returns-in_default
 returns-in_default c =

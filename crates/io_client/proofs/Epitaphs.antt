@@ -12,8 +12,7 @@ use Rattle.fidl_wire.specs.declared.faults.WireFault.{WireFault}
 use Rattle.fidl_wire.specs.declared.headers.Header.{Header}
 use Rattle.fidl_wire.specs.Epitaphs.{IsEpitaph, epitaph_ordinal}
 use Rattle.fidl_wire.specs.Headers.{header_of}
-use Rattle.io_client.specs.Taking.{IsNoEpitaph}
-use Rattle.transcripts.specs.Answering.{heads_epitaph, is_epitaph}
+use Rattle.io_client.specs.Taking.{IsNoEpitaph, heads_epitaph, is_epitaph}
 
 and_left : (a b : Bool) → a && b ≡ true → a ≡ true
 and_left true b h = refl
@@ -64,11 +63,21 @@ heads_by bytes found h =
     subst (λ (r : Result Header WireFault). heads_epitaph r ≡ true) (sym h.1)
     (and_true (h.0.txid == 0) (h.0.ordinal == epitaph_ordinal) (eq-eqb h.0.txid 0 h.2) (eq-eqb h.0.ordinal epitaph_ordinal h.3))
 
--- and others aren't
-pub no_epitaph : (bytes : List ℕ) → is_epitaph bytes ≡ false → IsNoEpitaph bytes
-no_epitaph bytes h = λ status is.
-    let told : is_epitaph bytes ≡ true =
+-- an epitaph is told
+pub is_told : (bytes : List ℕ) (status : ℤ) → IsEpitaph bytes status → is_epitaph bytes ≡ true
+is_told bytes status is =
     and_true (length bytes == 24) (heads_epitaph (header_of bytes) && (number_at 4 20 bytes == 0)) (eq-eqb (length bytes) 24 is.size)
-    (and_true (heads_epitaph (header_of bytes)) (number_at 4 20 bytes == 0) (heads_by bytes (header_of bytes) is.header) (eq-eqb (number_at 4 20 bytes) 0 is.zeros)) in
+    (and_true (heads_epitaph (header_of bytes)) (number_at 4 20 bytes == 0) (heads_by bytes (header_of bytes) is.header) (eq-eqb (number_at 4 20 bytes) 0 is.zeros))
+
+-- and nothing else is
+pub none_told : (bytes : List ℕ) → AreBytes bytes → IsNoEpitaph bytes → is_epitaph bytes ≡ false
+none_told bytes are none = by_test (is_epitaph bytes) refl where
+  by_test : (told : Bool) → is_epitaph bytes ≡ told → told ≡ false
+  by_test true e = let one = epitaph_told bytes are e in absurd (none one.0 one.1)
+  by_test false e = refl
+
+pub not_told : (bytes : List ℕ) → is_epitaph bytes ≡ false → IsNoEpitaph bytes
+not_told bytes h = λ status is.
+    let told : is_epitaph bytes ≡ true = is_told bytes status is in
     let wrong : false ≡ true = sym h ∙ told in
     absurd (cc)
