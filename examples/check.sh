@@ -97,6 +97,10 @@ an input over a tree cut short  | serve examples/trees/small.toml auto | open fr
 a session over a refused tree   | serve @wrong auto                 | open        | nothing      | 2 | tree refused: rule 2 item 0
 a session over no tree          | serve @none auto                  | open        | nothing      | 5 | file failed
 a session over too large a tree | serve @large auto                 | open        | nothing      | 5 | file too large
+a session over a directory      | serve . auto                      | open        | nothing      | 5 | file failed
+no tree in mode given           | serve @none given                 | open        | nothing      | 5 | file failed
+a directory in mode given       | serve . given                     | open        | nothing      | 5 | file failed
+too large a tree in mode given  | serve @large given                | open        | nothing      | 5 | file too large
 an Open over two servers        | serve examples/trees/mounted_pair.toml auto | open | missing    | 0 |
 an Open through three mounts    | serve examples/trees/every_kind.toml auto | through | remote    | 0 |
 mode given                      | serve examples/trees/mounted_pair.toml given | open stray | refused missing | 0 |
@@ -108,11 +112,16 @@ a script with a bad line        | run examples/trees/small.toml @bad | nothing  
 a script over a refused tree    | run @wrong @script                | nothing     | nothing      | 2 | tree refused: rule 2 item 0
 a script that isn't there       | run examples/trees/small.toml @none | nothing     | nothing      | 5 | file failed
 a script that is too large      | run examples/trees/small.toml @large | nothing    | nothing      | 5 | file too large
+a script that is a directory    | run examples/trees/small.toml .   | nothing     | nothing      | 5 | file failed
+a script over no tree           | run @none @script                 | nothing     | nothing      | 5 | file failed
+a script over a directory       | run . @script                     | nothing     | nothing      | 5 | file failed
+a script over too large a tree  | run @large @script                | nothing     | nothing      | 5 | file too large
 a tree that stands              | check examples/trees/mounted_pair.toml | nothing | ok servers 2 nodes 2 mounts 2 clients 1 | 0 |
 a tree of the largest size      | check @tree                       | nothing     | ok servers 1 nodes 2 mounts 0 clients 1 | 0 |
 a tree that breaks a rule       | check @wrong                      | nothing     | nothing      | 2 | tree refused: rule 2 item 0
 a tree that isn't there         | check @none                       | nothing     | nothing      | 5 | file failed
 a tree that is too large        | check @large                      | nothing     | nothing      | 5 | file too large
+a tree that is a directory      | check .                           | nothing     | nothing      | 5 | file failed
 the script on reading           | run examples/trees/small.toml examples/scripts/reading.script | nothing | examples/scripts/reading.transcript | 0 |
 the script on writing           | run examples/trees/small.toml examples/scripts/writing.script | nothing | examples/scripts/writing.transcript | 0 |
 the script on directories       | run examples/trees/small.toml examples/scripts/directories.script | nothing | examples/scripts/directories.transcript | 0 |

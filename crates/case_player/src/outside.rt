@@ -1,3 +1,4 @@
+use crate::counted::Counted;
 use anyhow::{Context, Result};
 use fidl_names::NoMemory;
 use host_io::{MemFiles, MemSink, MemSource};
@@ -6,7 +7,10 @@ use std::alloc::Global;
 use std::fs;
 use vfs_program::run_words;
 
-/// The call of a file, a read or a write that fails, counted from 0, if one does.
+const USAGE: &str =
+    "usage: vfs file NAME | serve TREE auto | serve TREE given | run TREE SCRIPT | check TREE | show | make N";
+
+/// The call of a file, a read, and a write or a flush that fails, counted from 0, if one does.
 #[derive(Clone, Copy)]
 pub struct Failing {
     pub file: Option<u64>,
@@ -32,25 +36,44 @@ pub struct Sizes {
     pub write: usize,
 }
 
+/// What is given to a run: the files `held` and `input`, and what its reads give.
+#[derive(Clone, Copy)]
+pub struct Given<'a> {
+    pub held: &'a [u8],
+    pub input: &'a [u8],
+    pub source: &'a [u8],
+}
+
 /// What a run has outside, in memory: its files, its input, and where its output and its note go.
 #[derive(Drop)]
 pub struct Outside {
-    files: MemFiles,
-    source: MemSource,
-    pub sink: MemSink,
-    pub notes: MemSink,
+    pub files: Counted<MemFiles>,
+    pub source: Counted<MemSource>,
+    pub sink: Counted<MemSink>,
+    notes: MemSink,
 }
 
-/// The file `held`, and an input that is the file `input` as well.
-fn files_of(
-    alloc: Global,
-    held: &[u8],
-    input: &[u8],
-    failing: Option<u64>,
-) -> Result<MemFiles, NoMemory> {
+impl Outside {
+    /// The output.
+    pub fn output(&self) -> &[u8] {
+        self.sink.object().written()
+    }
+
+    /// How a run with this status ended: its note, `-` for none, and its exit status.
+    pub fn end(&self, alloc: Global, status: Status) -> Result<String> {
+        let note = match str::from_utf8(self.notes.written())?.trim() {
+            "" => "-",
+            USAGE => "usage",
+            note => note,
+        };
+        Ok(format!(in alloc; "{note} | {}", status.exit_code())?)
+    }
+}
+
+fn files_of(alloc: Global, given: Given<'_>, failing: Option<u64>) -> Result<MemFiles, NoMemory> {
     let mut files = MemFiles::new(alloc);
-    files.put("held", held)?;
-    files.put("input", input)?;
+    files.put("held", given.held)?;
+    files.put("input", given.input)?;
     if let Some(call) = failing {
         files.fail_at(call)?;
     }
@@ -59,12 +82,12 @@ fn files_of(
 
 fn source_of(
     alloc: Global,
-    input: &[u8],
+    bytes: &[u8],
     size: usize,
     failing: Option<u64>,
 ) -> Result<MemSource, NoMemory> {
     let failing = list_of(alloc, failing)?;
-    Ok(MemSource::new(Vec::from_slice(alloc, input)?, size, failing))
+    Ok(MemSource::new(Vec::from_slice(alloc, bytes)?, size, failing))
 }
 
 fn sink_of(alloc: Global, sizes: Sizes, failing: Option<u64>) -> Result<MemSink, NoMemory> {
@@ -83,19 +106,18 @@ fn list_of(alloc: Global, number: Option<u64>) -> Result<Vec<u64>, NoMemory> {
 /// What a run has outside as it begins.
 pub fn outside_of(
     alloc: Global,
-    held: &[u8],
-    input: &[u8],
+    given: Given<'_>,
     sizes: Sizes,
     failing: Failing,
 ) -> Result<Outside, NoMemory> {
     let notes = MemSink::new(alloc, 1000, 1000, Vec::new(alloc))?;
     let sink = sink_of(alloc, sizes, failing.write)?;
-    let source = source_of(alloc, input, sizes.read, failing.read)?;
-    let files = files_of(alloc, held, input, failing.file)?;
+    let source = source_of(alloc, given.source, sizes.read, failing.read)?;
+    let files = files_of(alloc, given, failing.file)?;
     Ok(Outside {
-        files,
-        source,
-        sink,
+        files: Counted::new(files),
+        source: Counted::new(source),
+        sink: Counted::new(sink),
         notes,
     })
 }

@@ -1,5 +1,6 @@
-//! What a file says once for many times: `<COUNT*PIECE>` stands for so many PIECEs one behind another, or for so many lines where it is a line.
-//! In a PIECE `{N}` stands for the number N in the first, N + 1 in the second, and so on; `{low N}` for the four bytes of that number, the low
+//! What a file says once for many times: `<COUNT*PIECE>` stands for so many PIECEs one behind
+//! another, or for so many lines where it is a line. In a PIECE `{N}` stands for the number N in
+//! the first, N + 1 in the second, and so on; `{low N}` for the four bytes of that number, the low
 //! one first, and `{digits N}` for the bytes of its decimal digits, both in hexadecimal digits.
 
 use crate::numbers::number;

@@ -1,19 +1,14 @@
-//! Rows of runs, with `|` between their cells: a name; the words, or `-`; the file `held`; the input, which the file `input` has as well; the
-//! most bytes of a read, where several say as many runs; the call that fails; the sink's room, and the most bytes of a write; the output (`?`:
-//! any), the note (`-`: none) and the exit status.
-//!
-//! Bytes are hexadecimal digits, `-` for none, `'` and a text in which `;` ends a line, or `tree NAME`. `FROM..TO of` in front of an input says
-//! that there are runs for each of its beginnings that has at least FROM bytes and fewer than TO.
+//! Rows of runs, with `|` between their cells: a name; the words, or `-`; the file `held`; the
+//! input, which the file `input` has as well; the most bytes of a read, where several say as many
+//! runs; the call that fails, as `read 1`, or `-`; the sink's room, and the most bytes of a write;
+//! the output, the note (`-`: none) and the exit status. Bytes stand as `spelling` says.
 
 use crate::numbers::{number, size};
-use crate::outside::{Failing, Outside, Sizes, outside_of, run, tree};
+use crate::outside::{Failing, Given, Outside, Sizes, outside_of, run};
+use crate::spelling::{bytes, digits};
 use crate::tally::{Tally, is_skipped};
 use anyhow::{Context, Result, bail};
-use run_status::Status;
 use std::alloc::Global;
-
-const USAGE: &str =
-    "usage: vfs file NAME | serve TREE auto | serve TREE given | run TREE SCRIPT | check TREE | show | make N";
 
 /// The cells of a row; what is wanted is its output, note and exit status.
 #[derive(Clone, Copy)]
@@ -61,80 +56,46 @@ fn row_in(line: &str) -> Option<Row<'_>> {
 }
 
 impl Row<'_> {
-    /// Plays the runs of the row: for each of the beginnings of its input, and each of its pieces.
+    /// Plays the runs of the row: for each of its pieces.
     fn play(&self, rt: &HostRuntime, tally: &mut Tally) -> Result<()> {
-        let (beginnings, input) = self.input.split_once(" of ").unwrap_or(("", self.input));
-        let input = bytes(rt, input)?;
-        let (from, to) = match beginnings.split_once("..") {
-            Some((from, to)) => (size(from)?, size(to)?),
-            None => (input.len(), input.len().saturating_add(1)),
-        };
-        for len in from..to {
-            let beginning = input.get(..len).context("an input is too short")?;
-            self.play_over(rt, beginning, tally)?;
-        }
-        Ok(())
-    }
-
-    /// Plays the runs over an input: for each of the pieces.
-    fn play_over(&self, rt: &HostRuntime, input: &[u8], tally: &mut Tally) -> Result<()> {
+        let input = bytes(rt, self.input)?;
         for piece in self.pieces.split(',') {
-            let came = self.run(rt, input, size(piece)?)?;
+            let mut outside = self.outside(rt, &input, size(piece)?)?;
+            let came = self.came(rt.alloc(), &mut outside)?;
             tally.count(rt, self.name, self.wanted, &came)?;
         }
         Ok(())
     }
 
-    /// What comes of a run over an input, by such pieces.
-    fn run(&self, rt: &HostRuntime, input: &[u8], read: usize) -> Result<String> {
-        let mut outside = self.outside(rt, input, read)?;
-        self.came(rt.alloc(), &mut outside)
-    }
-
-    /// What the run has outside.
+    /// What a run has outside, by such pieces.
     fn outside(&self, rt: &HostRuntime, input: &[u8], read: usize) -> Result<Outside> {
         let sizes = sizes_in(self.room, read)?;
         let failing = failing_in(self.failing)?;
         let held = bytes(rt, self.held)?;
-        let outside = outside_of(rt.alloc(), &held, input, sizes, failing);
+        let given = Given {
+            held: &held,
+            input,
+            source: input,
+        };
+        let outside = outside_of(rt.alloc(), given, sizes, failing);
         outside.ok().context("no memory")
     }
 
-    /// What comes of the run over that.
+    /// What the run ends with and writes, in the way in which rows say it.
     fn came(&self, alloc: Global, outside: &mut Outside) -> Result<String> {
         let status = run(alloc, self.words, outside)?;
-        self.told(alloc, status, outside)
-    }
-
-    /// What a run ended with and wrote, in the way in which rows say it.
-    fn told(&self, alloc: Global, status: Status, outside: &Outside) -> Result<String> {
-        let note = note_in(outside.notes.written())?;
-        let output = self.spelled(alloc, outside.sink.written())?;
-        Ok(format!(in alloc; "{output} | {note} | {}", status.exit_code())?)
+        let output = self.spelled(alloc, outside.output())?;
+        Ok(format!(in alloc; "{output} | {}", outside.end(alloc, status)?)?)
     }
 
     /// An output, in the way in which the row says its own.
     fn spelled(&self, alloc: Global, output: &[u8]) -> Result<String> {
-        if self.wanted.starts_with("? ") {
-            Ok(String::from_str(alloc, "?")?)
-        } else if self.wanted.starts_with('\'') {
+        if self.wanted.starts_with('\'') {
             let lines = str::from_utf8(output)?.replace(alloc, '\n', ";")?;
-            Ok(format!(in alloc; "'{lines}")?)
-        } else if output.is_empty() {
-            Ok(String::from_str(alloc, "-")?)
-        } else {
-            Ok(hex::encode(alloc, output)?)
+            return Ok(format!(in alloc; "'{lines}")?);
         }
+        digits(alloc, output)
     }
-}
-
-/// A note, in the way in which rows say it.
-fn note_in(written: &[u8]) -> Result<&str> {
-    Ok(match str::from_utf8(written)?.trim() {
-        "" => "-",
-        USAGE => "usage",
-        note => note,
-    })
 }
 
 /// The sizes of a cell that says the room and the most of a write, by such pieces.
@@ -160,19 +121,5 @@ fn failing_in(cell: &str) -> Result<Failing> {
             ..none
         }),
         _ => bail!("no such call"),
-    }
-}
-
-/// The bytes that a cell says.
-pub fn bytes(rt: &HostRuntime, cell: &str) -> Result<Vec<u8>> {
-    let alloc = rt.alloc();
-    if let Some(text) = cell.strip_prefix("'") {
-        Ok(text.replace(alloc, ';', "\n")?.into_bytes())
-    } else if let Some(name) = cell.strip_prefix("tree ") {
-        Ok(tree(rt, name)?.into_bytes())
-    } else if cell == "-" {
-        Ok(Vec::new(alloc))
-    } else {
-        Ok(hex::decode(alloc, cell)?)
     }
 }

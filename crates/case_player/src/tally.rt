@@ -1,7 +1,8 @@
 use anyhow::Result;
 use std::fmt;
 
-/// How many rows of a file hold, and how many don't. It is shown as `N hold`, or `N hold, M differ`.
+/// How many rows of a file hold, and how many don't. It is shown as `N hold`, or `N hold, M
+/// differ`.
 #[derive(Clone, Copy)]
 pub struct Tally {
     hold: u32,

@@ -1,5 +1,5 @@
-//! Plays the files of cases that its arguments name, and says of each how many of them hold. It ends with status 1 where a case doesn't hold,
-//! or a file isn't of its form or has no case.
+//! Plays the files of cases that its arguments name, and says of each how many of them hold. It ends
+//! with status 1 where a case doesn't hold, or a file isn't of its form or has no case.
 #![tactic(auto)]
 
 use anyhow::{Result, ensure};
