@@ -4,7 +4,7 @@ PROGRAM := build/vfs
 TREE := examples/trees/small.toml
 SCRIPT := examples/scripts/reading.script
 
-.PHONY: help try build run test check bench clean
+.PHONY: help try build run test check bench starve soak clean
 
 help:
 	@echo "make try    play a script over a small tree before anything is proved, in some minutes (SCRIPT=FILE TREE=FILE: another)"
@@ -12,7 +12,9 @@ help:
 	@echo "make run    build it, serve example trees and a file (frames with what comes back), play a script, and check example trees"
 	@echo "make test   all proofs, the edits that must be refused, the tests and the programs, the examples and the documents"
 	@echo "make check  build it, run it on the examples, and play worked sessions and trees by it"
-	@echo "make bench  processor time, frames a second and memory"
+	@echo "make bench  processor time, instructions a frame where valgrind is there, and memory"
+	@echo "make starve each allocation of sessions of every command refused in turn (wants a C compiler)"
+	@echo "make soak   minutes: ten million frames in both modes, with the memory and the time a frame at each tenth"
 	@echo "make clean  remove what was built and what checks kept"
 	@echo
 	@echo "A build proves all crates below the program, those that don't stand on each other side by side."
@@ -58,6 +60,14 @@ check: build
 
 bench: build
 	@tools/bench.sh $(PROGRAM)
+
+# Beside the program the player of rows, which goes on calling a world that found no memory.
+starve: build
+	@tools/build.sh io_conformance
+	@tools/starve.sh $(PROGRAM) build/io_conformance
+
+soak: build
+	@tools/soak.sh $(PROGRAM)
 
 clean:
 	rm -rf build crates/*/out

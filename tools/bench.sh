@@ -1,142 +1,62 @@
 #!/usr/bin/env bash
-# bench.sh VFS: processor time (user and system) and peak memory of the program, measured from outside.
+# bench.sh VFS [WORK]: processor time (user and system) and peak memory of the program, measured from outside; and, where valgrind
+# is there, the instructions a frame, by the difference of two lengths. With a second word only the works whose name has it.
 set -eu
 export LC_ALL=C
-vfs=$(realpath "$1")
+vfs=$(realpath "$1") only=${2-}
 cd "$(dirname "$0")/.."
 work=$(mktemp -d)
 trap 'rm -rf "$work"' EXIT
 TIMEFORMAT='%U %S'
+source tools/frames.sh
+command -v valgrind > "$work/found" || echo "valgrind isn't there: no instructions are counted"
 
-# Words of awk for frames with the bytes of their messages: numbers of four and of eight bytes, padded
-# texts, the beginnings of a message and of a request with its ordinal, and then each frame that is sent. A
-# flexible call of an unknown method is replied to whatever handles it has, and the endpoints that it carries die.
-writing='
-    function word(n) { printf "%c%c%c%c", n % 256, int(n / 256) % 256, int(n / 65536) % 256, int(n / 16777216) }
-    function words(n, more) { word(n); word(more) }
-    function filled() { words(4294967295, 4294967295) }
-    function zeros(count,    i) { for (i = 0; i < count; i++) printf "%c", 0 }
-    function padded(size) { return 8 * int((size + 7) / 8) }
-    function text(t) { printf "%s", t; zeros(padded(length(t)) - length(t)) }
-    function message(endpoint, handles, size) { word(endpoint); printf "%c%c%c%c", 1, handles, 0, 0; word(size) }
-    function asks(txid, low, high) { word(txid); printf "%c%c%c%c", 2, 0, 0, 1; words(low, high) }
-    function calls(endpoint, low, high) { message(endpoint, 0, 16); asks(1, low, high) }
-    function hang_up(endpoint) { word(endpoint); printf "%c%c%c%c", 2, 0, 0, 0; word(0) }
-    function turn(server, count) { word(server); printf "%c%c%c%c", 3, 0, 0, 0; words(4, count) }
-    function pick(endpoint) { word(endpoint); printf "%c%c%c%c", 4, 0, 0, 0; word(0) }
-    function open_path(endpoint, object, name, flags, more) {
-        message(endpoint, 1, 64 + padded(length(name))); word(object)
-        asks(0, 4286338262, 800870331)
-        words(length(name), 0); filled(); words(flags, more); words(0, 0); filled(); words(4294967295, 0); text(name)
-    }
-    function make_file(endpoint, object, name) { open_path(endpoint, object, name, 6, 520) }
-    function clone(endpoint, object) { message(endpoint, 1, 24); word(object); asks(0, 2719386233, 551069611); words(4294967295, 0) }
-    function watch(endpoint, object, mask) {
-        message(endpoint, 1, 32); word(object)
-        asks(1, 2773604473, 1926443193); words(mask, 0); words(4294967295, 0)
-    }
-    function with_token(endpoint, low, high, from, token, to) {
-        calls(endpoint, 1433922059, 740150317)
-        message(endpoint, 1, 56 + padded(length(from)) + padded(length(to))); word(token)
-        asks(2, low, high)
-        words(length(from), 0); filled(); words(4294967295, 0); words(length(to), 0); filled(); text(from); text(to)
-    }
-    function rename(endpoint, from, token, to) { with_token(endpoint, 999893214, 1885398898, from, token, to) }
-    function link(endpoint, from, token, to) { with_token(endpoint, 2561048902, 61518917, from, token, to) }
-    function unlink(endpoint, name) {
-        message(endpoint, 0, 48 + padded(length(name))); asks(1, 2811067373, 1963590438)
-        words(length(name), 0); filled(); words(0, 0); filled(); text(name)
-    }
-    function list(endpoint, size) { message(endpoint, 0, 24); asks(1, 711692564, 95472729); words(size, 0) }
-    function rewind(endpoint) { calls(endpoint, 4161095513, 2110238997) }
-    function read(endpoint, count) { message(endpoint, 0, 24); asks(1, 2444755276, 1089634246); words(count, 0) }
-    function read_at(endpoint, count, offset) { message(endpoint, 0, 32); asks(1, 2785899070, 369599123); words(count, 0); words(offset, 0) }
-    function write(endpoint, size) { message(endpoint, 0, 32 + padded(size)); asks(1, 3325755781, 1234175272); words(size, 0); filled() }
-    function seek(endpoint, offset) { message(endpoint, 0, 32); asks(1, 372003335, 2013761896); words(0, 0); words(offset, 0) }
-    function resize(endpoint, size) { message(endpoint, 0, 24); asks(1, 87389242, 729842271); words(size, 0) }
-    function attributes(endpoint) { message(endpoint, 0, 24); asks(1, 954860859, 1027839654); words(127, 0) }
-    function unknown(endpoint, handles, first,    i) {
-        message(endpoint, handles, 16)
-        for (i = 0; i < handles; i++) word(first + i)
-        word(1); printf "%c%c%c%c", 2, 0, 128, 1; words(1, 0)
-    }'
-
-# The frames that such words write.
-frames() { # WORDS
-    awk "$writing BEGIN { $1 }"
-}
-
-# So many rounds of them: each has its number in `k`, and one of so many names in `name`.
-rounds() { # ROUNDS WORDS [NAMES]
-    frames "for (k = 1; k <= $1; k++) { name = sprintf(\"n%04d\", 7919 * k % ${3-1}); $2 }"
-}
-
-# So many times the frames on standard input, in a file.
-many() { # TIMES TO
-    cat > "$work/one"
-    local size
-    size=$(wc -c < "$work/one")
-    cp "$work/one" "$2"
-    while [ "$(wc -c < "$2")" -lt $((size * $1)) ]; do
-        cat "$2" "$2" > "$work/twice"
-        mv "$work/twice" "$2"
-    done
-    truncate -s $((size * $1)) "$2"
-}
-
-# Opens of a name on endpoint 1, with these numbers as the new endpoints.
-opens() { # NAME FIRST LAST
-    frames "for (n = $2; n <= $3; n++) open_path(1, n, \"$1\", 2)"
-}
-
-# A server with a client in its root; the first one has the nodes, and its client endpoint 1.
-server() { # NAME ENDPOINT
-    printf '[[server]]\nname = "%s"\n[[client]]\nendpoint = %d\nserver = "%s"\npath = "."\n' "$1" "$2" "$1"
-}
-
-first_server() {
-    echo "version = 1"
-    server a 1
-}
-
-# So many nodes in the root, whose names have their numbers in this form.
-nodes() { # FORM COUNT KIND
-    awk -v form="$1" -v count="$2" -v kind="$3" 'BEGIN {
-        for (n = 0; n < count; n++) printf "[[node]]\nserver = \"a\"\npath = \"" form "\"\nkind = \"%s\"\n", n, kind
-    }'
-}
-
-# A root with so many files, and a large one.
-tree() { # FILES
-    first_server
-    printf '[[node]]\nserver = "a"\npath = "large"\nkind = "file"\nhex = "%s"\n' "$(head -c 65536 /dev/zero | od -An -v -tx1 | tr -d ' \n')"
-    nodes n%04d "$1" file
-}
-
-# A session over the tree: its seconds go to `spent`, and what it writes to `out`.
-serve() { # FRAMES [MODE]
-    { time "$vfs" serve "$work/tree" "${2-auto}" < "$1" > "$work/out"; } 2> "$work/spent"
-}
-
-seconds() { # of `spent`
+# The seconds of a run over these frames; what it writes goes to `out`.
+spent() { # FRAMES WORD..
+    { time "$vfs" "${@:2}" < "$1" > "$work/out"; } 2> "$work/spent"
     awk '{ print $1 + $2 }' "$work/spent"
 }
 
-# The time of one of so many frames, without so many seconds.
-each() { # NAME COUNT [SECONDS]
-    awk -v name="$1" -v count="$2" -v without="${3-0}" -v bytes="$(wc -c < "$work/out")" '{
-        printf "  %-46s %8d frames %9.1f ns each, %d bytes out\n", name, count, ($1 + $2 - without) * 1e9 / count, bytes
-    }' "$work/spent"
+# The instructions of a run over these frames.
+instructions() { # FRAMES WORD..
+    valgrind --tool=callgrind --callgrind-out-file=/dev/null "$vfs" "${@:2}" 2>&1 < "$1" > /dev/null |
+        awk '/Collected/ { print $NF }'
 }
 
-serving() { # NAME COUNT FRAMES [MODE [SECONDS]]
-    serve "$3" "${4-auto}"
-    each "$1" "$2" "${5-0}"
+# The instructions of one frame: what a run over twice as many rounds takes more.
+by_difference() { # FRAMES-A-ROUND ROUNDS MAKER WORD..
+    local frames=$1 rounds=$2 maker=$3
+    [ -s "$work/found" ] || { echo -; return; }
+    "$maker" "$rounds" > "$work/few"
+    "$maker" $((2 * rounds)) > "$work/more"
+    echo "$(instructions "$work/few" "${@:4}") $(instructions "$work/more" "${@:4}")" |
+        awk -v count=$((frames * rounds)) '{ printf "%.1f", ($2 - $1) / count }'
 }
 
-copying() { # NAME COUNT BYTES
-    { time dd bs=65536 iflag=fullblock status=none < "$3" > "$work/out"; } 2> "$work/spent"
-    each "$1" "$2"
+# Frames that come in rounds: what one of them takes, without what a run over no round takes. A maker writes the frames of so many
+# rounds, and what goes before them.
+measure() { # NAME FRAMES-A-ROUND ROUNDS ROUNDS-COUNTED MAKER WORD..
+    local name=$1 frames=$2 rounds=$3 counted=$4 maker=$5
+    [[ $name == *$only* ]] || return 0
+    shift 5
+    "$maker" 0 > "$work/frames"
+    local before all
+    before=$(spent "$work/frames" "$@")
+    "$maker" "$rounds" > "$work/frames"
+    all=$(spent "$work/frames" "$@")
+    awk -v name="$name" -v count=$((frames * rounds)) -v seconds="$all" -v before="$before" \
+        -v each="$(by_difference "$frames" "$counted" "$maker" "$@")" 'BEGIN {
+        printf "  %-58s %8d frames %9.1f ns %10s instructions each\n", name, count, (seconds - before) * 1e9 / count, each
+    }'
+}
+
+serving() { # NAME FRAMES-A-ROUND ROUNDS ROUNDS-COUNTED MAKER [MODE]
+    measure "${@:1:5}" serve "$work/tree" "${6-auto}"
+}
+
+copying() { # FRAMES
+    { time dd bs=65536 iflag=fullblock status=none < "$1" > "$work/out"; } 2> "$work/spent"
+    awk -v bytes="$(wc -c < "$1")" '{ printf "  dd of these %d bytes: %.1f ms\n", bytes, ($1 + $2) * 1e3 }' "$work/spent"
 }
 
 peak() { # WHERE WORD..
@@ -145,136 +65,120 @@ peak() { # WHERE WORD..
     echo "  peak memory $1 $(cat "$work/peak") KiB, $(wc -c < "$work/out") bytes out"
 }
 
-# The time of one of a million frames.
-session() { # NAME
-    awk -v name="$1" -v count="$million" '{
-        seconds = $1 + $2
-        printf "  %-22s %.3f s of processor time (user %.3f, system %.3f), %.1f ns a frame, %.1f million frames a second\n",
-            name, seconds, $1, $2, seconds * 1e9 / count, count / seconds / 1e6
-    }' "$work/spent"
+# A run that has no frames: its time, and its instructions in all.
+whole() { # NAME WORD..
+    [[ $1 == *$only* ]] || return 0
+    local all=-
+    if [ -s "$work/found" ]; then all=$(instructions /dev/null "${@:2}"); fi
+    printf '  %-58s %9.1f ms, %s instructions in all\n' "$1" "$(spent /dev/null "${@:2}" | awk '{ print $1 * 1e3 }')" "$all"
 }
 
-# The position passes the end of a file of 65,536 bytes after the first 13,108 Reads of 5 bytes, and the others get
-# no byte.
-million=1000000
-echo "vfs file, $million frames of a Read of 5 bytes, $((36 * million)) bytes in"
+# The position passes the end of a file of 65,536 bytes after the first 13,108 Reads of 5 bytes, and the others get no byte.
+small_reads() { frames 'read(1, 5)' | many "$1"; }
+echo "vfs file"
 head -c 65536 /dev/zero > "$work/file"
-frames 'read(1, 5)' | many "$million" "$work/frames"
-{ time "$vfs" file "$work/file" < "$work/frames" > "$work/out"; } 2> "$work/spent"
-session "file to file (goal: 33 ns)"
-cat "$work/frames" | { { time "$vfs" file "$work/file"; } 2> "$work/spent"; } | cat > /dev/null
-session "through pipes"
-cat "$work/frames" | { { time dd bs=65536 iflag=fullblock status=none; } 2> "$work/spent"; } | cat > /dev/null
-session "dd of the same bytes"
-peak "of file to file" file "$work/file" < "$work/frames"
+measure "Reads of 5 bytes (goal: 33 ns)" 1 1000000 2000 small_reads file "$work/file"
+small_reads 1000000 > "$work/frames"
+copying "$work/frames"
+peak "of a million of them" file "$work/file" < "$work/frames"
 
 echo "vfs serve over a directory of 4,001 names"
 tree 4000 > "$work/tree"
-serve /dev/null
-awk '{ printf "  no frame: the tree is read (goal: 5.5 ms) %7.1f ms\n", ($1 + $2) * 1e3 }' "$work/spent"
-{ time "$vfs" check "$work/tree" > "$work/checked"; } 2> "$work/spent"
-awk '{ printf "  check of that tree (goal: 5.5 ms) %15.1f ms\n", ($1 + $2) * 1e3 }' "$work/spent"
-frames 'read(2, 5)' | many "$million" "$work/reads"
-{ opens large 2 2; cat "$work/reads"; } > "$work/frames"
-serving "Reads of 5 bytes (goal: 75 ns)" $((million + 1)) "$work/frames"
-rounds 100000 'open_path(1, k + 1, "n2000", 2); hang_up(k + 1)' > "$work/frames"
-serving "Opens, and a Close frame behind each" 200000 "$work/frames"
-{ opens large 2 2; opens n2000 3 4001; cat "$work/reads"; } > "$work/frames"
-serving "Reads beside 4,000 connections" $((million + 4000)) "$work/frames"
-{ opens large 2 4001; rounds 200000 'read(2 + 7919 * k % 4000, 5)'; } > "$work/frames"
-serving "Reads on 4,000 connections (goal: 120 ns)" 204000 "$work/frames"
-rounds 200000 'open_path(1, k + 1, name, 2); hang_up(k + 1)' 4000 > "$work/frames"
-serving "Opens of 4,000 names (goal: 320 ns)" 400000 "$work/frames"
+whole "no frame: the tree is read (goal: 5.5 ms)" serve "$work/tree" auto
+whole "check of that tree (goal: 5.5 ms)" check "$work/tree"
+reads() { opens large 2 2; frames 'read(2, 5)' | many "$1"; }
+serving "Reads of 5 bytes (goal: 75 ns)" 1 1000000 2000 reads
+same_opens() { rounds "$1" 'open_path(1, k + 1, "n2000", 2); hang_up(k + 1)'; }
+serving "Opens of a name, and a Close frame behind each" 2 100000 1000 same_opens
+reads_beside() { opens large 2 2; opens n2000 3 4001; frames 'read(2, 5)' | many "$1"; }
+serving "Reads beside 4,000 connections" 1 1000000 2000 reads_beside
+reads_in_turn() { opens large 2 4001; rounds "$1" 'read(2 + 7919 * k % 4000, 5)'; }
+serving "Reads on 4,000 connections (goal: 120 ns)" 1 200000 2000 reads_in_turn
+other_opens() { rounds "$1" 'open_path(1, k + 1, name, 2); hang_up(k + 1)' 4000; }
+serving "Opens of 4,000 names (goal: 320 ns)" 2 200000 1000 other_opens
 
-# Each round of these works on a new connection to another name: what a file is asked for, a Clone, a listing
-# behind it, and every eighth round the name is taken out.
-rounds 21240 '
-    n = 2 * k
-    open_path(1, n, name, 22)
-    write(n, 5); text("hello"); seek(n, 0); read(n, 5); read_at(n, 5, 2); attributes(n); resize(n, 3)
-    calls(n, 2649553926, 643362286); calls(n, 179690569, 744237002)
-    clone(n, n + 1); read(n + 1, 5); hang_up(n); hang_up(n + 1)
-    if (k % 8 == 0) unlink(1, name)
-    list(1, 256)' 4000 > "$work/frames"
-serving "calls of most methods (goal: 330 ns)" 300015 "$work/frames"
+# Each round of these works on a new connection to another name: what a file is asked for, a Clone, a listing behind it, and every
+# eighth round the name is taken out. Eight rounds have 113 frames.
+most_methods() {
+    rounds $((8 * $1)) '
+        n = 2 * k
+        open_path(1, n, name, 22)
+        write(n, 5); text("hello"); seek(n, 0); read(n, 5); read_at(n, 5, 2); attributes(n); resize(n, 3)
+        query(n); sync(n)
+        clone(n, n + 1); read(n + 1, 5); hang_up(n); hang_up(n + 1)
+        if (k % 8 == 0) unlink(1, name)
+        list(1, 256)' 4000
+}
+serving "calls of most methods (goal: 330 ns)" 113 2655 25 most_methods
 
 # Mode given: 4,096 Reads on 64 endpoints in turn, and then as many Picks in turn, again and again.
-{
+picks() {
     opens large 2 65
     frames 'turn(0, 64)'
-    frames 'for (frame = 0; frame < 500000; frame += 8192) {
-        for (k = 0; k < 4096; k++) read(2 + k % 64, 5)
-        for (k = 0; k < 4096; k++) pick(2 + k % 64)
-    }'
-} > "$work/frames"
-serving "mode given, with Picks (goal: 110 ns)" 507969 "$work/frames" given
+    frames 'for (k = 0; k < 4096; k++) read(2 + k % 64, 5); for (k = 0; k < 4096; k++) pick(2 + k % 64)' | many "$1"
+}
+serving "mode given, Reads and Picks (goal: 110 ns)" 8192 62 1 picks given
 
 echo "vfs serve, 8,192 bytes at a time: a file of 65,536 is written or read, and a Seek goes back to its start"
-frames 'for (k = 0; k < 8; k++) { write(2, 8192); zeros(8192) } seek(2, 0)' | many 3050 "$work/writes"
-{ frames 'open_path(1, 2, "large", 6)'; cat "$work/writes"; } > "$work/frames"
-serving "Writes" 27451 "$work/frames"
-copying "dd of these frames" 27451 "$work/frames"
-{ opens large 2 2; frames 'for (k = 0; k < 8; k++) read(2, 8192); seek(2, 0)' | many 3050 "$work/reads"; cat "$work/reads"; } > "$work/frames"
-serving "Reads" 27451 "$work/frames"
-mv "$work/out" "$work/replies"
-copying "dd of what came back" 27451 "$work/replies"
+large_writes() {
+    frames 'open_path(1, 2, "large", 6)'
+    frames 'for (k = 0; k < 8; k++) { write(2, 8192); zeros(8192) } seek(2, 0)' | many "$1"
+}
+serving "Writes" 9 3050 50 large_writes
+large_reads() {
+    opens large 2 2
+    frames 'for (k = 0; k < 8; k++) read(2, 8192); seek(2, 0)' | many "$1"
+}
+serving "Reads" 9 3050 50 large_reads
 
 echo "vfs run, show and make"
-# A script of a megabyte: Opens of one file, Reads on it, and Close frames.
-awk 'BEGIN {
+# Opens of one file, Reads on it, and Close frames: 20,000 rounds are a script of some 900,000 bytes.
+script() { awk -v rounds="$1" 'BEGIN {
     print "auto"
-    for (n = 2; size < 1048000; n++) {
-        text = sprintf("open 1 n2000 0x2 %d\nread %d 5\nhangup %d\n", n, n, n)
-        size += length(text)
-        if (size < 1048000) printf "%s", text
-    }
-}' > "$work/script"
-lines=$(wc -l < "$work/script")
+    for (n = 2; n < rounds + 2; n++) printf "open 1 n2000 0x2 %d\nread %d 5\nhangup %d\n", n, n, n
+}'; }
 { first_server; nodes n200%d 1 file; } > "$work/tree"
-{ time "$vfs" run "$work/tree" "$work/script" > "$work/transcript"; } 2> "$work/spent"
-awk -v lines="$lines" -v bytes="$(wc -c < "$work/transcript")" '{
-    printf "  run: a script of %d lines (goal: 25 ms) %10.1f ms, %d bytes of transcript\n", lines, ($1 + $2) * 1e3, bytes }' "$work/spent"
-# The replies to the Reads of 8,192 bytes, 200 megabytes.
-{ time "$vfs" show < "$work/replies" > "$work/shown"; } 2> "$work/spent"
-awk -v bytes="$(wc -c < "$work/replies")" '{
-    spent = $1 + $2
-    printf "  show: %d bytes of frames (goal: 106 ms) %6.1f ms, %.2f GB/s\n", bytes, spent * 1e3, bytes / spent / 1e9 }' "$work/spent"
-for count in 1000 10000; do
-    { time "$vfs" make "$count" > "$work/made"; } 2> "$work/spent"
-    awk -v count="$count" '{ printf "  make %-5d%s %*.1f ms\n", count, count == 10000 ? " (goal: 30 ms)" : "", count == 10000 ? 23 : 37, ($1 + $2) * 1e3 }' "$work/spent"
-done
+measure "run: a line of a script (goal: 25 ms for 60,000)" 3 20000 500 script run "$work/tree" /dev/stdin
+# What answers Reads of 8,192 bytes, as frames.
+tree 0 > "$work/tree"
+large_reads 2 > "$work/frames"
+"$vfs" serve "$work/tree" auto < "$work/frames" > "$work/replies"
+large_replies() { many "$1" < "$work/replies"; }
+measure "show: replies to Reads of 8,192 bytes (goal: 70 ns)" 18 1500 5 large_replies show
+small_reads 8 > "$work/frames"
+"$vfs" file "$work/file" < "$work/frames" > "$work/replies"
+measure "show: replies to Reads of 5 bytes" 8 20000 250 large_replies show
+for rounds in 1000 2000 10000; do whole "make $rounds, 3 frames a round (goal of 10,000: 30 ms)" make "$rounds"; done
 
-# Rounds of frames over a root with so many names, without what its start takes. One of the names is `large`, and one
-# `new`, which comes and goes.
+# Rounds of frames over a root with so many names. One of the names is `large`, and one `new`, which comes and goes.
 among() { # NAME FRAMES-A-ROUND ROUNDS WORDS
+    local words=$4
     for names in 16 256 4096; do
         tree $((names - 2)) > "$work/tree"
-        serve /dev/null
-        start=$(seconds)
-        rounds "$3" "$4" $((names - 2)) > "$work/frames"
-        serving "$names names: $1" $(($2 * $3)) "$work/frames" auto "$start"
+        named() { rounds "$1" "$words" $((names - 2)); }
+        serving "$names names: $1" "$2" "$3" 500 named
     done
 }
 
-# The same of listings from start to end, in messages of so many bytes, which have so many names at most: the entry of
-# a name of 5 bytes has 15.
+# The same of listings from start to end, in messages of so many bytes, which have so many names at most: the entry of a name of 5
+# bytes has 15.
 listings() { # NAME BYTES NAMES-A-MESSAGE NAMES-IN-ALL
+    local size=$2
     for names in 16 256 4096; do
         tree $((names - 2)) > "$work/tree"
-        serve /dev/null
-        start=$(seconds)
         messages=$((names / $3 + 1)) times=$(($4 / names))
-        frames "for (k = 0; k < $messages; k++) list(1, $2); rewind(1)" | many "$times" "$work/frames"
-        serving "$names names: $1" $(((messages + 1) * times)) "$work/frames" auto "$start"
+        listed() { frames "for (k = 0; k < $messages; k++) list(1, $size); rewind(1)" | many "$1"; }
+        serving "$names names: $1" $((messages + 1)) "$times" $((times < 100 ? 1 : times / 100)) listed
     done
 }
 
 making='make_file(1, k + 1, "new"); unlink(1, "new"); hang_up(k + 1)'
-echo "vfs serve over a directory of so many names, without its start"
+echo "vfs serve over a directory of so many names"
 among "Open, Close frame" 2 100000 'open_path(1, k + 1, name, 2); hang_up(k + 1)'
 among "Open to make, Unlink, Close frame" 3 100000 "$making"
-among "Renames there and back, tokens" 4 100000 'token = 2147483646 + 2 * k; rename(1, name, token, "new"); rename(1, "new", token + 1, name)'
-among "Link, its token, Unlink" 3 100000 'link(1, name, 2147483647 + k, "new"); unlink(1, "new")'
+among "Renames there and back, tokens" 4 100000 \
+    'held = 2147483646 + 2 * k; token(1); rename(1, name, held, "new"); token(1); rename(1, "new", held + 1, name)'
+among "Link, its token, Unlink" 3 100000 'token(1); link(1, name, 2147483647 + k, "new"); unlink(1, "new")'
 listings "all listed, Rewind" 8192 546 4000000
 listings "listed one by one, Rewind" 15 1 400000
 tree 14 > "$work/tree"
@@ -283,20 +187,17 @@ for count in 10 20000; do
     peak "after $count rounds of Open to make, Unlink, Close frame:" serve "$work/tree" auto < "$work/frames"
 done
 
-# Rounds of frames on endpoint 1, beside so many endpoints that live: they travel in messages to another server, which
-# wait until the end in mode given. What these take by themselves is left out.
+# Rounds of frames on endpoint 1, beside so many endpoints that live: they travel in messages to another server, which wait until the
+# end in mode given.
 beside() { # NAME FRAMES-A-ROUND ROUNDS WORDS
-    rounds "$3" "$4" > "$work/rounds"
+    local words=$4
     for others in 100 60000; do
-        frames "for (n = $others; n > 0; n -= 64) unknown(2, n < 64 ? n : 64, 2 + n)" > "$work/others"
-        serve "$work/others" given
-        alone=$(seconds)
-        cat "$work/others" "$work/rounds" > "$work/frames"
-        serving "beside $others: $1" $(($2 * $3)) "$work/frames" given "$alone"
+        crowd() { frames "for (n = $others; n > 0; n -= 64) unknown(2, n < 64 ? n : 64, 2 + n)"; rounds "$1" "$words"; }
+        serving "beside $others: $1" "$2" "$3" 200 crowd given
     done
 }
 
-echo "vfs serve in mode given beside so many live endpoints, without these"
+echo "vfs serve in mode given beside so many live endpoints"
 { tree 0; server b 2; } > "$work/tree"
 beside "Open, Close frame, Turn" 3 100000 'open_path(1, 100000 + k, "large", 2); hang_up(100000 + k); turn(0, 2)'
 beside "message of no handle, Turn" 2 200000 'unknown(1, 0); turn(0, 1)'
@@ -304,19 +205,46 @@ beside "message of 1 handle, Turn" 2 100000 'unknown(1, 1, 100000 + k); turn(0, 
 beside "message of 64 handles, Turn" 2 20000 'unknown(1, 64, 100000 + 64 * k); turn(0, 1)'
 
 # What a change costs where nobody watches mustn't grow with who watches elsewhere.
-renamed=100000
-echo "vfs serve over 63 directories: $renamed Renames in the root, each behind a token"
+echo "vfs serve over 63 directories: Renames in the root, each behind a token"
 { first_server; nodes d%02d 63 dir; nodes n%04d 1 file; } > "$work/tree"
-rounds "$renamed" 'rename(1, k % 2 ? name : "new", 2147483647 + k, k % 2 ? "new" : name)' > "$work/renames"
-serving "beside no watchers" $((2 * renamed)) "$work/renames"
+renames() { rounds "$1" 'token(1); rename(1, k % 2 ? name : "new", 2147483647 + k, k % 2 ? "new" : name)'; }
+serving "beside no watchers" 2 100000 500 renames
 # 64 watchers of names that come and go, for each of the directories; the connection that they came on hangs up.
-frames 'for (d = 0; d < 63; d++) {
-    n = 100 + 65 * d
-    open_path(1, n, sprintf("d%02d", d), 64)
-    for (i = 1; i <= 64; i++) watch(n, n + i, 6)
-    hang_up(n)
-}' > "$work/watches"
-cat "$work/watches" "$work/renames" > "$work/frames"
-serving "beside 4,032 watchers of the others" $((2 * renamed + 66 * 63)) "$work/frames"
-{ frames 'for (n = 2; n < 66; n++) watch(1, n, 6)'; cat "$work/renames"; } > "$work/frames"
-serving "beside 64 watchers of the root" $((2 * renamed + 64)) "$work/frames"
+watched_elsewhere() {
+    frames 'for (d = 0; d < 63; d++) {
+        n = 100 + 65 * d
+        open_path(1, n, sprintf("d%02d", d), 64)
+        for (i = 1; i <= 64; i++) watch(n, n + i, 6)
+        hang_up(n)
+    }'
+    renames "$1"
+}
+serving "beside 4,032 watchers of the others" 2 100000 500 watched_elsewhere
+watched_here() { frames 'for (n = 2; n < 66; n++) watch(1, n, 6)'; renames "$1"; }
+serving "beside 64 watchers of the root" 2 100000 500 watched_here
+
+# Numbers and names that meet in a table with a known hash, beside such in order: what a client can make of it.
+echo "vfs serve, picked on purpose"
+tree 1 > "$work/tree"
+reads_of() { # ROUNDS, on the endpoints of `numbers`
+    awk "$writing"' { number[NR] = $1; open_path(1, $1, "large", 2) }
+        END { for (k = 1; k <= rounds; k++) read(number[1 + 7919 * k % NR], 5) }' rounds="$1" "$work/numbers"
+}
+seq 2 4001 > "$work/numbers"
+serving "Reads on 4,000 connections with numbers in order" 1 100000 1000 reads_of
+cp tools/picked/numbers.txt "$work/numbers"
+serving "Reads on 4,000 connections with picked numbers" 1 100000 1000 reads_of
+opens_of() { # ROUNDS, of the names of `names`
+    awk "$writing"' { name[NR] = $1 }
+        END { for (k = 1; k <= rounds; k++) { open_path(1, k + 1, name[1 + 7919 * k % NR], 2); hang_up(k + 1) } }' rounds="$1" "$work/names"
+}
+named_tree() {
+    first_server
+    awk '{ printf "[[node]]\nserver = \"a\"\npath = \"%s\"\nkind = \"file\"\n", $1 }' "$work/names"
+}
+awk 'BEGIN { for (n = 0; n < 4096; n++) printf "n%04d\n", n }' > "$work/names"
+named_tree > "$work/tree"
+serving "Opens of 4,096 names in order, and a Close frame behind each" 2 100000 1000 opens_of
+cp tools/picked/names.txt "$work/names"
+named_tree > "$work/tree"
+serving "Opens of 4,096 picked names, and a Close frame behind each" 2 100000 1000 opens_of
