@@ -17,6 +17,7 @@ use Rattle.io_messages.specs.Protocols.{has_method}
 use Rattle.io_messages.specs.Replies.{payload}
 use Rattle.io_messages.specs.ReplyWriting.{PayloadFits}
 use Rattle.io_messages.specs.Requests.{Reads, request_cells, asked_from, seq_in}
+use Rattle.io_messages.proofs.Known.{method_asked}
 use Rattle.node_conn.specs.Texts.{text_of}
 
 -- the one method of the service
@@ -76,7 +77,8 @@ spelled_text items bytes handles spelled = laid_text items spelled.body.part byt
 pub read_text : (bytes : List ℕ) (handles : List Handle) (txid : ℕ) (a : Asked) → Reads protocol.Echo bytes handles txid a → length bytes ≤ limit.MAX_BYTES →
     IsUtf8 (text_of a) × PayloadFits (payload method.EchoString (text_of a))
 read_text bytes handles txid a reads few =
-    let echo = one_method reads.method reads.known in
-    let found = spelled_text reads.items bytes handles (subst (λ m. IsSpelled (struct (request_cells m)) (fields reads.items) bytes handles) echo reads.spelled) in
-    let same : text_of a ≡ seq_in 0 reads.items = ap text_of (sym reads.fields_are) ∙ ap (λ m. text_of (asked_from m reads.items)) echo in
+    let r = reads.is_asked in
+    let echo = one_method r.method (ap (has_method protocol.Echo) (sym (method_asked bytes handles txid a r)) ∙ reads.known) in
+    let found = spelled_text r.items bytes handles (subst (λ m. IsSpelled (struct (request_cells m)) (fields r.items) bytes handles) echo r.spelled) in
+    let same : text_of a ≡ seq_in 0 r.items = ap text_of (sym r.fields_are) ∙ ap (λ m. text_of (asked_from m r.items)) echo in
     rw same (found.0, omega (arith, found.1, few))

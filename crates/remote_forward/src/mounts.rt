@@ -1,8 +1,7 @@
 ghost use Rattle.std.specs.Prelude.{◌≡◌, ◌<◌, ◌≤◌, true, length, slice_get, IfOk, Some};
-ghost use Rattle.fidl_names.specs.HandleNumber.{is_mount_end};
-ghost use Rattle.session_start.specs.Numbering.{end_of_mount};
+ghost use Rattle.fidl_names.specs.HandleNumber.{end_of_mount, is_mount_end};
 
-use fidl_names::{FIRST_MOUNT_END, MAX_LIVE, NoMemory};
+use fidl_names::{MAX_LIVE, NoMemory, end_of_mount};
 use std::alloc::Global;
 use std::marker::Model;
 
@@ -51,7 +50,7 @@ impl Mounts {
         ensures numbered { is_mount_end (length self.now) result ≡ true }
     {
         prove!((mount as usize) < self.targets.len());
-        FIRST_MOUNT_END + mount
+        end_of_mount(mount)
     }
 
     /// Where a mount goes on.
