@@ -1,11 +1,11 @@
 -- What changes a tree is allowed.
-use Rattle.std.proofs.Common.{◌≡◌, ◌≢◌, ℕ, ◌==◌, ◌⊎◌, not, List, [], ◌∷◌, ◌++◌, Some, Ok, refl, sym, ap, ◌∙◌, subst, inl, inr}
+use Rattle.std.proofs.Common.{◌≡◌, ◌≢◌, ℕ, ◌==◌, ◌⊎◌, not, List, ◌∷◌, Some, Ok, sym, ap, ◌∙◌, subst, inl, inr}
 use Rattle.std.proofs.lemmas.Bool.{eqb-true}
 use Rattle.io_messages.specs.Asked.{Asked}
 use Rattle.io_messages.specs.Asked as asks
 use Rattle.node_graph.specs.Tree.{stay}
 use Rattle.conn_rules.specs.Acts.{act_of}
-use Rattle.vfs_journal.specs.Entries.{Entry, Sent, Journal, message, serves}
+use Rattle.vfs_journal.specs.Entries.{Sent, message, serves}
 use Rattle.vfs_journal.specs.History.{History, births, bound_at, is_dead, living}
 use Rattle.vfs_journal.specs.Outcomes.{Outcome}
 use Rattle.vfs_journal.specs.Past.{history_of}

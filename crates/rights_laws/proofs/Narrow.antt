@@ -1,5 +1,5 @@
 -- What comes from a first connection without the rights to change changes nothing.
-use Rattle.std.proofs.Common.{◌≡◌, ◌≢◌, ℕ, ◌==◌, ◌⊎◌, true, false, true≢false, List, [], ◌∷◌, ◌++◌, find, Option, Some, None, Contains, refl, sym, ◌∙◌, subst, inl, inr}
+use Rattle.std.proofs.Common.{◌≡◌, ◌≢◌, ℕ, ◌==◌, ◌⊎◌, true, false, true≢false, List, ◌∷◌, ◌++◌, find, Option, Some, None, Contains, refl, sym, ◌∙◌, subst, inl, inr}
 use Rattle.std.specs.Prelude.{AllPairs, IsTrue}
 use Rattle.std.proofs.lemmas.Bool.{eq-eqb, eqb-true}
 use Rattle.std.proofs.lemmas.List.Elements.{All-contains, Contains-append_left}
@@ -13,10 +13,9 @@ use Rattle.node_graph.specs.Tree.{Change, make, add, cut, move, fill, stay}
 use Rattle.vfs_journal.specs.Entries.{Sent, Journal, serves}
 use Rattle.vfs_journal.specs.History.{bound_at}
 use Rattle.vfs_journal.specs.Lawful.{Lawful}
-use Rattle.vfs_journal.specs.Outcomes.{Forwarded}
 use Rattle.vfs_journal.specs.Past.{history_of}
 use Rattle.vfs_journal.specs.Serving.{Moment, moment_of, outcome_of}
-use Rattle.vfs_journal.specs.Session.{head, with_forward}
+use Rattle.vfs_journal.specs.Session.{head}
 use Rattle.vfs_journal.specs.Starts.{Bound, Start}
 use Rattle.journal_laws.specs.Soundness.{IsStart, OtherEndpoint}
 use Rattle.journal_laws.proofs.Below.{Below}

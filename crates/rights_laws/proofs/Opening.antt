@@ -21,7 +21,7 @@ use Rattle.io_rights.specs.declared.operations.Operation.TheVariants as op
 use Rattle.io_rights.specs.Operations.{OperationSet, has, single, join, is_within}
 use Rattle.io_rights.proofs.OperationSets.{within_from_each, within_trans}
 use Rattle.dirents.specs.Listings.{fits_none, listing}
-use Rattle.node_graph.specs.Tree.{stay, fill}
+use Rattle.node_graph.specs.Tree.{stay, fill, name_in}
 use Rattle.path_walk.specs.Paths.{names_of}
 use Rattle.conn_rules.specs.Acts.{act_of, method_refusals, row_act}
 use Rattle.conn_rules.specs.Answers.{Act}
@@ -31,8 +31,7 @@ use Rattle.conn_rules.specs.FileRows.{reading_refusal, is_too_much, is_no_positi
 use Rattle.conn_rules.specs.NameRows.{watch_refusals}
 use Rattle.conn_rules.specs.Nodes.{kind_here}
 use Rattle.conn_rules.specs.Opens.{arrival, arrival_refusals, by_walk, entry_refusals, is_full, making, making_refusals, open_act}
-use Rattle.conn_rules.specs.Walks.{Walk, arrives, missing, crosses, stops, walk, limit_of}
-use Rattle.dir_conn.specs.Laws.{masks_of}
+use Rattle.conn_rules.specs.Walks.{Walk, arrives, missing, crosses, stops, walk, limit_of, masks_of}
 use Rattle.vfs_journal.specs.Entries.{Sent}
 use Rattle.vfs_journal.specs.History.{History}
 use Rattle.vfs_journal.specs.Serving.{Moment, context_at}
@@ -147,7 +146,7 @@ module _ (start : Start) (past : History) (moment : Moment) (sent : Sent) (withi
         unless_holds Allowed (first_of (arrival_refusals moment.room word (kind_here moment.tree node))) moment.position method.OpenPath (arrival moment.position word (limit_of moment.bound.birth.rights masks) node (kind_here moment.tree node)) (λ s. inl refl)
         (λ f. truncates node masks is e (has_flag word flag.FileTruncate) refl)
     walk_allowed e (missing directory name masks) is =
-        unless_holds Allowed (first_of (making_refusals moment.tree moment.room word directory)) moment.position method.OpenPath (making moment.position moment.tree word (limit_of moment.bound.birth.rights masks) (record { directory = directory; name = name })) (λ s. inl refl)
+        unless_holds Allowed (first_of (making_refusals moment.tree moment.room word (name_in directory name))) moment.position method.OpenPath (making moment.position moment.tree word (limit_of moment.bound.birth.rights masks) (name_in directory name)) (λ s. inl refl)
         (λ f.
         let some = modify_asked word (has_right (creates word) (not_refused (not (creates word)) status.NotFound _ f)) in
         inr (

@@ -6,7 +6,7 @@ use Rattle.io_rights.specs.declared.operations.Operation.{Operation}
 use Rattle.io_rights.specs.declared.operations.Operation.TheVariants as op
 use Rattle.io_rights.specs.Operations.{OperationSet, has, single}
 use Rattle.node_graph.specs.Tree.{Change, make, fill, stay}
-use Rattle.dir_conn.specs.Laws.{masks_of}
+use Rattle.conn_rules.specs.Walks.{masks_of}
 use Rattle.vfs_journal.specs.Entries.{Journal, Sent, serves}
 use Rattle.vfs_journal.specs.History.{History, births, bound_at}
 use Rattle.vfs_journal.specs.Lawful.{Lawful}
