@@ -4,43 +4,41 @@ use Rattle.std.specs.List.{list_all}
 use Rattle.std.specs.Option.{option_map_or}
 use Rattle.std.proofs.lemmas.Bool.{and_parts, ltb-true, ltb-false, or_parts}
 use Rattle.std.proofs.lemmas.List.{length-take}
-use Rattle.std.proofs.lemmas.List.Elements.{All-nil, All-cons, All-head, All-tail, All-drop, All-take}
+use Rattle.std.proofs.lemmas.List.Elements.{All-nil, All-cons, All-drop, All-take}
 use Rattle.fidl_names.specs.First.{cause_if, first_of}
 use Rattle.fidl_names.specs.Numbers.{AreBytes}
 use Rattle.fidl_names.specs.declared.methods.Method.{Method}
 use Rattle.fidl_names.specs.declared.methods.Method.TheVariants as method
 use Rattle.fidl_names.specs.declared.statuses.Status.{Status}
 use Rattle.fidl_names.specs.declared.statuses.Status.TheVariants as status
-use Rattle.io_flags.specs.Grants.{asked_rights, explicit_rights}
 use Rattle.io_flags.specs.Words.{has}
 use Rattle.io_flags.specs.declared.names.Flag.TheVariants as flag
 use Rattle.io_messages.specs.Asked.{Asked, method_of}
 use Rattle.io_messages.specs.Asked as asks
 use Rattle.io_messages.specs.Replies as answers
-use Rattle.io_messages.specs.Shapes.{is_one_way}
+use Rattle.io_messages.specs.Failing.{failing_of}
+use Rattle.io_messages.specs.declared.failing.Failing.{Failing}
+use Rattle.io_messages.specs.declared.failing.Failing.TheVariants as failing
 use Rattle.io_messages.specs.declared.protocols.Protocol.{Protocol}
 use Rattle.io_messages.specs.declared.protocols.Protocol.TheVariants as protocol
-use Rattle.io_rights.specs.Operations.{OperationSet, is_within}
 use Rattle.node_graph.specs.Graph.{overwritten, resize_refusal, resized, write_change}
 use Rattle.node_graph.specs.Refusals.{directory_behind, is_same_name, link_change, link_refusal, rename_change, rename_refusal}
 use Rattle.node_graph.specs.Tree.{EdgeKey, EdgeTo, IsSound, Tree, add, fill, move, stay}
-use Rattle.node_graph.specs.declared.nodes.NodeKind.{NodeKind}
-use Rattle.node_graph.specs.declared.nodes.NodeKind.TheVariants.{Directory, File, Service, Mount}
 use Rattle.path_walk.specs.Names.{name_fault}
 use Rattle.path_walk.specs.Paths.{names_of, path_fault}
 use Rattle.path_walk.proofs.PathLemmas.{path_sound}
 use Rattle.conn_rules.specs.Acts.{act_of, method_refusals, row_act}
-use Rattle.conn_rules.specs.Answers.{Act, Answer, Happening, added, binds, closes, ends, failure_of, forwards, gone, hangs_up, only, refuses, removed, replies, silent, watches}
+use Rattle.conn_rules.specs.Answers.{Act, Answer, Happening, added, binds, closes, ends, failure_of, forwards, gone, hangs_up, only, refuses, removed, replies, silent, watches, failure_by}
 use Rattle.conn_rules.specs.Births.{Position}
 use Rattle.conn_rules.specs.Contexts.{Context}
 use Rattle.conn_rules.specs.FileRows.{bytes_here, is_no_position, is_too_much, part_from, reading_refusal, seek_sum, write_start, writing_refusal, written_act}
 use Rattle.conn_rules.specs.Listings.{listing_here}
 use Rattle.dirents.specs.Listings.{fits_none}
 use Rattle.conn_rules.specs.NameRows.{is_bad_name, link_into, linked, name_in, rename_into, rename_told, renamed, token_answer, two_names_refusal, unlink_refusals, unlinked, watch_refusals}
-use Rattle.conn_rules.specs.Nodes.{edge_at, kind_behind, kind_here, protocol_name}
+use Rattle.conn_rules.specs.Nodes.{edge_at, kind_here, protocol_name}
 use Rattle.conn_rules.specs.Opens.{arrival, arrival_refusals, by_walk, entry_refusals, is_full, making, making_refusals, truncation}
 use Rattle.conn_rules.specs.Refusals.{as_status, unless}
-use Rattle.conn_rules.specs.Walks.{Walk, arrives, behind, crosses, inner_by_kind, inner_rights, inner_step, last_by_kind, last_step, limit_of, missing, passing, stops, walk}
+use Rattle.conn_rules.specs.Walks.{Walk, arrives, crosses, limit_of, missing, stops, walk}
 use Rattle.journal_laws.proofs.Acts.{none_there, not_refused, path_passes, unless_holds, MissesOnly, misses_only}
 use Rattle.frame_laws.proofs.Fields.{AsksInBytes}
 use Rattle.frame_laws.proofs.Listings.{listing_written}
@@ -78,16 +76,17 @@ pub answered_only : (position : Position) (answer : Answer) → HasReplyFrame an
 answered_only position answer h = record { reply = h; change = tt; told = nothing_told }
 
 fails_so : (m : Method) (s : Status) → HasReplyFrame (failure_of m s)
-fails_so m s = by_way (is_one_way m) where
-  by_way : (b : Bool) → HasReplyFrame (cond b (refuses s) (replies (answers.fails m s)))
-  by_way true = tt
-  by_way false = replies_within (answers.fails m s) tt
+fails_so m s = by_form (failing_of m) where
+  by_form : (f : Failing) → HasReplyFrame (failure_by f m s)
+  by_form failing.Reply = replies_within (answers.fails m s) tt
+  by_form failing.Epitaph = tt
+  by_form failing.Never = replies_within (answers.fails m s) tt
 
-failing : (position : Position) (m : Method) (s : Status) → IsWritable (only position (failure_of m s))
-failing position m s = answered_only position (failure_of m s) (fails_so m s)
+failed : (position : Position) (m : Method) (s : Status) → IsWritable (only position (failure_of m s))
+failed position m s = answered_only position (failure_of m s) (fails_so m s)
 
 unless_refused : (o : Option Status) (position : Position) (m : Method) (act : Act) → (o ≡ None → IsWritable act) → IsWritable (unless o position m act)
-unless_refused o position m act passes = unless_holds IsWritable o position m act (failing position m) passes
+unless_refused o position m act passes = unless_holds IsWritable o position m act (failed position m) passes
 
 -- ---- texts of the program's own
 
@@ -142,12 +141,12 @@ walk_writable context word (arrives node masks) h =
     (arrival context.position word (limit_of context.birth.rights masks) node (kind_here context.tree node))
     (λ e. record { reply = tt; change = cut_brings word node; told = nothing_told })
 walk_writable context word (missing directory name masks) h =
-    let key : EdgeKey = record { directory = directory; name = name } in
-    unless_refused (first_of (making_refusals context.tree context.room word directory)) context.position method.OpenPath
+    let key = name_in directory name in
+    unless_refused (first_of (making_refusals context.tree context.room word key)) context.position method.OpenPath
     (making context.position context.tree word (limit_of context.birth.rights masks) key)
     (λ e. record { reply = tt; change = (h.bytes, none_written); told = one_told (added key) h })
 walk_writable context word (crosses mount rest masks) h = record { reply = tt; change = tt; told = nothing_told }
-walk_writable context word (stops s) h = failing context.position method.OpenPath s
+walk_writable context word (stops s) h = failed context.position method.OpenPath s
 
 -- the names of a path
 path_names : (path : List ℕ) → path_fault path ≡ None → AreBytes path → All IsShortName (names_of path)
@@ -188,7 +187,7 @@ renames_told tree from to h g = by_test (is_same_name from to) where
       (All-cons TellsName (added to) (gone (directory_behind tree to)) g (gone_told (directory_behind tree to)))
 
 linked_writable : (context : Context) (src dst : List ℕ) (target : Option ℕ) → IsShortName dst → IsWritable (link_into context src dst target)
-linked_writable context src dst None h = failing context.position method.Link status.NotFound
+linked_writable context src dst None h = failed context.position method.Link status.NotFound
 linked_writable context src dst (Some target) h =
     let from = name_in context.birth.node src in
     let to = name_in target dst in
@@ -196,7 +195,7 @@ linked_writable context src dst (Some target) h =
     (λ e. record { reply = replies_within (answers.settled method.Link) tt; change = link_brings context.tree from to h.bytes; told = one_told (added to) h })
 
 renamed_writable : (context : Context) (src dst : List ℕ) (target : Option ℕ) → IsShortName src → IsShortName dst → IsWritable (rename_into context src dst target)
-renamed_writable context src dst None h g = failing context.position method.Rename status.NotFound
+renamed_writable context src dst None h g = failed context.position method.Rename status.NotFound
 renamed_writable context src dst (Some target) h g =
     let from = name_in context.birth.node src in
     let to = name_in target dst in

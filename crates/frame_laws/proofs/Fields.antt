@@ -124,7 +124,8 @@ spelled_in_bytes cells items bytes handles spelled h =
 
 pub read_in_bytes : (p : Protocol) (bytes : List ℕ) (handles : List Handle) (txid : ℕ) (a : Asked) → Reads p bytes handles txid a → AreBytes bytes → AsksInBytes a
 read_in_bytes p bytes handles txid a reads h =
-    subst AsksInBytes reads.fields_are (asked_in_bytes reads.method reads.items (spelled_in_bytes (request_cells reads.method) reads.items bytes handles reads.spelled h))
+    let r = reads.is_asked in
+    subst AsksInBytes r.fields_are (asked_in_bytes r.method r.items (spelled_in_bytes (request_cells r.method) r.items bytes handles r.spelled h))
 
 -- ---- the text of an Echo
 
@@ -214,7 +215,8 @@ pub echoes : (p : Protocol) (bytes : List ℕ) (handles : List Handle) (txid : �
     HasFrame (answers.payload method.EchoString value)
 echoes p bytes handles txid value reads h asker numbered =
     let a = answers.payload method.EchoString value in
-    let room = text_read reads.method reads.items bytes handles value reads.fields_are reads.spelled in
+    let r = reads.is_asked in
+    let room = text_read r.method r.items bytes handles value r.fields_are r.spelled in
     let body = body_is (written_layout a) (content_of a) (read_in_bytes p bytes handles txid (asks.echo_string value) reads h.bytes, tt) in
     message_frame asker.endpoint (map number_of_handle (reply_handles a)) (reply_bytes asker.txid a) numbered
     (All-map (λ n. n < 2 ^ 32) number_of_handle (reply_handles a) body.handles)

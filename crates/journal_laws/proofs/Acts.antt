@@ -1,5 +1,5 @@
 -- What acts answer: an Open binds, is refused or goes on; only GetToken gives a token, the next one.
-use Rattle.std.proofs.Common.{◌≡◌, ℕ, ◌<◌, Bool, true, false, cond, nat_lt, is_some, if◌then◌else◌, List, [], ◌∷◌, ◌++◌, length, Option, Some, None, refl, ap, ◌∙◌, subst, arith}
+use Rattle.std.proofs.Common.{◌≡◌, ℕ, ◌<◌, Bool, true, false, nat_lt, is_some, if◌then◌else◌, List, [], ◌∷◌, ◌++◌, length, Option, Some, None, refl, ap, ◌∙◌, subst, arith}
 use Rattle.std.specs.Option.{option_map, option_map_or}
 use Rattle.std.specs.Prelude.{All}
 use Rattle.std.proofs.lemmas.List.Elements.{All-head, All-tail}
@@ -8,16 +8,16 @@ use Rattle.fidl_names.specs.declared.methods.Method.TheVariants as method
 use Rattle.fidl_names.specs.declared.statuses.Status.{Status}
 use Rattle.fidl_names.specs.declared.statuses.Status.TheVariants as status
 use Rattle.io_flags.specs.Faults.{flag_fault, status_of}
-use Rattle.io_flags.specs.Grants.{onward, asked_rights, explicit_rights}
+use Rattle.io_flags.specs.Grants.{onward}
 use Rattle.io_flags.specs.Words.{has}
 use Rattle.io_flags.specs.declared.names.Flag.TheVariants as flag
 use Rattle.io_messages.specs.Asked.{Asked, method_of}
 use Rattle.io_messages.specs.Asked as asks
 use Rattle.io_messages.specs.Replies.{Answered}
 use Rattle.io_messages.specs.Replies as answered
-use Rattle.io_rights.specs.Operations.{OperationSet, is_within}
+use Rattle.io_rights.specs.Operations.{OperationSet}
 use Rattle.node_graph.specs.declared.nodes.NodeKind.{NodeKind}
-use Rattle.node_graph.specs.declared.nodes.NodeKind.TheVariants.{Directory, File, Service, Mount}
+use Rattle.node_graph.specs.declared.nodes.NodeKind.TheVariants.{Directory, File, Mount}
 use Rattle.node_graph.specs.Graph.{resize_refusal, write_change}
 use Rattle.node_graph.specs.Refusals.{is_same_name}
 use Rattle.node_graph.specs.Tree.{Tree, EdgeTo, Change, add, make, move, fill, stay}
@@ -32,7 +32,7 @@ use Rattle.conn_rules.specs.Contexts.{Context}
 use Rattle.conn_rules.specs.FileRows.{write_start, is_too_much, reading_refusal, is_no_position, seek_sum}
 use Rattle.dirents.specs.Listings.{fits_none, listing}
 use Rattle.conn_rules.specs.NameRows.{unlink_refusals, watch_refusals, token_answer, link_into, name_in, rename_into}
-use Rattle.conn_rules.specs.Nodes.{bytes_of, edge_at, kind_here, kind_behind}
+use Rattle.conn_rules.specs.Nodes.{bytes_of, edge_at, kind_here}
 use Rattle.conn_rules.specs.Opens.{is_full, open_act, by_walk, entry_refusals, arrival_refusals, making_refusals}
 use Rattle.fidl_names.specs.First.{cause_if, first_of}
 use Rattle.conn_rules.specs.Refusals.{as_status, unless}
@@ -115,6 +115,10 @@ pub unless_holds : (P : Act → Type 0) (o : Option Status) (position : Position
 unless_holds P None position method act refused passes = passes refl
 unless_holds P (Some s) position method act refused passes = refused s
 
+pub head_none : {X : Type 0} (o : Option X) (rest : List (Option X)) → first_of (o ∷ rest) ≡ None → o ≡ None
+head_none None rest e = refl
+head_none (Some s) rest e = absurd (cc)
+
 pub first_none : {X : Type 0} (o : Option X) (rest : List (Option X)) → first_of (o ∷ rest) ≡ None → first_of rest ≡ None
 first_none None rest e = e
 first_none (Some s) rest e = absurd (cc)
@@ -180,7 +184,7 @@ by_walk_answers : (context : Context) (path : List ℕ) (word : ℕ) → path_fa
 by_walk_answers context path word good (arrives node masks) is =
     unless_holds (IsOpenAct context.tree path word) (first_of (arrival_refusals context.room word (kind_here context.tree node))) context.position method.OpenPath _ (λ s. (tt, tt)) (λ e. (tt, fills (has word flag.FileTruncate) node))
 by_walk_answers context path word good (missing directory name masks) is =
-    unless_holds (IsOpenAct context.tree path word) (first_of (making_refusals context.tree context.room word directory)) context.position method.OpenPath _ (λ s. (tt, tt)) (λ e. (tt, made (has word flag.ProtocolDirectory)))
+    unless_holds (IsOpenAct context.tree path word) (first_of (making_refusals context.tree context.room word (name_in directory name))) context.position method.OpenPath _ (λ s. (tt, tt)) (λ e. (tt, made (has word flag.ProtocolDirectory)))
 by_walk_answers context path word good (crosses mount rest masks) is =
     (record { good = good; walked = crossing context.tree word (names_of path) context.birth.node mount rest masks is; limit = limit_of context.birth.rights masks; left = refl }, tt)
 by_walk_answers context path word good (stops status) is = (tt, tt)

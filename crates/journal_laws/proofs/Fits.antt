@@ -16,10 +16,10 @@ use Rattle.vfs_journal.specs.Lawful.{Lawful}
 use Rattle.vfs_journal.specs.Outcomes.{Given, Outcome}
 use Rattle.vfs_journal.specs.Past.{history_of}
 use Rattle.vfs_journal.specs.Serving.{outcome_of}
-use Rattle.vfs_journal.specs.Session.{after_serving, head, sent_behind}
+use Rattle.vfs_journal.specs.Session.{head, sent_behind}
 use Rattle.vfs_journal.specs.Starts.{Bound, Start}
 use Rattle.vfs_journal.specs.Tokens.{all_given, is_held, was_given}
-use Rattle.vfs_journal.specs.View.{View, deaths_in, head_in, is_bound_in, is_held_in, then_in, view_of, with_position}
+use Rattle.vfs_journal.specs.View.{deaths_in, head_in, is_bound_in, is_held_in, view_of, with_position}
 use Rattle.journal_laws.specs.Soundness.{IsStart, OtherEndpoint}
 use Rattle.journal_laws.specs.Viewing.{view_behind}
 use Rattle.journal_laws.proofs.Among.{carried_from, from_many, passes_any}

@@ -4,7 +4,7 @@ use Rattle.std.specs.List.{enumerate_from, range_with_len}
 use Rattle.std.proofs.lemmas.List.Elements.{All-nil, All-cons, All-head, All-tail}
 use Rattle.std.proofs.lemmas.List.Kept.{AllPairs-cons}
 use Rattle.session_start.specs.Items.{Lists, MountItem, ClientItem}
-use Rattle.session_start.specs.Numbering.{end_of_mount}
+use Rattle.fidl_names.specs.HandleNumber.{end_of_mount}
 use Rattle.journal_laws.specs.Knowing.{IsNumbered}
 use Rattle.vfs_journal.specs.Starts.{Bound, first_of_client, end_of, start_of}
 use Rattle.journal_laws.proofs.KnowingLists.{ends_of}

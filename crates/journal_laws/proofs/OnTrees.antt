@@ -13,14 +13,13 @@ use Rattle.node_graph.specs.Tree.{IsSound, NodeRow, Tree, Change, after, bare_tr
 use Rattle.node_graph.specs.declared.nodes.NodeKind.{NodeKind}
 use Rattle.node_graph.specs.declared.nodes.NodeKind.TheVariants.{Directory, Mount}
 use Rattle.session_start.specs.Sound.{HasOneEdge}
-use Rattle.vfs_journal.specs.Entries.{Journal, Sent, message, hang_up, sends, serves}
+use Rattle.vfs_journal.specs.Entries.{Journal, Sent, serves}
 use Rattle.vfs_journal.specs.History.{History, changed, is_dead, living, tree_at, trees_of}
 use Rattle.vfs_journal.specs.Lawful.{Lawful}
-use Rattle.vfs_journal.specs.Lawful as lawful
-use Rattle.vfs_journal.specs.Outcomes.{Forwarded, Given, Outcome}
+use Rattle.vfs_journal.specs.Outcomes.{Given, Outcome}
 use Rattle.vfs_journal.specs.Past.{behind, event_of, history_of}
 use Rattle.vfs_journal.specs.Serving.{moment_of, outcome_at, outcome_of}
-use Rattle.vfs_journal.specs.Session.{head, sent_behind, with_forward}
+use Rattle.vfs_journal.specs.Session.{head}
 use Rattle.vfs_journal.specs.Starts.{Bound, Start}
 use Rattle.vfs_journal.specs.Tokens.{all_given}
 use Rattle.journal_laws.specs.Laws.{HasSameEndpoints, but_for, newly_living}

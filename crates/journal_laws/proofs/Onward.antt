@@ -103,7 +103,7 @@ number_read size i cells items bytes handles spelled at h =
 pub flags_small : Below → (p : Protocol) (bytes handles : List ℕ) (t : ℕ) (path : List ℕ) (flags : ℕ) (attributes : Option ℕ) (object : ℕ) →
     read_by p bytes handles ≡ Ok (t, asks.open_path path flags attributes object) → AreBytes bytes → flags < 256 ^ 8
 flags_small below p bytes handles t path flags attributes object read h =
-    let r = what_is_read below.spelled p bytes (map handle_with handles) t (asks.open_path path flags attributes object) read in
+    let r = (what_is_read below.spelled p bytes (map handle_with handles) t (asks.open_path path flags attributes object) read).is_asked in
     by_method r.method r.items (same_open r.method r.items path flags attributes object r.fields_are) r.spelled r.fields_are where
       by_method : (m : Method) (items : List Item) → m ≡ method.OpenPath → IsSpelled (struct (request_cells m)) (fields items) bytes (map handle_with handles) →
           asked_from m items ≡ asks.open_path path flags attributes object → flags < 256 ^ 8

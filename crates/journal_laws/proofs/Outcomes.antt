@@ -11,7 +11,7 @@ use Rattle.io_messages.specs.Asked as asks
 use Rattle.io_messages.specs.Replies.{Answered}
 use Rattle.io_messages.specs.Replies as answered
 use Rattle.node_graph.specs.Tree.{Tree}
-use Rattle.session_start.specs.Numbering.{end_of_mount}
+use Rattle.fidl_names.specs.HandleNumber.{end_of_mount}
 use Rattle.conn_rules.specs.declared.births.Room.{Room}
 use Rattle.conn_rules.specs.Answers.{Answer, replies, closes, binds, watches, forwards, refuses, ends, hangs_up, silent}
 use Rattle.vfs_journal.specs.Entries.{Sent, Sending, message, hang_up, handles_of}

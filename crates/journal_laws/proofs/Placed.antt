@@ -9,23 +9,23 @@ use Rattle.fidl_names.specs.declared.statuses.Status.{Status}
 use Rattle.fidl_names.specs.declared.statuses.Status.TheVariants as status
 use Rattle.fidl_names.specs.HandleNumber.{handle_with}
 use Rattle.wire_laws.specs.Laws.{SpelledWhereRead}
-use Rattle.io_flags.specs.Grants.{asked_rights, explicit_rights}
 use Rattle.io_flags.specs.Words.{has}
 use Rattle.io_flags.specs.declared.names.Flag.TheVariants as flag
 use Rattle.io_messages.specs.Asked.{Asked, method_of}
 use Rattle.io_messages.specs.Asked as asks
 use Rattle.io_messages.specs.Protocols.{has_method, home_of, has as has_home}
-use Rattle.io_messages.specs.Replies.{Answered, done, fails, settled}
+use Rattle.io_messages.specs.Replies.{Answered}
 use Rattle.io_messages.specs.Replies as answered
-use Rattle.io_messages.specs.Shapes.{is_one_way}
+use Rattle.io_messages.specs.Failing.{failing_of}
+use Rattle.io_messages.specs.declared.failing.Failing.{Failing}
+use Rattle.io_messages.specs.declared.failing.Failing.TheVariants as failing
 use Rattle.io_messages.specs.declared.protocols.Home.{Home}
 use Rattle.io_messages.specs.declared.protocols.Home.TheVariants as homes
 use Rattle.io_messages.specs.declared.protocols.Protocol.{Protocol}
 use Rattle.io_messages.specs.declared.protocols.Protocol.TheVariants as protocol
 use Rattle.io_messages.specs.declared.requests.RequestFault.TheVariants.{Malformed, UnknownStrict, UnknownOneWay, UnknownTwoWay}
-use Rattle.io_messages.proofs.Known.{method_read}
 use Rattle.request_reader.proofs.RequestLaws.{what_is_read}
-use Rattle.io_rights.specs.Operations.{OperationSet, is_within}
+use Rattle.io_rights.specs.Operations.{OperationSet}
 use Rattle.node_graph.specs.Graph.{resize_refusal, write_change}
 use Rattle.node_graph.specs.Refusals.{is_loop, is_same_name, leads_to, link_change, link_refusal, rename_change, rename_refusal, replace_refusal, unlink_refusal}
 use Rattle.node_graph.specs.Tree.{Tree, EdgeKey, EdgeTo, Change, add, after, fill, is_removed, kind_of, move, new_row, stay}
@@ -35,14 +35,14 @@ use Rattle.node_graph.specs.declared.nodes.NodeKind.TheVariants.{Directory, File
 use Rattle.node_graph.proofs.RowLists.{row_of-push_same}
 use Rattle.path_walk.specs.Paths.{names_of}
 use Rattle.conn_rules.specs.Acts.{act_of, is_beyond, is_of_every_node, method_refusals, row_act}
-use Rattle.conn_rules.specs.Answers.{Answer, replies, closes, binds, watches, forwards, refuses, ends, hangs_up, silent, Act, only, failure_of}
+use Rattle.conn_rules.specs.Answers.{Answer, replies, closes, binds, watches, forwards, refuses, ends, hangs_up, silent, Act, only, failure_of, failure_by}
 use Rattle.conn_rules.specs.Births.{Birth, Position}
 use Rattle.conn_rules.proofs.EveryWalk.{HoldsAlong, every_walk}
 use Rattle.conn_rules.specs.Contexts.{Context}
 use Rattle.conn_rules.specs.FileRows.{is_no_position, is_too_much, reading_refusal, seek_sum, write_start, writing_refusal}
 use Rattle.dirents.specs.Listings.{fits_none, listing}
 use Rattle.conn_rules.specs.NameRows.{is_bad_name, link_into, linked, name_in, rename_into, renamed, token_answer, two_names_refusal, unlink_refusals, watch_refusals}
-use Rattle.conn_rules.specs.Nodes.{bytes_of, edge_at, is_directory, is_mount, kind_behind, kind_here}
+use Rattle.conn_rules.specs.Nodes.{bytes_of, edge_at, is_directory, is_mount, kind_here}
 use Rattle.conn_rules.specs.Opens.{arrival, arrival_refusals, by_walk, entry_refusals, is_full, kind_made, making, making_refusals, protocol_of, truncation}
 use Rattle.conn_rules.specs.Refusals.{as_status}
 use Rattle.conn_rules.specs.Walks.{Walk, arrives, missing, crosses, stops, behind, walk, limit_of}
@@ -63,7 +63,7 @@ IsNode tree n = (kind : NodeKind) × (kind_of tree n ≡ Some kind)
 -- a walk that arrives at a node, or misses a name
 abbrev pub LeadsToNode : Tree → Walk → Type 0
 LeadsToNode tree (arrives node masks) = IsNode tree node
-LeadsToNode tree (missing directory name masks) = edge_at tree (record { directory = directory; name = name }) ≡ None
+LeadsToNode tree (missing directory name masks) = edge_at tree (name_in directory name) ≡ None
 LeadsToNode tree (crosses mount rest masks) = Unit {0}
 LeadsToNode tree (stops status) = Unit {0}
 
@@ -77,10 +77,10 @@ leads_along : (tree : Tree) (word : ℕ) → HasChildren tree → HoldsAlong tre
 leads_along tree word children = record {
   here = λ directory at. at;
   absent = λ directory name none at. none;
-  node = λ directory name edge there other has at. children (record { directory = directory; name = name }) edge there;
+  node = λ directory name edge there other has at. children (name_in directory name) edge there;
   mount = λ directory name rest edge index there leads has at. tt;
   nowhere = λ directory name rest why at. tt;
-  further = λ directory name next rest edge there leads has onward later at. leads_behind tree edge.mask onward (later (children (record { directory = directory; name = name }) edge there));
+  further = λ directory name next rest edge there leads has onward later at. leads_behind tree edge.mask onward (later (children (name_in directory name) edge there));
 }
 
 pub leads_to_node : (tree : Tree) (word : ℕ) (names : List (List ℕ)) (directory : ℕ) → HasChildren tree → IsNode tree directory → LeadsToNode tree (walk tree word names directory)
@@ -106,10 +106,11 @@ placed : (tree : Tree) (birth : Birth) (position : Position) (answer : Answer) �
 placed tree birth position answer h = record { orderly = tt; answer = h }
 
 refused_placed : (tree : Tree) (birth : Birth) (position : Position) (m : Method) (s : Status) → IsPlaced tree birth (only position (failure_of m s))
-refused_placed tree birth position m s = placed tree birth position (failure_of m s) (by_way (is_one_way m)) where
-  by_way : (b : Bool) → IsPlacedAnswer tree tree birth (if b then refuses s else replies (fails m s))
-  by_way true = tt
-  by_way false = tt
+refused_placed tree birth position m s = placed tree birth position (failure_of m s) (by_form (failing_of m)) where
+  by_form : (f : Failing) → IsPlacedAnswer tree tree birth (failure_by f m s)
+  by_form failing.Reply = tt
+  by_form failing.Epitaph = tt
+  by_form failing.Never = tt
 
 -- ---- Open
 
@@ -150,7 +151,7 @@ walk_placed context word (arrives node masks) there =
       answer = (kind_here context.tree node, kind_stays context.tree (truncation word node) node (kind_here context.tree node) (kind_there context.tree node there), suited word (kind_here context.tree node));
     })
 walk_placed context word (missing directory name masks) there =
-    unless_holds (IsPlaced context.tree context.birth) (first_of (making_refusals context.tree context.room word directory)) context.position method.OpenPath (making context.position context.tree word (limit_of context.birth.rights masks) (record { directory = directory; name = name })) (refused_placed context.tree context.birth context.position method.OpenPath)
+    unless_holds (IsPlaced context.tree context.birth) (first_of (making_refusals context.tree context.room word (name_in directory name))) context.position method.OpenPath (making context.position context.tree word (limit_of context.birth.rights masks) (name_in directory name)) (refused_placed context.tree context.birth context.position method.OpenPath)
     (λ e. record {
       orderly = (there, made_kind word);
       answer = (kind_made word, ap (option_map (λ row. row.kind)) (row_of-push_same context.tree.nodes (new_row (kind_made word))), suited word (kind_made word));
@@ -349,9 +350,7 @@ placed_outcome tree bound txid object act h = record {
 
 -- a request is of a method that its protocol has
 pub has_read : SpelledWhereRead → (p : Protocol) (bytes handles : List ℕ) (txid : ℕ) (a : Asked) → read_by p bytes handles ≡ Ok (txid, a) → has_method p (method_of a) ≡ true
-has_read law p bytes handles txid a read =
-    let r = what_is_read law p bytes (map handle_with handles) txid a read in
-    ap (has_method p) (ap method_of (sym r.fields_are) ∙ method_read r.method r.items) ∙ r.known
+has_read law p bytes handles txid a read = (what_is_read law p bytes (map handle_with handles) txid a read).known
 
 -- what a served connection stands on
 pub record IsServedOn (tree : Tree) (bound : Bound) : Type 0 where

@@ -1,5 +1,5 @@
 -- What a message reads as: a request's endpoint is among the handles, and an Open to any protocol is that Open to a directory's.
-use Rattle.std.proofs.Common.{◌≡◌, ℕ, ◌<◌, ◌==◌, ◌||◌, ◌⊎◌, Bool, true, false, cond, nat_le, List, [], ◌∷◌, map, Option, Ok, Contains, refl, sym, ap, ◌∙◌, subst, inl, inr}
+use Rattle.std.proofs.Common.{◌≡◌, ℕ, ◌<◌, ◌==◌, ◌||◌, ◌⊎◌, Bool, true, false, cond, nat_le, List, [], ◌∷◌, map, Option, Ok, Contains, refl, ap, ◌∙◌, subst, inl, inr}
 use Rattle.std.proofs.lemmas.Bool.{eq-eqb, leb-false}
 use Rattle.fidl_names.specs.declared.methods.Handle.TheVariants.{Endpoint, Token}
 use Rattle.fidl_names.specs.declared.methods.Method.{Method}
@@ -13,7 +13,6 @@ use Rattle.io_messages.specs.declared.protocols.Protocol.TheVariants as protocol
 use Rattle.io_messages.specs.Asked.{Asked}
 use Rattle.io_messages.specs.Asked as asks
 use Rattle.request_reader.specs.Laws.{Carries as CarriesHandle}
-use Rattle.io_messages.specs.Protocols.{has_method}
 use Rattle.io_messages.specs.Requests.{asked_from}
 use Rattle.request_reader.proofs.Carrying.{carries as carries_handle}
 use Rattle.request_reader.proofs.RequestLaws.{what_is_read, what_is_spelled}
@@ -95,15 +94,4 @@ pub opens_directory : SpelledWhereRead → ReadsWhatIsSpelled → AreDistinct �
 opens_directory law back apart p bytes handles t path flags attributes object read =
     let r = what_is_read law p bytes (map handle_with handles) t (asks.open_path path flags attributes object) read in
     what_is_spelled back (method_ordinal-injective apart) protocol.Directory bytes (map handle_with handles) t (asks.open_path path flags attributes object)
-    (record {
-      header = r.header;
-      method = r.method;
-      items = r.items;
-      header_is = r.header_is;
-      known = subst (λ (m : Method). has_method protocol.Directory m ≡ true) (sym (same_open r.method r.items path flags attributes object r.fields_are)) refl;
-      ordinal_is = r.ordinal_is;
-      txid_is = r.txid_is;
-      way = r.way;
-      spelled = r.spelled;
-      fields_are = r.fields_are;
-    })
+    (record { is_asked = r.is_asked; known = refl })

@@ -1,15 +1,12 @@
 -- Whatever is served leaves a tree sound.
-use Rattle.std.proofs.Common.{◌≡◌, ℕ, zero, suc, ◌==◌, ◌&&◌, ◌||◌, Bool, true, false, not, find, nat_lt, nat_le, is_some, if◌then◌else◌, List, [], ◌∷◌, length, Option, Some, None, Ok, Err, All, refl, sym, ap, ◌∙◌, subst, arith}
-use Rattle.std.specs.FinMap as finite
+use Rattle.std.proofs.Common.{◌≡◌, ℕ, zero, suc, ◌==◌, ◌&&◌, ◌||◌, Bool, true, false, not, find, nat_lt, if◌then◌else◌, List, [], ◌∷◌, length, Option, Some, None, Ok, Err, All, refl, sym, ap, ◌∙◌, subst, arith}
 use Rattle.std.specs.Option.{option_map_or}
 use Rattle.std.proofs.lemmas.Bool.{eqb-true, or_parts, or_right, true≢false}
 use Rattle.std.proofs.lemmas.List.Elements.{All-contains, All-head, All-set, All-tail}
 use Rattle.fidl_names.specs.First.{cause_if, first_of}
-use Rattle.fidl_names.specs.declared.limits.TheConstants as limit
 use Rattle.fidl_names.specs.declared.methods.Method.{Method}
 use Rattle.fidl_names.specs.declared.methods.Method.TheVariants as method
 use Rattle.fidl_names.specs.declared.statuses.Status.TheVariants as status
-use Rattle.io_flags.specs.Grants.{asked_rights, explicit_rights}
 use Rattle.io_flags.specs.Words.{creates, has}
 use Rattle.io_flags.specs.declared.names.Flag.TheVariants as flag
 use Rattle.io_messages.specs.Asked.{Asked, method_of}
@@ -20,10 +17,9 @@ use Rattle.io_messages.specs.declared.protocols.Home.TheVariants as homes
 use Rattle.io_messages.specs.declared.protocols.Protocol.{Protocol}
 use Rattle.io_messages.specs.declared.protocols.Protocol.TheVariants as protocol
 use Rattle.io_messages.specs.declared.requests.RequestFault.TheVariants.{Malformed, UnknownStrict, UnknownOneWay, UnknownTwoWay}
-use Rattle.io_rights.specs.Operations.{OperationSet, all, is_within}
+use Rattle.io_rights.specs.Operations.{OperationSet, all}
 use Rattle.node_graph.specs.Graph.{create_refusal, link_refusal, rename_refusal, resize_refusal, unlink_refusal, write_refusal}
-use Rattle.node_graph.specs.Tree.{IsSound, NodeRow, Tree, Edges, EdgeKey, EdgeTo, after, fill, is_removed, kind_of, row_of, stay}
-use Rattle.node_graph.specs.declared.faults.GraphFault.TheVariants as fault
+use Rattle.node_graph.specs.Tree.{IsSound, NodeRow, Tree, after, fill, kind_of, row_of, stay}
 use Rattle.node_graph.specs.declared.nodes.NodeKind.{NodeKind}
 use Rattle.node_graph.specs.declared.nodes.NodeKind.TheVariants.{Directory, File, Service, Mount}
 use Rattle.node_graph.proofs.RowLists.{mapped}
@@ -38,28 +34,27 @@ use Rattle.conn_rules.specs.Contexts.{Context}
 use Rattle.conn_rules.specs.FileRows.{is_no_position, is_too_much, reading_refusal, seek_sum, write_start, writing_refusal}
 use Rattle.dirents.specs.Listings.{fits_none, listing}
 use Rattle.conn_rules.specs.NameRows.{watch_refusals, is_bad_name, link_into, linked, name_in, rename_into, renamed, two_names_refusal, unlink_refusals}
-use Rattle.conn_rules.specs.Nodes.{bytes_of, edge_at, is_file, kind_behind, kind_here}
+use Rattle.conn_rules.specs.Nodes.{bytes_of, is_file, kind_here}
 use Rattle.conn_rules.specs.Opens.{arrival, arrival_refusals, by_walk, entry_refusals, is_full, is_other_kind, kind_made, making, making_refusals, marks_file, other_kind_status}
 use Rattle.conn_rules.proofs.EveryWalk.{HoldsAlong, every_walk}
 use Rattle.conn_rules.specs.Walks.{Walk, arrives, missing, crosses, stops, behind, walk, limit_of}
 use Rattle.vfs_journal.specs.Entries.{Journal, Sending, Sent, message, hang_up, serves}
 use Rattle.vfs_journal.specs.History.{living, tree_at, trees_of}
 use Rattle.vfs_journal.specs.Lawful.{Lawful}
-use Rattle.vfs_journal.specs.Lawful as lawful
-use Rattle.vfs_journal.specs.Outcomes.{Forwarded, Outcome, Given}
+use Rattle.vfs_journal.specs.Outcomes.{Outcome, Given}
 use Rattle.vfs_journal.specs.Past.{behind as behind_entry, event_of, history_of}
 use Rattle.vfs_journal.specs.Serving.{context_at, Moment, Read, moment_of, outcome_at, outcome_of, outcome_of_message, outcome_of_read, outcome_of_sending, read_by}
-use Rattle.vfs_journal.specs.Session.{head, sent_behind, with_forward}
+use Rattle.vfs_journal.specs.Session.{head}
 use Rattle.vfs_journal.specs.Starts.{Bound, Start}
 use Rattle.journal_laws.specs.Soundness.{IsStart}
 use Rattle.journal_laws.specs.Trees.{IsOnNode, NamesDirectory, suits}
-use Rattle.journal_laws.proofs.Acts.{first_none, graph_allows, not_refused, only_none, path_passes, unless_holds, none_there}
+use Rattle.journal_laws.proofs.Acts.{first_none, graph_allows, head_none, not_refused, only_none, path_passes, unless_holds, none_there}
 use Rattle.journal_laws.proofs.Below.{Below}
 use Rattle.journal_laws.proofs.Kept.{is_serving, lawful_kept}
 use Rattle.journal_laws.proofs.Members.{found}
 use Rattle.journal_laws.proofs.OnTrees.{lawful_stand, sound_children}
 use Rattle.journal_laws.proofs.Orderly.{HasChildren}
-use Rattle.journal_laws.proofs.Placed.{IsNode, LeadsToNode, has_read, kind_there, leads_to_node, on_directory}
+use Rattle.journal_laws.proofs.Placed.{LeadsToNode, has_read, kind_there, leads_to_node, on_directory}
 use Rattle.journal_laws.proofs.Stepping.{GoesOn, Stepped, at_each, onward_of, stepped}
 use Rattle.journal_laws.proofs.Steps.{refusals_change_nothing, sendings_wait_last, servings_take_effect}
 use Rattle.conn_rules.specs.Refusals.{as_status}
@@ -87,7 +82,7 @@ misses_along tree word children = record {
   nowhere = λ directory name rest why at valid. tt;
   further = λ directory name next rest edge there leads has onward later at valid.
       misses_behind tree edge.mask onward
-      (later (kind_there tree edge.child (children (record { directory = directory; name = name }) edge there) ∙ ap Some leads) (All-tail IsName name (next ∷ rest) valid));
+      (later (kind_there tree edge.child (children (name_in directory name) edge there) ∙ ap Some leads) (All-tail IsName name (next ∷ rest) valid));
 }
 
 misses_name : (tree : Tree) (word : ℕ) (names : List (List ℕ)) (directory : ℕ) → HasChildren tree → kind_of tree directory ≡ Some Directory → All IsName names → MissesName tree (walk tree word names directory)
@@ -121,14 +116,6 @@ both_false true true e f = refl
 both_false true false e f = absurd (true≢false e)
 both_false false b e f = absurd (true≢false (sym f))
 
-create_passes : (edges : Edges) (key : EdgeKey) → is_removed edges key.directory ≡ false → finite.get edges key ≡ None → nat_le limit.MAX_NAMES (finite.len edges) ≡ false → create_refusal edges key ≡ None
-create_passes edges key removed free few = by_parts (is_removed edges key.directory) (is_some (finite.get edges key)) (nat_le limit.MAX_NAMES (finite.len edges)) removed (ap is_some free) few where
-  by_parts : (a b c : Bool) → a ≡ false → b ≡ false → c ≡ false → first_of (cause_if a fault.Removed ∷ cause_if b fault.Exists ∷ cause_if c fault.NoSpace ∷ []) ≡ None
-  by_parts false false false p q r = refl
-  by_parts true b c p q r = absurd (true≢false p)
-  by_parts false true c p q r = absurd (true≢false q)
-  by_parts false false true p q r = absurd (true≢false r)
-
 walk_sound : (context : Context) (word : ℕ) → IsSound context.tree → (w : Walk) → LeadsToNode context.tree w → MissesName context.tree w →
     IsLeftSound context.tree (by_walk context word w)
 walk_sound context word sound (arrives node masks) there misses =
@@ -140,14 +127,12 @@ walk_sound context word sound (arrives node masks) there misses =
     (or_right (has word flag.FileAppend) (has word flag.FileTruncate) cuts))))
     sound)
 walk_sound context word sound (missing directory name masks) free misses =
-    unless_holds (IsLeftSound context.tree) (first_of (making_refusals context.tree context.room word directory)) context.position method.OpenPath (making context.position context.tree word (limit_of context.birth.rights masks) (record { directory = directory; name = name })) (λ s. sound)
+    unless_holds (IsLeftSound context.tree) (first_of (making_refusals context.tree context.room word (name_in directory name))) context.position method.OpenPath (making context.position context.tree word (limit_of context.birth.rights masks) (name_in directory name)) (λ s. sound)
     (λ e.
-    let second = first_none (cause_if (not (creates word)) status.NotFound) _ e in
-    let third = first_none (cause_if (is_removed context.tree.edges directory) status.BadState) _ second in
+    let made = head_none (as_status (create_refusal context.tree.edges (name_in directory name))) _ (first_none (cause_if (not (creates word)) status.NotFound) _ e) in
     let short = name_short name misses.1 in
-    made_sound context.tree (record { directory = directory; name = name }) (kind_made word) all sound
-    (create_passes context.tree.edges (record { directory = directory; name = name }) (not_refused (is_removed context.tree.edges directory) status.BadState _ second) free (not_refused (nat_le limit.MAX_NAMES (finite.len context.tree.edges)) status.NoSpace _ third))
-    misses.0 short.0 short.1)
+    made_sound context.tree (name_in directory name) (kind_made word) all sound
+    (graph_allows (create_refusal context.tree.edges (name_in directory name)) made) misses.0 short.0 short.1)
 walk_sound context word sound (crosses mount rest masks) there misses = sound
 walk_sound context word sound (stops status) there misses = sound
 

@@ -8,7 +8,7 @@ use Rattle.std.proofs.lemmas.List.Sums.{sum_by-append, sum_by-cons}
 use Rattle.std.proofs.lemmas.List.Kept.{AllPairs-cons}
 use Rattle.journal_laws.proofs.Lists.{pairs-append, pairs-map}
 use Rattle.std.proofs.lemmas.List.Elements.{All-nil, All-cons, All-head, All-tail, All-append, All-map, All-filter, All-weaker, All-contains_itself}
-use Rattle.fidl_names.specs.HandleNumber.{is_client}
+use Rattle.fidl_names.specs.HandleNumber.{is_client, end_of_mount}
 use Rattle.fidl_names.specs.declared.limits.TheConstants as limit
 use Rattle.io_rights.specs.Operations.{OperationSet}
 use Rattle.node_graph.specs.Tree.{IsSound, Tree, bare_tree, kind_of}
@@ -16,7 +16,7 @@ use Rattle.node_graph.specs.declared.nodes.NodeKind.{NodeKind}
 use Rattle.node_graph.specs.declared.nodes.NodeKind.TheVariants.{Directory, File, Service, Mount}
 use Rattle.session_start.specs.Accepted.{AreAccepted, IsClient, IsNode, IsPlain}
 use Rattle.session_start.specs.Items.{NodeItem, MountItem, ClientItem, Lists}
-use Rattle.session_start.specs.Numbering.{Named, node_named, mount_named, named_of, number_in, row_of_named, tree_of, end_of_mount}
+use Rattle.session_start.specs.Numbering.{Named, node_named, mount_named, named_of, number_in, row_of_named, tree_of}
 use Rattle.session_start.specs.Sound.{AreSound, HasOneEdge, IsDirectoryAt}
 use Rattle.session_start.proofs.Soundness.{named_count, start_sound}
 use Rattle.journal_laws.specs.Soundness.{IsStart, OtherEndpoint, HasEnd, HasRoom, AreMounted, AreMountedOnce, IsOnDirectory, mount_ends}

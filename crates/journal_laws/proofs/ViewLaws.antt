@@ -1,6 +1,5 @@
 -- The views behind the steps of a lawful journal.
-use Rattle.std.proofs.Common.{◌≡◌, ℕ, zero, suc, ◌+◌, ◌<◌, ◌==◌, false, List, [], ◌∷◌, ◌++◌, length, Option, Some, None, refl, sym, ap, ◌∙◌, append-nil, arith}
-use Rattle.std.specs.Option.{option_map_or}
+use Rattle.std.proofs.Common.{◌≡◌, ℕ, ◌+◌, ◌<◌, ◌==◌, false, List, [], ◌∷◌, ◌++◌, length, Option, Some, None, refl, sym, ap, ◌∙◌, append-nil, arith}
 use Rattle.std.proofs.lemmas.Bool.{eq-eqb, eqb-true, false_from_ne_true, true≢false}
 use Rattle.std.proofs.lemmas.List.Concat.{flat_map-append}
 use Rattle.std.proofs.lemmas.List.Elements.{All-contains}
@@ -11,25 +10,23 @@ use Rattle.endpoint_link.specs.Frames.{Frame, spelling, spellings}
 use Rattle.vfs_journal.specs.Entries.{Sent, Sending, Journal, message, hang_up, sends, serves}
 use Rattle.vfs_journal.specs.History.{History, is_dead, living, trees_of, waiting, was_carried}
 use Rattle.vfs_journal.specs.Lawful.{Lawful}
-use Rattle.vfs_journal.specs.Lawful as lawful
 use Rattle.vfs_journal.specs.Outcomes.{Forwarded, Given, Outcome}
 use Rattle.vfs_journal.specs.Output.{frames_of, frames_of_serving, output_of}
 use Rattle.vfs_journal.specs.Past.{event_of, history_of}
 use Rattle.vfs_journal.specs.Serving.{outcome_of}
-use Rattle.vfs_journal.specs.Session.{after_serving, head, look_ups, next, oldest, sent_behind, serving, serving_one, weight, with_forward}
+use Rattle.vfs_journal.specs.Session.{after_serving, head, look_ups, sent_behind, serving, with_forward}
 use Rattle.vfs_journal.specs.Starts.{Start}
 use Rattle.vfs_journal.specs.Tokens.{all_given}
-use Rattle.vfs_journal.specs.View.{View, view_of, event_in, frames_in, head_in, next_in, oldest_in, onward_in, sending_in, serving_in, then_in}
+use Rattle.vfs_journal.specs.View.{View, event_in, frames_in, onward_in, sending_in, serving_in, then_in}
 use Rattle.journal_laws.specs.Soundness.{IsStart}
 use Rattle.journal_laws.specs.Viewing.{view_behind}
 use Rattle.journal_laws.proofs.Among.{is_found, one_passes}
 use Rattle.journal_laws.proofs.Below.{Below}
-use Rattle.journal_laws.proofs.Draining.{ChoosesHeads, next_is_head, oldest_is_head, pick_is_head}
 use Rattle.journal_laws.proofs.Kept.{close_admitted, is_serving, lawful_kept, message_admitted, refusal_of}
 use Rattle.journal_laws.proofs.Queues.{what_goes_on_waits, what_is_sent_waits}
 use Rattle.journal_laws.proofs.Stepping.{stepped}
 use Rattle.journal_laws.proofs.TokensGiven.{AreGiven, lawful_given, next_is_length}
-use Rattle.journal_laws.proofs.ViewParts.{frames_are, head_is_in, next_is, oldest_is, outcome_is_in}
+use Rattle.journal_laws.proofs.ViewParts.{frames_are, outcome_is_in}
 use Rattle.journal_laws.proofs.ViewSteps.{BringsNew, sent_viewed, served_in_view}
 
 -- ---- what is sent

@@ -9,7 +9,7 @@ use Rattle.endpoint_link.specs.Numbering.{among}
 use Rattle.node_graph.specs.declared.nodes.NodeKind.{NodeKind}
 use Rattle.node_graph.specs.declared.nodes.NodeKind.TheVariants.{Directory, File, Service, Mount}
 use Rattle.node_graph.specs.Tree.{Tree, NodeRow, Change, make, add, cut, move, fill, stay, after, filled, bare_tree, row_of}
-use Rattle.session_start.specs.Numbering.{end_of_mount}
+use Rattle.fidl_names.specs.HandleNumber.{end_of_mount}
 use Rattle.conn_rules.specs.Nodes.{kind_here}
 use Rattle.vfs_journal.specs.Deaths.{others}
 use Rattle.vfs_journal.specs.Entries.{Sent, Journal, sends, serves, refuses}

@@ -4,7 +4,7 @@ use Rattle.std.specs.FinMap as finite
 use Rattle.std.specs.List.{range_with_len}
 use Rattle.fidl_names.specs.declared.limits.TheConstants as limit
 use Rattle.session_start.specs.Items.{Lists}
-use Rattle.session_start.specs.Numbering.{end_of_mount}
+use Rattle.fidl_names.specs.HandleNumber.{end_of_mount}
 use Rattle.endpoint_link.specs.declared.kinds.FrameKind.TheVariants as kind
 use Rattle.endpoint_link.specs.declared.kinds.Standing.TheVariants as standing
 use Rattle.endpoint_link.specs.declared.kinds.Refusal.{Refusal}

@@ -7,12 +7,11 @@ use Rattle.node_graph.specs.declared.nodes.NodeKind.TheVariants.{Directory, Moun
 use Rattle.node_graph.specs.Tree.{IsSound, NodeRow, Tree, kind_of}
 use Rattle.session_start.specs.Accepted.{AreAccepted}
 use Rattle.session_start.specs.Items.{Lists}
-use Rattle.session_start.specs.Numbering.{end_of_mount}
 use Rattle.session_start.specs.Sound.{HasOneEdge}
 use Rattle.endpoint_link.specs.declared.kinds.Mode.{Mode}
 use Rattle.endpoint_link.specs.declared.kinds.Side.TheVariants.{ToServers}
 use Rattle.endpoint_link.specs.Frames.{Frame, IsFrame}
-use Rattle.fidl_names.specs.HandleNumber.{is_client}
+use Rattle.fidl_names.specs.HandleNumber.{is_client, end_of_mount}
 use Rattle.endpoint_link.specs.Numbering.{among}
 use Rattle.vfs_journal.specs.Deaths.{deaths_of, others}
 use Rattle.vfs_journal.specs.Entries.{Sent, Journal, message, serves, endpoints_in}

@@ -1,5 +1,5 @@
 -- The row, step by step: what each serving gives is computed once its message is read and its names are found.
-use Rattle.std.proofs.Common.{◌≡◌, ℕ, List, [], ◌∷◌, ◌++◌, Option, None, Some, codes, refl, ap, ◌∙◌}
+use Rattle.std.proofs.Common.{◌≡◌, ℕ, List, [], ◌∷◌, ◌++◌, Option, None, codes, refl, ap, ◌∙◌}
 use Rattle.std.specs.FinMap as finite
 use Rattle.std.specs.Option.{option_map_or}
 use Rattle.io_flags.specs.Grants.{asked_rights, explicit_rights}
@@ -10,9 +10,8 @@ use Rattle.node_graph.specs.Keys.{edges_total}
 use Rattle.node_graph.specs.Tree.{EdgeKey, EdgeTo, Tree}
 use Rattle.node_graph.specs.declared.nodes.NodeKind.TheVariants.{Directory, Mount}
 use Rattle.path_walk.specs.Paths.{names_of}
-use Rattle.conn_rules.specs.Walks.{Walk, arrives, behind, crosses, inner_step, last_step, missing, walk}
-use Rattle.dir_conn.specs.Laws.{masks_of}
-use Rattle.session_start.specs.Numbering.{end_of_mount}
+use Rattle.conn_rules.specs.Walks.{Walk, arrives, behind, crosses, inner_step, last_step, missing, walk, masks_of}
+use Rattle.fidl_names.specs.HandleNumber.{end_of_mount}
 use Rattle.vfs_journal.specs.Serving.{Read, moment_of}
 use Rattle.rights_laws.specs.Lineage.{ancestors_of, end_rights, lineage_given, lineage_of, lines_of, masks_along, request_in, trail_given}
 use Rattle.lineage_rows.specs.Rows.{Asks, Later, LineagesNameEachSet, Opens, all_served, cloned, crossed, end_of_m, end_of_n, is_sent, mask_of_a, mask_of_b, mask_of_d, mask_of_m, mask_of_n, of_client, of_clone, of_first_opened, of_last_opened, of_made, on_client, on_d, on_root, once_served, opened, over_m, over_n, sending, three_servers, thrice_served, through, tree_below, tree_with, twice_served, watched}

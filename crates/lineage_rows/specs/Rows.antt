@@ -11,9 +11,9 @@ use Rattle.io_rights.specs.Operations.{OperationSet, all, none}
 use Rattle.node_graph.specs.declared.nodes.NodeKind.{NodeKind}
 use Rattle.node_graph.specs.declared.nodes.NodeKind.TheVariants.{Directory, Mount}
 use Rattle.node_graph.specs.Tree.{Tree, edge_cmp, new_row}
-use Rattle.session_start.specs.Numbering.{end_of_mount}
+use Rattle.fidl_names.specs.HandleNumber.{end_of_mount}
 use Rattle.vfs_journal.specs.Entries.{Sent, message, sends, serves}
-use Rattle.vfs_journal.specs.History.{Event, History}
+use Rattle.vfs_journal.specs.History.{History}
 use Rattle.vfs_journal.specs.Outcomes.{no_outcome, watcher_birth}
 use Rattle.vfs_journal.specs.Serving.{read_by}
 use Rattle.vfs_journal.specs.Starts.{Bound, Start, directory_birth}

@@ -1,14 +1,12 @@
 -- The laws: in order, once, and after a drain.
-use Rattle.std.proofs.Common.{◌≡◌, ℕ, ◌==◌, ◌&&◌, ◌⊎◌, ◌∙◌, Bool, true, false, not, cond, if◌then◌else◌, [], ◌∷◌, ◌++◌, map, find, Option, Some, None, Contains, refl, sym, ap, subst, inl, inr}
-use Rattle.std.specs.List.{list_any}
-use Rattle.std.specs.Option.{option_map_or}
-use Rattle.std.proofs.lemmas.Bool.{eqb-true, or_parts}
+use Rattle.std.proofs.Common.{◌≡◌, ℕ, ◌==◌, ◌&&◌, ◌⊎◌, ◌∙◌, Bool, true, false, not, if◌then◌else◌, [], ◌++◌, map, Contains, refl, sym, ap, subst, inl, inr}
+use Rattle.std.proofs.lemmas.Bool.{eqb-true}
 use Rattle.std.proofs.lemmas.List.{append-nil}
 use Rattle.fidl_names.specs.HandleNumber.{handle_with}
 use Rattle.io_messages.specs.Asked.{method_of}
 use Rattle.io_messages.specs.Shapes.{is_one_way}
 use Rattle.vfs_journal.specs.Entries.{Journal, Sent}
-use Rattle.vfs_journal.specs.History.{Event, History, all_sent, is_dead, serves_place, waiting, waits, was_served}
+use Rattle.vfs_journal.specs.History.{History, all_sent, is_dead, waiting, waits, was_served}
 use Rattle.vfs_journal.specs.Past.{history_of}
 use Rattle.vfs_journal.specs.Session.{drained}
 use Rattle.vfs_journal.specs.Starts.{Start}
@@ -23,7 +21,7 @@ use Rattle.journal_laws.proofs.Filters.{all_of, none_kept}
 use Rattle.reply_laws.proofs.Once.{answered, last_served}
 use Rattle.reply_laws.proofs.Ordered.{ordered}
 use Rattle.reply_laws.specs.Laws.{ArePipelined, DrainsSettleAll, IsSettled, RepliesAreInOrder, RequestsAskByTheirIds, RestsAreSettled, ServedIsAnswered}
-use Rattle.reply_laws.specs.Pipelined.{answer_to, is_on, sent_on, served_on, txid_in}
+use Rattle.reply_laws.specs.Pipelined.{is_on, sent_on, served_on, txid_in}
 
 pipelined : (start : Start) (journal : Journal) (endpoint : ℕ) → Stepped start journal → ArePipelined start (history_of start journal) endpoint
 pipelined start journal endpoint h = record {

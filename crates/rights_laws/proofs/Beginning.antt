@@ -3,7 +3,7 @@ use Rattle.std.proofs.Common.{◌≡◌, ℕ, List, ◌++◌, Option, Some, None
 use Rattle.io_messages.specs.Asked.{Asked}
 use Rattle.io_messages.specs.Asked as asks
 use Rattle.io_rights.specs.Operations.{OperationSet}
-use Rattle.dir_conn.specs.Laws.{masks_of}
+use Rattle.conn_rules.specs.Walks.{masks_of}
 use Rattle.vfs_journal.specs.Entries.{Sent, Sending, message}
 use Rattle.vfs_journal.specs.Outcomes.{Forwarded, Outcome}
 use Rattle.vfs_journal.specs.Serving.{Moment, asker_of, context_at, object_of, outcome_of_sending, read_by, request_act}

@@ -1,15 +1,17 @@
 -- What changes a tree is allowed.
-use Rattle.std.proofs.Common.{◌≡◌, ◌≢◌, ℕ, ◌==◌, ◌⊎◌, not, List, [], ◌∷◌, ◌++◌, Some, Ok, refl, sym, ap, ◌∙◌, subst, inl, inr}
+use Rattle.std.proofs.Common.{◌≡◌, ◌≢◌, ℕ, ◌==◌, ◌⊎◌, not, List, [], ◌∷◌, Option, Some, Ok, refl, sym, ap, ◌∙◌, subst, inl, inr}
+use Rattle.std.specs.Option.{option_map_or}
 use Rattle.std.proofs.lemmas.Bool.{eqb-true}
 use Rattle.io_messages.specs.Asked.{Asked}
 use Rattle.io_messages.specs.Asked as asks
+use Rattle.io_rights.specs.Operations.{OperationSet}
 use Rattle.node_graph.specs.Tree.{stay}
 use Rattle.conn_rules.specs.Acts.{act_of}
-use Rattle.vfs_journal.specs.Entries.{Entry, Sent, Journal, message, serves}
+use Rattle.vfs_journal.specs.Entries.{Sent, message, serves}
 use Rattle.vfs_journal.specs.History.{History, births, bound_at, is_dead, living}
-use Rattle.vfs_journal.specs.Outcomes.{Outcome}
-use Rattle.vfs_journal.specs.Past.{history_of}
-use Rattle.vfs_journal.specs.Serving.{context_at, moment_of, outcome_at, outcome_of, outcome_of_sending, read_by}
+use Rattle.vfs_journal.specs.Outcomes.{Outcome, bound_of}
+use Rattle.vfs_journal.specs.Past.{event_of, history_of}
+use Rattle.vfs_journal.specs.Serving.{asker_of, context_at, moment_of, object_of, outcome_at, outcome_of, outcome_of_sending, read_by}
 use Rattle.vfs_journal.specs.Session.{head}
 use Rattle.vfs_journal.specs.Starts.{Bound, Start}
 use Rattle.journal_laws.proofs.Among.{some_found}
@@ -19,12 +21,12 @@ use Rattle.journal_laws.proofs.Places.{head_is, waits_of_sent}
 use Rattle.journal_laws.proofs.Requests.{opens_directory}
 use Rattle.journal_laws.proofs.Stepping.{stepped, time_of, was_head}
 use Rattle.rights_laws.specs.Authority.{ChangesAreAllowed, HasAuthority, IsAllowed, IsGivenWith}
-use Rattle.rights_laws.specs.Lineage.{lineage_of, lines_of}
+use Rattle.rights_laws.specs.Lineage.{lineage_of, lines_of, rights_bound}
 use Rattle.rights_laws.specs.Rights.{AreWithinEach}
 use Rattle.rights_laws.proofs.Beginning.{asked_is}
 use Rattle.rights_laws.proofs.Heard.{Heard, heard, unheard, sending_heard}
 use Rattle.rights_laws.proofs.Keeping.{Holds}
-use Rattle.rights_laws.proofs.Opening.{OverIn, request_allowed}
+use Rattle.rights_laws.proofs.Opening.{BindsOwn, OverIn, request_allowed}
 use Rattle.rights_laws.proofs.Serving.{AreTrailed}
 use Rattle.rights_laws.proofs.Times.{head_holds}
 use Rattle.rights_laws.proofs.TokensGiven.{AreGiven, are_given, target_given}
@@ -38,12 +40,24 @@ module _ (below : Below) (start : Start) (past : History) (k : Sent) (bound : Bo
       (trailed origin bytes handles txid path word attributes object from is (opens_directory below.spelled below.reads below.apart bound.birth.protocol bytes handles txid path word attributes object read)).asked
   over_in bytes handles txid request is read = tt
 
-  allowed_by : (outcome : Outcome) → Heard (moment_of start past bound) k.sending outcome → outcome.change ≢ stay → IsAllowed start past k outcome.change
-  allowed_by outcome (unheard binds' onward given change) changes = absurd (changes change)
-  allowed_by outcome (heard bytes handles txid request is read whole) changes =
-      by_case (request_allowed start past (moment_of start past bound) k within request (over_in bytes handles txid request is read) tokens) where
+  abbrev own_rights : Option Bound → List OperationSet
+  own_rights o = option_map_or (λ b. b.birth.rights ∷ []) o []
+
+  event_binds : rights_bound (event_of start past (serves k)) ≡ own_rights (outcome_of start past k).bound
+  unfolding event_of
+  event_binds = refl
+
+  allowed_by : (outcome : Outcome) → outcome_of start past k ≡ outcome → Heard (moment_of start past bound) k.sending outcome → outcome.change ≢ stay → IsAllowed start past k outcome.change
+  allowed_by outcome all (unheard binds' onward given change) changes = absurd (changes change)
+  allowed_by outcome all (heard bytes handles txid request is read whole) changes =
+      by_case (request_allowed start past (moment_of start past bound) k within request (over_in bytes handles txid request is read) tokens owns) where
         same : outcome.change ≡ (act_of (context_at (moment_of start past bound)) request).change
         same = ap (λ (o : Outcome). o.change) whole
+
+        owns : BindsOwn start past (moment_of start past bound) k within (act_of (context_at (moment_of start past bound)) request)
+        owns birth announced e =
+            event_binds ∙ ap own_rights
+            (ap (λ (o : Outcome). o.bound) (all ∙ whole) ∙ ap (bound_of (asker_of bound txid (object_of request))) e)
 
         by_case : ((act_of (context_at (moment_of start past bound)) request).change ≡ stay) ⊎ HasAuthority start past k (moment_of start past bound) request (act_of (context_at (moment_of start past bound)) request).change → IsAllowed start past k outcome.change
         by_case (inl stays) = absurd (changes (same ∙ stays))
@@ -55,8 +69,9 @@ module _ (below : Below) (start : Start) (past : History) (k : Sent) (bound : Bo
           authority = subst (HasAuthority start past k (moment_of start past bound) request) (sym same) allowed;
         }
 
-  serving_allowed : (outcome_of_sending (moment_of start past bound) k.sending).change ≢ stay → IsAllowed start past k (outcome_of_sending (moment_of start past bound) k.sending).change
-  serving_allowed changes = allowed_by (outcome_of_sending (moment_of start past bound) k.sending) (sending_heard (moment_of start past bound) k.sending) changes
+  serving_allowed : outcome_of start past k ≡ outcome_of_sending (moment_of start past bound) k.sending → (outcome_of_sending (moment_of start past bound) k.sending).change ≢ stay →
+      IsAllowed start past k (outcome_of_sending (moment_of start past bound) k.sending).change
+  serving_allowed all changes = allowed_by (outcome_of_sending (moment_of start past bound) k.sending) all (sending_heard (moment_of start past bound) k.sending) changes
 
 pub head_allowed : Below → (start : Start) (past : History) (k : Sent) → head start past k.endpoint ≡ Some k → Holds start past → AreGiven start past → (outcome_of start past k).change ≢ stay → IsAllowed start past k (outcome_of start past k).change
 head_allowed below start past k first holds given changes =
@@ -68,7 +83,7 @@ head_allowed below start past k first holds given changes =
     subst (λ (o : Outcome). IsAllowed start past k o.change) (sym whole)
     (serving_allowed below start past k b.0 b.1 within (holds.trails k (waits_of_sent past k is.waits))
     (λ token target e. target_given start past b.0.server token target holds given e)
-    (λ e. changes (ap (λ (o : Outcome). o.change) whole ∙ e)))
+    whole (λ e. changes (ap (λ (o : Outcome). o.change) whole ∙ e)))
 
 -- ---- servings of a session
 

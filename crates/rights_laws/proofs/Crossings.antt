@@ -1,14 +1,11 @@
 -- What a walk passes that crosses a mount.
-use Rattle.std.proofs.Common.{◌≡◌, ℕ, Bool, true, false, cond, List, [], ◌∷◌, Option, Some, None, Contains, refl, ap, ◌∙◌, subst}
+use Rattle.std.proofs.Common.{◌≡◌, ℕ, List, [], ◌∷◌, Some, Contains, ap, ◌∙◌, subst}
 use Rattle.std.specs.Prelude.{IsTrue}
 use Rattle.std.proofs.lemmas.List.Elements.{All-nil, All-cons}
-use Rattle.fidl_names.specs.declared.statuses.Status.{Status}
-use Rattle.io_flags.specs.Grants.{asked_rights, explicit_rights}
+use Rattle.io_flags.specs.Grants.{asked_rights}
 use Rattle.io_rights.specs.Operations.{OperationSet, is_within}
 use Rattle.io_rights.proofs.OperationSets.{within_trans}
-use Rattle.io_flags.proofs.GrantLemmas.{within_self}
-use Rattle.node_graph.specs.declared.nodes.NodeKind.{NodeKind}
-use Rattle.node_graph.specs.declared.nodes.NodeKind.TheVariants.{Directory, File, Service, Mount}
+use Rattle.node_graph.specs.declared.nodes.NodeKind.TheVariants.{Mount}
 use Rattle.node_graph.specs.Tree.{Tree, EdgeKey, EdgeTo}
 use Rattle.conn_rules.specs.Nodes.{edge_at, kind_behind}
 use Rattle.conn_rules.proofs.EveryWalk.{HoldsAlong, every_walk, asked_in_inner}

@@ -1,5 +1,5 @@
 -- What comes from a first connection without the rights to change changes nothing.
-use Rattle.std.proofs.Common.{◌≡◌, ◌≢◌, ℕ, ◌==◌, ◌⊎◌, true, false, true≢false, List, [], ◌∷◌, ◌++◌, find, Option, Some, None, Contains, refl, sym, ◌∙◌, subst, inl, inr}
+use Rattle.std.proofs.Common.{◌≡◌, ◌≢◌, ℕ, ◌==◌, ◌⊎◌, true, false, true≢false, List, ◌∷◌, ◌++◌, find, Option, Some, None, Contains, refl, sym, ◌∙◌, subst, inl, inr}
 use Rattle.std.specs.Prelude.{AllPairs, IsTrue}
 use Rattle.std.proofs.lemmas.Bool.{eq-eqb, eqb-true}
 use Rattle.std.proofs.lemmas.List.Elements.{All-contains, Contains-append_left}
@@ -13,17 +13,16 @@ use Rattle.node_graph.specs.Tree.{Change, make, add, cut, move, fill, stay}
 use Rattle.vfs_journal.specs.Entries.{Sent, Journal, serves}
 use Rattle.vfs_journal.specs.History.{bound_at}
 use Rattle.vfs_journal.specs.Lawful.{Lawful}
-use Rattle.vfs_journal.specs.Outcomes.{Forwarded}
-use Rattle.vfs_journal.specs.Past.{history_of}
+use Rattle.vfs_journal.specs.Past.{event_of, history_of}
 use Rattle.vfs_journal.specs.Serving.{Moment, moment_of, outcome_of}
-use Rattle.vfs_journal.specs.Session.{head, with_forward}
+use Rattle.vfs_journal.specs.Session.{head}
 use Rattle.vfs_journal.specs.Starts.{Bound, Start}
 use Rattle.journal_laws.specs.Soundness.{IsStart, OtherEndpoint}
 use Rattle.journal_laws.proofs.Below.{Below}
 use Rattle.journal_laws.proofs.Lists.{pairs-left}
 use Rattle.journal_laws.proofs.Members.{contains_here, first_found, found, none_found}
 use Rattle.rights_laws.specs.Authority.{EachHas, HasAuthority, IsAllowed, IsNarrow, NarrowAncestorsChangeNothing}
-use Rattle.rights_laws.specs.Lineage.{ancestors_of, lineage_of, lines_of, masks_along, sent_from, trail_of, walk_at}
+use Rattle.rights_laws.specs.Lineage.{ancestors_of, lineage_of, lines_of, masks_along, rights_bound, sent_from, trail_of, walk_at}
 use Rattle.rights_laws.specs.Rights.{BeginsAt}
 use Rattle.rights_laws.proofs.Beginning.{IsOpen, own_begins, trail_begins}
 use Rattle.rights_laws.proofs.Changes.{changes_allowed}
@@ -56,8 +55,11 @@ module _ (start : Start) (journal : Journal) (k : Sent) (moment : Moment) (first
   by_open : (path : List ℕ) (word : ℕ) (attributes : Option ℕ) (object : ℕ) (change : Change) → HasAuthority start (history_of start journal) k moment (asks.open_path path word attributes object) change → ⊥
   by_open path word attributes object (make key row mask) h = lacking op.ModifyDirectory _ first.birth.rights narrow.modifies trail h.0
   by_open path word attributes object (fill node bytes) h =
-      lacking op.WriteBytes (trail_of start (history_of start journal) k ++ masks_along (walk_at moment path word)) first.birth.rights narrow.writes
-      (Contains-append_left (trail_of start (history_of start journal) k) (masks_along (walk_at moment path word)) first.birth.rights trail) h
+      let given = trail_of start (history_of start journal) k ++ masks_along (walk_at moment path word) in
+      let own = rights_bound (event_of start (history_of start journal) (serves k)) in
+      lacking op.WriteBytes (given ++ own) first.birth.rights narrow.writes
+      (Contains-append_left given own first.birth.rights
+      (Contains-append_left (trail_of start (history_of start journal) k) (masks_along (walk_at moment path word)) first.birth.rights trail)) h
   by_open path word attributes object change h = absurd h
 
   denied : (request : Asked) (change : Change) → ((IsOpen (Some request) → ⊥) → OnOwn) → HasAuthority start (history_of start journal) k moment request change → ⊥

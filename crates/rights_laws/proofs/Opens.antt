@@ -11,6 +11,7 @@ use Rattle.io_flags.specs.Faults.{flag_fault, status_of}
 use Rattle.io_flags.specs.Grants.{asked_rights, granted, granted_kind, onward}
 use Rattle.io_rights.specs.declared.operations.Operation.TheVariants as op
 use Rattle.io_rights.specs.Operations.{OperationSet, single, is_within}
+use Rattle.node_graph.specs.Tree.{name_in}
 use Rattle.path_walk.specs.Names.{dot}
 use Rattle.path_walk.specs.Paths.{names_of, path_fault}
 use Rattle.conn_rules.specs.Answers.{Answer, Act, binds, forwards}
@@ -41,7 +42,7 @@ walk_grants context word (arrives node masks) found announced =
     unless_holds (Binds word found announced) (first_of (arrival_refusals context.room word (kind_here context.tree node))) context.position method.OpenPath _ (λ s e. absurd (cc))
     (λ passes e. record { limit = limit_of context.birth.rights masks; rights = sym (ap (rights_in found.rights) e) })
 walk_grants context word (missing directory name masks) found announced =
-    unless_holds (Binds word found announced) (first_of (making_refusals context.tree context.room word directory)) context.position method.OpenPath _ (λ s e. absurd (cc))
+    unless_holds (Binds word found announced) (first_of (making_refusals context.tree context.room word (name_in directory name))) context.position method.OpenPath _ (λ s e. absurd (cc))
     (λ passes e. record { limit = limit_of context.birth.rights masks; rights = sym (ap (rights_in found.rights) e) })
 walk_grants context word (crosses mount rest masks) found announced = λ e. absurd (cc)
 walk_grants context word (stops status) found announced = λ e. absurd (cc)
@@ -82,7 +83,7 @@ walk_crosses : (context : Context) (path : List ℕ) (word : ℕ) (w : Walk) (mo
 walk_crosses context path word (arrives node masks) mount flags rest passes is =
     unless_holds (GoesOn context path word mount flags rest) (first_of (arrival_refusals context.room word (kind_here context.tree node))) context.position method.OpenPath _ (λ s e. absurd (cc)) (λ f e. absurd (cc))
 walk_crosses context path word (missing directory name masks) mount flags rest passes is =
-    unless_holds (GoesOn context path word mount flags rest) (first_of (making_refusals context.tree context.room word directory)) context.position method.OpenPath _ (λ s e. absurd (cc)) (λ f e. absurd (cc))
+    unless_holds (GoesOn context path word mount flags rest) (first_of (making_refusals context.tree context.room word (name_in directory name))) context.position method.OpenPath _ (λ s e. absurd (cc)) (λ f e. absurd (cc))
 walk_crosses context path word (crosses index names masks) mount flags rest passes is = λ e.
     let same : index ≡ mount = mount_of e in
     let left : names ≡ rest = rest_of e in

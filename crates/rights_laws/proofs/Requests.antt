@@ -22,9 +22,8 @@ use Rattle.conn_rules.specs.Births.{Birth}
 use Rattle.conn_rules.specs.Contexts.{Context}
 use Rattle.conn_rules.specs.Nodes.{edge_at}
 use Rattle.conn_rules.specs.Opens.{is_full, open_act}
-use Rattle.conn_rules.specs.Walks.{Walk, arrives, missing, crosses, stops, limit_of}
-use Rattle.dir_conn.specs.Laws.{masks_of}
-use Rattle.dir_conn.proofs.Narrow.{opens_narrow}
+use Rattle.conn_rules.specs.Walks.{Walk, arrives, missing, crosses, stops, limit_of, masks_of}
+use Rattle.conn_rules.proofs.Narrow.{opens_narrow}
 use Rattle.vfs_journal.specs.Entries.{Sent}
 use Rattle.vfs_journal.specs.History.{tree_at}
 use Rattle.vfs_journal.specs.Serving.{Moment, context_at}

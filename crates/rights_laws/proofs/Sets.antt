@@ -4,15 +4,15 @@ use Rattle.std.specs.Prelude.{IsTrue}
 use Rattle.std.proofs.lemmas.Bool.{and_parts, both_ways, or_cases, or_right}
 use Rattle.std.proofs.lemmas.List.Elements.{All-nil, All-cons}
 use Rattle.io_flags.specs.Grants.{asked_rights, explicit_rights, write_set, execute_set, added, granted_to, left_by_kind, granted, granted_kind, onward}
-use Rattle.io_flags.specs.Words.{FlagSet, has as has_flag, creates, flags_of, holds}
+use Rattle.io_flags.specs.Words.{FlagSet, has as has_flag, flags_of, holds}
 use Rattle.io_flags.specs.declared.names.Flag.TheVariants as flag
-use Rattle.io_flags.proofs.GrantLemmas.{onward-asked, onward-set, within_join_left, within_self}
+use Rattle.io_flags.proofs.GrantLemmas.{onward-asked, onward-set, within_self}
 use Rattle.io_rights.specs.declared.operations.Operation.TheVariants as op
 use Rattle.io_rights.specs.Operations.{OperationSet, has, none, all, single, meet, join, is_within}
 use Rattle.io_rights.proofs.OperationSets.{has-join, has-set_of, within_each, within_from_each, within_trans, meet_within_left, meet_within_right}
 use Rattle.conn_rules.proofs.EveryWalk.{named_in_asked}
-use Rattle.conn_rules.specs.Walks.{inner_rights, limit_of}
-use Rattle.dir_conn.specs.Laws.{IsWithinAll}
+use Rattle.conn_rules.specs.Walks.{limit_of}
+use Rattle.conn_rules.specs.Laws.{IsWithinAll}
 use Rattle.rights_laws.specs.Rights.{AreWithinEach, HasAllAsked}
 
 -- ---- joins

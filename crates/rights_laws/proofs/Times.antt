@@ -1,5 +1,5 @@
 -- At each time of a lawful journal the rights lie within.
-use Rattle.std.proofs.Common.{ℕ, ◌∷◌, ◌++◌, Option, sym, subst}
+use Rattle.std.proofs.Common.{ℕ, ◌∷◌, Option, sym, subst}
 use Rattle.std.specs.Prelude.{All}
 use Rattle.vfs_journal.specs.Entries.{Journal, Sent, serves}
 use Rattle.vfs_journal.specs.Past.{history_of}

@@ -1,5 +1,4 @@
 -- Each token was given with authority.
-use Rattle.std.proofs.Common.{◌++◌}
 use Rattle.vfs_journal.specs.Past.{history_of}
 use Rattle.journal_laws.proofs.Below.{Below}
 use Rattle.journal_laws.proofs.Stepping.{time_of}

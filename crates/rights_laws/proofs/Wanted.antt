@@ -1,19 +1,13 @@
 -- What each mask has that a walk passes: the rights that are named, and where the walk doesn't arrive all that is asked for.
-use Rattle.std.proofs.Common.{◌≡◌, ℕ, Bool, true, false, if◌then◌else◌, List, [], ◌∷◌, Option, Some, None, refl}
+use Rattle.std.proofs.Common.{◌≡◌, ℕ, true, List, []}
 use Rattle.std.specs.Prelude.{IsTrue}
 use Rattle.std.proofs.lemmas.List.Elements.{All-nil, All-cons}
-use Rattle.fidl_names.specs.declared.statuses.Status.{Status}
 use Rattle.io_flags.specs.Grants.{asked_rights, explicit_rights}
-use Rattle.io_flags.proofs.GrantLemmas.{within_self}
 use Rattle.io_rights.specs.Operations.{OperationSet, is_within}
 use Rattle.io_rights.proofs.OperationSets.{within_trans}
-use Rattle.node_graph.specs.declared.nodes.NodeKind.{NodeKind}
-use Rattle.node_graph.specs.declared.nodes.NodeKind.TheVariants.{Directory, File, Service, Mount}
-use Rattle.node_graph.specs.Tree.{Tree, EdgeTo}
-use Rattle.conn_rules.specs.Nodes.{edge_at, kind_behind}
+use Rattle.node_graph.specs.Tree.{Tree}
 use Rattle.conn_rules.proofs.EveryWalk.{HoldsAlong, every_walk, asked_in_inner, named_in_asked}
-use Rattle.conn_rules.specs.Walks.{Walk, arrives, missing, crosses, stops, behind, inner_rights, walk}
-use Rattle.dir_conn.specs.Laws.{masks_of}
+use Rattle.conn_rules.specs.Walks.{Walk, arrives, missing, crosses, stops, behind, inner_rights, walk, masks_of}
 use Rattle.rights_laws.specs.Rights.{AreWithinEach}
 
 abbrev pub wanted_by : ℕ → Walk → OperationSet

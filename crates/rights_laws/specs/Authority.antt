@@ -6,17 +6,17 @@ use Rattle.io_rights.specs.declared.operations.Operation.{Operation}
 use Rattle.io_rights.specs.declared.operations.Operation.TheVariants as op
 use Rattle.io_rights.specs.Operations.{OperationSet, has, single}
 use Rattle.node_graph.specs.Tree.{Change, make, fill, stay}
-use Rattle.dir_conn.specs.Laws.{masks_of}
+use Rattle.conn_rules.specs.Walks.{masks_of}
 use Rattle.vfs_journal.specs.Entries.{Journal, Sent, serves}
 use Rattle.vfs_journal.specs.History.{History, births, bound_at}
 use Rattle.vfs_journal.specs.Lawful.{Lawful}
 use Rattle.vfs_journal.specs.Outcomes.{Given}
-use Rattle.vfs_journal.specs.Past.{history_of}
+use Rattle.vfs_journal.specs.Past.{event_of, history_of}
 use Rattle.vfs_journal.specs.Serving.{Moment, moment_of, outcome_of}
 use Rattle.vfs_journal.specs.Starts.{Bound, Start}
 use Rattle.vfs_journal.specs.Tokens.{all_given}
 use Rattle.journal_laws.specs.Soundness.{IsStart}
-use Rattle.rights_laws.specs.Lineage.{asked_by, lineage_given, lineage_of, lines_of, sent_from, trail_of, walk_at}
+use Rattle.rights_laws.specs.Lineage.{asked_by, lineage_given, lineage_of, lines_of, rights_bound, sent_from, trail_of, walk_at}
 use Rattle.rights_laws.specs.Rights.{AreWithinEach}
 
 -- each of these sets has a right
@@ -41,7 +41,8 @@ pub record IsGivenWith (start : Start) (history : History) (token : ℕ) : Type 
 
 -- a request that makes this change, and what authority each has: to write or resize, each member of the lineage, and so the connection itself
 -- and each on the way, has WRITE_BYTES; to take out, add or move a name MODIFY_DIRECTORY, and so for the token that names where to; to make a
--- node each member of the trail and each mask of the walk has MODIFY_DIRECTORY; and to truncate these have WRITE_BYTES
+-- node each member of the trail and each mask of the walk has MODIFY_DIRECTORY; and to truncate each member of the lineage of
+-- what is bound has WRITE_BYTES, its own rights among them
 abbrev pub HasAuthority : Start → History → Sent → Moment → Asked → Change → Type 0
 HasAuthority start past sent moment (asks.write bytes) change = EachHas op.WriteBytes (lineage_of start past sent.endpoint)
 HasAuthority start past sent moment (asks.write_at bytes offset) change = EachHas op.WriteBytes (lineage_of start past sent.endpoint)
@@ -52,7 +53,8 @@ HasAuthority start past sent moment (asks.rename src token dst) change = EachHas
 HasAuthority start past sent moment (asks.open_path path word attributes object) (make key row mask) =
     EachHas op.ModifyDirectory (trail_of start past sent) × EachHas op.ModifyDirectory (masks_of (walk_at moment path word))
 HasAuthority start past sent moment (asks.open_path path word attributes object) (fill node bytes) =
-    EachHas op.WriteBytes (lineage_given (lines_of start past) sent moment (asks.open_path path word attributes object))
+    EachHas op.WriteBytes
+    (lineage_given (lines_of start past) sent moment (asks.open_path path word attributes object) ++ rights_bound (event_of start past (serves sent)))
 HasAuthority start past sent moment _ change = ⊥
 
 -- the connection that served it read a request that has the authority

@@ -6,8 +6,7 @@ use Rattle.io_messages.specs.Asked.{Asked}
 use Rattle.io_messages.specs.Asked as asks
 use Rattle.io_rights.specs.Operations.{OperationSet, all}
 use Rattle.path_walk.specs.Paths.{names_of}
-use Rattle.conn_rules.specs.Walks.{Walk, missing, crosses, walk}
-use Rattle.dir_conn.specs.Laws.{masks_of}
+use Rattle.conn_rules.specs.Walks.{Walk, missing, crosses, walk, masks_of}
 use Rattle.vfs_journal.specs.Entries.{Sent, Sending, message, hang_up}
 use Rattle.vfs_journal.specs.History.{Event, History, served_by, serves_place, binds_endpoint, bound_at}
 use Rattle.vfs_journal.specs.Serving.{Moment, Read, moment_of, read_by}

@@ -12,7 +12,7 @@ use Rattle.journal_laws.proofs.Starting.{accepted_starts_are_starts}
 use Rattle.rights_laws.proofs.Answering.{answers_allowed}
 use Rattle.rights_laws.proofs.Changes.{changes_allowed}
 use Rattle.rights_laws.proofs.Narrow.{narrow_change_nothing}
-use Rattle.rights_laws.proofs.Times.{flags_stay, lineages_begin, rights_stay}
+use Rattle.rights_laws.proofs.Times.{flags_stay, lineages_begin, rights_stay, trails_begin}
 use Rattle.rights_laws.proofs.Tokens.{tokens_given}
 use Rattle.reply_laws.proofs.Settled.{replies_are_in_order, rests_are_settled, served_is_answered}
 use Rattle.watch_laws.proofs.Knowing.{know_their_names}
@@ -28,6 +28,7 @@ lawful_keep apart start journal s h =
       once = served_once start journal h;
       rights = λ later past e. rights_stay under start later past s (lawful later past e);
       ancestors = λ later past e. lineages_begin under start later past s (lawful later past e);
+      trails = λ later past e. trails_begin under start later past s (lawful later past e);
       flags = λ later past e. flags_stay under start later past s (lawful later past e);
       changes = λ later past sent e. changes_allowed under start later past sent s (lawful later (serves sent ∷ past) e);
       narrow = λ later past sent e. narrow_change_nothing under start later past sent s (lawful later (serves sent ∷ past) e);

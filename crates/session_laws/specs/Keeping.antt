@@ -7,7 +7,7 @@ use Rattle.vfs_journal.specs.Starts.{Start}
 use Rattle.journal_laws.specs.Laws.{AreServedOnce}
 use Rattle.rights_laws.specs.Answering.{AnswerIsAllowed}
 use Rattle.rights_laws.specs.Authority.{ChangeIsAllowed, NarrowChangesNothing, TokensHaveAuthority}
-use Rattle.rights_laws.specs.Rights.{FlagsAreWithin, LineagesBegin, RightsAreWithin}
+use Rattle.rights_laws.specs.Rights.{FlagsAreWithin, LineagesBegin, RightsAreWithin, TrailsBegin}
 use Rattle.reply_laws.specs.Laws.{AreAnswered, ArePipelined, IsSettled}
 use Rattle.watch_laws.specs.Laws.{AreToldTheirSight, DieOfNoChange, HasNames, KnowTheirNames}
 use Rattle.frame_laws.specs.Bytes.{BeginsWithBytes}
@@ -28,10 +28,11 @@ AtEachServing journal Holds = (later past : Journal) (sent : Sent) → journal �
 pub record KeepsLaws (start : Start) (journal : Journal) : Type 0 where
   -- nothing is served twice, and each endpoint is served in order of sending
   pub once : AreServedOnce journal (history_of start journal)
-  -- no endpoint has a right that its lineage lacks, in which its own rights stand; that of a client's begins at its ancestor; and no Open that
-  -- came over a mount asks for what its trail lacks
+  -- no endpoint has a right that its lineage lacks, in which its own rights stand; that of a client's begins at its ancestor; the trail of an
+  -- Open that came over a mount begins at the connection that it comes from, and no such Open asks for what its trail lacks
   pub rights : AtEachTime journal (λ past. RightsAreWithin start (history_of start past))
   pub ancestors : AtEachTime journal (λ past. LineagesBegin start (history_of start past))
+  pub trails : AtEachTime journal (λ past. TrailsBegin start (history_of start past))
   pub flags : AtEachTime journal (λ past. FlagsAreWithin start (history_of start past))
   -- each change of a tree was allowed all the way, and what comes from a narrow first connection changes nothing
   pub changes : AtEachServing journal (λ past sent. ChangeIsAllowed start (history_of start past) sent)

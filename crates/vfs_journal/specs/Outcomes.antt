@@ -11,10 +11,9 @@ use Rattle.io_messages.specs.declared.protocols.Protocol.TheVariants as protocol
 use Rattle.io_messages.specs.Replies.{Answered, done, settled}
 use Rattle.io_messages.specs.Replies as answered
 use Rattle.io_messages.specs.ReplyWriting.{reply_bytes, reply_handles, event_bytes}
-use Rattle.fidl_names.specs.HandleNumber.{number_of_handle}
+use Rattle.fidl_names.specs.HandleNumber.{number_of_handle, end_of_mount}
 use Rattle.io_rights.specs.Operations.{none}
 use Rattle.node_graph.specs.Tree.{Change, stay}
-use Rattle.session_start.specs.Numbering.{end_of_mount}
 use Rattle.remote_forward.specs.Onward.{onward_bytes}
 use Rattle.conn_rules.specs.Answers.{Answer, replies, closes, binds, watches, forwards, refuses, ends, hangs_up, silent, Happening, nothing_told, Act}
 use Rattle.conn_rules.specs.Births.{Birth, Position, fresh}

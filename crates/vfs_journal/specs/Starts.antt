@@ -5,7 +5,8 @@ use Rattle.io_messages.specs.declared.protocols.Protocol.TheVariants as protocol
 use Rattle.io_rights.specs.Operations.{OperationSet}
 use Rattle.node_graph.specs.Tree.{Tree}
 use Rattle.session_start.specs.Items.{Lists, MountItem, ClientItem}
-use Rattle.session_start.specs.Numbering.{tree_of, number_in, end_of_mount}
+use Rattle.fidl_names.specs.HandleNumber.{end_of_mount}
+use Rattle.session_start.specs.Numbering.{tree_of, number_in}
 use Rattle.conn_rules.specs.Births.{Birth}
 
 -- an endpoint that is bound: at which server, its birth, and a watcher's mask, which is 0 for any other

@@ -4,21 +4,21 @@ use Rattle.std.specs.Prelude.{if◌then◌else◌}
 use Rattle.std.specs.FinMap as finite
 use Rattle.std.specs.Option.{option_map_or}
 use Rattle.std.proofs.lemmas.Bool.{or_parts}
-use Rattle.std.proofs.lemmas.List.Elements.{All-cons, All-head, All-nil, All-tail}
+use Rattle.std.proofs.lemmas.List.Elements.{All-cons, All-nil}
 use Rattle.fidl_names.specs.First.{cause_if, first_of}
 use Rattle.fidl_names.specs.declared.methods.Method.{Method}
 use Rattle.fidl_names.specs.declared.methods.Method.TheVariants as method
 use Rattle.fidl_names.specs.declared.statuses.Status.{Status}
 use Rattle.fidl_names.specs.declared.statuses.Status.TheVariants as status
-use Rattle.io_flags.specs.Grants.{asked_rights, explicit_rights}
 use Rattle.io_flags.specs.Words.{has}
 use Rattle.io_flags.specs.declared.names.Flag.TheVariants as flag
 use Rattle.io_messages.specs.Asked.{Asked, method_of}
 use Rattle.io_messages.specs.Asked as asks
-use Rattle.io_messages.specs.Replies.{fails}
-use Rattle.io_messages.specs.Shapes.{is_one_way}
+use Rattle.io_messages.specs.Failing.{failing_of}
+use Rattle.io_messages.specs.declared.failing.Failing.{Failing}
+use Rattle.io_messages.specs.declared.failing.Failing.TheVariants as failing
 use Rattle.io_messages.specs.declared.protocols.Protocol.TheVariants as protocol
-use Rattle.io_rights.specs.Operations.{OperationSet, is_within}
+use Rattle.io_rights.specs.Operations.{OperationSet}
 use Rattle.node_graph.specs.Graph.{write_change}
 use Rattle.node_graph.specs.Refusals.{directory_behind, edge_at, is_same_name, link_refusal, rename_refusal, resize_refusal}
 use Rattle.node_graph.specs.Tree.{Change, EdgeKey, EdgeTo, Edges, Tree, add, fill, move, stay}
@@ -27,17 +27,16 @@ use Rattle.node_graph.specs.declared.nodes.NodeKind.TheVariants.{Directory, File
 use Rattle.path_walk.specs.Names.{IsName, name_fault}
 use Rattle.path_walk.specs.Paths.{IsPath, names_of, path_fault}
 use Rattle.conn_rules.specs.Acts.{act_of, method_refusals, row_act}
-use Rattle.conn_rules.specs.Answers.{Act, Answer, Happening, added, binds, closes, deleted, failure_of, gone, nothing_told, only, refuses, removed, replies, watches}
+use Rattle.conn_rules.specs.Answers.{Act, Answer, Happening, added, binds, closes, deleted, failure_of, gone, nothing_told, only, removed, watches, failure_by}
 use Rattle.conn_rules.specs.Births.{Position}
 use Rattle.conn_rules.specs.Contexts.{Context}
 use Rattle.conn_rules.specs.FileRows.{bytes_here, is_no_position, is_too_much, reading_refusal, seek_sum, write_start, writing_refusal, written_act}
 use Rattle.conn_rules.specs.Listings.{listing_here}
 use Rattle.conn_rules.specs.NameRows.{is_bad_name, link_into, linked, name_in, rename_into, renamed, token_answer, two_names_refusal, unlink_refusals, unlinked, watch_refusals}
-use Rattle.conn_rules.specs.Nodes.{kind_behind, kind_here}
-use Rattle.conn_rules.specs.Nodes as nodes
+use Rattle.conn_rules.specs.Nodes.{kind_here}
 use Rattle.conn_rules.specs.Opens.{arrival, arrival_refusals, by_walk, entry_refusals, is_full, making, making_refusals, protocol_of}
 use Rattle.conn_rules.specs.Refusals.{as_status}
-use Rattle.conn_rules.specs.Walks.{Walk, arrives, behind, crosses, inner_by_kind, inner_rights, inner_step, last_by_kind, last_step, limit_of, missing, passing, stops, walk}
+use Rattle.conn_rules.specs.Walks.{Walk, arrives, crosses, limit_of, missing, stops, walk}
 use Rattle.dirents.specs.Listings.{fits_none}
 use Rattle.vfs_journal.specs.History.{is_watcher}
 use Rattle.journal_laws.proofs.Acts.{graph_allows, none_there, not_refused, path_passes, unless_holds, MissesOnly, misses_only}
@@ -72,10 +71,11 @@ nothing : (tree : Tree) (position : Position) (answer : Answer) → IsPlain stay
 nothing tree position answer plain = quiet tree (only position answer) refl (λ key. refl) plain
 
 failed : (tree : Tree) (position : Position) (m : Method) (s : Status) → IsToldWhole tree (only position (failure_of m s))
-failed tree position m s = nothing tree position (failure_of m s) (by_way (is_one_way m)) where
-  by_way : (b : Bool) → IsPlain stay (cond b (refuses s) (replies (fails m s)))
-  by_way true = tt
-  by_way false = tt
+failed tree position m s = nothing tree position (failure_of m s) (by_form (failing_of m)) where
+  by_form : (f : Failing) → IsPlain stay (failure_by f m s)
+  by_form failing.Reply = tt
+  by_form failing.Epitaph = tt
+  by_form failing.Never = tt
 
 -- ---- an Open
 
@@ -116,8 +116,8 @@ walked context word (arrives node masks) misses =
     unless_holds (IsToldWhole context.tree) (first_of (arrival_refusals context.room word (kind_here context.tree node))) context.position method.OpenPath _ (λ s. failed context.tree context.position method.OpenPath s)
     (λ e. arrived context.tree context.position word (limit_of context.birth.rights masks) node (kind_here context.tree node))
 walked context word (missing directory name masks) misses =
-    unless_holds (IsToldWhole context.tree) (first_of (making_refusals context.tree context.room word directory)) context.position method.OpenPath _ (λ s. failed context.tree context.position method.OpenPath s)
-    (λ e. made context.tree context.position word (limit_of context.birth.rights masks) (record { directory = directory; name = name }) misses)
+    unless_holds (IsToldWhole context.tree) (first_of (making_refusals context.tree context.room word (name_in directory name))) context.position method.OpenPath _ (λ s. failed context.tree context.position method.OpenPath s)
+    (λ e. made context.tree context.position word (limit_of context.birth.rights masks) (name_in directory name) misses)
 walked context word (crosses mount rest masks) misses = nothing context.tree context.position _ tt
 walked context word (stops s) misses = failed context.tree context.position method.OpenPath s
 
