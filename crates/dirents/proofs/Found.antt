@@ -60,9 +60,10 @@ stands bytes are long whole =
     let name = take (named bytes) (drop 10 bytes) in
     let small : (k : ℕ) → get_or head k 0 < 256 = below_front 10 bytes (byte_below bytes are) in
     let few : named bytes ≤ length (drop 10 bytes) = omega (arith, whole, length_parts bytes long) in
-    let same : length name ≡ get_or head 8 0 = length-take-le (named bytes) (drop 10 bytes) few in
-    ( parts bytes ∙ entry_read head name (behind bytes) (little_number 8 head) refl small (length-take-le 10 bytes long) same
-    , entry_fits head name (little_number 8 head) refl small same)
+    let same : length name ≡ get_or head 8 0 = length-take-le (named bytes) (drop 10 bytes) few in (
+      parts bytes ∙ entry_read head name (behind bytes) (little_number 8 head) refl small (length-take-le 10 bytes long) same,
+      entry_fits head name (little_number 8 head) refl small same,
+    )
 
 shorter : (bytes : List ℕ) → 10 ≤ length bytes → length (behind bytes) < length bytes
 shorter bytes long =
