@@ -3,3 +3,4 @@ mod Lengths
 mod Taking
 mod Once
 mod Numbers
+mod Found

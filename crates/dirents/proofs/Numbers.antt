@@ -8,7 +8,7 @@ use Rattle.dirents.specs.Listings.{dirent_bytes}
 use Rattle.dirents.specs.Reading.{FitsFields}
 
 -- the bytes in front are bytes
-below_front : (n : ℕ) (xs : List ℕ) → ((k : ℕ) → get_or xs k 0 < 256) → (k : ℕ) → get_or (take n xs) k 0 < 256
+pub below_front : (n : ℕ) (xs : List ℕ) → ((k : ℕ) → get_or xs k 0 < 256) → (k : ℕ) → get_or (take n xs) k 0 < 256
 below_front zero xs are k = omega arith
 below_front (suc n) [] are k = omega arith
 below_front (suc n) (x ∷ xs) are zero = are zero

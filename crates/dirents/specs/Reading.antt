@@ -1,6 +1,7 @@
 -- Reading: the entries that bytes are.
-use Rattle.std.specs.Prelude.{◌≡◌, ℕ, ◌+◌, ◌^◌, ◌<◌, ◌⊎◌, List, [], ◌++◌, length, slice_index, All, Option, Some, None}
+use Rattle.std.specs.Prelude.{◌≡◌, ℕ, ◌+◌, ◌^◌, ◌<◌, ◌⊎◌, List, [], ◌∷◌, ◌++◌, length, slice_index, All, Option, Some, None}
 use Rattle.std.specs.List.{flat_map}
+use Rattle.fidl_names.specs.Numbers.{AreBytes}
 use Rattle.dirents.specs.declared.entries.Entries.{Entries}
 use Rattle.dirents.specs.declared.entries.Dirent as code
 use Rattle.dirents.specs.Listings.{Dirent, dirent_bytes}
@@ -33,6 +34,26 @@ left entries = entries.bytes.now
 abbrev pub Gives : Entries → Option code.Dirent → Entries → Type 0
 Gives old (Some found) new = (left old ≡ dirent_bytes (entry_of found) ++ left new) × FitsFields (entry_of found)
 Gives old None new = IsCut (left old) × (new ≡ old)
+
+-- what bytes are as entries
+pub record HasEntries (bytes : List ℕ) : Type 0 where
+  pub entries : List Dirent
+  pub rest : List ℕ
+  pub are : AreEntries bytes entries rest
+
+-- any bytes are entries and a rest
+abbrev pub BytesHaveEntries : Type 0
+BytesHaveEntries = (bytes : List ℕ) → AreBytes bytes → HasEntries bytes
+
+-- the entry that is given is the first of those that the bytes are, and the others are those of the bytes left then
+abbrev pub FirstIsGiven : Type 0
+FirstIsGiven =
+    (old new : Entries) (found : code.Dirent) (entries : List Dirent) (rest : List ℕ) → Gives old (Some found) new → AreEntries (left new) entries rest →
+    AreEntries (left old) (entry_of found ∷ entries) rest
+
+-- where none is given the bytes are no entries, and all of them are the rest
+abbrev pub NoneIsGiven : Type 0
+NoneIsGiven = (old new : Entries) → Gives old None new → AreEntries (left old) [] (left new)
 
 -- bytes are one list of entries and one rest
 abbrev pub EntriesAreReadOnce : Type 0

@@ -8,7 +8,9 @@ mod packing;
 mod place;
 
 pub use entries::{Dirent, Entries};
-pub use laws::{entries_are_read_once, written_entries_are_read};
+pub use laws::{
+    bytes_have_entries, entries_are_given_in_order, entries_are_read_once, written_entries_are_read,
+};
 pub use node_graph::NameBuf;
 pub use packing::{Packed, measure, pack};
 pub use place::Place;

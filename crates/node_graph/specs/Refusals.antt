@@ -8,7 +8,7 @@ use Rattle.std.specs.Ordering.{is_eq}
 use Rattle.fidl_names.specs.First.{cause_if, first_of}
 use Rattle.fidl_names.specs.declared.limits.TheConstants as limit
 use Rattle.node_graph.specs.declared.nodes.NodeKind.{NodeKind}
-use Rattle.node_graph.specs.declared.nodes.NodeKind.TheVariants.{Directory, Mount}
+use Rattle.node_graph.specs.declared.nodes.NodeKind.TheVariants.{Directory, File, Mount}
 use Rattle.node_graph.specs.declared.faults.GraphFault.{GraphFault}
 use Rattle.node_graph.specs.declared.faults.GraphFault.TheVariants as fault
 use Rattle.node_graph.specs.Tree.{Tree, Edges, EdgeKey, EdgeTo, edge_cmp, kind_of, is_removed, Change, add, move, stay}
@@ -18,6 +18,10 @@ use Rattle.node_graph.specs.Tree.{Tree, Edges, EdgeKey, EdgeTo, edge_cmp, kind_o
 abbrev pub is_directory : NodeKind → Bool
 is_directory Directory = true
 is_directory _ = false
+
+abbrev pub is_file : NodeKind → Bool
+is_file File = true
+is_file _ = false
 
 abbrev pub is_mount : NodeKind → Bool
 is_mount (Mount index) = true

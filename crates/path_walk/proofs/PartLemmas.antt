@@ -1,23 +1,30 @@
 -- The last slash of a path, and that a path is its parent's path and its last name.
-use Rattle.std.proofs.Common.{◌≡◌, ◌≢◌, ℕ, zero, suc, ◌+◌, ◌<◌, ◌≤◌, ◌==◌, Bool, true, false, if◌then◌else◌, List, [], ◌∷◌, ◌++◌, length, reverse, take, drop, get_or, Option, Some, None, All, refl, sym, ap, ◌∙◌, subst, arith, nat_lt}
-use Rattle.std.specs.Prelude.{slice_get, unwrap_or}
+use Rattle.std.proofs.Common.{◌≡◌, ◌≢◌, ℕ, zero, suc, ◌+◌, ◌<◌, ◌≤◌, ◌==◌, Bool, true, false, if◌then◌else◌, List, [], ◌∷◌, ◌++◌, length, reverse, take, drop, get_or, Option, Some, None, All, refl, sym, ap, ◌∙◌, subst, arith, nat_lt, inl, inr, length-append}
+use Rattle.std.specs.Prelude.{◌-◌, slice_get, unwrap_or}
+use Rattle.std.specs.Option.{option_or, option_map}
+use Rattle.std.proofs.Math.Seq.{take-append_seam}
 use Rattle.std.specs.List.{slice_split, onto_first}
-use Rattle.std.proofs.lemmas.Bool.{ltb-false, eqb-false, eqb-true}
+use Rattle.std.proofs.lemmas.Bool.{cases_Bool, ltb-false, eqb-false, eqb-true}
 use Rattle.std.proofs.lemmas.List.{reverse-append, take-append-drop, drop_more, get_or-drop, length-drop}
 use Rattle.std.proofs.lemmas.List.Elements.{All-nil, All-cons, All-head, All-contains, Contains-push, All-from_get_or}
-use Rattle.std.proofs.lemmas.List.Splits.{slice_split_none, length-slice_split, slice_split-cons_yes, slice_split-cons_no}
+use Rattle.std.proofs.lemmas.List.Splits.{slice_split_none, length-slice_split, slice_split-cons_yes, slice_split-cons_no, join_with_byte-slice_split}
 use Rattle.fidl_names.specs.First.{cause_if}
 use Rattle.fidl_names.specs.declared.limits.TheConstants as limit
 use Rattle.fidl_names.proofs.FirstLaws.{first_of-none, cause_if-none}
 use Rattle.path_walk.specs.declared.faults.PathFault.{PathFault}
 use Rattle.path_walk.specs.declared.faults.PathFault.TheVariants as fault
 use Rattle.path_walk.specs.Names.{slash, dot, holds, dot_fault, name_fault, IsName}
-use Rattle.path_walk.specs.Parts.{before_last_slash, parent_of, last_name, is_dot}
-use Rattle.path_walk.specs.Paths.{names_of}
+use Rattle.path_walk.specs.Parts.{parent_of, last_name, is_dot}
+use Rattle.path_walk.specs.Paths.{names_of, text_of}
 use Rattle.path_walk.proofs.NameLemmas.{dot_is_no_name}
-use Rattle.path_walk.proofs.PathLemmas.{is_slash, same_bytes, names_of-other}
+use Rattle.path_walk.proofs.PathLemmas.{is_slash, same_bytes, names_of-other, names_of-at_dot, text_of-nil, text_of-joined}
 
 -- ---- the last name of a text
+
+-- what stands before the last slash
+unfoldable pub before_last_slash : List ℕ → Option (List ℕ)
+before_last_slash [] = None
+before_last_slash (byte ∷ rest) = option_or (option_map (λ front. byte ∷ front) (before_last_slash rest)) (if byte == slash then Some [] else None)
 
 -- a text without a slash, or one parted at its last slash
 data Parted (text : List ℕ) : Type 0 where
@@ -66,6 +73,55 @@ last_parted text front back below same h =
     ap (λ names. unwrap_or (slice_get (reverse names) 0) []) (names_of-other text below ∙ ap (slice_split is_slash) same ∙ split_last front back h)
     ∙ last_of (slice_split is_slash front) back
 
+-- ---- the parent of a text
+
+abbrev parent_from : List (List ℕ) → List ℕ
+parent_from names = text_of (take (length names - 1) names)
+
+parent_is : (text : List ℕ) → parent_of text ≡ parent_from (names_of text)
+unfolding parent_of
+parent_is text = refl
+
+parent_whole : (text : List ℕ) → All (λ byte. is_slash byte ≡ false) text → parent_of text ≡ dot
+parent_whole text h =
+    elim (cases_Bool (is_dot text)) [
+      | inl same ↦ parent_is text ∙ ap parent_from (names_of-at_dot text same) ∙ text_of-nil
+      | inr other ↦
+          parent_is text ∙ ap parent_from (names_of-other text other ∙ slice_split_none is_slash text h) ∙ text_of-nil
+    ]
+
+-- a text with a slash is not `.`
+no_dot_parted : (front back : List ℕ) → is_dot (front ++ slash ∷ back) ≡ false
+no_dot_parted front back =
+    elim (cases_Bool (is_dot (front ++ slash ∷ back))) [
+      | inl same ↦ absurd (slash_is_no_dot front back (same_bytes (front ++ slash ∷ back) dot same))
+      | inr other ↦ other
+    ] where
+      slash_is_no_dot : (front back : List ℕ) → front ++ slash ∷ back ≡ dot → ⊥
+      slash_is_no_dot [] back e = let first : 47 ≡ 46 = ap (λ (t : List ℕ). get_or t 0 0) e in omega (arith, first)
+      slash_is_no_dot (byte ∷ front) back e = let n = ap length e in omega (arith, n, length-append front (slash ∷ back))
+
+without_last : (parts : List (List ℕ)) (last : List ℕ) → take (length (parts ++ last ∷ []) - 1) (parts ++ last ∷ []) ≡ parts
+without_last parts last =
+    let n : length (parts ++ last ∷ []) - 1 ≡ length parts = omega (arith, length-append parts (last ∷ [])) in
+    ap (λ k. take k (parts ++ last ∷ [])) n ∙ take-append_seam parts (last ∷ [])
+
+parent_parted : (text front back : List ℕ) → text ≡ front ++ slash ∷ back → All (λ byte. is_slash byte ≡ false) back → parent_of text ≡ front
+parent_parted text front back same h =
+    let some : 1 ≤ length (slice_split is_slash front) = rw (length-slice_split is_slash front) (omega arith) in
+    ap parent_of same ∙ parent_is (front ++ slash ∷ back)
+    ∙ ap parent_from (names_of-other (front ++ slash ∷ back) (no_dot_parted front back) ∙ split_last front back h)
+    ∙ ap text_of (without_last (slice_split is_slash front) back)
+    ∙ text_of-joined (slice_split is_slash front) some
+    ∙ join_with_byte-slice_split slash front
+
+-- the parent is what stands before the last slash, or `.`
+pub parent_before : (text : List ℕ) → parent_of text ≡ unwrap_or (before_last_slash text) dot
+parent_before text = by_parts (parted_at text) where
+  by_parts : Parted text → parent_of text ≡ unwrap_or (before_last_slash text) dot
+  by_parts (whole e h) = rw e (parent_whole text h)
+  by_parts (parted front back e same h) = rw e (parent_parted text front back same h)
+
 -- ---- what a path is
 
 pub name_short : (name : List ℕ) → IsName name → (1 ≤ length name) × (length name ≤ 255)
@@ -90,8 +146,7 @@ no_dot_front text front back below same h valid = by_test (is_dot front) refl wh
       absurd (dot_is_no_name (All-head IsName dot (back ∷ []) (subst (All IsName) parts valid)))
 
 pub path_joined : (text : List ℕ) → is_dot text ≡ false → All IsName (names_of text) → text ≡ joined (parent_of text) (last_name text)
-unfolding parent_of
-path_joined text below valid = by_parts (parted_at text) where
+path_joined text below valid = subst (λ parent. text ≡ joined parent (last_name text)) (sym (parent_before text)) (by_parts (parted_at text)) where
   by_parts : Parted text → text ≡ joined (unwrap_or (before_last_slash text) dot) (last_name text)
   by_parts (whole e h) = rw e (sym (last_whole text below h))
   by_parts (parted front back e same h) =

@@ -117,11 +117,11 @@ names_of-text_of (name ∷ names) h =
     ∙ names_of-other (join_with_byte slash (name ∷ names)) (joined_is_no_dot name names h)
     ∙ pieces-join name names h
 
-text_of-nil : text_of [] ≡ dot
+pub text_of-nil : text_of [] ≡ dot
 unfolding text_of
 text_of-nil = refl
 
-text_of-joined : (names : List (List ℕ)) → 0 < length names → text_of names ≡ join_with_byte slash names
+pub text_of-joined : (names : List (List ℕ)) → 0 < length names → text_of names ≡ join_with_byte slash names
 text_of-joined [] h = absurd (omega arith)
 text_of-joined (name ∷ names) h = text_of-some name names
 

@@ -13,7 +13,6 @@ pub fn is_dot(path: &[u8]) -> bool
 }
 
 /// A path without its last name: `.` where it has one name alone.
-#[tactic(auto, unfolding(crate::specs::Parts::parent_of))]
 pub fn parent_of(path: &[u8]) -> &[u8]
     ensures { result.now ≡ parent_of path.now }
 {
