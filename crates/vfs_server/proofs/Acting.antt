@@ -15,13 +15,15 @@ use Rattle.fidl_names.proofs.FirstLaws.{cause_if-none, first_of-none}
 use Rattle.io_flags.specs.Faults.{flag_fault, status_of}
 use Rattle.io_messages.specs.Asked.{Asked, method_of}
 use Rattle.io_messages.specs.Asked as asks
+use Rattle.io_messages.specs.Failing.{failing_of}
+use Rattle.io_messages.specs.declared.failing.Failing.{Failing}
+use Rattle.io_messages.specs.declared.failing.Failing.TheVariants as failing
 use Rattle.io_messages.specs.declared.protocols.Home.{Home}
 use Rattle.io_messages.specs.declared.protocols.Home.TheVariants as homes
 use Rattle.io_messages.specs.declared.protocols.Protocol.{Protocol}
 use Rattle.io_messages.specs.declared.protocols.Protocol.TheVariants as protocol
 use Rattle.io_messages.specs.Protocols.{has, has_method, home_of}
-use Rattle.io_messages.specs.Replies.{fails, token}
-use Rattle.io_messages.specs.Shapes.{is_one_way}
+use Rattle.io_messages.specs.Replies.{token}
 use Rattle.node_graph.specs.declared.nodes.NodeKind.{NodeKind}
 use Rattle.node_graph.specs.declared.nodes.NodeKind.TheVariants.{Directory, File, Service, Mount}
 use Rattle.node_graph.specs.Graph.{Kept, number_of, kind_at, link_refusal, rename_refusal, resize_refusal}
@@ -34,7 +36,7 @@ use Rattle.path_walk.proofs.PartLemmas.{name_short}
 use Rattle.path_walk.proofs.PathLemmas.{path_sound}
 use Rattle.conn_rules.specs.declared.births.Room.{Room}
 use Rattle.conn_rules.specs.Acts.{act_of, is_beyond, is_of_every_node, method_refusals, row_act}
-use Rattle.conn_rules.specs.Answers.{Answer, replies, binds, watches, forwards, refuses, Act, added, deleted, failure_of, gone, nothing_told, only, removed}
+use Rattle.conn_rules.specs.Answers.{Answer, replies, binds, watches, forwards, Act, added, deleted, failure_by, failure_of, gone, nothing_told, only, removed}
 use Rattle.conn_rules.specs.Births.{Birth, Connection, Position, born}
 use Rattle.conn_rules.specs.Contexts.{context_of, context_with}
 use Rattle.conn_rules.specs.FileRows.{is_no_position, is_too_much, reading_refusal, seek_sum, write_start, writing_refusal}
@@ -75,12 +77,13 @@ pub record CanAct (p : Protocol) (room : Room) (tree : Tree) (act : Act) : Type 
 
 -- ---- refusals
 
-either_acts : (p : Protocol) (room : Room) (tree : Tree) (one_way : Bool) (m : Method) (status : Status) → CanAnswer p room tree stay (if one_way then refuses status else replies (fails m status))
-either_acts p room tree true m status = tt
-either_acts p room tree false m status = tt
+form_acts : (p : Protocol) (room : Room) (tree : Tree) (form : Failing) (m : Method) (status : Status) → CanAnswer p room tree stay (failure_by form m status)
+form_acts p room tree failing.Reply m status = tt
+form_acts p room tree failing.Epitaph m status = tt
+form_acts p room tree failing.Never m status = tt
 
 failure_acts : (p : Protocol) (room : Room) (tree : Tree) (position : Position) (m : Method) (status : Status) → CanAct p room tree (only position (failure_of m status))
-failure_acts p room tree position m status = record { answer = either_acts p room tree (is_one_way m) m status; told = All-nil IsShort }
+failure_acts p room tree position m status = record { answer = form_acts p room tree (failing_of m) m status; told = All-nil IsShort }
 
 unless_acts : (p : Protocol) (room : Room) (tree : Tree) (o : Option Status) (position : Position) (m : Method) (act : Act) → (o ≡ None → CanAct p room tree act) → CanAct p room tree (unless o position m act)
 unless_acts p room tree (Some status) position m act h = failure_acts p room tree position m status
@@ -118,11 +121,11 @@ walk_acts birth position room tree directory word (arrives node masks) at =
     (arrival position word (limit_of birth.rights masks) node (kind_here tree node))
     (λ none. record { answer = has_room room (arrival_refusals room word (kind_here tree node)) refl none; told = All-nil IsShort })
 walk_acts birth position room tree directory word (missing parent name masks) at =
-    unless_acts birth.protocol room tree (first_of (making_refusals tree room word parent)) position method.OpenPath
-    (making position tree word (limit_of birth.rights masks) (record { directory = parent; name = name }))
+    unless_acts birth.protocol room tree (first_of (making_refusals tree room word (name_in parent name))) position method.OpenPath
+    (making position tree word (limit_of birth.rights masks) (name_in parent name))
     (λ none. record {
-      answer = has_room room (making_refusals tree room word parent) refl none;
-      told = All-cons IsShort (added (record { directory = parent; name = name })) [] (name_short name at) (All-nil IsShort);
+      answer = has_room room (making_refusals tree room word (name_in parent name)) refl none;
+      told = All-cons IsShort (added (name_in parent name)) [] (name_short name at) (All-nil IsShort);
     })
 walk_acts birth position room tree directory word (crosses mount rest masks) at = record { answer = at; told = All-nil IsShort }
 walk_acts birth position room tree directory word (stops status) at = failure_acts birth.protocol room tree position method.OpenPath status

@@ -31,7 +31,7 @@ use Rattle.vfs_server.specs.declared.fate.Fate.TheVariants as fates
 use Rattle.vfs_server.specs.declared.given.Given.{Given}
 use Rattle.vfs_server.specs.declared.given.Given.TheVariants as given
 use Rattle.vfs_server.specs.Effects.{Effects, effects_told, no_effects}
-use Rattle.vfs_server.specs.Kept.{HasTree, Tokens}
+use Rattle.vfs_server.specs.Kept.{Tokens}
 use Rattle.vfs_server.specs.Servers.{bound_with}
 use Rattle.vfs_server.specs.Steps.{Acts, Answers, Done, BindsConnection, CanTell, DoesFault, DoesGiven, IsAskedAt, IsGiven, IsOnDirectory, MayWatch, NamesAsThere, asker_with, effects_by, effects_given, frames_given, names_in, room_for, token_given}
 use Rattle.watch_seats.specs.Telling.{IsShort}
@@ -104,7 +104,7 @@ binds_by graph changed act txid what told out new acts = by_given what refl wher
 
 -- ---- a request over whatever tree the graph stands for
 
-module _ (graph : Kept) (tokens : Tokens) (connection : Connection) (can : CanBeBound graph connection.birth) (there : HasTree graph) (room : Room) (request : Asked)
+module _ (graph : Kept) (tokens : Tokens) (connection : Connection) (can : CanBeBound graph connection.birth) (there : (tree : Tree) × StandsFor graph tree) (room : Room) (request : Asked)
     (known : has_method connection.birth.protocol (method_of request) ≡ true) (txid : ℕ) (what : Given) (told : List Happening) (out : Written) (new : Connection) (changed : Kept)
     (acts : (tree : Tree) (directory : ℕ → Option ℕ) → StandsFor graph tree → NamesAsThere tokens directory request → what ≢ given.NoMemory →
     Acts (act_of (context_of connection room tree directory) request) txid what told out new graph changed) where

@@ -9,14 +9,14 @@ use Rattle.std.proofs.lemmas.List.FromFn.{length-enumerate_from}
 use Rattle.std.proofs.lemmas.List.Kept.{AllPairs-cons, AllPairs-filter}
 use Rattle.std.proofs.lemmas.List.Sums.{length-filter, sum_by-cons}
 use Rattle.std.proofs.lemmas.Option.{slice_get_within, get_or_from_slice_get}
-use Rattle.fidl_names.specs.HandleNumber.{is_client}
+use Rattle.fidl_names.specs.HandleNumber.{end_of_mount, is_client}
 use Rattle.fidl_names.specs.declared.limits.TheConstants as limit
 use Rattle.io_messages.specs.declared.protocols.Protocol.TheVariants as protocol
 use Rattle.node_graph.specs.declared.nodes.NodeKind.TheVariants.{Directory}
 use Rattle.node_graph.specs.Tree.{kind_of}
 use Rattle.session_start.specs.Accepted.{AreAccepted, IsClient}
 use Rattle.session_start.specs.Items.{MountItem, ClientItem, Lists}
-use Rattle.session_start.specs.Numbering.{end_of_mount, tree_of}
+use Rattle.session_start.specs.Numbering.{tree_of}
 use Rattle.session_start.specs.RulesOnLists.{connections_held}
 use Rattle.session_start.specs.Sound.{IsDirectoryAt}
 use Rattle.session_start.proofs.Accepted.{few_connections}

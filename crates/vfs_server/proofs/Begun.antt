@@ -11,6 +11,7 @@ use Rattle.std.proofs.lemmas.List.{get_or-map}
 use Rattle.std.proofs.lemmas.List.Elements.{All-filter, All-nil, All-weaker}
 use Rattle.std.proofs.lemmas.List.FromFn.{get_or-range_with_len, length-range_with_len}
 use Rattle.std.proofs.lemmas.List.Sums.{sum_by-append}
+use Rattle.fidl_names.specs.HandleNumber.{end_of_mount}
 use Rattle.io_messages.specs.declared.protocols.Protocol.TheVariants as protocol
 use Rattle.io_rights.specs.Operations.{OperationSet}
 use Rattle.node_graph.specs.declared.nodes.NodeKind.TheVariants.{Directory}
@@ -19,7 +20,7 @@ use Rattle.node_graph.specs.Graph.{Kept, Names, StandsFor, holds_at, is_kept, ki
 use Rattle.node_graph.specs.Tree.{bare_tree, kind_of}
 use Rattle.session_start.specs.Accepted.{AreAccepted}
 use Rattle.session_start.specs.Items.{ClientItem, Lists, MountItem}
-use Rattle.session_start.specs.Numbering.{end_of_mount, named_of, number_at, tree_of}
+use Rattle.session_start.specs.Numbering.{named_of, number_at, tree_of}
 use Rattle.session_start.proofs.Found.{find_push}
 use Rattle.session_start.proofs.Trees.{number_some, placed}
 use Rattle.conn_rules.specs.declared.births.Birth as code
@@ -33,7 +34,7 @@ use Rattle.watch_seats.specs.declared.watching.Seat.{Seat}
 use Rattle.vfs_server.specs.Binding.{Binds, HasPlace, IsDirectory}
 use Rattle.vfs_server.specs.Beginning.{HoldsJust, IsNextBound, begins_with, begun, bound_among, clients_among}
 use Rattle.vfs_server.specs.Holding.{HoldsAt, bound_to, if_at, living_at, named_by}
-use Rattle.vfs_server.specs.Kept.{HasTree, IsSound, Tokens}
+use Rattle.vfs_server.specs.Kept.{IsSound, Tokens}
 use Rattle.vfs_server.specs.Servers.{Server, bound_with, seen, seen_as}
 use Rattle.vfs_server.proofs.Begins.{OtherEndpoint, apart, clients_split, ends_of, ends_split, few_before, firsts_of, not_before, pairs-head, pairs-tail, stands_on, all_directories}
 use Rattle.start_graph.proofs.Chosen.{find-map, found_none, none_chosen}
@@ -45,9 +46,8 @@ use Rattle.start_graph.proofs.Standing.{kept_by, leads_in, place_in}
 
 -- ---- none
 
-pub sound_none : (graph : Kept) → HasTree graph → ((number : ℕ) → holds_at graph number ≡ 0) → IsSound graph finite.empty [] finite.empty
-sound_none graph tree unheld = record {
-  tree = tree;
+pub sound_none : (graph : Kept) → ((number : ℕ) → holds_at graph number ≡ 0) → IsSound graph finite.empty [] finite.empty
+sound_none graph unheld = record {
   each = λ endpoint connection there. absurd (let wrong : None ≡ Some connection = sym (finite.get-empty nat_cmp endpoint) ∙ there in cc);
   watched = All-nil (λ (entry : ℕ × Seat). IsDirectory graph entry.1.directory);
   named = λ token directory there. absurd (let wrong : None ≡ Some directory = sym (finite.get-empty nat_cmp token) ∙ there in cc);

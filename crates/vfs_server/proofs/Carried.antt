@@ -1,6 +1,7 @@
 -- The token that a request has is among the numbers of its message's handles, so that a server that knows what these name knows its directory.
 use Rattle.std.proofs.Common.{◌≡◌, ◌==◌, ℕ, zero, suc, Bool, true, false, ◌||◌, List, [], ◌∷◌, ◌++◌, slice_get, Option, Some, None, refl, sym, ap, ◌∙◌, subst}
-use Rattle.std.specs.Option.{option_map}
+use Rattle.std.specs.FinMap as finite
+use Rattle.std.specs.Option.{option_and_then, option_map}
 use Rattle.std.proofs.lemmas.Bool.{eq-eqb}
 use Rattle.std.proofs.lemmas.List.{map-append}
 use Rattle.std.proofs.lemmas.List.Folds.{list_any-append}
@@ -14,11 +15,11 @@ use Rattle.fidl_wire.specs.Layout.{Cell, Item, struct, fields, held, num, blank,
 use Rattle.endpoint_link.specs.Numbering.{among}
 use Rattle.io_messages.specs.declared.protocols.Protocol.{Protocol}
 use Rattle.io_messages.specs.Asked.{Asked}
-use Rattle.io_messages.specs.Asked as asks
 use Rattle.io_messages.specs.Requests.{Reads, a_token, request_cells, asked_from, item, handle_in, handle_of}
+use Rattle.io_messages.specs.Tokens.{token_of}
 use Rattle.node_graph.specs.declared.nodes.NodeRef.{NodeRef}
 use Rattle.node_graph.specs.Graph.{Kept, number_of}
-use Rattle.dir_conn.specs.Served.{directory_named}
+use Rattle.dir_conn.specs.Served.{directory_named, named_by}
 use Rattle.vfs_journal.specs.Handles.{numbers_of}
 use Rattle.vfs_server.specs.Binding.{IsDirectory}
 use Rattle.vfs_server.specs.Kept.{NameDirectories, Tokens}
@@ -120,30 +121,15 @@ module _ (bytes : List ℕ) (handles : List Handle) (one other : ℕ → Option 
 
   -- where handles name alike, a request that came with them does
   named_alike : (p : Protocol) (txid : ℕ) (a : Asked) → Reads p bytes handles txid a → directory_named one a ≡ directory_named other a
-  named_alike p txid a r = subst (λ (b : Asked). directory_named one b ≡ directory_named other b) r.fields_are (alike_by r.method r.items r.spelled)
+  named_alike p txid a r = subst (λ (b : Asked). directory_named one b ≡ directory_named other b) r.is_asked.fields_are (alike_by r.is_asked.method r.is_asked.items r.is_asked.spelled)
 
 -- the directory of a request's token is the one that is looked up
 pub looked_up : (tokens : Tokens) (request : Asked) → directory_named (names_in tokens) request ≡ option_map number_of (target_in tokens request)
-looked_up tokens (asks.clone endpoint) = refl
-looked_up tokens asks.close = refl
-looked_up tokens asks.query = refl
-looked_up tokens (asks.get_attributes bits) = refl
-looked_up tokens asks.sync = refl
-looked_up tokens (asks.open_path path flags options object) = refl
-looked_up tokens (asks.read_dirents most) = refl
-looked_up tokens asks.rewind = refl
-looked_up tokens asks.get_token = refl
-looked_up tokens (asks.rename src number dst) = refl
-looked_up tokens (asks.link src number dst) = refl
-looked_up tokens (asks.unlink name flags) = refl
-looked_up tokens (asks.watch mask options watcher) = refl
-looked_up tokens (asks.read count) = refl
-looked_up tokens (asks.read_at count offset) = refl
-looked_up tokens (asks.write bytes) = refl
-looked_up tokens (asks.write_at bytes offset) = refl
-looked_up tokens (asks.seek origin offset) = refl
-looked_up tokens (asks.resize size) = refl
-looked_up tokens (asks.echo_string value) = refl
+looked_up tokens request = by_token (token_of request)
+  where
+    by_token : (o : Option ℕ) → named_by (names_in tokens) o ≡ option_map number_of (option_and_then (finite.get tokens) o)
+    by_token None = refl
+    by_token (Some token) = refl
 
 -- of a request that was read, where each handle names what it names among the tokens
 pub target_named : (tokens : Tokens) (p : Protocol) (bytes : List ℕ) (handles : List Handle) (txid : ℕ) (a : Asked) (directory : ℕ → Option ℕ) → Reads p bytes handles txid a →
@@ -152,23 +138,8 @@ target_named tokens p bytes handles txid a directory r named = named_alike bytes
 
 -- and it is a directory
 pub target_is_directory : (graph : Kept) (tokens : Tokens) → NameDirectories graph tokens → (request : Asked) (node : NodeRef) → target_in tokens request ≡ Some node → IsDirectory graph node
-target_is_directory graph tokens each (asks.clone endpoint) node is = absurd (cc)
-target_is_directory graph tokens each asks.close node is = absurd (cc)
-target_is_directory graph tokens each asks.query node is = absurd (cc)
-target_is_directory graph tokens each (asks.get_attributes bits) node is = absurd (cc)
-target_is_directory graph tokens each asks.sync node is = absurd (cc)
-target_is_directory graph tokens each (asks.open_path path flags options object) node is = absurd (cc)
-target_is_directory graph tokens each (asks.read_dirents most) node is = absurd (cc)
-target_is_directory graph tokens each asks.rewind node is = absurd (cc)
-target_is_directory graph tokens each asks.get_token node is = absurd (cc)
-target_is_directory graph tokens each (asks.rename src number dst) node is = each number node is
-target_is_directory graph tokens each (asks.link src number dst) node is = each number node is
-target_is_directory graph tokens each (asks.unlink name flags) node is = absurd (cc)
-target_is_directory graph tokens each (asks.watch mask options watcher) node is = absurd (cc)
-target_is_directory graph tokens each (asks.read count) node is = absurd (cc)
-target_is_directory graph tokens each (asks.read_at count offset) node is = absurd (cc)
-target_is_directory graph tokens each (asks.write bytes) node is = absurd (cc)
-target_is_directory graph tokens each (asks.write_at bytes offset) node is = absurd (cc)
-target_is_directory graph tokens each (asks.seek origin offset) node is = absurd (cc)
-target_is_directory graph tokens each (asks.resize size) node is = absurd (cc)
-target_is_directory graph tokens each (asks.echo_string value) node is = absurd (cc)
+target_is_directory graph tokens each request node is = by_token (token_of request) is
+  where
+    by_token : (o : Option ℕ) → option_and_then (finite.get tokens) o ≡ Some node → IsDirectory graph node
+    by_token None is = absurd (cc)
+    by_token (Some token) is = each token node is

@@ -1,8 +1,7 @@
 -- What a connection of any kind gives does what its act says.
 use Rattle.std.proofs.Common.{◌≡◌, ◌≢◌, ◌∙◌, ℕ, List, refl, sym, ap, subst, rules}
 use Rattle.fidl_wire.specs.Written.{Written}
-use Rattle.node_graph.specs.Graph.{Kept, Leads}
-use Rattle.node_graph.specs.Tree.{Change, after}
+use Rattle.node_graph.specs.Graph.{Kept}
 use Rattle.conn_rules.specs.declared.births.Birth as code
 use Rattle.conn_rules.specs.declared.changes.Changes.{Changes}
 use Rattle.conn_rules.specs.declared.served.Served.{Served}
@@ -15,7 +14,6 @@ use Rattle.dir_conn.specs.declared.served.DirServed.TheVariants as dir
 use Rattle.dir_conn.specs.Served.{DirGives, IsDirServed, told_with}
 use Rattle.vfs_server.specs.declared.given.Given.{Given}
 use Rattle.vfs_server.specs.declared.given.Given.TheVariants as given
-use Rattle.vfs_server.specs.Kept.{HasTree}
 use Rattle.vfs_server.specs.Steps.{Acts, IsGiven, of_directory, of_other}
 
 -- ---- of a directory's connection
@@ -88,13 +86,7 @@ given_other act txid what g told out new graph changed is none h = subst (λ one
 pub some_of : (what : Served) → of_other what ≢ given.NoMemory → what ≢ served.NoMemory
 some_of what some e = some (ap of_other e)
 
--- ---- trees
-
-pub leads_on : (graph changed : Kept) (change : Change) → Leads graph changed change → HasTree graph → HasTree changed
-leads_on graph changed change leads old = (after old.0 change, leads old.0 old.1)
-
-pub same_tree : (graph changed : Kept) → changed ≡ graph → HasTree graph → HasTree changed
-same_tree graph changed same old = subst HasTree (sym same) old
+-- ---- memory
 
 -- memory was wanting, or it wasn't
 pub by_memory : (P : Type 0) (what : Served) → (what ≡ served.NoMemory → P) → (what ≢ served.NoMemory → P) → P
@@ -104,15 +96,6 @@ by_memory P (served.Bind birth) none some = some (λ e. search rules)
 by_memory P (served.Refused status) none some = some (λ e. search rules)
 by_memory P (served.End status) none some = some (λ e. search rules)
 by_memory P served.NoMemory none some = none refl
-
-pub by_dir_memory : (P : Type 0) (what : DirServed) → (what ≡ dir.NoMemory → P) → (what ≢ dir.NoMemory → P) → P
-by_dir_memory P (dir.Reply changes) none some = some (λ e. search rules)
-by_dir_memory P dir.ReplyEnd none some = some (λ e. search rules)
-by_dir_memory P (dir.Bind birth changes) none some = some (λ e. search rules)
-by_dir_memory P (dir.WatchBy mask) none some = some (λ e. search rules)
-by_dir_memory P (dir.Forward mount flags rest) none some = some (λ e. search rules)
-by_dir_memory P (dir.Refused status) none some = some (λ e. search rules)
-by_dir_memory P dir.NoMemory none some = none refl
 
 -- what stays as it was
 pub all_kept : (connection : Connection) (graph : Kept) → KeepsHolds connection connection graph graph

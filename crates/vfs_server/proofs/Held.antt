@@ -17,7 +17,7 @@ use Rattle.conn_rules.specs.Shared.{CanBeBound, is_spoken_at}
 use Rattle.vfs_server.specs.Binding.{IsDirectory}
 use Rattle.watch_seats.specs.declared.watching.Seat.{Seat}
 use Rattle.watch_seats.specs.Seats.{Seats, is_at, seat_at, watched_by}
-use Rattle.vfs_server.specs.Kept.{Connections, HasTree, IsSound, Tokens, WatchDirectories, connected_to, naming}
+use Rattle.vfs_server.specs.Kept.{Connections, IsSound, Tokens, WatchDirectories, connected_to, naming}
 use Rattle.vfs_server.proofs.Maps.{one_if, count_cut, counts_few}
 
 abbrev pub to_node : ℕ → Connection → Bool
@@ -176,9 +176,8 @@ pub record IsOf (graph : Kept) (connections : Connections) (seats : Seats) (toke
 
 -- where holds are counted, what could be bound can still be bound, and what was a directory is one
 pub sound_again : (old new : Kept) (connections : Connections) (seats : Seats) (tokens : Tokens) → IsOf old connections seats tokens →
-    ((number : ℕ) → holds_at new number ≡ held_by connections seats tokens number) → KeepsNames old new → HasTree new → IsSound new connections seats tokens
-sound_again old new connections seats tokens was counts keeps tree = record {
-  tree = tree;
+    ((number : ℕ) → holds_at new number ≡ held_by connections seats tokens number) → KeepsNames old new → IsSound new connections seats tokens
+sound_again old new connections seats tokens was counts keeps = record {
   each = λ endpoint connection there.
       let number = number_of connection.birth.node in
       let one = connected_once connections endpoint connection there in

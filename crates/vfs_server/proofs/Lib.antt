@@ -21,4 +21,3 @@ pub mod Naming
 pub mod Servings
 pub mod Begins
 pub mod Begun
-mod ReadAsked

@@ -37,7 +37,7 @@ use Rattle.vfs_server.specs.declared.fate.Fate.TheVariants as fates
 use Rattle.watch_seats.specs.declared.watching.Seat.{Seat}
 use Rattle.vfs_server.specs.Binding.{IsDirectory}
 use Rattle.vfs_server.specs.Effects.{effects_told}
-use Rattle.vfs_server.specs.Kept.{Connections, HasTree, IsSound, Tokens}
+use Rattle.vfs_server.specs.Kept.{Connections, IsSound, Tokens}
 use Rattle.vfs_server.specs.Servers.{bound_with, connected, in_use, seen_as}
 use Rattle.vfs_server.specs.Serving.{IsMomentOf, Serves, frames_here, room_at}
 use Rattle.vfs_server.specs.Steps.{Answers, AreNamed, CanBeTold, CanTell, Done, IsAskedAt, IsPassedOver, room_for}
@@ -331,11 +331,11 @@ front_of (Ok done) new before after tells none = tells.front
 front_of (Err e) new before after tells none = ([], none ∙ sym (append-nil before))
 
 -- on a connection that is sound behind its serving
-pub can_of : {E : Type 0} (graph changed : Kept) (connections : Connections) (seats : Seats) (tokens : Tokens) (endpoint : ℕ) → IsSound graph connections seats tokens → HasTree changed → (old new : Connection) →
+pub can_of : {E : Type 0} (graph changed : Kept) (connections : Connections) (seats : Seats) (tokens : Tokens) (endpoint : ℕ) → IsSound graph connections seats tokens → (old new : Connection) →
     finite.get connections endpoint ≡ Some old → KeepsHolds old new graph changed → (done_of : Fate → Done) (result : Result Fate E) (before after : List ℕ) → IfOk result (λ fate. CanTell (done_of fate) new before after) →
     IfOk result (λ fate. CanBeTold changed (done_of fate))
-can_of graph changed connections seats tokens endpoint sound tree old new there keeps done_of result before after tells =
-    let behind = sound_served graph changed connections seats tokens endpoint old new sound there keeps tree in
+can_of graph changed connections seats tokens endpoint sound old new there keeps done_of result before after tells =
+    let behind = sound_served graph changed connections seats tokens endpoint old new sound there keeps in
     ok_map _ _ result (λ fate told. can_be_told changed new (done_of fate) before after (behind.each endpoint new (get_put connections endpoint new)) told) tells
 
 pub none_of : {E : Type 0} (changed : Kept) (done_of : Fate → Done) (result : Result Fate E) → IfOk result (λ fate. IsPassedOver (done_of fate)) → IfOk result (λ fate. CanBeTold changed (done_of fate))

@@ -14,7 +14,7 @@ use Rattle.conn_rules.specs.Shared.{CanBeBound}
 use Rattle.vfs_server.specs.Binding.{IsDirectory}
 use Rattle.watch_seats.specs.declared.watching.Seat.{Seat}
 use Rattle.watch_seats.specs.Seats.{Seats, seat_at, watched_by, without}
-use Rattle.vfs_server.specs.Kept.{Connections, HasTree, IsSound, Tokens, naming}
+use Rattle.vfs_server.specs.Kept.{Connections, IsSound, Tokens, naming}
 use Rattle.vfs_server.proofs.Maps.{standing, same, other, count_put, count_cut, count_again, get_put, get_put_other, get_cut, get_cut_other, longer, shorter, as_long}
 use Rattle.vfs_server.proofs.Held.{held_by, held_less, held_more, sound_again, to_node, at_node}
 use Rattle.watch_seats.proofs.Seats.{all_less, at_more, count_less, count_more, length_less, other_less}
@@ -24,7 +24,7 @@ use Rattle.watch_seats.proofs.Seats.{all_less, at_more, count_less, count_more, 
 module _ (old new : Kept) (connections : Connections) (seats : Seats) (tokens : Tokens) (endpoint : ℕ) (connection : Connection) (sound : IsSound old connections seats tokens)
     (free : finite.get connections endpoint ≡ None) (unwatched : seat_at seats endpoint ≡ None) (can : CanBeBound old connection.birth)
     (held : HoldsNow old new (number_of connection.birth.node) (holds_at old (number_of connection.birth.node) + 1)) (keeps : KeepsNames old new)
-    (few : finite.len connections + length seats < limit.MAX_CONNECTIONS) (tree : HasTree new) where
+    (few : finite.len connections + length seats < limit.MAX_CONNECTIONS) where
   could : (other_one : ℕ) (found : Connection) → finite.get (finite.insert connections endpoint connection) other_one ≡ Some found → CanBeBound old found.birth
   could other_one found there = elim (standing other_one endpoint) [
     | same e b ↦
@@ -53,13 +53,13 @@ module _ (old new : Kept) (connections : Connections) (seats : Seats) (tokens : 
       })
       (held_more old new (number_of connection.birth.node) (held_by connections seats tokens) (held_by (finite.insert connections endpoint connection) seats tokens) held sound.holds
       (λ number. let more = count_put (to_node number) connections endpoint connection free in omega (arith, more)))
-      keeps tree
+      keeps
 
 -- ---- one connection less
 
 module _ (old new : Kept) (connections : Connections) (seats : Seats) (tokens : Tokens) (endpoint : ℕ) (connection : Connection) (sound : IsSound old connections seats tokens)
     (there : finite.get connections endpoint ≡ Some connection)
-    (held : HoldsNow old new (number_of connection.birth.node) (holds_at old (number_of connection.birth.node) - 1)) (keeps : KeepsNames old new) (tree : HasTree new) where
+    (held : HoldsNow old new (number_of connection.birth.node) (holds_at old (number_of connection.birth.node) - 1)) (keeps : KeepsNames old new) where
   still_could : (other_one : ℕ) (found : Connection) → finite.get (finite.remove connections endpoint) other_one ≡ Some found → CanBeBound old found.birth
   still_could other_one found at = elim (standing other_one endpoint) [
     | same e b ↦
@@ -90,12 +90,12 @@ module _ (old new : Kept) (connections : Connections) (seats : Seats) (tokens : 
       })
       (held_less old new (number_of connection.birth.node) (held_by connections seats tokens) (held_by (finite.remove connections endpoint) seats tokens) held sound.holds
       (λ number. let less = count_cut (to_node number) connections endpoint connection there in omega (arith, less)))
-      keeps tree
+      keeps
 
 -- ---- one served
 
 module _ (graph changed : Kept) (connections : Connections) (seats : Seats) (tokens : Tokens) (endpoint : ℕ) (connection served : Connection) (sound : IsSound graph connections seats tokens)
-    (there : finite.get connections endpoint ≡ Some connection) (keeps : KeepsHolds connection served graph changed) (tree : HasTree changed) where
+    (there : finite.get connections endpoint ≡ Some connection) (keeps : KeepsHolds connection served graph changed) where
   as_before : (other_one : ℕ) (found : Connection) → finite.get (finite.insert connections endpoint served) other_one ≡ Some found → CanBeBound graph found.birth
   as_before other_one found at = elim (standing other_one endpoint) [
     | same e b ↦
@@ -126,14 +126,14 @@ module _ (graph changed : Kept) (connections : Connections) (seats : Seats) (tok
       (λ number.
       keeps.holds number ∙ sound.holds number
       ∙ ap (λ n. n + watched_by number seats + naming number tokens) (sym (count_again (to_node number) connections endpoint connection served there (ap (λ (birth : code.Birth). number_of birth.node == number) keeps.birth))))
-      keeps.names tree
+      keeps.names
 
 -- ---- one watcher more
 
 module _ (old new : Kept) (connections : Connections) (seats : Seats) (tokens : Tokens) (endpoint : ℕ) (seat : Seat) (sound : IsSound old connections seats tokens)
     (free : finite.get connections endpoint ≡ None) (unwatched : seat_at seats endpoint ≡ None) (is_one : IsDirectory old seat.directory)
     (held : HoldsNow old new (number_of seat.directory) (holds_at old (number_of seat.directory) + 1)) (keeps : KeepsNames old new)
-    (few : finite.len connections + length seats < limit.MAX_CONNECTIONS) (tree : HasTree new) where
+    (few : finite.len connections + length seats < limit.MAX_CONNECTIONS) where
   abbrev more_seats : Seats
   more_seats = seats ++ (endpoint, seat) ∷ []
 
@@ -159,13 +159,13 @@ module _ (old new : Kept) (connections : Connections) (seats : Seats) (tokens : 
       })
       (held_more old new (number_of seat.directory) (held_by connections seats tokens) (held_by connections more_seats tokens) held sound.holds
       (λ number. let more = count_more number (endpoint, seat) seats in omega (arith, more)))
-      keeps tree
+      keeps
 
 -- ---- one watcher less
 
 module _ (old new : Kept) (connections : Connections) (seats : Seats) (tokens : Tokens) (endpoint : ℕ) (seat : Seat) (sound : IsSound old connections seats tokens)
     (there : seat_at seats endpoint ≡ Some seat) (gone : seat_at (without endpoint seats) endpoint ≡ None)
-    (held : HoldsNow old new (number_of seat.directory) (holds_at old (number_of seat.directory) - 1)) (keeps : KeepsNames old new) (tree : HasTree new) where
+    (held : HoldsNow old new (number_of seat.directory) (holds_at old (number_of seat.directory) - 1)) (keeps : KeepsNames old new) where
   apart_unwatched : (one : ℕ) → IsSome (finite.get connections one) → seat_at (without endpoint seats) one ≡ None
   apart_unwatched one some = elim (standing one endpoint) [
     | same e b ↦ ap (seat_at (without endpoint seats)) e ∙ gone
@@ -186,14 +186,14 @@ module _ (old new : Kept) (connections : Connections) (seats : Seats) (tokens : 
       })
       (held_less old new (number_of seat.directory) (held_by connections seats tokens) (held_by connections (without endpoint seats) tokens) held sound.holds
       (λ number. let less = count_less endpoint number seat seats there in omega (arith, less)))
-      keeps tree
+      keeps
 
 -- ---- one token more
 
 module _ (old new : Kept) (connections : Connections) (seats : Seats) (tokens : Tokens) (token : ℕ) (directory : NodeRef) (sound : IsSound old connections seats tokens)
     (free : finite.get tokens token ≡ None) (is_one : IsDirectory old directory)
     (held : HoldsNow old new (number_of directory) (holds_at old (number_of directory) + 1)) (keeps : KeepsNames old new)
-    (room : finite.len tokens < limit.MAX_TOKENS) (tree : HasTree new) where
+    (room : finite.len tokens < limit.MAX_TOKENS) where
   was_one : (other_one : ℕ) (found : NodeRef) → finite.get (finite.insert tokens token directory) other_one ≡ Some found → IsDirectory old found
   was_one other_one found there = elim (standing other_one token) [
     | same e b ↦
@@ -216,13 +216,13 @@ module _ (old new : Kept) (connections : Connections) (seats : Seats) (tokens : 
       })
       (held_more old new (number_of directory) (held_by connections seats tokens) (held_by connections seats (finite.insert tokens token directory)) held sound.holds
       (λ number. let more = count_put (at_node number) tokens token directory free in omega (arith, more)))
-      keeps tree
+      keeps
 
 -- ---- one token less
 
 module _ (old new : Kept) (connections : Connections) (seats : Seats) (tokens : Tokens) (token : ℕ) (directory : NodeRef) (sound : IsSound old connections seats tokens)
     (there : finite.get tokens token ≡ Some directory)
-    (held : HoldsNow old new (number_of directory) (holds_at old (number_of directory) - 1)) (keeps : KeepsNames old new) (tree : HasTree new) where
+    (held : HoldsNow old new (number_of directory) (holds_at old (number_of directory) - 1)) (keeps : KeepsNames old new) where
   still_one : (other_one : ℕ) (found : NodeRef) → finite.get (finite.remove tokens token) other_one ≡ Some found → IsDirectory old found
   still_one other_one found at = elim (standing other_one token) [
     | same e b ↦
@@ -245,4 +245,4 @@ module _ (old new : Kept) (connections : Connections) (seats : Seats) (tokens : 
       })
       (held_less old new (number_of directory) (held_by connections seats tokens) (held_by connections seats (finite.remove tokens token)) held sound.holds
       (λ number. let less = count_cut (at_node number) tokens token directory there in omega (arith, less)))
-      keeps tree
+      keeps

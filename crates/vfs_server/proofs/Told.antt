@@ -13,7 +13,6 @@ use Rattle.node_graph.specs.Tree.{Change, EdgeKey, EdgeTo, Edges, Tree, after, n
 use Rattle.path_walk.specs.Names.{dot}
 use Rattle.conn_rules.specs.Answers.{Happening}
 use Rattle.conn_rules.specs.Answers as news
-use Rattle.conn_rules.specs.Served.{told_by}
 use Rattle.watch_events.specs.Messages.{Watcher, added, deleted, removed, told}
 use Rattle.watch_events.specs.Messages as messages
 use Rattle.vfs_journal.specs.History.{watches_node}

@@ -1,7 +1,7 @@
 -- What becomes of endpoints and tokens: as an outcome has it, and as the call tells it.
 use Rattle.std.specs.Prelude.{ℕ, List, [], ◌∷◌, Option, Some, None}
+use Rattle.fidl_names.specs.HandleNumber.{end_of_mount}
 use Rattle.fidl_wire.specs.Written.{Written}
-use Rattle.session_start.specs.Numbering.{end_of_mount}
 use Rattle.node_graph.specs.Graph.{number_of}
 use Rattle.vfs_journal.specs.Outcomes.{Forwarded, Given, Outcome}
 use Rattle.vfs_journal.specs.Starts.{Bound}

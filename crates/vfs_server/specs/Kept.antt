@@ -4,8 +4,7 @@ use Rattle.std.specs.FinMap as finite
 use Rattle.std.specs.Ordering.{nat_cmp}
 use Rattle.fidl_names.specs.declared.limits.TheConstants as limit
 use Rattle.node_graph.specs.declared.nodes.NodeRef.{NodeRef}
-use Rattle.node_graph.specs.Graph.{Kept, StandsFor, holds_at, number_of}
-use Rattle.node_graph.specs.Tree.{Tree}
+use Rattle.node_graph.specs.Graph.{Kept, holds_at, number_of}
 use Rattle.conn_rules.specs.Births.{Connection}
 use Rattle.conn_rules.specs.Shared.{CanBeBound}
 use Rattle.vfs_server.specs.Binding.{IsDirectory}
@@ -25,10 +24,6 @@ Tokens = finite.FinMap nat_cmp NodeRef
 abbrev pub naming : ℕ → Tokens → ℕ
 naming number tokens = count_by (λ node. number_of node == number) (finite.values tokens)
 
--- the graph stands for a tree
-abbrev pub HasTree : Kept → Type 0
-HasTree graph = (tree : Tree) × StandsFor graph tree
-
 -- each token names a directory that the graph keeps
 abbrev pub NameDirectories : Kept → Tokens → Type 0
 NameDirectories graph tokens = (token : ℕ) (directory : NodeRef) → finite.get tokens token ≡ Some directory → IsDirectory graph directory
@@ -40,7 +35,6 @@ WatchDirectories graph seats = All (λ entry. IsDirectory graph entry.1.director
 -- each connection is to a node that the graph keeps, and each watcher and each token is at a directory that it keeps; a node has one
 -- hold for each of them; no endpoint is bound twice; and there are no more than a server may have
 pub record IsSound (graph : Kept) (connections : Connections) (seats : Seats) (tokens : Tokens) : Type 0 where
-  pub tree : HasTree graph
   pub each : (endpoint : ℕ) (connection : Connection) → finite.get connections endpoint ≡ Some connection → CanBeBound graph connection.birth
   pub watched : WatchDirectories graph seats
   pub named : NameDirectories graph tokens

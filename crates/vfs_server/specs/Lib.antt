@@ -3,7 +3,6 @@ pub mod Holding
 pub mod KeptNodes
 pub mod Effects
 pub mod Binding
-pub mod Parts
 pub mod Serving
 pub mod Watched
 pub mod Codes

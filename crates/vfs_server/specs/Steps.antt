@@ -1,8 +1,9 @@
 -- Words of the steps of a serving: who asks, what a connection gives, and what is done with it. No public clause needs these.
-use Rattle.std.specs.Prelude.{◌≡◌, ◌≢◌, ◌<◌, ℕ, true, false, nat_le, All, List, [], ◌∷◌, ◌++◌, length, filter, Option, Some, None}
+use Rattle.std.specs.Prelude.{◌≡◌, ◌≢◌, ◌<◌, ℕ, true, false, nat_le, All, List, [], ◌∷◌, ◌++◌, length, filter, Option, Some, None, option_and_then}
 use Rattle.std.specs.FinMap as finite
 use Rattle.std.specs.Option.{option_map}
 use Rattle.std.specs.Str.{IsUtf8}
+use Rattle.fidl_names.specs.HandleNumber.{end_of_mount}
 use Rattle.fidl_names.specs.declared.limits.TheConstants as limit
 use Rattle.fidl_names.specs.declared.methods.Handle.{Handle}
 use Rattle.fidl_names.specs.declared.methods.Handle.TheVariants.{Token}
@@ -19,10 +20,10 @@ use Rattle.io_messages.specs.Asked as asks
 use Rattle.io_messages.specs.declared.protocols.Protocol.{Protocol}
 use Rattle.io_messages.specs.Replies.{done, payload, settled}
 use Rattle.io_messages.specs.ReplyWriting.{PayloadFits}
+use Rattle.io_messages.specs.Tokens.{token_of}
 use Rattle.node_graph.specs.declared.nodes.NodeRef.{NodeRef}
 use Rattle.node_graph.specs.Graph.{Kept, Leads, StandsFor, number_of}
 use Rattle.node_graph.specs.Tree.{Change, stay}
-use Rattle.session_start.specs.Numbering.{end_of_mount}
 use Rattle.conn_rules.specs.Answers.{Act, Answer, Happening, nothing_told, replies, closes, binds, watches, forwards, refuses, ends}
 use Rattle.conn_rules.specs.Births.{Connection, born, connection_with, fresh}
 use Rattle.conn_rules.specs.declared.births.Birth as code
@@ -39,7 +40,7 @@ use Rattle.dir_conn.specs.Served.{directory_named}
 use Rattle.node_conn.specs.Texts.{text_of}
 use Rattle.vfs_journal.specs.Handles.{numbers_of}
 use Rattle.vfs_journal.specs.Outcomes as outcomes
-use Rattle.vfs_journal.specs.Outcomes.{Asker, Outcome, announcement, bound_of, close_frame, ending, ends_of, forward_of, frames_of, token_of}
+use Rattle.vfs_journal.specs.Outcomes.{Asker, Outcome, announcement, bound_of, close_frame, ending, ends_of, forward_of, frames_of}
 use Rattle.vfs_journal.specs.Output.{Begins}
 use Rattle.remote_forward.specs.Onward.{onward_bytes}
 use Rattle.vfs_journal.specs.Serving.{Moment, fault_answer, fault_txid}
@@ -63,14 +64,14 @@ use Rattle.vfs_server.specs.Watched.{first_of}
 
 -- a connection, whatever it is to
 abbrev pub connection_of : Conn → Connection
-connection_of (conn.Directory c) = c
+connection_of (conn.Directory c) = c.value
 connection_of (conn.File c) = c
 connection_of (conn.Node c) = c
 connection_of (conn.Echo birth) = connection_with birth fresh
 
 -- each kind of connection has its protocol
 abbrev pub IsOfItsKind : Conn → Type 0
-IsOfItsKind (conn.Directory c) = c.birth.protocol ≡ protocol.Directory
+IsOfItsKind (conn.Directory c) = c.value.birth.protocol ≡ protocol.Directory
 IsOfItsKind (conn.File c) = c.birth.protocol ≡ protocol.File
 IsOfItsKind (conn.Node c) = c.birth.protocol ≡ protocol.Node
 IsOfItsKind (conn.Echo birth) = birth.protocol ≡ protocol.Echo
@@ -183,7 +184,7 @@ asker_with endpoint server node txid object = record { endpoint = endpoint; serv
 -- what becomes of endpoints and tokens by an answer
 abbrev pub effects_by : Asker → Answer → Effects
 effects_by asker answer =
-    record { bound = bound_of asker answer; ends = ends_of asker answer; forward = forward_of asker answer; token = token_of asker answer }
+    record { bound = bound_of asker answer; ends = ends_of asker answer; forward = forward_of asker answer; token = outcomes.token_of asker answer }
 
 -- an endpoint is bound with this birth
 abbrev pub BindsBy : code.Birth → Given → Type 0
@@ -222,9 +223,7 @@ pub record DoesFault (endpoint : ℕ) (fault : RequestFault) (fate : Fate) (out 
 
 -- the directory that the token of a request names among these; none where it has no token
 abbrev pub target_in : Tokens → Asked → Option NodeRef
-target_in tokens (asks.rename src token dst) = finite.get tokens token
-target_in tokens (asks.link src token dst) = finite.get tokens token
-target_in tokens _ = None
+target_in tokens request = option_and_then (finite.get tokens) (token_of request)
 
 -- what a number names among these
 abbrev pub names_in : Tokens → ℕ → Option ℕ

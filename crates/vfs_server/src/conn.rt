@@ -13,7 +13,7 @@ ghost use Rattle.conn_rules.specs.Births.{fresh};
 ghost use Rattle.conn_rules.specs.Contexts.{context_of};
 ghost use Rattle.conn_rules.specs.Served.{HasNothing, KeepsHolds, told_by};
 ghost use Rattle.conn_rules.specs.Shared.{CanBeBound};
-ghost use Rattle.vfs_server.specs.Kept.{HasTree, NameDirectories};
+ghost use Rattle.vfs_server.specs.Kept.{NameDirectories};
 ghost use Rattle.vfs_server.specs.Steps.{Acts, CanEcho, IsOfItsKind, NamesAsThere, connection_of};
 
 use crate::given::Given;
@@ -28,10 +28,11 @@ use node_conn::{NodeConn, echo};
 use node_graph::{Graph, NodeRef};
 use std::alloc::Global;
 
-/// A connection, by what it is to. To the service that echoes it has a birth alone.
+/// A connection, by what it is to. To the service that echoes it has a birth alone. One to a directory
+/// is large, and so lies in a box.
 #[derive(Drop)]
 pub(crate) enum Conn {
-    Directory(DirConn),
+    Directory(Box<DirConn>),
     File(FileConn),
     Node(NodeConn),
     Echo(Birth),
@@ -46,7 +47,7 @@ impl Conn {
         ensures kind { IfOk result IsOfItsKind }
     {
         match birth.protocol {
-            Protocol::Directory => Ok(Conn::Directory(DirConn::new(alloc, birth)?)),
+            Protocol::Directory => Ok(Conn::Directory(Box::new(alloc, DirConn::new(birth))?)),
             Protocol::File => Ok(Conn::File(FileConn::new(birth))),
             Protocol::Node => Ok(Conn::Node(NodeConn::new(birth))),
             Protocol::Echo => Ok(Conn::Echo(birth)),
@@ -93,7 +94,6 @@ impl Conn {
         changes: &mut Changes<'a>,
     ) -> Given<'a>
         requires kind { IsOfItsKind self.old }
-        requires tree { HasTree graph.old }
         requires made { graph.old.made < 2 ^ 63 }
         requires node { CanBeBound graph.old (connection_of self.old).birth }
         requires directories { NameDirectories graph.old tokens.now }
@@ -106,7 +106,6 @@ impl Conn {
             NamesAsThere tokens.now directory (asked request.now) → result ≢ Given.NoMemory →
             Acts (act_of (context_of (connection_of self.old) room tree directory) (asked request.now)) txid result (told_by changes.new) out.new (connection_of self.new) graph.old graph.new }
         ensures holds { KeepsHolds (connection_of self.old) (connection_of self.new) graph.old graph.new }
-        ensures tree { HasTree graph.new }
         ensures kind { IsOfItsKind self.new }
     {
         match self {

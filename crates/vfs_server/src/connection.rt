@@ -8,6 +8,7 @@ ghost use Rattle.io_messages.specs.Requests.{has_txid, request_of};
 ghost use Rattle.io_messages.specs.Shapes.{is_one_way};
 ghost use Rattle.node_graph.specs.Graph.{StandsFor};
 ghost use Rattle.node_graph.specs.Tree.{Tree};
+ghost use Rattle.request_reader.specs.Parts.{AsksPart};
 ghost use Rattle.conn_rules.specs.Acts.{act_of};
 ghost use Rattle.conn_rules.specs.Answers.{nothing_told};
 ghost use Rattle.conn_rules.specs.Births.{fresh};
@@ -18,8 +19,7 @@ ghost use Rattle.conn_rules.specs.declared.births.Room.{Room};
 ghost use Rattle.vfs_journal.specs.Handles.{numbers_of};
 ghost use Rattle.vfs_journal.specs.Output.{Begins};
 ghost use Rattle.vfs_journal.specs.Serving.{Moment, outcome_of_read};
-ghost use Rattle.vfs_server.specs.Kept.{HasTree, NameDirectories};
-ghost use Rattle.vfs_server.specs.Parts.{asked_of};
+ghost use Rattle.vfs_server.specs.Kept.{NameDirectories};
 ghost use Rattle.vfs_server.specs.declared.asking.Asking.{Asking};
 ghost use Rattle.vfs_server.specs.Steps.{Answers, AreNamed, CanEcho, CanTell, IsAskedAt, NamesAsThere, done_with, stays};
 
@@ -27,7 +27,6 @@ use crate::answers::{answer, answer_fault, put_bare_reply};
 use crate::asking::Asking;
 use crate::conn::Conn;
 use crate::fate::Fate;
-use crate::reading::Part;
 use crate::tokens::Tokens;
 use conn_rules::{Birth, Changes, Room, Served};
 use endpoint_link::Outbox;
@@ -94,7 +93,6 @@ impl Connection {
         outbox: &mut Outbox,
         changes: &mut Changes<'a>,
     ) -> Result<Fate, NoMemory>
-        requires tree { HasTree graph.old }
         requires made { graph.old.made < 2 ^ 63 }
         requires node { CanBeBound graph.old self.old.birth }
         requires directories { NameDirectories graph.old tokens.now }
@@ -105,7 +103,6 @@ impl Connection {
             IfOk result (λ fate. Answers moment (outcome_of_read moment (request_of self.old.birth.protocol bytes.now handles.now)) (done_with fate changes.new) out.new self.new graph.old graph.new outbox.old outbox.new) }
         ensures tells { IfOk result (λ fate. CanTell (done_with fate changes.new) self.new outbox.old outbox.new) }
         ensures holds { KeepsHolds self.old self.new graph.old graph.new }
-        ensures tree { HasTree graph.new }
         ensures no_memory { OnErr result (outbox.new ≡ outbox.old) }
     {
         out.clear();
@@ -128,20 +125,19 @@ impl Connection {
         endpoint: u32,
         graph: &mut Graph,
         txid: u32,
-        part: Part,
+        request: &Request<'_>,
         out: &mut Out,
         outbox: &mut Outbox,
     ) -> Option<Result<(), NoMemory>>
-        requires tree { HasTree graph.old }
         requires node { CanBeBound graph.old self.old.birth }
+        requires part { AsksPart (asked request.now) }
         requires txid { 0 < txid }
         ensures file { IfSome result (λ replied. self.old.birth.protocol ≡ Protocol.File) }
         ensures reads { self.old.birth.protocol ≡ Protocol.File → IsSome result }
         ensures begins { Begins outbox.old outbox.new }
         ensures answers { (server : ℕ) (asking : Asking) (moment : Moment) → asking.endpoint ≡ endpoint → IsAskedAt server asking graph.old self.old moment →
-            IfSome result (λ replied. OnOk replied (Answers moment (outcome_of_read moment (Ok (txid, asked_of part))) stays out.new self.new graph.old graph.new outbox.old outbox.new)) }
+            IfSome result (λ replied. OnOk replied (Answers moment (outcome_of_read moment (Ok (txid, asked request.now))) stays out.new self.new graph.old graph.new outbox.old outbox.new)) }
         ensures holds { KeepsHolds self.old self.new graph.old graph.new }
-        ensures tree { HasTree graph.new }
         ensures unchanged { result ≡ None → (self.new ≡ self.old) × (graph.new ≡ graph.old) × (outbox.new ≡ outbox.old) }
         ensures no_memory { IfSome result (λ replied. OnErr replied (outbox.new ≡ outbox.old)) }
     {
@@ -149,7 +145,7 @@ impl Connection {
             return None;
         };
         out.clear();
-        match serve_part(conn, ordinals, graph, txid, part, out) {
+        match serve_part(conn, ordinals, graph, txid, request, out) {
             Served::Reply => Some(put_bare_reply(endpoint, out, outbox)),
             _ => unreachable!(),
         }
@@ -167,7 +163,6 @@ impl Connection {
         outbox: &mut Outbox,
         changes: &mut Changes<'a>,
     ) -> Result<Fate, NoMemory>
-        requires tree { HasTree graph.old }
         requires made { graph.old.made < 2 ^ 63 }
         requires node { CanBeBound graph.old self.old.birth }
         requires directories { NameDirectories graph.old tokens.now }
@@ -181,9 +176,10 @@ impl Connection {
             IfOk result (λ fate. Answers moment (outcome_of_read moment (Ok (txid, asked request.now))) (done_with fate changes.new) out.new self.new graph.old graph.new outbox.old outbox.new) }
         ensures tells { IfOk result (λ fate. CanTell (done_with fate changes.new) self.new outbox.old outbox.new) }
         ensures holds { KeepsHolds self.old self.new graph.old graph.new }
-        ensures tree { HasTree graph.new }
         ensures no_memory { OnErr result (outbox.new ≡ outbox.old) }
     {
+        // The graph stands for a tree, of which the rows speak.
+        let _root = graph.root();
         let room = asking.room(&self.conn, graph, request);
         let given = self.conn.serve(
             asking.ordinals,
@@ -206,20 +202,22 @@ fn serve_part(
     ordinals: &Ordinals,
     graph: &mut Graph,
     txid: u32,
-    part: Part,
+    request: &Request<'_>,
     out: &mut Out,
 ) -> Served
-    requires tree { HasTree graph.old }
     requires can { CanBeBound graph.old conn.old.birth }
     requires protocol { conn.old.birth.protocol ≡ Protocol.File }
+    requires part { AsksPart (asked request.now) }
     requires txid { 0 < txid }
     requires empty { HasNothing out.old }
     ensures serves { (room : Room) (tree : Tree) (directory : ℕ → Option ℕ) → StandsFor graph.old tree →
-        IsServed (act_of (context_of conn.old room tree directory) (asked_of part)) txid result out.new conn.new graph.old graph.new }
+        IsServed (act_of (context_of conn.old room tree directory) (asked request.now)) txid result out.new conn.new graph.old graph.new }
     ensures reply { result ≡ Served.Reply }
     ensures bare { out.new.handles ≡ [] }
     ensures holds { KeepsHolds conn.old conn.new graph.old graph.new }
 {
+    // The graph stands for a tree, over which a part is read without memory.
+    let _root = graph.root();
     // It looks at nothing that is in use.
     let room = Room {
         connections: 0,
@@ -227,19 +225,9 @@ fn serve_part(
         token: None,
     };
     // Each method has a call of its own, in which the compiler knows it.
-    match part {
-        Part::Next { count } => {
-            conn.serve(ordinals, graph, room, txid, &Request::Read { count }, out)
-        }
-        Part::At { count, offset } => {
-            conn.serve(
-                ordinals,
-                graph,
-                room,
-                txid,
-                &Request::ReadAt { count, offset },
-                out,
-            )
-        }
+    match request {
+        Request::Read { .. } => conn.serve(ordinals, graph, room, txid, request, out),
+        Request::ReadAt { .. } => conn.serve(ordinals, graph, room, txid, request, out),
+        _ => unreachable!(),
     }
 }

@@ -7,24 +7,24 @@ ghost use Rattle.conn_rules.specs.Births as births;
 ghost use Rattle.conn_rules.specs.Answers.{nothing_told};
 ghost use Rattle.conn_rules.specs.Served.{KeepsHolds, told_by};
 ghost use Rattle.conn_rules.specs.Shared.{CanBeBound};
-ghost use Rattle.vfs_server.specs.Kept.{HasTree, NameDirectories};
+ghost use Rattle.vfs_server.specs.Kept.{NameDirectories};
+ghost use Rattle.io_messages.specs.Asked.{asked};
 ghost use Rattle.io_messages.specs.Requests.{request_of};
+ghost use Rattle.request_reader.specs.Parts.{AsksPart};
 ghost use Rattle.vfs_journal.specs.Handles.{numbers_of};
 ghost use Rattle.vfs_journal.specs.Serving.{Moment, outcome_of_read};
-ghost use Rattle.vfs_server.specs.Parts.{asked_of};
 ghost use Rattle.vfs_server.specs.declared.asking.Asking as asking;
 ghost use Rattle.vfs_server.specs.Steps.{Answers, AreNamed, CanTell, IsAskedAt, IsPassedOver, done_with, stays};
 
 use crate::asking::Asking;
 use crate::connection::Connection;
 use crate::fate::Fate;
-use crate::reading::Part;
 use crate::tokens::Tokens;
 use conn_rules::Changes;
 use endpoint_link::Outbox;
 use fidl_names::{Handle, NoMemory};
 use fidl_wire::{Ordinals, Out};
-use io_messages::Protocol;
+use io_messages::{Protocol, Request};
 use node_graph::Graph;
 use std::alloc::Global;
 use std::collections::HashMap;
@@ -99,7 +99,6 @@ impl Connections {
         changes: &mut Changes<'a>,
     ) -> Result<Fate, NoMemory>
         requires short { length bytes.now ≤ limit.MAX_BYTES }
-        requires tree { HasTree graph.old }
         requires made { graph.old.made < 2 ^ 63 }
         requires directories { NameDirectories graph.old tokens.now }
         requires none { told_by changes.old ≡ nothing_told }
@@ -112,7 +111,6 @@ impl Connections {
             IfOk result (λ fate. Answers moment (outcome_of_read moment (request_of old.birth.protocol bytes.now handles.now)) (done_with fate changes.new) out.new new graph.old graph.new outbox.old outbox.new)) }
         ensures passed_over { finite.get self.old asking.now.endpoint ≡ None → IfOk result (λ fate. IsPassedOver (done_with fate changes.new)) }
         ensures unchanged { finite.get self.old asking.now.endpoint ≡ None → (self.new ≡ self.old) × (graph.new ≡ graph.old) × (outbox.new ≡ outbox.old) }
-        ensures tree { HasTree graph.new }
         ensures no_memory { OnErr result (outbox.new ≡ outbox.old) }
     {
         let Some(connection) = self.kept.get_mut(&asking.endpoint) else {
@@ -130,25 +128,24 @@ impl Connections {
         endpoint: u32,
         graph: &mut Graph,
         txid: u32,
-        part: Part,
+        request: &Request<'_>,
         out: &mut Out,
         outbox: &mut Outbox,
     ) -> Option<Result<(), NoMemory>>
-        requires tree { HasTree graph.old }
+        requires part { AsksPart (asked request.now) }
         requires txid { 0 < txid }
         requires node { (connection : births.Connection) → finite.get self.old endpoint ≡ Some connection → CanBeBound graph.old connection.birth }
         ensures read { (old : births.Connection) → finite.get self.old endpoint ≡ Some old →
             (new : births.Connection) × KeepsHolds old new graph.old graph.new × (self.new ≡ finite.insert self.old endpoint new)
             × IfSome result (λ read. old.birth.protocol ≡ Protocol.File)
             × ((server : ℕ) (asking : asking.Asking) (moment : Moment) → asking.endpoint ≡ endpoint → IsAskedAt server asking graph.old old moment →
-            IfSome result (λ read. OnOk read (Answers moment (outcome_of_read moment (Ok (txid, asked_of part))) stays out.new new graph.old graph.new outbox.old outbox.new))) }
+            IfSome result (λ read. OnOk read (Answers moment (outcome_of_read moment (Ok (txid, asked request.now))) stays out.new new graph.old graph.new outbox.old outbox.new))) }
         ensures reads { (old : births.Connection) → finite.get self.old endpoint ≡ Some old → old.birth.protocol ≡ Protocol.File → IsSome result }
         ensures there { finite.get self.old endpoint ≡ None → result ≡ None }
         ensures unchanged { result ≡ None → (self.new ≡ self.old) × (graph.new ≡ graph.old) × (outbox.new ≡ outbox.old) }
-        ensures tree { HasTree graph.new }
         ensures no_memory { IfSome result (λ read. OnErr read (outbox.new ≡ outbox.old)) }
     {
         let connection = self.kept.get_mut(&endpoint)?;
-        connection.read(ordinals, endpoint, graph, txid, part, out, outbox)
+        connection.read(ordinals, endpoint, graph, txid, request, out, outbox)
     }
 }

@@ -8,7 +8,7 @@ ghost use Rattle.vfs_server.specs.Beginning.{HoldsJust, IsNextBound, begins_with
 
 use crate::server::Server;
 use conn_rules::Birth;
-use fidl_names::{FIRST_MOUNT_END, NoMemory};
+use fidl_names::{NoMemory, end_of_mount};
 use io_messages::Protocol;
 use io_rights::Rights;
 use session_start::Start;
@@ -75,13 +75,8 @@ fn bind_end<'a>(
     if mount.target != index {
         return Ok(());
     }
-    bind_at(
-        places,
-        FIRST_MOUNT_END + item,
-        mount.at,
-        mount.rights,
-        server,
-    )
+    let endpoint = end_of_mount(item);
+    bind_at(places, endpoint, mount.at, mount.rights, server)
 }
 
 // Binds the first connections to a server, in the order of the file.

@@ -11,11 +11,9 @@ mod fate;
 mod firsts;
 mod frames;
 mod given;
-mod reading;
 mod server;
 mod telling;
 mod tokens;
 
 pub use fate::Fate;
-pub use reading::{Part, part_in};
 pub use server::Server;

@@ -1,7 +1,9 @@
 ghost use Rattle.std.specs.Prelude.{◌≡◌, ◌≤◌, ◌<◌, ◌+◌, ◌^◌, ℕ, IfOk, IfSome, IsSome, List, None, Ok, OnErr, OnOk, Option, Some, [], length};
 ghost use Rattle.fidl_names.specs.declared.limits.TheConstants as limit;
 ghost use Rattle.std.specs.FinMap as finite;
+ghost use Rattle.io_messages.specs.Asked.{asked};
 ghost use Rattle.io_messages.specs.Requests.{request_of};
+ghost use Rattle.request_reader.specs.Parts.{AsksPart};
 ghost use Rattle.node_graph.specs.Graph.{holds_at, number_of};
 ghost use Rattle.conn_rules.specs.Births.{Position};
 ghost use Rattle.vfs_journal.specs.Entries.{message};
@@ -11,9 +13,7 @@ ghost use Rattle.vfs_journal.specs.Starts.{Bound, start_of};
 ghost use Rattle.vfs_journal.specs.View.{View, view_of};
 ghost use Rattle.vfs_server.specs.Binding.{Binds, CanWatch, Forgets, HasPlace, IsDirectory, NamesBy, Unbinds};
 ghost use Rattle.vfs_server.specs.Holding.{HoldsAt};
-ghost use Rattle.vfs_server.specs.Kept.{HasTree};
 ghost use Rattle.vfs_server.specs.KeptNodes.{kept_in};
-ghost use Rattle.vfs_server.specs.Parts.{asked_of};
 ghost use Rattle.vfs_server.specs.Servers.{bound_with, in_use, named, seen, watcher_with};
 ghost use Rattle.vfs_server.specs.Serving.{IsMomentOf, Serves};
 
@@ -22,14 +22,13 @@ use crate::beginning;
 use crate::connection::Connection;
 use crate::connections::Connections;
 use crate::fate::Fate;
-use crate::reading::Part;
 use crate::telling::tell;
 use crate::tokens::Tokens;
 use conn_rules::{Birth, Changes};
 use endpoint_link::Outbox;
 use fidl_names::{Handle, NoMemory};
 use fidl_wire::{Ordinals, Out};
-use io_messages::Protocol;
+use io_messages::{Protocol, Request};
 use node_graph::{Graph, NodeRef};
 use session_start::Start;
 use std::alloc::Global;
@@ -89,7 +88,6 @@ impl Server {
 
     /// A server to which nothing is connected yet, over a tree of which nothing is held.
     pub(crate) fn new(alloc: Global, index: u32, graph: Graph) -> Server
-        requires tree { HasTree graph }
         requires unheld { (number : ℕ) → holds_at graph number ≡ 0 }
         ensures { result ≡ record { index = index; graph = graph; connections = finite.empty; watchers = []; tokens = finite.empty } }
     {
@@ -179,19 +177,28 @@ impl Server {
         ordinals: &Ordinals,
         endpoint: u32,
         txid: u32,
-        part: Part,
+        request: &Request<'_>,
         out: &mut Out,
         outbox: &mut Outbox,
     ) -> Option<Result<(), NoMemory>>
+        requires part { AsksPart (asked request.now) }
         requires txid { 0 < txid }
-        ensures serves { (bytes : List ℕ) (token : Option ℕ) (moment : Moment) → request_of Protocol.File bytes [] ≡ Ok (txid, asked_of part) → IsMomentOf self.old endpoint token [] moment →
+        ensures serves { (bytes : List ℕ) (token : Option ℕ) (moment : Moment) → request_of Protocol.File bytes [] ≡ Ok (txid, asked request.now) → IsMomentOf self.old endpoint token [] moment →
             IfSome result (λ read. OnOk read (Serves moment (outcome_of_sending moment (message bytes [])) Fate.Stays out.new self.old self.new outbox.old outbox.new)) }
         ensures bound { IfSome result (λ read. IsSome (seen self.old endpoint)) }
         ensures reads { (bound : Bound) (position : Position) → seen self.old endpoint ≡ Some (bound, position) → bound.birth.protocol ≡ Protocol.File → IsSome result }
         ensures unchanged { result ≡ None → (self.new ≡ self.old) × (outbox.new ≡ outbox.old) }
         ensures no_memory { IfSome result (λ read. OnErr read (outbox.new ≡ outbox.old)) }
     {
-        self.connections.read(ordinals, endpoint, &mut self.graph, txid, part, out, outbox)
+        self.connections.read(
+            ordinals,
+            endpoint,
+            &mut self.graph,
+            txid,
+            request,
+            out,
+            outbox,
+        )
     }
 
     /// Binds an endpoint that isn't bound here, and holds its node. Of want of memory the server is as

@@ -52,10 +52,7 @@ impl Tokens {
     pub fn target(&self, request: &Request<'_>) -> Option<NodeRef>
         ensures { result ≡ target_in self.now (asked request.now) }
     {
-        match request {
-            Request::Rename { token, .. } | Request::Link { token, .. } => self.get(*token),
-            _ => None,
-        }
+        self.get(request.token()?)
     }
 
     /// Lets a token that names nothing name a directory.

@@ -6,6 +6,7 @@ use Rattle.std.proofs.lemmas.Bool.{eqb-true}
 use Rattle.std.proofs.lemmas.Option.{same_Some}
 use Rattle.fidl_names.specs.declared.memory.NoMemory.{NoMemory}
 use Rattle.fidl_wire.specs.Written.{Written}
+use Rattle.io_messages.specs.Asked.{Asked}
 use Rattle.io_messages.specs.Requests.{request_of}
 use Rattle.io_messages.specs.declared.protocols.Protocol.TheVariants as protocol
 use Rattle.endpoint_link.specs.Standings.{next_token_of}
@@ -14,8 +15,6 @@ use Rattle.vfs_journal.specs.Output.{Begins}
 use Rattle.vfs_journal.specs.Serving.{Moment, outcome_of_sending}
 use Rattle.message_queues.specs.Queues.{count}
 use Rattle.vfs_server.specs.declared.fate.Fate.TheVariants as fates
-use Rattle.vfs_server.specs.declared.reading.Part.{Part}
-use Rattle.vfs_server.specs.Parts.{asked_of}
 use Rattle.vfs_server.specs.Servers.{Server}
 use Rattle.vfs_server.specs.Serving.{IsMomentOf, Serves}
 use Rattle.vfs_session.specs.Heads.{ServesTaken, SettlesHead, Takes, TakesHead}
@@ -33,8 +32,8 @@ abbrev pub behind : World → ℕ → Server → World
 behind old server now = record old { servers = slice_set old.servers server now; known = record old.known { waiting = old.known.waiting - 1 }; places = old.places + 1 }
 
 module _ (first old : World) (run : IsRunning (2 ^ 61) first) (endpoint server : ℕ) (sent : Sent) (takes : Takes first endpoint server sent old) (bytes : List ℕ) (sending : sent.sending ≡ message bytes [])
-    (txid : ℕ) (part : Part) (asks : request_of protocol.File bytes [] ≡ Ok (txid, asked_of part)) (one now : Server) (there : slice_get old.servers server ≡ Some one) (out : Written) (before after : List ℕ)
-    (serves : (bytes : List ℕ) (token : Option ℕ) (moment : Moment) → request_of protocol.File bytes [] ≡ Ok (txid, asked_of part) → IsMomentOf one endpoint token [] moment →
+    (txid : ℕ) (a : Asked) (asks : request_of protocol.File bytes [] ≡ Ok (txid, a)) (one now : Server) (there : slice_get old.servers server ≡ Some one) (out : Written) (before after : List ℕ)
+    (serves : (bytes : List ℕ) (token : Option ℕ) (moment : Moment) → request_of protocol.File bytes [] ≡ Ok (txid, a) → IsMomentOf one endpoint token [] moment →
     Serves moment (outcome_of_sending moment (message bytes [])) fates.Stays out one now before after) where
   abbrev answered : World
   answered = record old { servers = slice_set old.servers server now; known = record old.known { waiting = old.known.waiting - 1 } }
@@ -67,29 +66,29 @@ module _ (first old : World) (run : IsRunning (2 ^ 61) first) (endpoint server :
   read_served able = one_served first answered (behind old server now) (behind old server now) run endpoint server sent fates.Stays out before after after head settles refl able
 
 -- where memory sufficed
-pub read_taken : (old : World) (endpoint server : ℕ) (sent : Sent) (bytes : List ℕ) → sent.sending ≡ message bytes [] → (txid : ℕ) (part : Part) →
-    request_of protocol.File bytes [] ≡ Ok (txid, asked_of part) → (one now : Server) → slice_get old.servers server ≡ Some one → (out : Written) (before after : List ℕ) (r : Result (Unit {0}) NoMemory) →
-    ((bytes : List ℕ) (token : Option ℕ) (moment : Moment) → request_of protocol.File bytes [] ≡ Ok (txid, asked_of part) → IsMomentOf one endpoint token [] moment →
+pub read_taken : (old : World) (endpoint server : ℕ) (sent : Sent) (bytes : List ℕ) → sent.sending ≡ message bytes [] → (txid : ℕ) (a : Asked) →
+    request_of protocol.File bytes [] ≡ Ok (txid, a) → (one now : Server) → slice_get old.servers server ≡ Some one → (out : Written) (before after : List ℕ) (r : Result (Unit {0}) NoMemory) →
+    ((bytes : List ℕ) (token : Option ℕ) (moment : Moment) → request_of protocol.File bytes [] ≡ Ok (txid, a) → IsMomentOf one endpoint token [] moment →
     OnOk r (Serves moment (outcome_of_sending moment (message bytes [])) fates.Stays out one now before after)) →
     old.spent ≡ false → OnOk r (ServesTaken endpoint server sent old (behind old server now) before after)
-read_taken old endpoint server sent bytes sending txid part asks one now there out before after (Ok x) serves able =
+read_taken old endpoint server sent bytes sending txid a asks one now there out before after (Ok x) serves able =
     serves_taken endpoint server sent old (behind old server now) before after
-    (λ from run takes. read_served from old run endpoint server sent takes bytes sending txid part asks one now there out before after serves able)
-read_taken old endpoint server sent bytes sending txid part asks one now there out before after (Err e) serves able = tt
+    (λ from run takes. read_served from old run endpoint server sent takes bytes sending txid a asks one now there out before after serves able)
+read_taken old endpoint server sent bytes sending txid a asks one now there out before after (Err e) serves able = tt
 
 -- and whether it did or not, what was written stays in front
-pub read_begins : (first old : World) (run : IsRunning (2 ^ 61) first) (endpoint server : ℕ) (sent : Sent) → Takes first endpoint server sent old → (bytes : List ℕ) → sent.sending ≡ message bytes [] → (txid : ℕ) (part : Part) →
-    request_of protocol.File bytes [] ≡ Ok (txid, asked_of part) → (one now : Server) → slice_get old.servers server ≡ Some one → (out : Written) (before after : List ℕ) (r : Result (Unit {0}) NoMemory) →
-    ((bytes : List ℕ) (token : Option ℕ) (moment : Moment) → request_of protocol.File bytes [] ≡ Ok (txid, asked_of part) → IsMomentOf one endpoint token [] moment →
+pub read_begins : (first old : World) (run : IsRunning (2 ^ 61) first) (endpoint server : ℕ) (sent : Sent) → Takes first endpoint server sent old → (bytes : List ℕ) → sent.sending ≡ message bytes [] → (txid : ℕ) (a : Asked) →
+    request_of protocol.File bytes [] ≡ Ok (txid, a) → (one now : Server) → slice_get old.servers server ≡ Some one → (out : Written) (before after : List ℕ) (r : Result (Unit {0}) NoMemory) →
+    ((bytes : List ℕ) (token : Option ℕ) (moment : Moment) → request_of protocol.File bytes [] ≡ Ok (txid, a) → IsMomentOf one endpoint token [] moment →
     OnOk r (Serves moment (outcome_of_sending moment (message bytes [])) fates.Stays out one now before after)) →
     OnErr r (after ≡ before) → Begins before after
-read_begins first old run endpoint server sent takes bytes sending txid part asks one now there out before after (Ok x) serves same =
+read_begins first old run endpoint server sent takes bytes sending txid a asks one now there out before after (Ok x) serves same =
     let can = can_answer first old endpoint server sent run takes in
     let asked =
     subst (λ (x : Server). IsMomentOf x endpoint (next_token_of old.known) [] can.moment) (same_Some can.one one (sym can.there ∙ there))
     (subst (λ (handles : List ℕ). IsMomentOf can.one endpoint (next_token_of old.known) handles can.moment) (ap handles_of sending) can.is) in
     (_, (serves bytes (next_token_of old.known) can.moment asks asked).frames)
-read_begins first old run endpoint server sent takes bytes sending txid part asks one now there out before after (Err e) serves same = ([], same ∙ sym (append-nil before))
+read_begins first old run endpoint server sent takes bytes sending txid a asks one now there out before after (Err e) serves same = ([], same ∙ sym (append-nil before))
 
 -- a list of no length is empty
 pub none_of : {A : Type 0} (xs : List A) → (length xs == 0) ≡ true → xs ≡ []

@@ -5,6 +5,7 @@ use Rattle.fidl_wire.specs.Written.{Written}
 use Rattle.endpoint_link.specs.Frames.{spellings}
 use Rattle.endpoint_link.specs.Numbering.{among}
 use Rattle.endpoint_link.specs.Standings.{ended, gone, is_live, next_token_of, standing_of}
+use Rattle.io_messages.specs.Asked.{Asked}
 use Rattle.io_messages.specs.Requests.{request_of}
 use Rattle.io_messages.specs.declared.protocols.Protocol.TheVariants as protocol
 use Rattle.vfs_journal.specs.Entries.{Sent, endpoints_in, message}
@@ -13,9 +14,7 @@ use Rattle.message_queues.specs.Dying.{AreDeaths, Buries, tokens_on}
 use Rattle.message_queues.specs.Queues.{IsAbove, Queues, Requeues, count, head_of, queue_of, server_of}
 use Rattle.vfs_server.specs.declared.fate.Fate.{Fate}
 use Rattle.vfs_server.specs.declared.fate.Fate.TheVariants as fates
-use Rattle.vfs_server.specs.Parts.{asked_of}
 use Rattle.vfs_server.specs.Servers.{Server, seen}
-use Rattle.vfs_server.specs.declared.reading.Part.{Part}
 use Rattle.vfs_session.specs.Holding.{HoldsEach}
 use Rattle.vfs_session.specs.Running.{IsRunning}
 use Rattle.vfs_session.specs.Servings.{ServesOne}
@@ -34,11 +33,11 @@ pub record Takes (old : World) (endpoint server : ℕ) (sent : Sent) (new : Worl
 abbrev pub WasTaken : ℕ → ℕ → Sent → World → Type 0
 WasTaken endpoint server sent world = (from : World) × (IsRunning (2 ^ 61) from × Takes from endpoint server sent world)
 
--- a message without handles that asks a file for this part of its bytes
-pub record AsksPart (sent : Sent) (txid : ℕ) (part : Part) : Type 0 where
+-- a message without handles in which a file reads this request
+pub record AsksFile (sent : Sent) (txid : ℕ) (a : Asked) : Type 0 where
   pub bytes : List ℕ
   pub sending : sent.sending ≡ message bytes []
-  pub asks : request_of protocol.File bytes [] ≡ Ok (txid, asked_of part)
+  pub asks : request_of protocol.File bytes [] ≡ Ok (txid, a)
 
 -- what was taken is served: behind whatever world that runs it was taken from, that one's first entry is served, and it runs on
 pub record ServesTaken (endpoint server : ℕ) (sent : Sent) (old new : World) (before after : List ℕ) : Type 0 where

@@ -2,10 +2,12 @@
 
 ghost use Rattle.std.specs.Prelude.{◌≡◌, ◌<◌, ◌^◌, ◌∷◌, [], ℕ, true, false, All, IfOk, IfSome, List, None, Ok, OnOk};
 ghost use Rattle.endpoint_link.specs.Standings.{is_live, standing_of};
+ghost use Rattle.io_messages.specs.Asked.{asked};
+ghost use Rattle.request_reader.specs.Parts.{AsksPart};
 ghost use Rattle.message_queues.specs.Dying.{AreDeaths};
 ghost use Rattle.message_queues.specs.Queues.{IsReady, count};
 ghost use Rattle.vfs_journal.specs.Output.{Begins};
-ghost use Rattle.vfs_session.specs.Heads.{AsksPart, CanSettle, DiesAlone, IsUnbound, LetsDie, ServesTaken, SettlesButPlace, SettlesHead, Takes, TakesHead, WasTaken};
+ghost use Rattle.vfs_session.specs.Heads.{AsksFile, CanSettle, DiesAlone, IsUnbound, LetsDie, ServesTaken, SettlesButPlace, SettlesHead, Takes, TakesHead, WasTaken};
 ghost use Rattle.vfs_session.specs.Running.{IsRunning, RunsOn, whole};
 ghost use Rattle.vfs_session.specs.Servings.{ServesOne};
 ghost use Rattle.vfs_session.specs.Steps.{first_told};
@@ -22,9 +24,11 @@ use crate::settling::{bind, bury, let_all_go, send_on};
 use endpoint_link::Outbox;
 use fidl_names::{MAX_WAITING, NoMemory};
 use fidl_wire::Ordinals;
+use io_messages::Request;
 use message_queues::{Lent, Sent};
+use request_reader::read_part;
 use std::mem;
-use vfs_server::{Fate, Part, part_in};
+use vfs_server::Fate;
 
 /// The most bytes of a small room, as most messages need.
 const SMALL_ROOM: usize = 256;
@@ -79,9 +83,9 @@ impl Session {
         ensures unchanged { result ≡ None → (whole self.new ≡ whole self.old) × (outbox.new ≡ outbox.old) }
         ensures begins { Begins outbox.old outbox.new }
     {
-        let (txid, part) = read_asked(&self.ordinals, sent)?;
+        let (txid, request) = read_asked(&self.ordinals, sent)?;
         let one = &mut self.servers[server as usize];
-        let read = one.read(&self.ordinals, endpoint, txid, part, &mut self.out, outbox)?;
+        let read = one.read(&self.ordinals, endpoint, txid, &request, &mut self.out, outbox)?;
         self.endpoints.served();
         self.places += 1;
         Some(read)
@@ -300,16 +304,17 @@ impl Session {
     }
 }
 
-/// The transaction id of what was sent to ask a file for a part of its bytes, and that part; `None` where anything
-/// else was sent, or handles beside it.
+/// The request for a part of a file's bytes that was sent, and its transaction id; `None` where anything else was sent,
+/// or handles beside it.
 #[inline(always)]
-fn read_asked(ordinals: &Ordinals, sent: &Lent<'_>) -> Option<(u32, Part)>
-    ensures read { IfSome result (λ asks. AsksPart sent.now asks.0 asks.1) }
+fn read_asked<'a>(ordinals: &Ordinals, sent: &Lent<'a>) -> Option<(u32, Request<'a>)>
+    ensures read { IfSome result (λ asks. AsksFile sent.now asks.0 (asked asks.1)) }
+    ensures part { IfSome result (λ asks. AsksPart (asked asks.1)) }
     ensures txid { IfSome result (λ asks. 0 < asks.0) }
 {
     let (bytes, handles) = sent.message()?;
     if !handles.is_empty() {
         return None;
     }
-    part_in(ordinals, bytes)
+    read_part(ordinals, bytes)
 }

@@ -12,6 +12,7 @@ use Rattle.fidl_names.specs.declared.limits.TheConstants as limit
 use Rattle.fidl_names.specs.First.{cause_if, first_of}
 use Rattle.fidl_names.specs.HandleNumber.{is_client}
 use Rattle.fidl_wire.specs.Written.{Written}
+use Rattle.io_messages.specs.Asked.{Asked}
 use Rattle.io_messages.specs.Requests.{request_of}
 use Rattle.io_messages.specs.declared.protocols.Protocol.TheVariants as protocol
 use Rattle.endpoint_link.specs.Frames.{Frame, IsFrame}
@@ -32,9 +33,7 @@ use Rattle.journal_laws.specs.Viewing.{view_behind}
 use Rattle.message_queues.specs.Parcels.{sent_by}
 use Rattle.message_queues.specs.Queues.{count, queue_of, server_of}
 use Rattle.vfs_server.specs.declared.fate.Fate.TheVariants as fates
-use Rattle.vfs_server.specs.declared.reading.Part.{Part}
 use Rattle.vfs_server.specs.Holding.{if_at}
-use Rattle.vfs_server.specs.Parts.{asked_of}
 use Rattle.vfs_server.specs.Servers.{Server, seen}
 use Rattle.vfs_server.specs.Serving.{IsMomentOf, Serves}
 use Rattle.vfs_session.specs.Heads.{SettlesHead, Takes, TakesHead}
@@ -51,15 +50,15 @@ use Rattle.vfs_world.proofs.AtOnce.{bound_lives, drained_behind, for_want_of_roo
 
 -- ---- at its server
 
-pub reads_there : (old : List Server) (at endpoint txid : ℕ) (part : Part) (one now : Server) (out : Written) (before after : List ℕ) (served : Option (Result (Unit {0}) NoMemory)) → slice_get old at ≡ Some one →
+pub reads_there : (old : List Server) (at endpoint txid : ℕ) (a : Asked) (one now : Server) (out : Written) (before after : List ℕ) (served : Option (Result (Unit {0}) NoMemory)) → slice_get old at ≡ Some one →
     IfSome served (λ answer. IsSome (seen one endpoint)) →
-    ((bytes : List ℕ) (token : Option ℕ) (moment : Moment) → request_of protocol.File bytes [] ≡ Ok (txid, asked_of part) → IsMomentOf one endpoint token [] moment →
+    ((bytes : List ℕ) (token : Option ℕ) (moment : Moment) → request_of protocol.File bytes [] ≡ Ok (txid, a) → IsMomentOf one endpoint token [] moment →
     IfSome served (λ answer. OnOk answer (Serves moment (outcome_of_sending moment (message bytes [])) fates.Stays out one now before after))) →
-    IfSome served (λ answer. OnOk answer (AnswersPart old at endpoint txid part out (slice_set old at now) before after))
-reads_there old at endpoint txid part one now out before after (Some (Ok x)) there bound serves =
+    IfSome served (λ answer. OnOk answer (AnswersPart old at endpoint txid a out (slice_set old at now) before after))
+reads_there old at endpoint txid a one now out before after (Some (Ok x)) there bound serves =
     record { one = one; there = there; bound = bound; answers = λ bytes token moment is here. (now, refl, serves bytes token moment is here) }
-reads_there old at endpoint txid part one now out before after (Some (Err e)) there bound serves = tt
-reads_there old at endpoint txid part one now out before after None there bound serves = tt
+reads_there old at endpoint txid a one now out before after (Some (Err e)) there bound serves = tt
+reads_there old at endpoint txid a one now out before after None there bound serves = tt
 
 -- ---- where it is bound
 
@@ -116,8 +115,8 @@ none_counted most world run none = run.stands.knows.waiting ∙ ap length (nothi
 
 -- ---- from its admission to the drain
 
-module _ (old : World) (run : IsRunning (2 ^ 61 - 4098) old) (frame : Frame) (is : IsFrame ToServers frame) (can : CanBeServed frame old) (at txid : ℕ) (part : Part) (out : Written) (servers : List Server)
-    (before after : List ℕ) (asks : request_of protocol.File frame.bytes [] ≡ Ok (txid, asked_of part)) (answers : AnswersPart old.servers at frame.endpoint txid part out servers before after) where
+module _ (old : World) (run : IsRunning (2 ^ 61 - 4098) old) (frame : Frame) (is : IsFrame ToServers frame) (can : CanBeServed frame old) (at txid : ℕ) (a : Asked) (out : Written) (servers : List Server)
+    (before after : List ℕ) (asks : request_of protocol.File frame.bytes [] ≡ Ok (txid, a)) (answers : AnswersPart old.servers at frame.endpoint txid a out servers before after) where
   abbrev now : World
   now = let_in old
 

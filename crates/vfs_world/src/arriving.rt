@@ -18,9 +18,8 @@ ghost use Rattle.vfs_session.specs.World.{LeadsTo, StandsFor, World};
 ghost use Rattle.vfs_world.specs.Steps.{CanWait, Hears, IsAdmitted, IsFree, IsPlain, Reaches, WaitsLast};
 
 use crate::reading::hear_read;
-use byteorder::{ByteOrder, LittleEndian};
 use endpoint_link::{
-    AdmitFault, FrameKind, FrameView, Mode, Outbox, Refusal, word_in, write_frame,
+    AdmitFault, FrameKind, FrameView, Mode, Outbox, Refusal, word_in, write_refused,
 };
 use fidl_names::{Handle, NoMemory, is_client};
 use message_queues::{Lent, Parcel, Sent, handles_in};
@@ -316,18 +315,7 @@ fn refuse(
     ensures written { OnOk result (outbox.new ≡ outbox.old ++ spelling (refused_frame endpoint why)) }
     ensures begins { Begins outbox.old outbox.new }
 {
-    write_refusal(endpoint, why, outbox)?;
+    write_refused(outbox, endpoint, why)?;
     session.places += 1;
     Ok(())
-}
-
-/// Writes that a frame is refused, or for want of memory nothing.
-#[tactic(auto, unfolding(fidl_names::specs::Numbers::number_bytes))]
-fn write_refusal(endpoint: u32, why: Refusal, outbox: &mut Outbox) -> Result<(), NoMemory>
-    ensures written { OnOk result (outbox.new ≡ outbox.old ++ spelling (refused_frame endpoint why)) }
-    ensures no_memory { OnErr result (outbox.new ≡ outbox.old) }
-{
-    let mut number = [0; 4];
-    LittleEndian::write_u32(&mut number, why.status().number().cast_unsigned());
-    write_frame(outbox, endpoint, FrameKind::Refused, &[], &number)
 }

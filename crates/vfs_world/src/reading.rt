@@ -11,9 +11,9 @@ ghost use Rattle.vfs_journal.specs.Output.{Begins};
 ghost use Rattle.vfs_journal.specs.Past.{history_of};
 ghost use Rattle.vfs_journal.specs.Session.{arrives, drained};
 ghost use Rattle.vfs_journal.specs.Starts.{Start};
-ghost use Rattle.io_messages.specs.Requests.{request_of};
+ghost use Rattle.io_messages.specs.Asked.{asked};
+ghost use Rattle.request_reader.specs.Parts.{AsksPart};
 ghost use Rattle.message_queues.specs.Queues.{server_of};
-ghost use Rattle.vfs_server.specs.Parts.{asked_of};
 ghost use Rattle.vfs_session.specs.Running.{IsRunning, whole};
 ghost use Rattle.vfs_session.specs.World.{LeadsTo, StandsFor};
 ghost use Rattle.vfs_world.specs.Steps.{AnswersPart, CanBeServed};
@@ -22,8 +22,9 @@ use crate::arriving::is_plain;
 use endpoint_link::{FrameView, LookUp, Outbox};
 use fidl_names::{MAX_LIVE, NoMemory};
 use fidl_wire::{Ordinals, Out};
-use io_messages::Protocol;
-use vfs_server::{Part, Server, part_in};
+use io_messages::Request;
+use request_reader::read_part;
+use vfs_server::Server;
 use vfs_session::Session;
 
 /// Hears a Read or a ReadAt of a file, where nothing waits: its reply is written, and it takes two places. For any
@@ -44,35 +45,23 @@ pub(crate) fn hear_read(
     ensures unchanged { result ≡ None → (whole session.new ≡ whole session.old) × (outbox.new ≡ outbox.old) }
     ensures begins { Begins outbox.old outbox.new }
 {
-    let (at, txid, part) = read_asked(session, frame)?;
+    if !can_be_served(session, frame) {
+        return None;
+    }
+    let (txid, request) = read_part(&session.ordinals, frame.bytes)?;
+    let at = server_for(session, frame.endpoint)?;
     let read = read_at(
         &mut session.servers,
         &session.ordinals,
         at,
         frame.endpoint,
         txid,
-        part,
+        &request,
         &mut session.out,
         outbox,
     )?;
     session.places += 2;
     Some(read)
-}
-
-/// The server that a frame asks for a part of a file, its transaction id and that part, where it can be served at
-/// once.
-#[inline(always)]
-fn read_asked(session: &Session, frame: FrameView<'_>) -> Option<(u32, u32, Part)>
-    ensures served { IfSome result (λ asks. CanBeServed (frame_of frame.entry) (whole session.now)) }
-    ensures read { IfSome result (λ asks. request_of Protocol.File frame.entry.bytes.now [] ≡ Ok (asks.1, asked_of asks.2)) }
-    ensures txid { IfSome result (λ asks. 0 < asks.1) }
-{
-    if !can_be_served(session, frame) {
-        return None;
-    }
-    let (txid, part) = part_in(&session.ordinals, frame.bytes)?;
-    let at = server_for(session, frame.endpoint)?;
-    Some((at, txid, part))
 }
 
 /// Whether a frame is a message without handles that needn't wait, and that nothing refuses where its endpoint is
@@ -102,12 +91,13 @@ fn read_at(
     at: u32,
     endpoint: u32,
     txid: u32,
-    part: Part,
+    request: &Request<'_>,
     out: &mut Out,
     outbox: &mut Outbox,
 ) -> Option<Result<(), NoMemory>>
+    requires part { AsksPart (asked request.now) }
     requires txid { 0 < txid }
-    ensures answers { IfSome result (λ read. OnOk read (AnswersPart servers.old.items at endpoint txid part out.new servers.new.items outbox.old outbox.new)) }
+    ensures answers { IfSome result (λ read. OnOk read (AnswersPart servers.old.items at endpoint txid (asked request.now) out.new servers.new.items outbox.old outbox.new)) }
     ensures unchanged { result ≡ None → (servers.new.items ≡ servers.old.items) × (outbox.new ≡ outbox.old) }
     ensures no_memory { IfSome result (λ read. OnErr read (outbox.new ≡ outbox.old)) }
 {
@@ -115,5 +105,5 @@ fn read_at(
         return None;
     }
     let one = &mut servers[at as usize];
-    one.read(ordinals, endpoint, txid, part, out, outbox)
+    one.read(ordinals, endpoint, txid, request, out, outbox)
 }

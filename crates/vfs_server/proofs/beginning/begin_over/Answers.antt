@@ -1,9 +1,5 @@
-use Rattle.session_start.specs.Numbering.{tree_of}
 use Rattle.vfs_server.proofs.Begun.{holds_none, holds_start}
 use Rattle.vfs_server.proofs.beginning.begin_over.Goals as goal
-
-pub new-server-requires-clause-tree : goal.new-server-requires-clause-tree
-new-server-requires-clause-tree c = (tree_of c.args.start.now c.args.index, c.requires.stands.tree)
 
 pub bind_firsts-requires-clause-holds : goal.bind_firsts-requires-clause-holds
 bind_firsts-requires-clause-holds c =

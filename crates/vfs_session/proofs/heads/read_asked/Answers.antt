@@ -11,4 +11,4 @@ returns-clause-read c =
     let bytes = c.in_ok-bytes.bytes.now in
     let sending =
     c.in_ok-bytes.ensures.parts.0 ∙ ap (λ (handles : List Handle). message bytes (numbers_of handles)) (none_of c.in_ok-bytes.handles.now (sym c.is_empty.ensures ∙ c.if-not-is_empty.false)) in
-    IfSome_then c.part_in.result c.part_in.ensures.read (λ asked asks. record { bytes = bytes; sending = sending; asks = asks })
+    IfSome_then c.read_part.result c.read_part.ensures.read (λ asked asks. record { bytes = bytes; sending = sending; asks = asks })

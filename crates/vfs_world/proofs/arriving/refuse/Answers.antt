@@ -2,4 +2,4 @@
 use Rattle.vfs_world.proofs.arriving.refuse.Goals as goal
 
 pub returns-clause-written : goal.returns-clause-written
-returns-clause-written c = c.in_ok-write_refusal.ensures.written
+returns-clause-written c = c.in_ok-write_refused.ensures.written

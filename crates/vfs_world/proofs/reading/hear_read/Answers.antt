@@ -1,5 +1,6 @@
 use Rattle.std.proofs.Common.{◌∙◌, ◌-◌, ◌^◌, [], List, append-nil, ap, arith, refl, sym}
 use Rattle.endpoint_link.specs.Views.{frame_of}
+use Rattle.io_messages.specs.Asked.{asked}
 use Rattle.vfs_server.specs.Servers.{Server}
 use Rattle.vfs_session.specs.Running.{whole}
 use Rattle.vfs_session.specs.World.{World}
@@ -15,21 +16,21 @@ pub returns-clause-heard : goal.returns-clause-heard
 returns-clause-heard c =
     λ start journal stands.
     on_ok c.in_ok-read.read
-    (λ answers. (read_leads (whole c.args.session.now) c.requires.running (frame_of c.args.frame) c.requires.frame c.in_ok-at.ensures.served c.in_ok-at.at c.in_ok-at.txid c.in_ok-at.part _ _ c.args.outbox.now c.read_at.new.outbox c.in_ok-at.ensures.read answers start journal stands).0)
+    (λ answers. (read_leads (whole c.args.session.now) c.requires.running (frame_of c.args.frame) c.requires.frame (c.can_be_served.ensures c.if-not-can_be_served.false) c.in_ok-at.at c.in_ok-txid.txid (asked c.in_ok-txid.request) _ _ c.args.outbox.now c.read_at.new.outbox c.in_ok-txid.ensures.read answers start journal stands).0)
     c.in_ok-read.ensures.answers
 
 pub returns-clause-none : goal.returns-clause-none
 returns-clause-none c =
     λ start journal stands.
     on_ok c.in_ok-read.read
-    (λ answers. (read_leads (whole c.args.session.now) c.requires.running (frame_of c.args.frame) c.requires.frame c.in_ok-at.ensures.served c.in_ok-at.at c.in_ok-at.txid c.in_ok-at.part _ _ c.args.outbox.now c.read_at.new.outbox c.in_ok-at.ensures.read answers start journal stands).1)
+    (λ answers. (read_leads (whole c.args.session.now) c.requires.running (frame_of c.args.frame) c.requires.frame (c.can_be_served.ensures c.if-not-can_be_served.false) c.in_ok-at.at c.in_ok-txid.txid (asked c.in_ok-txid.request) _ _ c.args.outbox.now c.read_at.new.outbox c.in_ok-txid.ensures.read answers start journal stands).1)
     c.in_ok-read.ensures.answers
 
 pub returns-clause-running : goal.returns-clause-running
 returns-clause-running c =
     λ most running.
     on_ok c.in_ok-read.read
-    (λ answers. read_lasts (whole c.args.session.now) c.requires.running (frame_of c.args.frame) c.requires.frame c.in_ok-at.ensures.served c.in_ok-at.at c.in_ok-at.txid c.in_ok-at.part _ _ c.args.outbox.now c.read_at.new.outbox c.in_ok-at.ensures.read answers most running)
+    (λ answers. read_lasts (whole c.args.session.now) c.requires.running (frame_of c.args.frame) c.requires.frame (c.can_be_served.ensures c.if-not-can_be_served.false) c.in_ok-at.at c.in_ok-txid.txid (asked c.in_ok-txid.request) _ _ c.args.outbox.now c.read_at.new.outbox c.in_ok-txid.ensures.read answers most running)
     c.in_ok-read.ensures.answers
 
 pub returns-clause-begins : goal.returns-clause-begins
@@ -37,7 +38,7 @@ returns-clause-begins c =
     begins_by c.in_ok-read.read c.args.outbox.now c.read_at.new.outbox
     (on_ok c.in_ok-read.read
     (λ answers.
-    let leads = (read_leads (whole c.args.session.now) c.requires.running (frame_of c.args.frame) c.requires.frame c.in_ok-at.ensures.served c.in_ok-at.at c.in_ok-at.txid c.in_ok-at.part _ _ c.args.outbox.now c.read_at.new.outbox c.in_ok-at.ensures.read answers c.requires.running.start c.requires.running.journal c.requires.running.stands).0 in
+    let leads = (read_leads (whole c.args.session.now) c.requires.running (frame_of c.args.frame) c.requires.frame (c.can_be_served.ensures c.if-not-can_be_served.false) c.in_ok-at.at c.in_ok-txid.txid (asked c.in_ok-txid.request) _ _ c.args.outbox.now c.read_at.new.outbox c.in_ok-txid.ensures.read answers c.requires.running.start c.requires.running.journal c.requires.running.stands).0 in
     (leads.part, leads.written))
     c.in_ok-read.ensures.answers)
     c.in_ok-read.ensures.no_memory

@@ -1,12 +1,13 @@
 use Rattle.std.proofs.Common.{◌∙◌, ap, arith, refl, set}
 use Rattle.std.proofs.lemmas.List.{set-get_or}
 use Rattle.std.proofs.lemmas.Option.{slice_get_read}
+use Rattle.io_messages.specs.Asked.{asked}
 use Rattle.vfs_world.proofs.ReadAtOnce.{reads_there}
 use Rattle.vfs_world.proofs.reading.read_at.Goals as goal
 
 pub returns-clause-answers : goal.returns-clause-answers
 returns-clause-answers c =
-    reads_there c.args.servers.now.items c.args.at c.args.endpoint c.args.txid c.args.part c.index_mut-one.result.now c.read.new.self c.read.new.out c.args.outbox.now c.read.new.outbox c.read.result
+    reads_there c.args.servers.now.items c.args.at c.args.endpoint c.args.txid (asked c.args.request.now) c.index_mut-one.result.now c.read.new.self c.read.new.out c.args.outbox.now c.read.new.outbox c.read.result
     (slice_get_read c.args.servers.now.items _ c.args.at c.index_mut-one.result.now refl (omega arith) c.index_mut-one.ensures.value)
     c.read.ensures.bound c.read.ensures.serves
 

@@ -1,6 +1,6 @@
-use Rattle.std.proofs.Common.{◌≡◌, ◌∙◌, ℕ, None, true, ap, refl, subst, sym}
+use Rattle.std.proofs.Common.{◌≡◌, ◌∙◌, ℕ, true, ap, refl, subst, sym}
 use Rattle.endpoint_link.specs.Frames.{spellings}
-use Rattle.io_messages.specs.Asked.{method_of}
+use Rattle.io_messages.specs.Asked.{asked, method_of}
 use Rattle.io_messages.specs.Protocols.{has_method}
 use Rattle.io_messages.specs.declared.protocols.Protocol.TheVariants as protocol
 use Rattle.node_graph.specs.Graph.{number_of}
@@ -10,11 +10,10 @@ use Rattle.conn_rules.specs.Shared.{CanBeBound}
 use Rattle.vfs_journal.specs.Serving.{object_of}
 use Rattle.vfs_server.specs.declared.fate.Fate.TheVariants as fates
 use Rattle.vfs_server.specs.declared.given.Given.TheVariants as given
-use Rattle.vfs_server.specs.Parts.{asked_of}
 use Rattle.vfs_server.specs.Steps.{DoesGiven, IsAskedAt, IsOfItsKind, connection_of, frames_given, of_other, room_for, stays}
 use Rattle.vfs_server.proofs.Answering.{begins_by, on_ok, request_answers}
-use Rattle.vfs_server.proofs.FileReads.{file_has, unused}
-use Rattle.vfs_server.proofs.Giving.{given_other, leads_on}
+use Rattle.request_reader.proofs.AskedParts.{file_has}
+use Rattle.vfs_server.proofs.Giving.{given_other}
 use Rattle.vfs_server.proofs.connection.Connection.read.Goals as goal
 use Rattle.vfs_server.proofs.connection.Connection.read.Goals.{After-put_bare_reply}
 
@@ -36,16 +35,11 @@ returns-clause-answers c server asking moment on is =
     (sym (ap of_other c.in-Reply.is)) refl (c.serve_part.ensures.serves (room_for asking (number_of c.in-File.conn.birth.node)) moment.tree moment.directory asks.tree) in
     on_ok c.put_bare_reply.result
     (λ done.
-    request_answers server asking c.args.graph.now c.serve_part.new.graph c.in-File.conn (subst (λ (connection : Connection). CanBeBound c.args.graph.now connection.birth) (sym (here c)) c.requires.node) moment asks c.args.txid (asked_of c.args.part)
-    (subst (λ p. has_method p (method_of (asked_of c.args.part)) ≡ true) (sym (is_file c)) (file_has c.args.part)) given.Reply nothing_told c.serve_part.new.out c.serve_part.new.conn c.serve_part.ensures.holds.birth
+    request_answers server asking c.args.graph.now c.serve_part.new.graph c.in-File.conn (subst (λ (connection : Connection). CanBeBound c.args.graph.now connection.birth) (sym (here c)) c.requires.node) moment asks c.args.txid (asked c.args.request.now)
+    (subst (λ p. has_method p (method_of (asked c.args.request.now)) ≡ true) (sym (is_file c)) (file_has (asked c.args.request.now) c.requires.part)) given.Reply nothing_told c.serve_part.new.out c.serve_part.new.conn c.serve_part.ensures.holds.birth
     acts stays refl c.serve_part.new.out c.args.outbox.now c.put_bare_reply.new.outbox
-    (subst (λ (endpoint : ℕ). DoesGiven endpoint (object_of (asked_of c.args.part)) c.in-File.conn.birth.node given.Reply c.serve_part.new.out fates.Stays c.serve_part.new.out c.args.outbox.now c.put_bare_reply.new.outbox) (sym on) done))
-    (c.put_bare_reply.ensures.does (object_of (asked_of c.args.part)) c.in-File.conn.birth.node)
-
-pub returns-clause-tree : goal.returns-clause-tree
-returns-clause-tree c =
-    let was = c.requires.tree in
-    leads_on c.args.graph.now c.serve_part.new.graph _ (c.serve_part.ensures.serves unused was.0 (λ number. None) was.1).change was
+    (subst (λ (endpoint : ℕ). DoesGiven endpoint (object_of (asked c.args.request.now)) c.in-File.conn.birth.node given.Reply c.serve_part.new.out fates.Stays c.serve_part.new.out c.args.outbox.now c.put_bare_reply.new.outbox) (sym on) done))
+    (c.put_bare_reply.ensures.does (object_of (asked c.args.request.now)) c.in-File.conn.birth.node)
 
 pub returns-clause-begins : goal.returns-clause-begins
 returns-clause-begins c =

@@ -1,12 +1,10 @@
-use Rattle.std.proofs.Common.{◌≡◌, ◌∙◌, ℕ, List, true, IfOk, ap, subst, sym}
-use Rattle.fidl_names.specs.declared.methods.Handle.{Handle}
-use Rattle.io_messages.specs.Asked.{Asked, asked, method_of}
+use Rattle.std.proofs.Common.{◌≡◌, ◌∙◌, true, IfOk, ap, subst}
+use Rattle.io_messages.specs.Asked.{asked, method_of}
 use Rattle.io_messages.specs.Protocols.{has_method}
-use Rattle.io_messages.specs.declared.protocols.Protocol.{Protocol}
 use Rattle.io_messages.specs.declared.protocols.Protocol.TheVariants as protocol
 use Rattle.io_messages.specs.Requests.{Reads, has_txid, request_of}
 use Rattle.io_messages.specs.Shapes.{is_one_way}
-use Rattle.io_messages.proofs.Known.{method_read}
+use Rattle.io_messages.proofs.Known.{method_asked}
 use Rattle.node_conn.proofs.Echoes.{read_text}
 use Rattle.vfs_journal.specs.Serving.{outcome_of_read}
 use Rattle.vfs_server.specs.Steps.{Answers, done_with}
@@ -15,20 +13,14 @@ use Rattle.vfs_server.proofs.Carried.{target_named}
 use Rattle.vfs_server.proofs.Giving.{all_kept}
 use Rattle.vfs_server.proofs.connection.Connection.serve.Goals as goal
 
--- what is read is a request of the method that its fields are of
-method_is : (p : Protocol) (bytes : List ℕ) (handles : List Handle) (txid : ℕ) (a : Asked) (r : Reads p bytes handles txid a) → method_of a ≡ r.method
-method_is p bytes handles txid a r = ap method_of (sym r.fields_are) ∙ method_read r.method r.items
-
 pub serve_request-requires-clause-method : goal.serve_request-requires-clause-method
 serve_request-requires-clause-method c =
-    let read = c.in-Ok.ensures.found in
-    subst (λ p. has_method p (method_of (asked c.in-Ok.request)) ≡ true) (c.protocol.ensures ∙ ap (λ connection. connection.birth.protocol) c.self.view_is)
-    (ap (has_method c.protocol.result) (method_is c.protocol.result c.args.bytes.now c.args.handles.now c.in-Ok.txid (asked c.in-Ok.request) read) ∙ read.known)
+    subst (λ p. has_method p (method_of (asked c.in-Ok.request)) ≡ true) (c.protocol.ensures ∙ ap (λ connection. connection.birth.protocol) c.self.view_is) c.in-Ok.ensures.found.known
 
 pub serve_request-requires-clause-txid : goal.serve_request-requires-clause-txid
 serve_request-requires-clause-txid c =
-    let read = c.in-Ok.ensures.found in
-    ap (λ m. has_txid (is_one_way m) c.in-Ok.txid) (method_is c.protocol.result c.args.bytes.now c.args.handles.now c.in-Ok.txid (asked c.in-Ok.request) read) ∙ read.way
+    let read = c.in-Ok.ensures.found.is_asked in
+    ap (λ m. has_txid (is_one_way m) c.in-Ok.txid) (method_asked c.args.bytes.now c.args.handles.now c.in-Ok.txid (asked c.in-Ok.request) read) ∙ read.way
 
 pub serve_request-requires-clause-echo : goal.serve_request-requires-clause-echo
 serve_request-requires-clause-echo c is =

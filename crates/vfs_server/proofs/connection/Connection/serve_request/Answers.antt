@@ -25,7 +25,7 @@ pub answer-requires : goal.answer-requires
 answer-requires c = record {
   connection =
       let can = subst (λ connection. CanBeBound c.args.graph.now connection.birth) (sym c.self.view_is) c.requires.node in
-      binds_connection c.args.graph.now c.args.tokens.now (connection_of c.self.inside.conn) can c.requires.tree c.room-room.result (asked c.args.request.now) (known_here (asked c.args.request.now) c.self.view_is c.requires.method) c.args.txid c.serve-given.result (told_by c.serve-given.new.changes) c.serve-given.new.out
+      binds_connection c.args.graph.now c.args.tokens.now (connection_of c.self.inside.conn) can c.root-root.ensures.stands c.room-room.result (asked c.args.request.now) (known_here (asked c.args.request.now) c.self.view_is c.requires.method) c.args.txid c.serve-given.result (told_by c.serve-given.new.changes) c.serve-given.new.out
       (connection_of c.serve-given.new.self) c.serve-given.new.graph c.serve-given.ensures.acts;
 }
 
@@ -67,7 +67,7 @@ returns-clause-tells c =
     let can = subst (λ connection. CanBeBound c.args.graph.now connection.birth) (sym c.self.view_is) c.requires.node in
     ok_map _ _ c.answer.result
     (λ fate told.
-    can_tell c.args.graph.now c.args.tokens.now (connection_of c.self.inside.conn) can c.requires.tree c.room-room.result (asked c.args.request.now) (known_here (asked c.args.request.now) c.self.view_is c.requires.method) c.args.txid c.serve-given.result
+    can_tell c.args.graph.now c.args.tokens.now (connection_of c.self.inside.conn) can c.root-root.ensures.stands c.room-room.result (asked c.args.request.now) (known_here (asked c.args.request.now) c.self.view_is c.requires.method) c.args.txid c.serve-given.result
     (told_by c.serve-given.new.changes) c.serve-given.new.out
     (connection_of c.serve-given.new.self) c.serve-given.new.graph c.serve-given.ensures.acts c.serve-given.ensures.holds.birth c.args.asking.now.endpoint (object_of (asked c.args.request.now))
     (done_with fate c.serve-given.new.changes) c.answer.new.out c.args.outbox.now c.answer.new.outbox refl (does c fate told))

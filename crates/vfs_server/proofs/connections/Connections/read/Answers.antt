@@ -1,12 +1,12 @@
 use Rattle.std.proofs.Common.{◌≡◌, ◌∙◌, ℕ, IfSome, None, Ok, Some, ap, refl, subst}
 use Rattle.std.specs.Prelude.{IsSome, OnOk}
 use Rattle.std.specs.FinMap as finite
+use Rattle.io_messages.specs.Asked.{asked}
 use Rattle.io_messages.specs.declared.protocols.Protocol.TheVariants as protocol
 use Rattle.conn_rules.specs.Births.{Connection}
 use Rattle.conn_rules.specs.Served.{KeepsHolds}
 use Rattle.vfs_journal.specs.Serving.{Moment, outcome_of_read}
 use Rattle.vfs_server.specs.declared.asking.Asking.{Asking}
-use Rattle.vfs_server.specs.Parts.{asked_of}
 use Rattle.vfs_server.specs.Steps.{Answers, IsAskedAt, stays}
 use Rattle.vfs_server.proofs.Found.{is_found, looked_up, not_none, put_back, put_same}
 use Rattle.vfs_server.proofs.connections.Connections.read.Goals as goal
@@ -26,7 +26,7 @@ returns-clause-read c old is =
       subst (λ (was : Connection). IfSome c.read.result (λ read. was.birth.protocol ≡ protocol.File)) same c.read.ensures.file,
       subst
           (λ (was : Connection). (server : ℕ) (asking : Asking) (moment : Moment) → asking.endpoint ≡ c.args.endpoint → IsAskedAt server asking c.args.graph.now was moment →
-          IfSome c.read.result (λ read. OnOk read (Answers moment (outcome_of_read moment (Ok (c.args.txid, asked_of c.args.part))) stays c.read.new.out new c.args.graph.now c.read.new.graph c.args.outbox.now c.read.new.outbox)))
+          IfSome c.read.result (λ read. OnOk read (Answers moment (outcome_of_read moment (Ok (c.args.txid, asked c.args.request.now))) stays c.read.new.out new c.args.graph.now c.read.new.graph c.args.outbox.now c.read.new.outbox)))
           same c.read.ensures.answers,
     )
 

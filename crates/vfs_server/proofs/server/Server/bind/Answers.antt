@@ -2,14 +2,12 @@ use Rattle.std.proofs.Common.{◌≡◌, ◌∙◌, ◌<◌, None, ap, sym, subs
 use Rattle.std.specs.FinMap as finite
 use Rattle.fidl_names.specs.declared.limits.TheConstants as limit
 use Rattle.conn_rules.specs.Births.{fresh}
-use Rattle.node_graph.specs.Tree.{stay}
 use Rattle.vfs_server.specs.Binding.{Binds, HasPlace}
 use Rattle.vfs_server.specs.Kept.{Connections, IsSound}
 use Rattle.vfs_server.specs.Servers.{Server, bound_with, seen}
 use Rattle.watch_seats.specs.Seats.{seat_at}
 use Rattle.vfs_server.proofs.Answering.{no_watcher}
 use Rattle.vfs_server.proofs.Binding.{binds_one, both_free, in_use_is, server_of}
-use Rattle.vfs_server.proofs.Giving.{leads_on}
 use Rattle.vfs_server.proofs.Held.{few_held}
 use Rattle.vfs_server.proofs.Sound.{sound_more}
 use Rattle.vfs_server.proofs.server.Server.bind.Goals as goal
@@ -33,8 +31,7 @@ invariant_of-self-2 c =
     (sym (c.in_ok-insert.ensures.inserted ∙ ap (finite.insert c.self.inside.connections c.args.endpoint) c.in_ok-connection.ensures))
     (sound_more c.self.inside.graph c.hold.new.self c.self.inside.connections c.self.inside.watching c.self.inside.tokens c.args.endpoint (record { birth = c.args.birth; position = fresh }) c.self.invariant
     unbound.0 unbound.1 here.node c.hold.ensures.held c.hold.ensures.names
-    (subst (λ n. n < limit.MAX_CONNECTIONS) (in_use_is c.self.inside.index c.self.inside.graph c.self.inside.connections c.self.inside.watching c.self.inside.tokens) here.room)
-    (leads_on c.self.inside.graph c.hold.new.self stay c.hold.ensures.tree c.self.invariant.tree))
+    (subst (λ n. n < limit.MAX_CONNECTIONS) (in_use_is c.self.inside.index c.self.inside.graph c.self.inside.connections c.self.inside.watching c.self.inside.tokens) here.room))
 
 pub returns-clause-bound : goal.returns-clause-bound
 returns-clause-bound c =

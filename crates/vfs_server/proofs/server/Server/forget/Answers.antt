@@ -1,9 +1,7 @@
 use Rattle.std.proofs.Common.{◌∙◌, sym, subst}
-use Rattle.node_graph.specs.Tree.{stay}
 use Rattle.vfs_server.specs.Binding.{Forgets}
 use Rattle.vfs_server.specs.Kept.{IsSound, Tokens}
 use Rattle.vfs_server.specs.Servers.{Server}
-use Rattle.vfs_server.proofs.Giving.{leads_on}
 use Rattle.vfs_server.proofs.Binding.{server_of}
 use Rattle.vfs_server.proofs.Held.{held_by_token}
 use Rattle.vfs_server.proofs.Maps.{nothing_cut}
@@ -19,8 +17,7 @@ pub invariant_of-self : goal.invariant_of-self
 invariant_of-self c =
     subst (λ (tokens : Tokens). IsSound c.release.new.self c.self.inside.connections c.self.inside.watching tokens) (sym c.remove.ensures.removed)
     (sound_forgotten c.self.inside.graph c.release.new.self c.self.inside.connections c.self.inside.watching c.self.inside.tokens _ c.in-Some.directory c.self.invariant
-    (sym c.remove.ensures.named ∙ c.in-Some.is) c.release.ensures.released c.release.ensures.names
-    (leads_on c.self.inside.graph c.release.new.self stay c.release.ensures.tree c.self.invariant.tree))
+    (sym c.remove.ensures.named ∙ c.in-Some.is) c.release.ensures.released c.release.ensures.names)
 
 pub invariant_of-self-in_default : goal.invariant_of-self-in_default
 invariant_of-self-in_default c =

@@ -1,11 +1,9 @@
 use Rattle.std.proofs.Common.{◌≡◌, ◌<◌, None, sym, subst}
 use Rattle.std.specs.FinMap as finite
 use Rattle.fidl_names.specs.declared.limits.TheConstants as limit
-use Rattle.node_graph.specs.Tree.{stay}
 use Rattle.vfs_server.specs.Binding.{IsDirectory, NamesBy}
 use Rattle.vfs_server.specs.Kept.{IsSound, Tokens}
 use Rattle.vfs_server.specs.Servers.{Server, named}
-use Rattle.vfs_server.proofs.Giving.{leads_on}
 use Rattle.vfs_server.proofs.Binding.{server_of}
 use Rattle.vfs_server.proofs.Held.{few_held}
 use Rattle.vfs_server.proofs.Naming.{is_unnamed, names_one}
@@ -22,8 +20,7 @@ invariant_of-self-2 c =
     let room = subst (λ (server : Server). finite.len server.tokens < limit.MAX_TOKENS) (sym c.self.view_is) c.requires.room in
     subst (λ (tokens : Tokens). IsSound c.hold.new.self c.self.inside.connections c.self.inside.watching tokens) (sym c.in_ok-insert.ensures.inserted)
     (sound_given c.self.inside.graph c.hold.new.self c.self.inside.connections c.self.inside.watching c.self.inside.tokens c.args.token c.args.directory c.self.invariant free
-    is_one c.hold.ensures.held c.hold.ensures.names room
-    (leads_on c.self.inside.graph c.hold.new.self stay c.hold.ensures.tree c.self.invariant.tree))
+    is_one c.hold.ensures.held c.hold.ensures.names room)
 
 pub returns-clause-named : goal.returns-clause-named
 returns-clause-named c =

@@ -9,4 +9,4 @@ pub invariant_of-result : goal.invariant_of-result
 invariant_of-result c =
     subst (λ (connections : Connections). IsSound c.args.graph connections c.new-2.result c.new-3.result) (sym c.new.ensures)
     (subst (λ (seats : Seats). IsSound c.args.graph finite.empty seats c.new-3.result) (sym c.new-2.ensures)
-    (subst (λ (tokens : Tokens). IsSound c.args.graph finite.empty [] tokens) (sym c.new-3.ensures) (sound_none c.args.graph c.requires.tree c.requires.unheld)))
+    (subst (λ (tokens : Tokens). IsSound c.args.graph finite.empty [] tokens) (sym c.new-3.ensures) (sound_none c.args.graph c.requires.unheld)))

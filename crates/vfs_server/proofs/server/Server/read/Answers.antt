@@ -15,7 +15,7 @@ use Rattle.vfs_server.specs.declared.asking.Asking.{Asking}
 use Rattle.vfs_server.specs.declared.fate.Fate.TheVariants as fates
 use Rattle.vfs_server.specs.Kept.{Connections, IsSound}
 use Rattle.watch_seats.specs.declared.watching.Seat.{Seat}
-use Rattle.vfs_server.specs.Parts.{asked_of}
+use Rattle.io_messages.specs.Asked.{asked}
 use Rattle.vfs_server.specs.Servers.{Server, connected, seen, seen_as}
 use Rattle.vfs_server.specs.Serving.{IsMomentOf, Serves}
 use Rattle.vfs_server.specs.Steps.{Answers, stays}
@@ -37,7 +37,7 @@ sound c =
     (λ old there.
     let served = c.read.ensures.read old there in
     subst (λ (connections : Connections). IsSound c.read.new.graph connections c.self.inside.watching c.self.inside.tokens) (sym served.2)
-    (sound_served c.self.inside.graph c.read.new.graph c.self.inside.connections c.self.inside.watching c.self.inside.tokens c.args.endpoint old served.0 c.self.invariant there served.1 c.read.ensures.tree))
+    (sound_served c.self.inside.graph c.read.new.graph c.self.inside.connections c.self.inside.watching c.self.inside.tokens c.args.endpoint old served.0 c.self.invariant there served.1))
     (λ none.
     let same = c.read.ensures.unchanged (c.read.ensures.there none) in
     subst (λ (connections : Connections). IsSound c.read.new.graph connections c.self.inside.watching c.self.inside.tokens) (sym same.0)
@@ -67,11 +67,11 @@ abbrev IsServing : (c : After-read) → Moment → List ℕ → Server → Conne
 IsServing c moment bytes server connections =
     Serves moment (outcome_of_sending moment (message bytes [])) fates.Stays c.read.new.out server (server_of c.self.inside.index c.read.new.graph connections c.self.inside.watching c.self.inside.tokens) c.args.outbox.now c.read.new.outbox
 
-on_connection : (c : After-read) (bytes : List ℕ) (token : Option ℕ) (moment : Moment) → request_of protocol.File bytes [] ≡ Ok (c.args.txid, asked_of c.args.part) → IsMomentOf (before c) c.args.endpoint token [] moment →
+on_connection : (c : After-read) (bytes : List ℕ) (token : Option ℕ) (moment : Moment) → request_of protocol.File bytes [] ≡ Ok (c.args.txid, asked c.args.request.now) → IsMomentOf (before c) c.args.endpoint token [] moment →
     (old : Connection) → finite.get c.self.inside.connections c.args.endpoint ≡ Some old → IfSome c.read.result (λ read. OnOk read (IsServing c moment bytes (before c) c.read.new.self))
 on_connection c bytes token moment is here old there =
     let served = c.read.ensures.read old there in
-    let kept = sound_served c.self.inside.graph c.read.new.graph c.self.inside.connections c.self.inside.watching c.self.inside.tokens c.args.endpoint old served.0 c.self.invariant there served.1 c.read.ensures.tree in
+    let kept = sound_served c.self.inside.graph c.read.new.graph c.self.inside.connections c.self.inside.watching c.self.inside.tokens c.args.endpoint old served.0 c.self.invariant there served.1 in
     let asked = is_asked c.self.inside.index c.self.inside.graph c.self.inside.connections c.self.inside.watching c.self.inside.tokens (asking c token) [] moment old there refl refl here in
     some_both _ _ (λ read. OnOk read (IsServing c moment bytes (before c) c.read.new.self)) c.read.result
     (λ read file answered. on_ok read

@@ -31,7 +31,7 @@ tell-requires-clause-can c =
     either_way _ (finite.get c.self.inside.connections c.args.endpoint)
     (λ old there.
     let served = c.serve-fate.ensures.served old there in
-    can_of c.self.inside.graph c.serve-fate.new.graph c.self.inside.connections c.self.inside.watching c.self.inside.tokens c.args.endpoint c.self.invariant c.serve-fate.ensures.tree old served.0 there served.1 (λ fate. done_with fate c.serve-fate.new.changes) c.serve-fate.result
+    can_of c.self.inside.graph c.serve-fate.new.graph c.self.inside.connections c.self.inside.watching c.self.inside.tokens c.args.endpoint c.self.invariant old served.0 there served.1 (λ fate. done_with fate c.serve-fate.new.changes) c.serve-fate.result
     c.args.outbox.now c.serve-fate.new.outbox served.3)
     (λ none. none_of c.serve-fate.new.graph (λ fate. done_with fate c.serve-fate.new.changes) c.serve-fate.result (c.serve-fate.ensures.passed_over none))
 
@@ -41,7 +41,7 @@ invariant_of-self c =
     (λ old there.
     let served = c.serve-fate.ensures.served old there in
     subst (λ (connections : Connections). IsSound c.serve-fate.new.graph connections c.self.inside.watching c.self.inside.tokens) (sym served.2)
-    (sound_served c.self.inside.graph c.serve-fate.new.graph c.self.inside.connections c.self.inside.watching c.self.inside.tokens c.args.endpoint old served.0 c.self.invariant there served.1 c.serve-fate.ensures.tree))
+    (sound_served c.self.inside.graph c.serve-fate.new.graph c.self.inside.connections c.self.inside.watching c.self.inside.tokens c.args.endpoint old served.0 c.self.invariant there served.1))
     (λ none.
     let same = c.serve-fate.ensures.unchanged none in
     subst (λ (connections : Connections). IsSound c.serve-fate.new.graph connections c.self.inside.watching c.self.inside.tokens) (sym same.0)
@@ -66,7 +66,7 @@ on_connection : (c : goal.After-tell) (moment : Moment) → IsMomentOf (before c
     IfOk c.tell.result (IsServing c moment (before c) c.serve-fate.new.self c.serve-fate.new.graph)
 on_connection c moment here old there =
     let served = c.serve-fate.ensures.served old there in
-    let sound = sound_served c.self.inside.graph c.serve-fate.new.graph c.self.inside.connections c.self.inside.watching c.self.inside.tokens c.args.endpoint old served.0 c.self.invariant there served.1 c.serve-fate.ensures.tree in
+    let sound = sound_served c.self.inside.graph c.serve-fate.new.graph c.self.inside.connections c.self.inside.watching c.self.inside.tokens c.args.endpoint old served.0 c.self.invariant there served.1 in
     let used = c.connections.ensures ∙ ap in_use (sym c.self.view_is) ∙ in_use_is c.self.inside.index c.self.inside.graph c.self.inside.connections c.self.inside.watching c.self.inside.tokens in
     let answers = served.4 c.self.inside.index moment
     (is_asked c.self.inside.index c.self.inside.graph c.self.inside.connections c.self.inside.watching c.self.inside.tokens _ (numbers_of c.args.handles.now) moment old there used refl here)

@@ -1,14 +1,12 @@
 use Rattle.std.proofs.Common.{◌≡◌, ◌∙◌, ◌<◌, ◌-◌, None, Some, ap, is_some, subst, sym}
 use Rattle.std.specs.FinMap as finite
 use Rattle.node_graph.specs.Graph.{HoldsNow, Names, holds_at, number_of}
-use Rattle.node_graph.specs.Tree.{stay}
 use Rattle.watch_seats.specs.declared.watching.Seat.{Seat}
 use Rattle.vfs_server.specs.Binding.{Unbinds}
 use Rattle.vfs_server.specs.Kept.{Connections, IsSound}
 use Rattle.vfs_server.specs.Servers.{Server}
 use Rattle.watch_seats.specs.Seats.{Seats, seat_at, without}
 use Rattle.vfs_server.proofs.Binding.{seat_found, seat_none, server_of, unbinds_none, unbinds_one, unwatches_one}
-use Rattle.vfs_server.proofs.Giving.{leads_on}
 use Rattle.vfs_server.proofs.Held.{held_by_watcher, held_there, watched_there}
 use Rattle.vfs_server.proofs.Maps.{nothing_cut}
 use Rattle.watch_seats.proofs.Seats.{without_none}
@@ -32,7 +30,7 @@ pub invariant_of-self : goal.invariant_of-self
 invariant_of-self c =
     subst (λ (connections : Connections). IsSound c.release.new.self connections c.self.inside.watching c.self.inside.tokens) (sym c.remove.ensures.removed)
     (sound_less c.self.inside.graph c.release.new.self c.self.inside.connections c.self.inside.watching c.self.inside.tokens c.args.endpoint c.in-Some.connection c.self.invariant (connected c)
-    (released c) c.release.ensures.names (leads_on c.self.inside.graph c.release.new.self stay c.release.ensures.tree c.self.invariant.tree))
+    (released c) c.release.ensures.names)
 
 pub returns-in-Some : goal.returns-in-Some
 returns-in-Some c =
@@ -92,8 +90,7 @@ invariant_of-self-in-Some-remove c =
     subst (λ (connections : Connections). IsSound c.release-in-Some-remove.new.self connections c.remove-in_default.new.self c.self.inside.tokens) (same_connections c)
     (subst (λ (seats : Seats). IsSound c.release-in-Some-remove.new.self c.self.inside.connections seats c.self.inside.tokens) (sym c.remove-in_default.ensures.removed)
     (sound_unwatched c.self.inside.graph c.release-in-Some-remove.new.self c.self.inside.connections c.self.inside.watching c.self.inside.tokens c.args.endpoint found.0 c.self.invariant found.1 (gone c)
-    (let_off c) c.release-in-Some-remove.ensures.names
-    (leads_on c.self.inside.graph c.release-in-Some-remove.new.self stay c.release-in-Some-remove.ensures.tree c.self.invariant.tree)))
+    (let_off c) c.release-in-Some-remove.ensures.names))
 
 pub returns-in-Some-remove : goal.returns-in-Some-remove
 returns-in-Some-remove c =

@@ -2,13 +2,11 @@ use Rattle.std.proofs.Common.{◌≡◌, ◌<◌, None, subst, sym}
 use Rattle.std.specs.FinMap as finite
 use Rattle.fidl_names.specs.declared.limits.TheConstants as limit
 use Rattle.node_graph.specs.Graph.{number_of}
-use Rattle.node_graph.specs.Tree.{stay}
 use Rattle.vfs_server.specs.Binding.{Binds, CanWatch}
 use Rattle.vfs_server.specs.Kept.{IsSound}
 use Rattle.vfs_server.specs.Servers.{Server, seen, watcher_with}
 use Rattle.watch_seats.specs.Seats.{Seats, seat_at}
 use Rattle.vfs_server.proofs.Binding.{both_free, in_use_is, server_of, watches_one}
-use Rattle.vfs_server.proofs.Giving.{leads_on}
 use Rattle.vfs_server.proofs.Held.{few_held}
 use Rattle.vfs_server.proofs.Seats.{counted_as}
 use Rattle.vfs_server.proofs.Sound.{sound_watched}
@@ -43,8 +41,7 @@ invariant_of-self-2 c =
     subst (λ (seats : Seats). IsSound c.hold.new.self c.self.inside.connections seats c.self.inside.tokens) (sym c.in_ok-add.ensures.added)
     (sound_watched c.self.inside.graph c.hold.new.self c.self.inside.connections c.self.inside.watching c.self.inside.tokens c.args.endpoint (record { directory = c.args.directory; mask = c.args.mask }) c.self.invariant
     unbound.0 unbound.1 here.directory c.hold.ensures.held c.hold.ensures.names
-    (subst (λ n. n < limit.MAX_CONNECTIONS) (in_use_is c.self.inside.index c.self.inside.graph c.self.inside.connections c.self.inside.watching c.self.inside.tokens) here.room)
-    (leads_on c.self.inside.graph c.hold.new.self stay c.hold.ensures.tree c.self.invariant.tree))
+    (subst (λ n. n < limit.MAX_CONNECTIONS) (in_use_is c.self.inside.index c.self.inside.graph c.self.inside.connections c.self.inside.watching c.self.inside.tokens) here.room))
 
 pub returns-clause-watches : goal.returns-clause-watches
 returns-clause-watches c =
