@@ -15,7 +15,7 @@ const FEW: usize = 72;
 
 // The groups of the index with that room, and the most names that it takes in one of them, which is
 // as many as a group has room for. One more would go on to the next groups, and as far as these are
-// full. There are so many groups that ordinary names, as many as there can be, don't fill one.
+// full. There are so many groups that ordinary names hardly ever fill one.
 const GROUPS: usize = 2048;
 
 const GROUP: u8 = 12;

@@ -1,11 +1,13 @@
 -- The lists of the generated workload keep the rules of a tree.
 use Rattle.std.proofs.Common.{◌≡◌, ◌≢◌, ◌<◌, ℕ, zero, suc, List, [], ◌∷◌, All, AllPairs, None, codes, slice_index, ap, refl, arith, inr}
 use Rattle.std.specs.Str.{is_utf8, chars}
+use Rattle.std.proofs.lemmas.List.Elements.{All-nil}
 use lib.Utf8.{encode}
+use Rattle.fidl_names.specs.Numbers.{AreBytes}
 use Rattle.path_walk.specs.Names.{IsName, name_fault}
-use Rattle.path_walk.specs.Parts.{before_last_slash, parent_of}
-use Rattle.path_walk.specs.Paths.{path_fault, names_of}
-use Rattle.session_start.specs.Accepted.{AreAccepted, AreItems, AreServers, IsAt, IsNode, IsMount, IsClient, OtherEndpoint}
+use Rattle.path_walk.specs.Parts.{parent_of}
+use Rattle.path_walk.specs.Paths.{path_fault, names_of, text_of}
+use Rattle.session_start.specs.Accepted.{AreAccepted, AreItems, AreOfStart, AreServers, HasFilesOfBytes, IsAt, IsNode, IsMount, IsClient, OtherEndpoint}
 use Rattle.session_start.specs.RulesOnLists.{first_failing, found_among, is_directory, first_broken, rules_on_lists}
 use Rattle.tree_file.specs.Generated.{directory_of, mount_of_second, client_of_first, generated_lists}
 
@@ -67,8 +69,14 @@ items_kept =
     }
 
 places_kept : first_broken 8 (rules_on_lists generated_lists) ≡ None
-unfolding first_failing found_among is_directory parent_of before_last_slash
+unfolding first_failing found_among is_directory parent_of names_of text_of
 places_kept = refl
 
 pub generated_accepted : AreAccepted generated_lists
 generated_accepted = record { items = items_kept; placed = places_kept }
+
+files_kept : HasFilesOfBytes generated_lists
+files_kept = all_of_two (λ node. AreBytes node.bytes) (directory_of 0) (directory_of 1) (All-nil (λ byte. byte < 256)) (All-nil (λ byte. byte < 256))
+
+pub generated_of_start : AreOfStart generated_lists
+generated_of_start = record { accepted = generated_accepted; bytes = files_kept }

@@ -6,5 +6,4 @@ pub mod First
 pub mod Read
 pub mod Accepted
 pub mod GeneratedRules
-mod GeneratedText
 pub mod Starts

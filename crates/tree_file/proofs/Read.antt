@@ -11,6 +11,7 @@ use Rattle.fidl_names.specs.HandleNumber.{is_client}
 use Rattle.fidl_names.specs.declared.limits.TheConstants as limit
 use Rattle.node_graph.specs.declared.nodes.NodeKind.{NodeKind}
 use Rattle.node_graph.specs.declared.nodes.NodeKind.TheVariants.{Directory, File, Service, Mount}
+use Rattle.node_graph.specs.Refusals.{is_file}
 use Rattle.path_walk.specs.Names.{name_fault, IsName}
 use Rattle.path_walk.specs.Parts.{is_dot}
 use Rattle.path_walk.specs.Paths.{path_fault}
@@ -19,7 +20,7 @@ use Rattle.session_start.specs.Accepted.{IsPlain, IsNode, IsMount, IsClient, Are
 use Rattle.session_start.specs.Items.{NodeItem, MountItem, ClientItem}
 use Rattle.session_start.proofs.Found.{same_some, from_none, found_none, none_pass}
 use Rattle.tree_file.specs.Fields.{◌>>=◌, has_only, text_at}
-use Rattle.tree_file.specs.Reading.{index_of, server_at, path_at, place_at, kind_at, rights_at, is_file, bytes_from, bytes_at, node_keys, node_of, mount_keys, mount_of, client_keys, client_of, endpoint_from, endpoint_at, is_new_endpoint, is_new_name, server_of, read_all}
+use Rattle.tree_file.specs.Reading.{index_of, server_at, path_at, place_at, kind_at, rights_at, bytes_from, bytes_at, node_keys, node_of, mount_keys, mount_of, client_keys, client_of, endpoint_from, endpoint_at, is_new_endpoint, is_new_name, server_of, read_all}
 use Rattle.tree_file.specs.Rules.{all_or_none}
 use Rattle.tree_file.specs.Texts.{only, is_name, is_path, kind_of, hex_of}
 use Rattle.tree_file.proofs.Passes.{server_few}

@@ -1,5 +1,5 @@
 -- What each item of the lists of a tree stands for; None where it breaks the rule of its list.
-use Rattle.std.specs.Prelude.{ℕ, Bool, true, false, not, ◌&&◌, ◌==◌, nat_lt, if◌then◌else◌, List, [], ◌∷◌, ◌++◌, length, codes, ℤ, pos, negsuc, Option, Some, None, is_none, position, Result, Ok, Err}
+use Rattle.std.specs.Prelude.{ℕ, Bool, not, ◌&&◌, ◌==◌, nat_lt, if◌then◌else◌, List, [], ◌∷◌, ◌++◌, length, codes, ℤ, pos, negsuc, Option, Some, None, is_none, position, Result, Ok, Err}
 use Rattle.std.specs.List.{list_any}
 use Rattle.std.specs.Str.{bytes_eq}
 use Rattle.fidl_names.specs.HandleNumber.{is_client}
@@ -8,7 +8,7 @@ use Rattle.toml.specs.Data.{Data, get, as_str, as_integer}
 use Rattle.io_rights.specs.Letters.{rights_of}
 use Rattle.io_rights.specs.Operations.{OperationSet, all}
 use Rattle.node_graph.specs.declared.nodes.NodeKind.{NodeKind}
-use Rattle.node_graph.specs.declared.nodes.NodeKind.TheVariants.{File}
+use Rattle.node_graph.specs.Refusals.{is_file}
 use Rattle.tree_file.specs.Fields.{◌>>=◌, has_only, text_at}
 use Rattle.path_walk.specs.Parts.{is_dot}
 use Rattle.session_start.specs.Items.{NodeItem, MountItem, ClientItem}
@@ -46,10 +46,6 @@ server_of earlier value = if has_only (codes "name" ∷ []) value then only (is_
 
 unfoldable pub kind_at : Data → Option NodeKind
 kind_at value = text_at (codes "kind") value >>= kind_of
-
-abbrev pub is_file : NodeKind → Bool
-is_file File = true
-is_file _ = false
 
 -- `text` and `hex` stand with a file alone, and not together; without either there are no bytes
 abbrev pub bytes_from : NodeKind → Option Data → Option Data → Option (List ℕ)

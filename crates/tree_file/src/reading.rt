@@ -3,10 +3,11 @@ ghost use Rattle.std.specs.List.{list_all};
 ghost use Rattle.std.specs.Option.{option_copied, option_and_then, option_map};
 ghost use Rattle.toml.specs.Data.{as_str};
 ghost use Rattle.toml.specs.View.{view};
+ghost use Rattle.node_graph.specs.Refusals.{is_file};
 ghost use Rattle.session_start.specs.Items.{ClientItem};
 ghost use Rattle.session_start.specs.Lent.{mount_item, client_item};
 ghost use Rattle.tree_file.specs.Texts.{only, kind_of, is_digit, hex_of};
-ghost use Rattle.tree_file.specs.Reading.{index_of, server_at, path_at, place_at, rights_at, is_new_name, server_of, kind_at, is_file, bytes_at, is_new_endpoint, endpoint_at, endpoint_from, node_of, mount_of, client_of};
+ghost use Rattle.tree_file.specs.Reading.{index_of, server_at, path_at, place_at, rights_at, is_new_name, server_of, kind_at, bytes_at, is_new_endpoint, endpoint_at, endpoint_from, node_of, mount_of, client_of};
 ghost use Rattle.tree_file.specs.Kept.{HasEndpoints};
 
 use crate::fields::{has_only, text_at};

@@ -1,10 +1,7 @@
-use Rattle.std.proofs.Common.{sym, ◌∙◌}
-use Rattle.std.proofs.lemmas.Option.{same_Some}
-use Rattle.tree_file.proofs.GeneratedText.{generated_read, generated_kept}
+use Rattle.std.proofs.Common.{sym, subst}
+use Rattle.session_start.specs.Accepted.{AreOfStart}
+use Rattle.tree_file.proofs.GeneratedRules.{generated_of_start}
 use Rattle.tree_file.proofs.generated.generated_start.Goals as goal
 
-pub unreachable-requires : goal.unreachable-requires
-unreachable-requires c = generated_kept c.in-Err-Rule.field-0 c.in-Err-Rule.field-0-0 c.in-Err-Rule.field-0-1 c.in-Err-Rule.field-0-is c.in-Err-Rule.ensures.refused
-
-pub returns-in-Ok-clause-start : goal.returns-in-Ok-clause-start
-returns-in-Ok-clause-start c = same_Some _ _ (sym c.in-Ok.ensures.start ∙ generated_read)
+pub new-requires : goal.new-requires
+new-requires c = subst AreOfStart (sym c.in_ok-generated_lists.ensures) generated_of_start
