@@ -39,10 +39,11 @@ pub record IsGivenWith (start : Start) (history : History) (token : ℕ) : Type 
   pub first : find (λ given. given.token == token) (all_given history) ≡ Some given
   pub authority : IsGivenWithAuthority start history given
 
--- a request that makes this change, and what authority each has: to write or resize, each member of the lineage, and so the connection itself
--- and each on the way, has WRITE_BYTES; to take out, add or move a name MODIFY_DIRECTORY, and so for the token that names where to; to make a
--- node each member of the trail and each mask of the walk has MODIFY_DIRECTORY; and to truncate each member of the lineage of
--- what is bound has WRITE_BYTES, its own rights among them
+-- a request that makes this change, and what authority each has: to write or resize, each member of
+-- the lineage, and so the connection itself and each on the way, has WRITE_BYTES; to take out, add or
+-- move a name MODIFY_DIRECTORY, and so for the token that names where to; to make a node each member
+-- of the trail and each mask of the walk has MODIFY_DIRECTORY; and to truncate each member of the
+-- lineage of what is bound has WRITE_BYTES, its own rights among them
 abbrev pub HasAuthority : Start → History → Sent → Moment → Asked → Change → Type 0
 HasAuthority start past sent moment (asks.write bytes) change = EachHas op.WriteBytes (lineage_of start past sent.endpoint)
 HasAuthority start past sent moment (asks.write_at bytes offset) change = EachHas op.WriteBytes (lineage_of start past sent.endpoint)
@@ -54,7 +55,8 @@ HasAuthority start past sent moment (asks.open_path path word attributes object)
     EachHas op.ModifyDirectory (trail_of start past sent) × EachHas op.ModifyDirectory (masks_of (walk_at moment path word))
 HasAuthority start past sent moment (asks.open_path path word attributes object) (fill node bytes) =
     EachHas op.WriteBytes
-    (lineage_given (lines_of start past) sent moment (asks.open_path path word attributes object) ++ rights_bound (event_of start past (serves sent)))
+    (lineage_given (lines_of start past) sent moment (asks.open_path path word attributes object)
+    ++ rights_bound (event_of start past (serves sent)))
 HasAuthority start past sent moment _ change = ⊥
 
 -- the connection that served it read a request that has the authority

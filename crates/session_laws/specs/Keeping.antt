@@ -28,8 +28,9 @@ AtEachServing journal Holds = (later past : Journal) (sent : Sent) → journal �
 pub record KeepsLaws (start : Start) (journal : Journal) : Type 0 where
   -- nothing is served twice, and each endpoint is served in order of sending
   pub once : AreServedOnce journal (history_of start journal)
-  -- no endpoint has a right that its lineage lacks, in which its own rights stand; that of a client's begins at its ancestor; the trail of an
-  -- Open that came over a mount begins at the connection that it comes from, and no such Open asks for what its trail lacks
+  -- no endpoint has a right that its lineage lacks, in which its own rights stand; that of a client's
+  -- begins at its ancestor; the trail of an Open that came over a mount begins at the connection that
+  -- it comes from, and no such Open asks for what its trail lacks
   pub rights : AtEachTime journal (λ past. RightsAreWithin start (history_of start past))
   pub ancestors : AtEachTime journal (λ past. LineagesBegin start (history_of start past))
   pub trails : AtEachTime journal (λ past. TrailsBegin start (history_of start past))
