@@ -17,7 +17,8 @@ use Rattle.io_rights.specs.Needs.{needed_by}
 use Rattle.conn_rules.specs.Births.{Birth}
 use Rattle.conn_rules.specs.Answers.{Act, only, replies, closes, binds}
 use Rattle.conn_rules.specs.Contexts.{Context}
-use Rattle.conn_rules.specs.FileRows.{read_act, read_at_act, write_act, write_at_act, seek_act, resize_act}
+use Rattle.conn_rules.specs.FileRows.{read_act, read_at_act, write_act, write_at_act, seek_act}
+use Rattle.conn_rules.specs.FileRows.{resize_act}
 use Rattle.conn_rules.specs.Listings.{listing_act, rewind_act}
 use Rattle.conn_rules.specs.NameRows.{unlink_act, link_act, rename_act, token_act, watch_act}
 use Rattle.conn_rules.specs.Nodes.{attributes_of, protocol_name}
@@ -30,7 +31,8 @@ use Rattle.conn_rules.specs.Refusals.{unless, lacks}
 -- the endpoint is bound like this connection, with a fresh position
 abbrev pub clone_act : Context → Act
 clone_act context =
-    unless (first_of (cause_if (is_full context.room) status.NoResources ∷ [])) context.position method.Clone
+    unless (first_of (cause_if (is_full context.room) status.NoResources ∷ []))
+    context.position method.Clone
     (only context.position (binds context.birth false))
 
 -- ---- all rows
@@ -38,9 +40,11 @@ clone_act context =
 abbrev pub row_act : Context → Asked → Act
 row_act context (asks.clone endpoint) = clone_act context
 row_act context asks.close = only context.position closes
-row_act context asks.query = only context.position (replies (payload method.Query (protocol_name context.birth.protocol)))
+row_act context asks.query =
+    only context.position (replies (payload method.Query (protocol_name context.birth.protocol)))
 row_act context (asks.get_attributes bits) =
-    only context.position (replies (attributes (attributes_of context.tree context.birth.node bits)))
+    only context.position
+    (replies (attributes (attributes_of context.tree context.birth.node bits)))
 row_act context asks.sync = only context.position (replies (done method.Sync))
 row_act context (asks.open_path path flags given object) = open_act context path flags
 row_act context (asks.read_dirents most) = listing_act context most
@@ -56,7 +60,8 @@ row_act context (asks.write bytes) = write_act context bytes
 row_act context (asks.write_at bytes offset) = write_at_act context bytes offset
 row_act context (asks.seek origin offset) = seek_act context origin offset
 row_act context (asks.resize size) = resize_act context size
-row_act context (asks.echo_string value) = only context.position (replies (payload method.EchoString value))
+row_act context (asks.echo_string value) =
+    only context.position (replies (payload method.EchoString value))
 
 -- ---- before the rows
 
@@ -73,7 +78,8 @@ is_beyond protocol.Node method = not (is_of_every_node (home_of method))
 is_beyond protocol.Echo method = false
 is_beyond protocol.Watcher method = false
 
--- a right that the method needs is wanting. No connection to a service lacks CONNECT, without which none is bound
+-- a right that the method needs is wanting. No connection to a service lacks CONNECT, without which
+-- none is bound
 abbrev pub lacks_right : Birth → Method → Bool
 lacks_right birth method = option_map_or (lacks birth.rights) (needed_by method) false
 
@@ -86,5 +92,6 @@ method_refusals birth method =
 -- what one request does: its method is refused, or its row says it
 unfoldable pub act_of : Context → Asked → Act
 act_of context request =
-    unless (first_of (method_refusals context.birth (method_of request))) context.position (method_of request)
+    unless (first_of (method_refusals context.birth (method_of request)))
+    context.position (method_of request)
     (row_act context request)

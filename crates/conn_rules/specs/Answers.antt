@@ -14,7 +14,8 @@ pub data Answer : Type 0 where
   replies : Answered → Answer
   -- the reply to Close on it, and then it ends
   closes : Answer
-  -- the endpoint that the request carries is bound; its first message tells what it is, where that was asked for
+  -- the endpoint that the request carries is bound; its first message tells what it is, where that
+  -- was asked for
   binds : Birth → (announced : Bool) → Answer
   -- the reply to Watch; the endpoint that the request carries is bound as a watcher with this mask
   watches : (mask : ℕ) → Answer
@@ -29,7 +30,8 @@ pub data Answer : Type 0 where
   -- nothing is written
   silent : Answer
 
--- what the watchers of a directory are told: a name is gone from it, a name is new in it, it is gone itself
+-- what the watchers of a directory are told: a name is gone from it, a name is new in it, it is
+-- gone itself
 pub data Happening : Type 0 where
   removed : (name : EdgeKey) → Happening
   added : (name : EdgeKey) → Happening
@@ -43,7 +45,8 @@ abbrev pub gone : Option ℕ → List Happening
 gone None = []
 gone (Some directory) = deleted directory ∷ []
 
--- an answer, the position that it leaves, the change of the server's tree, and what watchers are told of it, in this order
+-- an answer, the position that it leaves, the change of the server's tree, and what watchers are
+-- told of it, in this order
 pub record Act : Type 0 where
   pub answer : Answer
   pub position : Position
@@ -52,10 +55,12 @@ pub record Act : Type 0 where
 
 -- an answer that leaves this position, and changes nothing else
 abbrev pub only : Position → Answer → Act
-only position answer = record { answer = answer; position = position; change = stay; told = nothing_told }
+only position answer =
+    record { answer = answer; position = position; change = stay; told = nothing_told }
 
--- how a request fails, by the form of its method's failures: in its reply, or on the endpoint that it carries. A method whose reply has no
--- place for a status never fails; what stands here for it is no reply that is written
+-- how a request fails, by the form of its method's failures: in its reply, or on the endpoint that
+-- it carries. A method whose reply has no place for a status never fails; what stands here for it
+-- is no reply that is written
 abbrev pub failure_by : Failing → Method → Status → Answer
 failure_by failing.Reply method status = replies (fails method status)
 failure_by failing.Epitaph method status = refuses status

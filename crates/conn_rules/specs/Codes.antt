@@ -37,9 +37,16 @@ protocol_code = code_by ℕ coded_ℕ number_of_protocol protocol_with protocol_
 
 abbrev pub birth_code : Coded code.Birth
 birth_code =
-    code_by (NodeRef × (OperationSet × (Protocol × (Bool × Bool)))) (coded× node_code (coded× mask_code (coded× protocol_code (coded× coded_bool coded_bool))))
+    code_by (NodeRef × (OperationSet × (Protocol × (Bool × Bool))))
+    (coded× node_code (coded× mask_code (coded× protocol_code (coded× coded_bool coded_bool))))
     (λ b. (b.node, (b.rights, (b.protocol, (b.append, b.announce)))))
-    (λ p. record { node = p.0; rights = p.1.0; protocol = p.1.1.0; append = p.1.1.1.0; announce = p.1.1.1.1 })
+    (λ p. record {
+      node = p.0;
+      rights = p.1.0;
+      protocol = p.1.1.0;
+      append = p.1.1.1.0;
+      announce = p.1.1.1.1;
+    })
     (λ _. refl)
 
 abbrev pub place_pair : Place → ℕ × List ℕ
@@ -58,10 +65,13 @@ place_back AfterDot = refl
 place_back (After name) = refl
 
 abbrev pub place_code : Coded Place
-place_code = code_by (ℕ × List ℕ) (coded× coded_ℕ (coded_list coded_ℕ)) place_pair (λ p. place_from p.0 p.1) place_back
+place_code = code_by (ℕ × List ℕ) (coded× coded_ℕ (coded_list coded_ℕ)) place_pair
+    (λ p. place_from p.0 p.1) place_back
 
 abbrev pub position_code : Coded Position
-position_code = code_by (ℕ × Place) (coded× coded_ℕ place_code) (λ p. (p.offset, p.place)) (λ p. record { offset = p.0; place = p.1 }) (λ _. refl)
+position_code = code_by (ℕ × Place) (coded× coded_ℕ place_code) (λ p. (p.offset, p.place))
+    (λ p. record { offset = p.0; place = p.1 }) (λ _. refl)
 
 abbrev pub connection_code : Coded Connection
-connection_code = code_by (code.Birth × Position) (coded× birth_code position_code) (λ c. (c.birth, c.position)) (λ p. record { birth = p.0; position = p.1 }) (λ _. refl)
+connection_code = code_by (code.Birth × Position) (coded× birth_code position_code)
+    (λ c. (c.birth, c.position)) (λ p. record { birth = p.0; position = p.1 }) (λ _. refl)

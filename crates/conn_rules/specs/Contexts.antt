@@ -4,8 +4,8 @@ use Rattle.node_graph.specs.Tree.{Tree}
 use Rattle.conn_rules.specs.declared.births.Room.{Room}
 use Rattle.conn_rules.specs.Births.{Birth, Connection, Position, born}
 
--- the connection's birth and position, what is in use at its server, the tree there, and the directory there that a token
--- names
+-- the connection's birth and position, what is in use at its server, the tree there, and the
+-- directory there that a token names
 pub record Context : Type 0 where
   pub birth : Birth
   pub position : Position

@@ -1,5 +1,6 @@
 -- The rows of a file's own methods.
-use Rattle.std.specs.Prelude.{ℕ, ◌+◌, ◌^◌, ◌==◌, Bool, true, nat_lt, nat_le, if◌then◌else◌, List, [], ◌∷◌, length, take, drop, Option, ℤ, pos, negsuc, ◌+ℤ◌}
+use Rattle.std.specs.Prelude.{ℕ, ◌+◌, ◌^◌, ◌==◌, Bool, true, nat_lt, nat_le, if◌then◌else◌, List}
+use Rattle.std.specs.Prelude.{[], ◌∷◌, length, take, drop, Option, ℤ, pos, negsuc, ◌+ℤ◌}
 use Rattle.fidl_names.specs.declared.methods.Method.TheVariants as method
 use Rattle.fidl_names.specs.declared.limits.TheConstants as limit
 use Rattle.fidl_names.specs.declared.statuses.Status.{Status}
@@ -40,24 +41,28 @@ abbrev pub read_act : Context → ℕ → Act
 read_act context count =
     unless (reading_refusal count) context.position method.Read
     (only
-    (at_byte context.position (context.position.offset + length (part_from context.position.offset count (bytes_here context))))
+    (at_byte context.position (context.position.offset
+    + length (part_from context.position.offset count (bytes_here context))))
     (replies (payload method.Read (part_from context.position.offset count (bytes_here context)))))
 
 -- the bytes from an offset
 abbrev pub read_at_act : Context → ℕ → ℕ → Act
 read_at_act context count offset =
     unless (reading_refusal count) context.position method.ReadAt
-    (only context.position (replies (payload method.ReadAt (part_from offset count (bytes_here context)))))
+    (only context.position
+    (replies (payload method.ReadAt (part_from offset count (bytes_here context)))))
 
 -- ---- writing
 
 abbrev pub writing_refusal : ℕ → List ℕ → Option Status
 writing_refusal offset bytes =
-    first_of (cause_if (is_too_much (length bytes)) status.OutOfRange ∷ as_status (write_refusal offset bytes) ∷ [])
+    first_of (cause_if (is_too_much (length bytes)) status.OutOfRange
+    ∷ as_status (write_refusal offset bytes) ∷ [])
 
 -- where a Write begins: at the position, or at the file's end where the connection appends
 abbrev pub write_start : Context → ℕ
-write_start context = if context.birth.append then length (bytes_here context) else context.position.offset
+write_start context =
+    if context.birth.append then length (bytes_here context) else context.position.offset
 
 -- the position behind what was written; where nothing is, as it was
 abbrev pub behind_written : Position → ℕ → List ℕ → Position
@@ -77,7 +82,8 @@ written_act context position offset bytes answered =
 abbrev pub write_act : Context → List ℕ → Act
 write_act context bytes =
     unless (writing_refusal (write_start context) bytes) context.position method.Write
-    (written_act context (behind_written context.position (write_start context) bytes) (write_start context) bytes
+    (written_act context (behind_written context.position (write_start context) bytes)
+    (write_start context) bytes
     (counted method.Write (length bytes)))
 
 abbrev pub write_at_act : Context → List ℕ → ℕ → Act
@@ -90,7 +96,9 @@ write_at_act context bytes offset =
 -- what a seek counts from: 0 the file's start, 1 the position, 2 the file's end
 abbrev pub seek_base : Context → ℕ → ℕ
 seek_base context origin =
-    if origin == 0 then 0 else if origin == 1 then context.position.offset else length (bytes_here context)
+    if origin == 0 then 0
+    else if origin == 1 then context.position.offset
+    else length (bytes_here context)
 
 -- a position is a number from 0 to 2^63 - 1
 abbrev pub is_no_position : ℤ → Bool

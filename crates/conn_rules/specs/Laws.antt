@@ -1,4 +1,5 @@
--- Laws of the definitions: of the rows of every tree that a graph stands for, of tokens, and of what an Open binds.
+-- Laws of the definitions: of the rows of every tree that a graph stands for, of tokens, and of
+-- what an Open binds.
 use Rattle.std.specs.Prelude.{◌≡◌, ℕ, Bool, List, [], ◌∷◌, Some, All, IsTrue}
 use Rattle.fidl_names.specs.declared.methods.Handle.{Handle}
 use Rattle.fidl_names.specs.declared.methods.Handle.TheVariants.{Token}
@@ -25,7 +26,8 @@ pub record IsRowOf (graph : Kept) (tree : Tree) (node : NodeRef) : Type 0 where
   pub bytes : bytes_of tree (number_of node) ≡ bytes_at graph (number_of node)
 
 abbrev pub KeptNodesAreRows : Type 0
-KeptNodesAreRows = (graph : Kept) (tree : Tree) (node : NodeRef) → StandsFor graph tree → Names graph node → IsRowOf graph tree node
+KeptNodesAreRows = (graph : Kept) (tree : Tree) (node : NodeRef) → StandsFor graph tree →
+    Names graph node → IsRowOf graph tree node
 
 -- ---- tokens
 
@@ -36,24 +38,32 @@ tokens_in _ = []
 
 -- a token was given exactly where the output has a handle: that of the token
 abbrev pub HandlesAreTokens : Type 0
-HandlesAreTokens = (txid : ℕ) (a : Answered) (out : Written) → HasReply txid a out → out.handles ≡ tokens_in a
+HandlesAreTokens =
+    (txid : ℕ) (a : Answered) (out : Written) → HasReply txid a out → out.handles ≡ tokens_in a
 
 -- ---- what an Open binds
 
 -- some rights lie within these, and within each of these masks
 abbrev pub IsWithinAll : OperationSet → OperationSet → List OperationSet → Type 0
-IsWithinAll some rights masks = IsTrue (is_within some rights) × All (λ mask. IsTrue (is_within some mask)) masks
+IsWithinAll some rights masks =
+    IsTrue (is_within some rights) × All (λ mask. IsTrue (is_within some mask)) masks
 
--- what an Open binds has the rights that its flags get under what its connection and the masks on its way leave
+-- what an Open binds has the rights that its flags get under what its connection and the masks on
+-- its way leave
 abbrev pub OpensGrant : Type 0
 OpensGrant =
     (context : Context) (path : List ℕ) (word : ℕ) (found : Birth) (announced : Bool) →
     (open_act context path word).answer ≡ binds found announced →
-    grant_of word (limit_of context.birth.rights (masks_of (walk context.tree word (names_of path) context.birth.node))) ≡ Some found.rights
+    grant_of word
+    (limit_of context.birth.rights
+    (masks_of (walk context.tree word (names_of path) context.birth.node)))
+    ≡ Some found.rights
 
--- what an Open binds has no right that its connection lacks, and none that the mask of a name on its way lacks
+-- what an Open binds has no right that its connection lacks, and none that the mask of a name on
+-- its way lacks
 abbrev pub OpensOnlyNarrow : Type 0
 OpensOnlyNarrow =
     (context : Context) (path : List ℕ) (word : ℕ) (found : Birth) (announced : Bool) →
     (open_act context path word).answer ≡ binds found announced →
-    IsWithinAll found.rights context.birth.rights (masks_of (walk context.tree word (names_of path) context.birth.node))
+    IsWithinAll found.rights context.birth.rights
+    (masks_of (walk context.tree word (names_of path) context.birth.node))

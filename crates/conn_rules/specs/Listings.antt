@@ -27,11 +27,14 @@ abbrev pub listing_act : Context → ℕ → Act
 listing_act context most =
     unless
     (first_of
-    (cause_if (is_too_much most) status.InvalidArgs ∷ cause_if (fits_none (listing_here context) most) status.BufferTooSmall ∷ []))
+    (cause_if (is_too_much most) status.InvalidArgs
+    ∷ cause_if (fits_none (listing_here context) most) status.BufferTooSmall ∷ []))
     context.position method.ReadDirents
     (only
-    (at_place context.position (place_after context.position.place (fitting (listing_here context) most)))
-    (replies (payload method.ReadDirents (flat_map dirent_bytes (fitting (listing_here context) most)))))
+    (at_place context.position
+    (place_after context.position.place (fitting (listing_here context) most)))
+    (replies
+    (payload method.ReadDirents (flat_map dirent_bytes (fitting (listing_here context) most)))))
 
 -- the listing begins anew
 abbrev pub rewind_act : Context → Act

@@ -1,5 +1,7 @@
--- Open: the node at a path is bound to the endpoint that the request carries, or made first, or the Open goes on behind a mount.
-use Rattle.std.specs.Prelude.{ℕ, ◌+◌, ◌&&◌, ◌||◌, Bool, not, nat_le, is_some, if◌then◌else◌, List, [], ◌∷◌, length, Option}
+-- Open: the node at a path is bound to the endpoint that the request carries, or made first, or the
+-- Open goes on behind a mount.
+use Rattle.std.specs.Prelude.{ℕ, ◌+◌, ◌&&◌, ◌||◌, Bool, not, nat_le, is_some, if◌then◌else◌, List}
+use Rattle.std.specs.Prelude.{[], ◌∷◌, length, Option}
 use Rattle.std.specs.Option.{option_map}
 use Rattle.std.specs.Str.{bytes_eq}
 use Rattle.fidl_names.specs.declared.limits.TheConstants as limit
@@ -23,7 +25,8 @@ use Rattle.path_walk.specs.Names.{dot}
 use Rattle.path_walk.specs.Paths.{path_fault, names_of}
 use Rattle.conn_rules.specs.declared.births.Room.{Room}
 use Rattle.conn_rules.specs.Births.{Birth, Position}
-use Rattle.conn_rules.specs.Answers.{Answer, binds, forwards, added, Act, only, failure_of, nothing_told}
+use Rattle.conn_rules.specs.Answers.{Answer, binds, forwards, added, Act, only, failure_of}
+use Rattle.conn_rules.specs.Answers.{nothing_told}
 use Rattle.conn_rules.specs.Contexts.{Context}
 use Rattle.conn_rules.specs.Nodes.{kind_here, is_file, is_service}
 use Rattle.fidl_names.specs.First.{cause_if, first_of}
@@ -37,7 +40,8 @@ abbrev pub entry_refusals : Birth → ℕ → List ℕ → List (Option Status)
 entry_refusals birth word path =
     option_map status_of (flag_fault word)
     ∷ cause_if (is_some (path_fault path)) status.InvalidArgs
-    ∷ cause_if (not (bytes_eq path dot) && lacks birth.rights (single op.Traverse)) status.AccessDenied
+    ∷ cause_if (not (bytes_eq path dot) && lacks birth.rights (single op.Traverse))
+    status.AccessDenied
     ∷ cause_if (lacks birth.rights (asked_rights word)) status.AccessDenied
     ∷ []
 
@@ -50,7 +54,8 @@ flag_of (Mount index) = flag.ProtocolDirectory
 
 -- there are protocol flags, and neither NODE nor that of the node's kind is among them
 abbrev pub is_other_kind : ℕ → NodeKind → Bool
-is_other_kind word kind = has_protocol word && not (has word flag.ProtocolNode || has word (flag_of kind))
+is_other_kind word kind =
+    has_protocol word && not (has word flag.ProtocolNode || has word (flag_of kind))
 
 abbrev pub other_kind_status : ℕ → Status
 other_kind_status word =
@@ -64,7 +69,8 @@ marks_file word = has word flag.FileAppend || has word flag.FileTruncate
 -- a service is to be connected to, and CONNECT isn't asked for
 abbrev pub connects_without_right : ℕ → NodeKind → Bool
 connects_without_right word kind =
-    is_service kind && (not (has word flag.ProtocolNode) && lacks (explicit_rights word) (single op.Connect))
+    is_service kind
+    && (not (has word flag.ProtocolNode) && lacks (explicit_rights word) (single op.Connect))
 
 -- a server has as many connections as it may, watchers and the ends of mounts included
 abbrev pub is_full : Room → Bool
@@ -91,7 +97,8 @@ making_refusals tree room word key =
 -- ---- what is bound
 
 abbrev pub protocol_of : ℕ → NodeKind → Protocol
-protocol_of word Directory = if has word flag.ProtocolNode then protocol.Node else protocol.Directory
+protocol_of word Directory =
+    if has word flag.ProtocolNode then protocol.Node else protocol.Directory
 protocol_of word File = if has word flag.ProtocolNode then protocol.Node else protocol.File
 protocol_of word Service = if has word flag.ProtocolNode then protocol.Node else protocol.Echo
 protocol_of word (Mount index) = protocol.Node
@@ -107,7 +114,8 @@ birth_for word limit node kind =
     }
 
 abbrev pub binding : ℕ → OperationSet → ℕ → NodeKind → Answer
-binding word limit node kind = binds (birth_for word limit node kind) (has word flag.SendRepresentation)
+binding word limit node kind =
+    binds (birth_for word limit node kind) (has word flag.SendRepresentation)
 
 abbrev pub truncation : ℕ → ℕ → Change
 truncation word node = if has word flag.FileTruncate then fill node [] else stay
@@ -115,7 +123,12 @@ truncation word node = if has word flag.FileTruncate then fill node [] else stay
 -- a node that is there
 abbrev pub arrival : Position → ℕ → OperationSet → ℕ → NodeKind → Act
 arrival position word limit node kind =
-    record { answer = binding word limit node kind; position = position; change = truncation word node; told = nothing_told }
+    record {
+      answer = binding word limit node kind;
+      position = position;
+      change = truncation word node;
+      told = nothing_told;
+    }
 
 abbrev pub kind_made : ℕ → NodeKind
 kind_made word = if has word flag.ProtocolDirectory then Directory else File
@@ -138,13 +151,16 @@ act_at position room tree word (at_node node limit) =
     unless (first_of (arrival_refusals room word (kind_here tree node))) position method.OpenPath
     (arrival position word limit node (kind_here tree node))
 act_at position room tree word (at_nothing directory name limit) =
-    unless (first_of (making_refusals tree room word (name_in directory name))) position method.OpenPath
+    unless (first_of (making_refusals tree room word (name_in directory name)))
+    position method.OpenPath
     (making position tree word limit (name_in directory name))
-act_at position room tree word (at_mount mount rest limit) = only position (forwards mount (onward word limit) rest)
+act_at position room tree word (at_mount mount rest limit) =
+    only position (forwards mount (onward word limit) rest)
 act_at position room tree word (nowhere status) = only position (failure_of method.OpenPath status)
 
 abbrev pub by_walk : Context → ℕ → Walk → Act
-by_walk context word w = act_at context.position context.room context.tree word (reach context.birth.rights w)
+by_walk context word w =
+    act_at context.position context.room context.tree word (reach context.birth.rights w)
 
 abbrev pub open_act : Context → List ℕ → ℕ → Act
 open_act context path word =

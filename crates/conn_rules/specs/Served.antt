@@ -13,7 +13,8 @@ use Rattle.conn_rules.specs.declared.changes.Changes.{Changes}
 use Rattle.conn_rules.specs.declared.served.Served.{Served}
 use Rattle.conn_rules.specs.declared.served.Served.TheVariants as served
 use Rattle.conn_rules.specs.Births.{Birth, Connection, born}
-use Rattle.conn_rules.specs.Answers.{Act, Answer, Happening, replies, closes, binds, refuses, ends, nothing_told, removed, added, deleted}
+use Rattle.conn_rules.specs.Answers.{Act, Answer, Happening, replies, closes, binds, refuses, ends}
+use Rattle.conn_rules.specs.Answers.{nothing_told, removed, added, deleted}
 use Rattle.conn_rules.specs.Shared.{CanBeBound}
 
 -- the output is this reply
@@ -35,22 +36,27 @@ pub record IsBirth (birth : Birth) (announced : Bool) (found : code.Birth) : Typ
 abbrev pub Gives : Answer → ℕ → Served → Written → Type 0
 Gives (replies a) txid result out = (result ≡ served.Reply) × HasReply txid a out
 Gives closes txid result out = (result ≡ served.ReplyEnd) × HasReply txid (done method.Close) out
-Gives (binds birth announced) txid result out = ((found : code.Birth) × (result ≡ served.Bind found) × IsBirth birth announced found) × HasNothing out
+Gives (binds birth announced) txid result out =
+    ((found : code.Birth) × (result ≡ served.Bind found) × IsBirth birth announced found)
+    × HasNothing out
 Gives (refuses status) txid result out = (result ≡ served.Refused status) × HasNothing out
 Gives (ends status) txid result out = (result ≡ served.End status) × HasNothing out
 Gives _ txid result out = ⊥
 
 -- ---- whole servings
 
--- whatever is answered, a connection is bound as it was, and each node has its holds and its reference
+-- whatever is answered, a connection is bound as it was, and each node has its holds and its
+-- reference
 pub record KeepsHolds (old new : Connection) (before after : Kept) : Type 0 where
   pub birth : new.birth ≡ old.birth
   pub holds : SameHolds before after
   pub names : KeepsNames before after
 
--- a request is served as its act says, on a connection at whose requests no name comes or goes: this is answered, the connection stands
--- where the act leaves it, and the tree takes the act's change
-pub record IsServed (act : Act) (txid : ℕ) (result : Served) (out : Written) (new : Connection) (before after : Kept) : Type 0 where
+-- a request is served as its act says, on a connection at whose requests no name comes or goes:
+-- this is answered, the connection stands where the act leaves it, and the tree takes the act's
+-- change
+pub record IsServed (act : Act) (txid : ℕ) (result : Served) (out : Written) (new : Connection)
+    (before after : Kept) : Type 0 where
   pub answer : Gives act.answer txid result out
   pub told : act.told ≡ nothing_told
   pub position : new.position ≡ act.position
@@ -59,11 +65,13 @@ pub record IsServed (act : Act) (txid : ℕ) (result : Served) (out : Written) (
 
 -- so with nothing changed
 abbrev pub IsAnswered : Act → ℕ → Served → Written → Connection → Kept → Type 0
-IsAnswered act txid result out connection graph = IsServed act txid result out connection graph graph
+IsAnswered act txid result out connection graph =
+    IsServed act txid result out connection graph graph
 
 -- ---- want of memory
 
--- a change for which memory may be wanting: it makes a node or a name, moves a name, or leaves bytes in a file
+-- a change for which memory may be wanting: it makes a node or a name, moves a name, or leaves
+-- bytes in a file
 abbrev pub takes_memory : Change → Bool
 takes_memory (make key row mask) = true
 takes_memory (add key to) = true

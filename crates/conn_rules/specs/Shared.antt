@@ -19,8 +19,12 @@ is_spoken_at protocol.Node kind = not (is_mount kind)
 is_spoken_at protocol.Echo kind = is_service kind
 is_spoken_at protocol.Watcher kind = false
 
--- the graph keeps the node of a birth, the birth's protocol is spoken there, and a service is connected to with the right to it
+-- the graph keeps the node of a birth, the birth's protocol is spoken there, and a service is
+-- connected to with the right to it
 pub record CanBeBound (graph : Kept) (birth : code.Birth) : Type 0 where
   pub named : Names graph birth.node
-  pub spoken : option_map_or (is_spoken_at birth.protocol) (kind_at graph (number_of birth.node)) false ≡ true
-  pub connects : birth.protocol ≡ protocol.Echo → IsTrue (is_within (single op.Connect) birth.rights)
+  pub spoken :
+      option_map_or (is_spoken_at birth.protocol) (kind_at graph (number_of birth.node)) false
+      ≡ true
+  pub connects : birth.protocol ≡ protocol.Echo →
+      IsTrue (is_within (single op.Connect) birth.rights)

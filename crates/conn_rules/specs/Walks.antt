@@ -30,9 +30,11 @@ behind mask (stops status) = stops status
 
 -- a name is passed where its mask has these rights
 abbrev pub passing : OperationSet → OperationSet → Walk → Walk
-passing wanted mask walk = if is_within wanted mask then behind mask walk else stops status.AccessDenied
+passing wanted mask walk =
+    if is_within wanted mask then behind mask walk else stops status.AccessDenied
 
--- the last name: a mount wants the rights that the word asks for, any other node those that its PERM flags name
+-- the last name: a mount wants the rights that the word asks for, any other node those that its
+-- PERM flags name
 abbrev pub last_by_kind : ℕ → EdgeTo → NodeKind → Walk
 last_by_kind word edge (Mount index) = passing (asked_rights word) edge.mask (crosses index [] [])
 last_by_kind word edge _ = passing (explicit_rights word) edge.mask (arrives edge.child [])
@@ -41,7 +43,8 @@ abbrev pub last_step : Tree → ℕ → ℕ → List ℕ → Option EdgeTo → W
 last_step tree word directory name None = missing directory name []
 last_step tree word directory name (Some edge) = last_by_kind word edge (kind_behind tree edge)
 
--- a name before the last: it wants TRAVERSE and what the word asks for, and leads to a directory or a mount
+-- a name before the last: it wants TRAVERSE and what the word asks for, and leads to a directory or
+-- a mount
 abbrev pub inner_rights : ℕ → OperationSet
 inner_rights word = join (single op.Traverse) (asked_rights word)
 
@@ -49,18 +52,22 @@ abbrev pub inner_by_kind : ℕ → List (List ℕ) → EdgeTo → NodeKind → W
 inner_by_kind word rest edge Directory onward = passing (inner_rights word) edge.mask onward
 inner_by_kind word rest edge File onward = stops status.NotDir
 inner_by_kind word rest edge Service onward = stops status.NotDir
-inner_by_kind word rest edge (Mount index) onward = passing (inner_rights word) edge.mask (crosses index rest [])
+inner_by_kind word rest edge (Mount index) onward =
+    passing (inner_rights word) edge.mask (crosses index rest [])
 
 abbrev pub inner_step : Tree → ℕ → List (List ℕ) → Option EdgeTo → (ℕ → Walk) → Walk
 inner_step tree word rest None onward = stops status.NotFound
-inner_step tree word rest (Some edge) onward = inner_by_kind word rest edge (kind_behind tree edge) (onward edge.child)
+inner_step tree word rest (Some edge) onward =
+    inner_by_kind word rest edge (kind_behind tree edge) (onward edge.child)
 
 -- where the names lead; the empty list leads to the directory itself
 unfoldable pub walk : Tree → ℕ → List (List ℕ) → ℕ → Walk
 walk tree word [] directory = arrives directory []
-walk tree word (name ∷ []) directory = last_step tree word directory name (edge_at tree (name_in directory name))
+walk tree word (name ∷ []) directory =
+    last_step tree word directory name (edge_at tree (name_in directory name))
 walk tree word (name ∷ next ∷ rest) directory =
-    inner_step tree word (next ∷ rest) (edge_at tree (name_in directory name)) (walk tree word (next ∷ rest))
+    inner_step tree word (next ∷ rest) (edge_at tree (name_in directory name))
+    (walk tree word (next ∷ rest))
 
 -- the masks of the names that a walk passed
 abbrev pub masks_of : Walk → List OperationSet

@@ -4,7 +4,8 @@ ghost use Rattle.std.specs.Prelude.{◌≡◌, ◌<◌, ◌==◌, Some};
 ghost use Rattle.std.specs.Int.{bit_at};
 ghost use Rattle.node_graph.specs.Graph.{Names, StandsFor, number_of, kind_at, bytes_at};
 ghost use Rattle.node_graph.specs.Tree.{Tree, link_count};
-ghost use Rattle.conn_rules.specs.Nodes.{attributes_of, protocols_of, abilities_of, size_of_kind, where_asked};
+ghost use Rattle.conn_rules.specs.Nodes.{attributes_of, protocols_of, abilities_of, size_of_kind};
+ghost use Rattle.conn_rules.specs.Nodes.{where_asked};
 
 use io_messages::Attributes;
 use node_graph::{Graph, NodeKind, NodeRef};

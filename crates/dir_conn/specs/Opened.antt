@@ -43,10 +43,14 @@ pub record Keeps (before after : Kept) : Type 0 where
   pub holds : SameHolds before after
   pub names : KeepsNames before after
 
--- an Open is served as its act says, which leaves the position where it was; where it finds no memory for it, nothing is done
-pub record IsOpened (act : Tree → Position → Act) (result : DirServed) (before after : Kept) : Type 0 where
-  pub served : (tree : Tree) (birth : code.Birth) (position : Position) (txid : ℕ) (out : Written) → StandsFor before tree → HasNothing out →
-      result ≢ given.NoMemory → IsDirServed (act tree position) txid result out (connection_with birth position) before after
+-- an Open is served as its act says, which leaves the position where it was; where it finds no
+-- memory for it, nothing is done
+pub record IsOpened (act : Tree → Position → Act) (result : DirServed)
+    (before after : Kept) : Type 0 where
+  pub served : (tree : Tree) (birth : code.Birth) (position : Position) (txid : ℕ) (out : Written) →
+      StandsFor before tree → HasNothing out → result ≢ given.NoMemory →
+      IsDirServed (act tree position) txid result out (connection_with birth position) before after
   pub keeps : Keeps before after
-  pub memory : (tree : Tree) (position : Position) → StandsFor before tree → result ≡ given.NoMemory → takes_memory (act tree position).change ≡ true
+  pub memory : (tree : Tree) (position : Position) → StandsFor before tree →
+      result ≡ given.NoMemory → takes_memory (act tree position).change ≡ true
   pub untouched : result ≡ given.NoMemory → after ≡ before

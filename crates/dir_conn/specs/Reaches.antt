@@ -1,4 +1,5 @@
--- Where a walk leads, with what the masks on its way leave of some rights. These are words of steps.
+-- Where a walk leads, with what the masks on its way leave of some rights. These are words of
+-- steps.
 use Rattle.std.specs.Prelude.{◌≡◌, ℕ, ◌<◌, true, false, List, length, Some, None, IsTrue}
 use Rattle.std.specs.FinMap as finite
 use Rattle.io_flags.specs.Grants.{explicit_rights}
@@ -42,17 +43,20 @@ pub record Stands (graph : Kept) (word : ℕ) (spot : Spot) : Type 0 where
   pub directory : kind_at graph (number_of spot.directory) ≡ Some Directory
   pub explicit : IsTrue (is_within (explicit_rights word) spot.limit)
 
--- a node at which one arrived is kept and of this kind, which is no mount, a name leads to it where it is a file, and the rights there
--- have what the word names
-pub record IsReached (graph : Kept) (word : ℕ) (node : NodeRef) (what : NodeKind) (limit : OperationSet) : Type 0 where
+-- a node at which one arrived is kept and of this kind, which is no mount, a name leads to it where
+-- it is a file, and the rights there have what the word names
+pub record IsReached (graph : Kept) (word : ℕ) (node : NodeRef) (what : NodeKind)
+    (limit : OperationSet) : Type 0 where
   pub named : Names graph node
   pub kind : kind_at graph (number_of node) ≡ Some what
   pub crossed : is_mount what ≡ false
   pub linked : is_file what ≡ true → is_linked graph.edges (number_of node) ≡ true
   pub explicit : IsTrue (is_within (explicit_rights word) limit)
 
--- a directory that the graph keeps, a name that isn't in it, and rights that have what the word names
-pub record IsMissing (graph : Kept) (word : ℕ) (directory : NodeRef) (name : List ℕ) (limit : OperationSet) : Type 0 where
+-- a directory that the graph keeps, a name that isn't in it, and rights that have what the word
+-- names
+pub record IsMissing (graph : Kept) (word : ℕ) (directory : NodeRef) (name : List ℕ)
+    (limit : OperationSet) : Type 0 where
   pub named : Names graph directory
   pub kind : kind_at graph (number_of directory) ≡ Some Directory
   pub valid : IsName name
@@ -61,7 +65,8 @@ pub record IsMissing (graph : Kept) (word : ℕ) (directory : NodeRef) (name : L
 
 abbrev pub Arrived : Kept → ℕ → Walked → Type 0
 Arrived graph word (walked.Arrives node kind limit) = IsReached graph word node kind limit
-Arrived graph word (walked.Missing directory name limit) = IsMissing graph word directory name.now limit
+Arrived graph word (walked.Missing directory name limit) =
+    IsMissing graph word directory name.now limit
 Arrived graph word _ = Unit {0}
 
 -- a step goes on with fewer names than so many, or ends

@@ -12,11 +12,15 @@ use Rattle.dir_conn.specs.declared.served.DirServed.TheVariants as given
 use Rattle.dir_conn.specs.Opened.{Keeps}
 use Rattle.dir_conn.specs.Served.{IsDirServed}
 
--- a request is served as its act says; where it finds no memory for a change that takes some, nothing is done and nothing is written
-pub record IsTried (act : Tree → Position → Act) (birth : code.Birth) (txid : ℕ) (result : DirServed) (out : Written) (before after : Kept) : Type 0 where
-  pub served : (tree : Tree) (position : Position) → StandsFor before tree → result ≢ given.NoMemory →
+-- a request is served as its act says; where it finds no memory for a change that takes some,
+-- nothing is done and nothing is written
+pub record IsTried (act : Tree → Position → Act) (birth : code.Birth) (txid : ℕ)
+    (result : DirServed) (out : Written) (before after : Kept) : Type 0 where
+  pub served : (tree : Tree) (position : Position) → StandsFor before tree →
+      result ≢ given.NoMemory →
       IsDirServed (act tree position) txid result out (connection_with birth position) before after
   pub keeps : Keeps before after
-  pub memory : (tree : Tree) (position : Position) → StandsFor before tree → result ≡ given.NoMemory → takes_memory (act tree position).change ≡ true
+  pub memory : (tree : Tree) (position : Position) → StandsFor before tree →
+      result ≡ given.NoMemory → takes_memory (act tree position).change ≡ true
   pub untouched : result ≡ given.NoMemory → after ≡ before
   pub empty : result ≡ given.NoMemory → HasNothing out

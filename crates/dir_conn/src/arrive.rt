@@ -11,7 +11,10 @@ ghost use Rattle.node_graph.specs.Graph.{Leads, Names, StandsFor, kind_at, numbe
 ghost use Rattle.node_graph.specs.Tree.{Tree, fill, is_linked};
 ghost use Rattle.conn_rules.specs.Births.{born};
 ghost use Rattle.conn_rules.specs.Nodes.{is_file, is_mount};
-ghost use Rattle.conn_rules.specs.Opens.{arrival, arrival_refusals, birth_for, connects_without_right, flag_of, is_other_kind, marks_file, other_kind_status, protocol_of, truncation, act_at};
+ghost use Rattle.conn_rules.specs.Opens.{arrival, arrival_refusals, birth_for};
+ghost use Rattle.conn_rules.specs.Opens.{connects_without_right, flag_of, is_other_kind};
+ghost use Rattle.conn_rules.specs.Opens.{marks_file, other_kind_status, protocol_of, truncation};
+ghost use Rattle.conn_rules.specs.Opens.{act_at};
 ghost use Rattle.conn_rules.specs.Shared.{is_spoken_at};
 ghost use Rattle.dir_conn.specs.Opened.{IsOpened, Keeps};
 ghost use Rattle.conn_rules.specs.Walks.{at_node};

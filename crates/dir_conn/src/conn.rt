@@ -70,12 +70,12 @@ impl DirConn {
     }
 
     /// Serves a request of this server's tree; what it does is said by the rows of the protocol.
-    /// `target` is the directory that the request's token names, `None` for a token of another server
-    /// and for a request without one. Of the endpoint that a request carries, the answer tells what
-    /// becomes; every other answer stands in the output as a message.
+    /// `target` is the directory that the request's token names, `None` for a token of another
+    /// server and for a request without one. Of the endpoint that a request carries, the answer
+    /// tells what becomes; every other answer stands in the output as a message.
     ///
-    /// Want of memory is answered to Link, Rename and an Open that creates alone, where nothing else
-    /// refuses them; connection, graph and output are then as they were.
+    /// Want of memory is answered to Link, Rename and an Open that creates alone, where nothing
+    /// else refuses them; connection, graph and output are then as they were.
     pub fn serve<'a>(
         &mut self,
         ordinals: &Ordinals,

@@ -31,7 +31,8 @@ pub(crate) fn enter<'a>(birth: &Birth, text: &'a [u8], word: u64) -> Result<Ente
     ensures refusal { result_err result ≡ first_of (entry_refusals (born birth.now) word text.now) }
     ensures flags { IfOk result (λ entered. entered.flags ≡ word) }
     ensures path { IfOk result (λ entered. entered.path ≡ names_of text.now) }
-    ensures explicit { IfOk result (λ _. IsTrue (is_within (explicit_rights word) birth.now.rights)) }
+    ensures explicit { IfOk result
+        (λ _. IsTrue (is_within (explicit_rights word) birth.now.rights)) }
 {
     let flags = match OpenFlags::check(word) {
         Ok(flags) => flags,

@@ -21,11 +21,11 @@ pub enum DirServed<'a> {
     ReplyEnd,
     /// The endpoint that the request carries is to be bound.
     Bind(Birth, Changes<'a>),
-    /// The reply to Watch stands in the output, and the endpoint that the request carries is to watch
-    /// the directory, with this mask.
+    /// The reply to Watch stands in the output, and the endpoint that the request carries is to
+    /// watch the directory, with this mask.
     WatchBy(u32),
-    /// The Open goes on behind a mount, by the mount's index, with these flags and the names that are
-    /// left.
+    /// The Open goes on behind a mount, by the mount's index, with these flags and the names that
+    /// are left.
     Forward {
         mount: u32,
         flags: OpenFlags,

@@ -22,8 +22,8 @@ use fidl_wire::{Ordinals, Out};
 use node_graph::{GraphFault, NodeRef};
 use path_walk::check_name;
 
-/// The directory in which the second name is to stand, unless one of the names is none, or the token
-/// names no directory of this server.
+/// The directory in which the second name is to stand, unless one of the names is none, or the
+/// token names no directory of this server.
 pub(crate) fn directory_for(
     src: &[u8],
     dst: &[u8],
@@ -44,8 +44,8 @@ pub(crate) fn directory_for(
     }
 }
 
-/// What a request answers that the graph refuses: it fails with the fault's status, and want of memory
-/// is answered as such.
+/// What a request answers that the graph refuses: it fails with the fault's status, and want of
+/// memory is answered as such.
 pub(crate) fn refused<'a>(
     ordinals: &Ordinals,
     txid: u32,

@@ -1,6 +1,7 @@
 //! What an Unlink does.
 
-ghost use Rattle.std.specs.Prelude.{◌≡◌, ◌≢◌, ◌∷◌, ◌||◌, ℕ, true, false, nat_lt, Option, Some, IfOk, IfErr, OnOk, OnErr};
+ghost use Rattle.std.specs.Prelude.{◌≡◌, ◌≢◌, ◌∷◌, ◌||◌, ℕ, true, false, nat_lt, Option, Some};
+ghost use Rattle.std.specs.Prelude.{IfOk, IfErr, OnOk, OnErr};
 ghost use Rattle.std.specs.Result.{result_err};
 ghost use Rattle.fidl_names.specs.First.{first_of};
 ghost use Rattle.io_messages.specs.Requests.{has_txid};

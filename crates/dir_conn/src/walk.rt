@@ -13,7 +13,8 @@ use path_walk::Path;
 pub(crate) fn walk<'a>(graph: &Graph, flags: OpenFlags, start: Spot, path: Path<'a>) -> Walked<'a>
     requires stands { Stands graph.now flags start }
     ensures leads { (tree : Tree) → StandsFor graph.now tree →
-        reached result ≡ reach start.limit (walk tree flags path.entry (number_of start.directory)) }
+        reached result ≡ reach start.limit
+        (walk tree flags path.entry (number_of start.directory)) }
     ensures arrived { Arrived graph.now flags result }
 {
     let mut spot = start;

@@ -19,5 +19,7 @@ filled_as (Err other) = filled.NoMemory
 -- the change is made where nothing refuses it and memory is there; else nothing is changed
 abbrev pub Comes : Filled → Option Status → Change → Kept → Kept → Type 0
 Comes filled.Done refusal change before after = (refusal ≡ None) × Leads before after change
-Comes (filled.Refused given) refusal change before after = (refusal ≡ Some given) × (given ≢ status.Ok) × (after ≡ before)
-Comes filled.NoMemory refusal change before after = (refusal ≡ None) × (takes_memory change ≡ true) × (after ≡ before)
+Comes (filled.Refused given) refusal change before after =
+    (refusal ≡ Some given) × (given ≢ status.Ok) × (after ≡ before)
+Comes filled.NoMemory refusal change before after =
+    (refusal ≡ None) × (takes_memory change ≡ true) × (after ≡ before)

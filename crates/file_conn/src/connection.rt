@@ -8,7 +8,8 @@ ghost use Rattle.node_graph.specs.Tree.{Tree};
 ghost use Rattle.conn_rules.specs.Acts.{act_of, row_act};
 ghost use Rattle.conn_rules.specs.Births.{fresh};
 ghost use Rattle.conn_rules.specs.Contexts.{context_of};
-ghost use Rattle.conn_rules.specs.Served.{HasNothing, IsServed, IsUntouched, KeepsHolds, takes_memory};
+ghost use Rattle.conn_rules.specs.Served.{HasNothing, IsServed, IsUntouched, KeepsHolds};
+ghost use Rattle.conn_rules.specs.Served.{takes_memory};
 ghost use Rattle.conn_rules.specs.Shared.{CanBeBound};
 
 use conn_rules::{Birth, Room, Served, fail, method_refusal, serve_node};
@@ -34,7 +35,8 @@ impl Model for FileConn {
 
     ghost coded = { connection_code };
 
-    ghost view = { λ c. record { birth = c.birth; position = record { offset = c.position; place = Start } } };
+    ghost view = { λ c.
+        record { birth = c.birth; position = record { offset = c.position; place = Start } } };
 
     ghost invariant = { λ c. c.position < 2 ^ 63 };
 }
@@ -55,13 +57,13 @@ impl FileConn {
         self.birth.node
     }
 
-    /// Serves a request to the connection, which writes its reply into the empty output. Its file is
-    /// one that the graph keeps, and the message's transaction id is 0 exactly where the method has no
-    /// reply. What is answered, where the connection then stands and how the file changes is said by
-    /// the rows of the protocol.
+    /// Serves a request to the connection, which writes its reply into the empty output. Its file
+    /// is one that the graph keeps, and the message's transaction id is 0 exactly where the method
+    /// has no reply. What is answered, where the connection then stands and how the file changes is
+    /// said by the rows of the protocol.
     ///
-    /// Want of memory is answered to Write, WriteAt and Resize alone, where nothing else refuses them;
-    /// connection, graph and output are then as they were.
+    /// Want of memory is answered to Write, WriteAt and Resize alone, where nothing else refuses
+    /// them; connection, graph and output are then as they were.
     #[inline(always)]
     pub fn serve(
         &mut self,
@@ -77,13 +79,18 @@ impl FileConn {
         requires method { has_method Protocol.File (method_of (asked request.now)) ≡ true }
         requires txid { has_txid (is_one_way (method_of (asked request.now))) txid ≡ true }
         requires empty { HasNothing out.old }
-        ensures serves { (tree : Tree) (directory : ℕ → Option ℕ) → StandsFor graph.old tree → result ≢ Served.NoMemory →
-            IsServed (act_of (context_of self.old room tree directory) (asked request.now)) txid result out.new self.new graph.old graph.new }
+        ensures serves { (tree : Tree) (directory : ℕ → Option ℕ) → StandsFor graph.old tree →
+            result ≢ Served.NoMemory →
+            IsServed (act_of (context_of self.old room tree directory) (asked request.now)) txid
+            result out.new self.new graph.old graph.new }
         ensures holds { KeepsHolds self.old self.new graph.old graph.new }
         // Only what leaves bytes in the file takes memory.
-        ensures memory { (tree : Tree) (directory : ℕ → Option ℕ) → StandsFor graph.old tree → result ≡ Served.NoMemory →
-            takes_memory (act_of (context_of self.old room tree directory) (asked request.now)).change ≡ true }
-        ensures untouched { result ≡ Served.NoMemory → IsUntouched out.new self.old self.new graph.old graph.new }
+        ensures memory { (tree : Tree) (directory : ℕ → Option ℕ) → StandsFor graph.old tree →
+            result ≡ Served.NoMemory →
+            takes_memory
+            (act_of (context_of self.old room tree directory) (asked request.now)).change ≡ true }
+        ensures untouched { result ≡ Served.NoMemory →
+            IsUntouched out.new self.old self.new graph.old graph.new }
     {
         let method = request.method();
         match method_refusal(&self.birth, method) {
@@ -108,12 +115,17 @@ impl FileConn {
         requires method { has_method Protocol.File (method_of (asked request.now)) ≡ true }
         requires txid { has_txid (is_one_way (method_of (asked request.now))) txid ≡ true }
         requires empty { HasNothing out.old }
-        ensures serves { (tree : Tree) (directory : ℕ → Option ℕ) → StandsFor graph.old tree → result ≢ Served.NoMemory →
-            IsServed (row_act (context_of self.old room tree directory) (asked request.now)) txid result out.new self.new graph.old graph.new }
+        ensures serves { (tree : Tree) (directory : ℕ → Option ℕ) → StandsFor graph.old tree →
+            result ≢ Served.NoMemory →
+            IsServed (row_act (context_of self.old room tree directory) (asked request.now)) txid
+            result out.new self.new graph.old graph.new }
         ensures holds { KeepsHolds self.old self.new graph.old graph.new }
-        ensures memory { (tree : Tree) (directory : ℕ → Option ℕ) → StandsFor graph.old tree → result ≡ Served.NoMemory →
-            takes_memory (row_act (context_of self.old room tree directory) (asked request.now)).change ≡ true }
-        ensures untouched { result ≡ Served.NoMemory → IsUntouched out.new self.old self.new graph.old graph.new }
+        ensures memory { (tree : Tree) (directory : ℕ → Option ℕ) → StandsFor graph.old tree →
+            result ≡ Served.NoMemory →
+            takes_memory
+            (row_act (context_of self.old room tree directory) (asked request.now)).change ≡ true }
+        ensures untouched { result ≡ Served.NoMemory →
+            IsUntouched out.new self.old self.new graph.old graph.new }
     {
         match request {
             Request::Read { count } => self.read(ordinals, graph, txid, *count, out),

@@ -2,7 +2,8 @@
 
 ghost use Rattle.std.specs.Prelude.{◌≡◌, Some};
 ghost use Rattle.node_graph.specs.declared.nodes.NodeKind.TheVariants.{File};
-ghost use Rattle.node_graph.specs.Graph.{KeepsNames, Names, SameHolds, bytes_at, kind_at, number_of, resize_refusal, resized, write_change};
+ghost use Rattle.node_graph.specs.Graph.{KeepsNames, Names, SameHolds, bytes_at, kind_at};
+ghost use Rattle.node_graph.specs.Graph.{number_of, resize_refusal, resized, write_change};
 ghost use Rattle.node_graph.specs.Tree.{fill};
 ghost use Rattle.conn_rules.specs.FileRows.{writing_refusal};
 ghost use Rattle.conn_rules.specs.Refusals.{as_status};
@@ -21,12 +22,14 @@ pub(crate) enum Filled {
     NoMemory,
 }
 
-/// Writes the bytes over the file's from an offset on. Without bytes nothing is done, which takes no
-/// memory.
+/// Writes the bytes over the file's from an offset on. Without bytes nothing is done, which takes
+/// no memory.
 pub(crate) fn overwrite(graph: &mut Graph, node: NodeRef, offset: u64, bytes: &[u8]) -> Filled
     requires named { Names graph.old node }
     requires file { kind_at graph.old (number_of node) ≡ Some File }
-    ensures comes { Comes result (writing_refusal offset bytes.now) (write_change (number_of node) (bytes_at graph.old (number_of node)) offset bytes.now) graph.old graph.new }
+    ensures comes { Comes result (writing_refusal offset bytes.now)
+        (write_change (number_of node) (bytes_at graph.old (number_of node)) offset bytes.now)
+        graph.old graph.new }
     ensures holds { SameHolds graph.old graph.new }
     ensures names { KeepsNames graph.old graph.new }
 {
@@ -43,7 +46,9 @@ pub(crate) fn overwrite(graph: &mut Graph, node: NodeRef, offset: u64, bytes: &[
 pub(crate) fn resize(graph: &mut Graph, node: NodeRef, size: u64) -> Filled
     requires named { Names graph.old node }
     requires file { kind_at graph.old (number_of node) ≡ Some File }
-    ensures comes { Comes result (as_status (resize_refusal size)) (fill (number_of node) (resized (bytes_at graph.old (number_of node)) size)) graph.old graph.new }
+    ensures comes { Comes result (as_status (resize_refusal size))
+        (fill (number_of node) (resized (bytes_at graph.old (number_of node)) size))
+        graph.old graph.new }
     ensures holds { SameHolds graph.old graph.new }
     ensures names { KeepsNames graph.old graph.new }
 {

@@ -1,4 +1,5 @@
-//! A connection to a file: what it is bound with, where it reads and writes next, and what it answers.
+//! A connection to a file: what it is bound with, where it reads and writes next, and what it
+//! answers.
 #![tactic(auto)]
 
 mod connection;

@@ -30,8 +30,10 @@ impl FileConn {
         requires file { kind_at graph.now (number_of self.old.birth.node) ≡ Some File }
         requires txid { 0 < txid }
         requires empty { HasNothing out.old }
-        ensures serves { (room : Room) (tree : Tree) (directory : ℕ → Option ℕ) → StandsFor graph.now tree →
-            IsAnswered (read_act (context_of self.old room tree directory) count) txid result out.new self.new graph.now }
+        ensures serves { (room : Room) (tree : Tree) (directory : ℕ → Option ℕ) →
+            StandsFor graph.now tree →
+            IsAnswered (read_act (context_of self.old room tree directory) count) txid result
+            out.new self.new graph.now }
         ensures birth { self.new.birth ≡ self.old.birth }
         ensures kind { result ≡ Served.Reply }
     {
@@ -57,8 +59,10 @@ impl FileConn {
         requires file { kind_at graph.now (number_of self.now.birth.node) ≡ Some File }
         requires txid { 0 < txid }
         requires empty { HasNothing out.old }
-        ensures serves { (room : Room) (tree : Tree) (directory : ℕ → Option ℕ) → StandsFor graph.now tree →
-            IsAnswered (read_at_act (context_of self.now room tree directory) count offset) txid result out.new self.now graph.now }
+        ensures serves { (room : Room) (tree : Tree) (directory : ℕ → Option ℕ) →
+            StandsFor graph.now tree →
+            IsAnswered (read_at_act (context_of self.now room tree directory) count offset) txid
+            result out.new self.now graph.now }
         ensures kind { result ≡ Served.Reply }
     {
         if count > MAX_CHUNK {

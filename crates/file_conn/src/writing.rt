@@ -1,13 +1,15 @@
 //! Write, WriteAt and Resize.
 
-ghost use Rattle.std.specs.Prelude.{◌≡◌, ◌≢◌, ◌<◌, ◌+◌, ◌^◌, ℕ, true, Some, Option, length, if◌then◌else◌};
+ghost use Rattle.std.specs.Prelude.{◌≡◌, ◌≢◌, ◌<◌, ◌+◌, ◌^◌, ℕ, true, Some, Option, length};
+ghost use Rattle.std.specs.Prelude.{if◌then◌else◌};
 ghost use Rattle.node_graph.specs.declared.nodes.NodeKind.TheVariants.{File};
 ghost use Rattle.node_graph.specs.Graph.{Names, StandsFor, bytes_at, kind_at, number_of};
 ghost use Rattle.node_graph.specs.Tree.{Tree};
 ghost use Rattle.conn_rules.specs.declared.births.Room.{Room};
 ghost use Rattle.conn_rules.specs.Contexts.{context_of};
 ghost use Rattle.conn_rules.specs.FileRows.{behind_written, resize_act, write_act, write_at_act};
-ghost use Rattle.conn_rules.specs.Served.{HasNothing, IsServed, IsUntouched, KeepsHolds, takes_memory};
+ghost use Rattle.conn_rules.specs.Served.{HasNothing, IsServed, IsUntouched, KeepsHolds};
+ghost use Rattle.conn_rules.specs.Served.{takes_memory};
 
 use crate::connection::FileConn;
 use crate::filling::{Filled, overwrite, resize};
@@ -32,12 +34,17 @@ impl FileConn {
         requires file { kind_at graph.old (number_of self.old.birth.node) ≡ Some File }
         requires txid { 0 < txid }
         requires empty { HasNothing out.old }
-        ensures serves { (room : Room) (tree : Tree) (directory : ℕ → Option ℕ) → StandsFor graph.old tree → result ≢ Served.NoMemory →
-            IsServed (write_act (context_of self.old room tree directory) bytes.now) txid result out.new self.new graph.old graph.new }
+        ensures serves { (room : Room) (tree : Tree) (directory : ℕ → Option ℕ) →
+            StandsFor graph.old tree → result ≢ Served.NoMemory →
+            IsServed (write_act (context_of self.old room tree directory) bytes.now) txid result
+            out.new self.new graph.old graph.new }
         ensures holds { KeepsHolds self.old self.new graph.old graph.new }
-        ensures memory { (room : Room) (tree : Tree) (directory : ℕ → Option ℕ) → StandsFor graph.old tree → result ≡ Served.NoMemory →
-            takes_memory (write_act (context_of self.old room tree directory) bytes.now).change ≡ true }
-        ensures untouched { result ≡ Served.NoMemory → IsUntouched out.new self.old self.new graph.old graph.new }
+        ensures memory { (room : Room) (tree : Tree) (directory : ℕ → Option ℕ) →
+            StandsFor graph.old tree → result ≡ Served.NoMemory →
+            takes_memory
+            (write_act (context_of self.old room tree directory) bytes.now).change ≡ true }
+        ensures untouched { result ≡ Served.NoMemory →
+            IsUntouched out.new self.old self.new graph.old graph.new }
     {
         let start = self.write_start(graph);
         match overwrite(graph, self.birth.node, start, bytes) {
@@ -59,7 +66,9 @@ impl FileConn {
     fn write_start(&self, graph: &Graph) -> u64
         requires named { Names graph.now self.now.birth.node }
         requires file { kind_at graph.now (number_of self.now.birth.node) ≡ Some File }
-        ensures { result ≡ (if self.now.birth.append then length (bytes_at graph.now (number_of self.now.birth.node)) else self.now.position.offset) }
+        ensures { result ≡ (if self.now.birth.append
+            then length (bytes_at graph.now (number_of self.now.birth.node))
+            else self.now.position.offset) }
     {
         if self.birth.append {
             graph.bytes(self.birth.node).len() as u64
@@ -95,12 +104,18 @@ impl FileConn {
         requires file { kind_at graph.old (number_of self.now.birth.node) ≡ Some File }
         requires txid { 0 < txid }
         requires empty { HasNothing out.old }
-        ensures serves { (room : Room) (tree : Tree) (directory : ℕ → Option ℕ) → StandsFor graph.old tree → result ≢ Served.NoMemory →
-            IsServed (write_at_act (context_of self.now room tree directory) bytes.now offset) txid result out.new self.now graph.old graph.new }
+        ensures serves { (room : Room) (tree : Tree) (directory : ℕ → Option ℕ) →
+            StandsFor graph.old tree → result ≢ Served.NoMemory →
+            IsServed (write_at_act (context_of self.now room tree directory) bytes.now offset) txid
+            result out.new self.now graph.old graph.new }
         ensures holds { KeepsHolds self.now self.now graph.old graph.new }
-        ensures memory { (room : Room) (tree : Tree) (directory : ℕ → Option ℕ) → StandsFor graph.old tree → result ≡ Served.NoMemory →
-            takes_memory (write_at_act (context_of self.now room tree directory) bytes.now offset).change ≡ true }
-        ensures untouched { result ≡ Served.NoMemory → IsUntouched out.new self.now self.now graph.old graph.new }
+        ensures memory { (room : Room) (tree : Tree) (directory : ℕ → Option ℕ) →
+            StandsFor graph.old tree → result ≡ Served.NoMemory →
+            takes_memory
+            (write_at_act (context_of self.now room tree directory) bytes.now offset).change
+            ≡ true }
+        ensures untouched { result ≡ Served.NoMemory →
+            IsUntouched out.new self.now self.now graph.old graph.new }
     {
         match overwrite(graph, self.birth.node, offset, bytes) {
             Filled::Done => reply(
@@ -127,12 +142,16 @@ impl FileConn {
         requires file { kind_at graph.old (number_of self.now.birth.node) ≡ Some File }
         requires txid { 0 < txid }
         requires empty { HasNothing out.old }
-        ensures serves { (room : Room) (tree : Tree) (directory : ℕ → Option ℕ) → StandsFor graph.old tree → result ≢ Served.NoMemory →
-            IsServed (resize_act (context_of self.now room tree directory) size) txid result out.new self.now graph.old graph.new }
+        ensures serves { (room : Room) (tree : Tree) (directory : ℕ → Option ℕ) →
+            StandsFor graph.old tree → result ≢ Served.NoMemory →
+            IsServed (resize_act (context_of self.now room tree directory) size) txid result out.new
+            self.now graph.old graph.new }
         ensures holds { KeepsHolds self.now self.now graph.old graph.new }
-        ensures memory { (room : Room) (tree : Tree) (directory : ℕ → Option ℕ) → StandsFor graph.old tree → result ≡ Served.NoMemory →
+        ensures memory { (room : Room) (tree : Tree) (directory : ℕ → Option ℕ) →
+            StandsFor graph.old tree → result ≡ Served.NoMemory →
             takes_memory (resize_act (context_of self.now room tree directory) size).change ≡ true }
-        ensures untouched { result ≡ Served.NoMemory → IsUntouched out.new self.now self.now graph.old graph.new }
+        ensures untouched { result ≡ Served.NoMemory →
+            IsUntouched out.new self.now self.now graph.old graph.new }
     {
         match resize(graph, self.birth.node, size) {
             Filled::Done => reply(ordinals, txid, Reply::Done(Method::Resize), out),

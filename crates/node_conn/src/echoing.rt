@@ -25,17 +25,21 @@ use fidl_wire::{Ordinals, Out};
 use io_messages::{Protocol, Reply, Request};
 
 /// Serves EchoString, the one method of the service: its reply, which is written into the empty
-/// output, has the same text, which is UTF-8 and fits into a message. Each connection to the service
-/// has the right to connect. It takes no memory.
+/// output, has the same text, which is UTF-8 and fits into a message. Each connection to the
+/// service has the right to connect. It takes no memory.
 pub fn echo(ordinals: &Ordinals, txid: u32, request: &Request<'_>, out: &mut Out) -> Served
     requires method { has_method Protocol.Echo (method_of (asked request.now)) ≡ true }
     requires txid { has_txid (is_one_way (method_of (asked request.now))) txid ≡ true }
     requires empty { HasNothing out.old }
     requires text { IsUtf8 (text_of (asked request.now)) }
     requires fits { PayloadFits (payload Method.EchoString (text_of (asked request.now))) }
-    ensures serves { (connection : Connection) (graph : Kept) (room : Room) (tree : Tree) (directory : ℕ → Option ℕ) →
-        connection.birth.protocol ≡ Protocol.Echo → IsTrue (is_within (single op.Connect) connection.birth.rights) → result ≢ Served.NoMemory →
-        IsAnswered (act_of (context_of connection room tree directory) (asked request.now)) txid result out.new connection graph }
+    ensures serves { (connection : Connection) (graph : Kept) (room : Room) (tree : Tree)
+        (directory : ℕ → Option ℕ) →
+        connection.birth.protocol ≡ Protocol.Echo →
+        IsTrue (is_within (single op.Connect) connection.birth.rights) →
+        result ≢ Served.NoMemory →
+        IsAnswered (act_of (context_of connection room tree directory) (asked request.now)) txid
+        result out.new connection graph }
     ensures memory { result ≢ Served.NoMemory }
 {
     match request {

@@ -53,9 +53,9 @@ impl NodeConn {
         self.birth.node
     }
 
-    /// Serves a request to the reference, which writes its reply into the empty output. Its node is one
-    /// that the graph keeps, and the message's transaction id is 0 exactly where the method has no
-    /// reply. What is answered is said by the rows of the protocol. It takes no memory.
+    /// Serves a request to the reference, which writes its reply into the empty output. Its node is
+    /// one that the graph keeps, and the message's transaction id is 0 exactly where the method has
+    /// no reply. What is answered is said by the rows of the protocol. It takes no memory.
     pub fn serve(
         &mut self,
         ordinals: &Ordinals,
@@ -70,8 +70,10 @@ impl NodeConn {
         requires method { has_method Protocol.Node (method_of (asked request.now)) ≡ true }
         requires txid { has_txid (is_one_way (method_of (asked request.now))) txid ≡ true }
         requires empty { HasNothing out.old }
-        ensures serves { (tree : Tree) (directory : ℕ → Option ℕ) → StandsFor graph.old tree → result ≢ Served.NoMemory →
-            IsServed (act_of (context_of self.old room tree directory) (asked request.now)) txid result out.new self.new graph.old graph.new }
+        ensures serves { (tree : Tree) (directory : ℕ → Option ℕ) → StandsFor graph.old tree →
+            result ≢ Served.NoMemory →
+            IsServed (act_of (context_of self.old room tree directory) (asked request.now)) txid
+            result out.new self.new graph.old graph.new }
         ensures holds { KeepsHolds self.old self.new graph.old graph.new }
         ensures memory { result ≢ Served.NoMemory }
     {

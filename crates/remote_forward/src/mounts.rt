@@ -42,8 +42,8 @@ impl Mounts {
         })
     }
 
-    /// The endpoint at which a mount goes on: its index behind the first mount end. No client's, and
-    /// no token's.
+    /// The endpoint at which a mount goes on: its index behind the first mount end. No client's,
+    /// and no token's.
     pub fn end_of(&self, mount: u32) -> u32
         requires there { mount < length self.now }
         ensures end { result ≡ end_of_mount mount }

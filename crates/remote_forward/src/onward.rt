@@ -8,8 +8,9 @@ use io_messages::Request;
 use message_writer::write_request;
 use path_walk::Path;
 
-/// Writes the Open that goes on behind a mount into an empty output: the rest of the path, the flags
-/// that are left, no options, and the same object. Since a path has at most 4,095 bytes, it fits.
+/// Writes the Open that goes on behind a mount into an empty output: the rest of the path, the
+/// flags that are left, no options, and the same object. Since a path has at most 4,095 bytes, it
+/// fits.
 pub fn forward(ordinals: &Ordinals, flags: OpenFlags, rest: Path<'_>, object: u32, out: &mut Out)
     requires empty { out.old ≡ record { bytes = []; handles = [] } }
     ensures bytes { out.new.bytes ≡ out.old.bytes ++ onward_bytes flags rest.entry object }
