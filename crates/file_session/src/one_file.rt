@@ -3,16 +3,13 @@ ghost use Rattle.conn_rules.specs.Births.{fresh};
 ghost use Rattle.endpoint_link.specs.Frames.{spellings};
 ghost use Rattle.endpoint_link.specs.Views.{frame_of};
 ghost use Rattle.vfs_journal.specs.Outcomes.{ending};
-ghost use Rattle.vfs_journal.specs.Output.{refused_frame};
 ghost use Rattle.file_session.specs.Bound.{IsBoundTo};
 ghost use Rattle.file_session.specs.OneFile.{Hears, outcome, answered, read_outcome, meaning_of as told};
 
 use crate::binding::bind;
 use crate::messages::{Meaning, meaning_of};
 use conn_rules::{Room, Served};
-use endpoint_link::{
-    FIXED_LEN, FrameKind, FrameRoom, FrameView, LookUp, Refusal, Standing, first_refusal,
-};
+use endpoint_link::{FIXED_LEN, FrameKind, FrameRoom, FrameView, LookUp, Standing, first_refusal};
 use fidl_names::{MAX_BYTES, MAX_FILE};
 use fidl_wire::{NoMemory, Ordinals, Out, Status as Answer, epitaph};
 use file_conn::FileConn;
@@ -68,8 +65,8 @@ impl LookUp for OneEndpoint {
     }
 }
 
-/// The session of one file: whether its endpoint is live, the connection that it is bound to, and room
-/// for a message.
+/// The session of one file: whether its endpoint is live, the connection that it is bound to, and
+/// room for a message.
 #[derive(Drop)]
 pub struct Connection {
     live: bool,
@@ -108,7 +105,7 @@ impl Connection {
         ensures size { room.new.size ≡ room.old.size }
     {
         if let Some(why) = first_refusal(&OneEndpoint { live: self.live }, frame) {
-            put_refusal(&mut self.out, frame.endpoint, why, room);
+            room.put_refused(frame.endpoint, why);
             return;
         }
         match frame.kind {
@@ -182,15 +179,4 @@ fn put_end(out: &mut Out, status: Answer, room: &mut FrameRoom)
     epitaph(status, out);
     room.put_frame(ENDPOINT, FrameKind::Message, &[], out.as_bytes());
     room.put_frame(ENDPOINT, FrameKind::Close, &[], &[]);
-}
-
-/// Puts the frame that refuses one with this number.
-fn put_refusal(out: &mut Out, number: u32, why: Refusal, room: &mut FrameRoom)
-    requires { length room.old.bytes + MOST_ANSWER ≤ room.old.size }
-    ensures frames { room.new.bytes ≡ room.old.bytes ++ spellings (refused_frame number why ∷ []) }
-    ensures size { room.new.size ≡ room.old.size }
-{
-    out.clear();
-    out.put_i32(why.status().number());
-    room.put_frame(number, FrameKind::Refused, &[], out.as_bytes());
 }

@@ -1,4 +1,7 @@
-use Rattle.std.proofs.Common.{ap, ◌∙◌, sym, refl}
+use Rattle.std.proofs.Common.{◌++◌, ◌∙◌, ap, append-nil, refl, sym}
+use Rattle.endpoint_link.specs.Frames.{spelling}
+use Rattle.endpoint_link.specs.Gathering.{Gathered}
+use Rattle.endpoint_link.specs.Refusals.{refused_frame}
 use Rattle.endpoint_link.specs.Views.{frame_of}
 use Rattle.endpoint_link.specs.declared.kinds.FrameKind.{FrameKind}
 use Rattle.file_session.specs.OneFile.{Standing, admitted}
@@ -9,7 +12,13 @@ pub returns-in-Some-clause-hears : goal.returns-in-Some-clause-hears
 returns-in-Some-clause-hears c file bound =
     let now : Standing = record { live = c.args.self.now.live; position = c.args.self.now.connection.position } in
     let is = outcome_refused file now (frame_of c.args.frame) c.in-Some.why c.in-Some.ensures in
-    hears_as _ _ now _ _ is (record { frames = c.put_refusal.ensures.frames; stands = refl })
+    hears_as _ _ now _ _ is
+    (record {
+      frames =
+          ap (λ (gathered : Gathered). gathered.bytes) c.put_refused.ensures.written
+          ∙ ap (λ bytes. c.args.room.now.bytes ++ bytes) (sym (append-nil (spelling (refused_frame c.args.frame.endpoint c.in-Some.why))));
+      stands = refl;
+    })
 
 pub returns-in-Message-clause-hears : goal.returns-in-Message-clause-hears
 returns-in-Message-clause-hears c file bound =
