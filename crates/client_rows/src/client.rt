@@ -17,7 +17,8 @@ use std::alloc::Global;
 use std::test::Fail;
 use test_rows::{Row, Table, all_hold};
 
-/// The requests of rows, each method's beside those of `writes`. The file is to be read, and to tell what it is; an Open makes endpoint 2.
+/// The requests of rows, each method's beside those of `writes`. The file is to be read, and to
+/// tell what it is; an Open makes endpoint 2.
 const REQUESTS: [(&str, Request<'static>); 20] = [
     (
         "open d/f",
@@ -147,7 +148,8 @@ fn has_txid(txid: u32, request: &Request<'_>) -> bool
     (txid == 0) == is_one_way(request.method())
 }
 
-/// The request of a row. The table stands here alone, since what is proved of a function goes over all that it has.
+/// The request of a row. The table stands here alone, since what is proved of a function goes over
+/// all that it has.
 fn request(row: &Row<'_>) -> Option<Request<'static>> {
     row.named(4, &REQUESTS)
 }
@@ -325,7 +327,8 @@ fn notes_many(client: &mut Client) -> bool {
     client.waiting() == MANY as usize
 }
 
-/// Whether the reply to a Sync, with each transaction id put in, the last call's first, answers the call.
+/// Whether the reply to a Sync, with each transaction id put in, the last call's first, answers the
+/// call.
 fn takes_many(ordinals: &Ordinals, client: &mut Client) -> bool {
     let mut frame =
         *b"\x01\x00\x00\x00\x01\x00\x00\x00\x20\x00\x00\x00\x00\x00\x00\x00\x02\x00\x00\x01\

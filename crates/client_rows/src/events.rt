@@ -4,8 +4,8 @@ use std::test::Fail;
 use test_rows::{Row, Table, all_hold};
 use watch_events::read_events;
 
-/// A name, the bytes of a message, its first three events, and whether those that it has use it up. The first three are what watchers of
-/// a directory get.
+/// A name, the bytes of a message, its first three events, and whether those that it has use it up.
+/// The first three are what watchers of a directory get.
 const MESSAGES: &[u8] = b"
 a snapshot of two names | 03012e030166 | (Some(Seen { event: 3, name: '.' }), Some(Seen { event: 3, name: 'f' }), None, true)
 these were all | 0400 | (Some(Seen { event: 4, name: '' }), None, None, true)

@@ -89,7 +89,8 @@ impl Table for Link {
     }
 }
 
-/// Whether these bytes, and zeros behind them, begin with the frames that the row says, on each side.
+/// Whether these bytes, and zeros behind them, begin with the frames that the row says, on each
+/// side.
 fn are_fronts(alloc: Global, row: &Row<'_>, bytes: &mut Vec<u8>) -> bool {
     bytes.resize(MAX_FRAME_LEN, 0).is_ok()
         && row.says(alloc, 3, &front(Side::ToServers, bytes))
@@ -117,7 +118,8 @@ fn the_link_is_what_its_rows_say(rt: HostRuntime) -> Result<(), Fail> {
     all_hold(rt.alloc(), ROWS, &mut Link)
 }
 
-/// Whether the largest frame, 64 handles and these bytes, and a Close frame behind it fill a room, and are what was written.
+/// Whether the largest frame, 64 handles and these bytes, and a Close frame behind it fill a room,
+/// and are what was written.
 fn fill(room: &mut FrameRoom, bytes: &[u8], written: &[u8]) -> bool
     requires bytes { length bytes.now ≡ 65_536 }
     requires empty { room.old.bytes ≡ [] }

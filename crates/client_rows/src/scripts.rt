@@ -46,7 +46,8 @@ fn are_most_rounds(alloc: Global, row: &Row<'_>) -> bool {
     }
 }
 
-/// What a text says as a script, in the mode that its first line says. Nothing where it is none, or too long.
+/// What a text says as a script, in the mode that its first line says. Nothing where it is none, or
+/// too long.
 fn read_script(alloc: Global, ordinals: &Ordinals, text: &[u8]) -> Option<Script> {
     if text.len() > MAX_TEXT {
         return None;

@@ -6,8 +6,8 @@ use Rattle.endpoint_link.specs.declared.kinds.FrameKind.{FrameKind}
 use Rattle.endpoint_link.specs.declared.kinds.FrameKind.TheVariants as kind
 use Rattle.endpoint_link.specs.Admission.{admission}
 use Rattle.endpoint_link.specs.declared.kinds.Refusal.{Refusal}
+use Rattle.endpoint_link.specs.Refusals.{refused_frame}
 use Rattle.conn_rules.specs.Births.{Position, fresh}
-use Rattle.vfs_journal.specs.Output.{refused_frame}
 use Rattle.link_session.specs.Serving.{IsGrowing, HeardOne, HeardEnd}
 use Rattle.link_session.specs.Session.{Course}
 use Rattle.file_session.specs.OneFile.{Standing, at_start, look_ups, outcome, by_refusal, admitted, Outcome, Hears, answers, after, file_course, IsBehind}

@@ -15,7 +15,8 @@ pub record HasFile (file : List ℕ) (holds : ℕ) (graph : Kept) (node : NodeRe
   pub kind : kind_at graph 2 ≡ Some File
   pub held : holds_at graph 2 ≡ holds
 
--- the graph has the tree of a file, and the connection, which holds the file, is bound to it and may read
+-- the graph has the tree of a file, and the connection, which holds the file, is bound to it and
+-- may read
 pub record IsBoundTo (file : List ℕ) (graph : Kept) (connection : Connection) : Type 0 where
   pub tree : StandsFor graph (tree_of file)
   pub bound : CanBeBound graph connection.birth

@@ -27,9 +27,9 @@ use Rattle.endpoint_link.specs.Admission.{LookUps, admission}
 use Rattle.endpoint_link.specs.declared.kinds.FrameKind.{FrameKind}
 use Rattle.endpoint_link.specs.declared.kinds.FrameKind.TheVariants as kind
 use Rattle.endpoint_link.specs.declared.kinds.Refusal.{Refusal}
+use Rattle.endpoint_link.specs.Refusals.{refused_frame}
 use Rattle.endpoint_link.specs.declared.kinds.Standing.TheVariants as standing
 use Rattle.vfs_journal.specs.Outcomes.{Asker, frames_of, ending}
-use Rattle.vfs_journal.specs.Output.{refused_frame}
 use Rattle.link_session.specs.Session.{Course}
 
 -- where the session stands: whether endpoint 1 is still live, and from where it reads
@@ -130,7 +130,8 @@ answered file now (Ends status) = record {
   next = record { live = false; position = now.position };
 }
 
--- a frame that was admitted: a message is answered at once, a Close hangs up, and nothing waits for Turns and Picks
+-- a frame that was admitted: a message is answered at once, a Close hangs up, and nothing waits for
+-- Turns and Picks
 abbrev pub admitted : List ℕ → Standing → FrameKind → List ℕ → Outcome
 admitted file now kind.Message message = answered file now (meaning_of message)
 admitted file now kind.Close message = record { frames = []; next = record { live = false; position = now.position } }

@@ -1,4 +1,5 @@
--- What the client of the one file sees: its Reads up to the frame that ends its endpoint, and the messages that come back.
+-- What the client of the one file sees: its Reads up to the frame that ends its endpoint, and the
+-- messages that come back.
 use Rattle.std.specs.Prelude.{ℕ, ◌+◌, List, [], ◌∷◌, ◌++◌, ◌==◌, length, if◌then◌else◌}
 use Rattle.fidl_names.specs.declared.methods.Method.TheVariants as method
 use Rattle.fidl_names.specs.declared.statuses.Status.TheVariants as status

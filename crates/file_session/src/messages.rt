@@ -16,7 +16,8 @@ pub enum Meaning {
     Ends(Status),
 }
 
-/// What a message on the file's endpoint is: the header is read first, then the ordinal, then the rest.
+/// What a message on the file's endpoint is: the header is read first, then the ordinal, then the
+/// rest.
 #[tactic(auto, unfolding(crate::specs::OneFile::meaning_of, io_messages::specs::Requests::fields_of))]
 pub fn meaning_of(message: &[u8], ordinals: &Ordinals) -> Meaning
     ensures meaning { seen result ≡ meaning_of message.now }

@@ -9,9 +9,7 @@ ghost use Rattle.file_session.specs.OneFile.{Hears, outcome, answered, read_outc
 use crate::binding::bind;
 use crate::messages::{Meaning, meaning_of};
 use conn_rules::{Room, Served};
-use endpoint_link::{
-    FIXED_LEN, FrameKind, FrameRoom, FrameView, LookUp, Standing, first_refusal,
-};
+use endpoint_link::{FIXED_LEN, FrameKind, FrameRoom, FrameView, LookUp, Standing, first_refusal};
 use fidl_names::{MAX_BYTES, MAX_FILE};
 use fidl_wire::{NoMemory, Ordinals, Out, Status as Answer, epitaph};
 use file_conn::FileConn;
@@ -67,8 +65,8 @@ impl LookUp for OneEndpoint {
     }
 }
 
-/// The session of one file: whether its endpoint is live, the connection that it is bound to, and room
-/// for a message.
+/// The session of one file: whether its endpoint is live, the connection that it is bound to, and
+/// room for a message.
 #[derive(Drop)]
 pub struct Connection {
     live: bool,

@@ -12,11 +12,11 @@ ghost use Rattle.file_session.specs.OneFile.{file_course, IsBehind};
 use crate::one_file::{Connection, MOST_ANSWER};
 use endpoint_link::{FrameRoom, FrameView, Side};
 use fidl_names::{MAX_FILE, MAX_PIECE, NoMemory};
-use fidl_wire::{OrdinalFault, Ordinals};
+use fidl_wire::Ordinals;
 use host_io::{Files, Sink, Source};
 use link_session::{Input, Session, run};
 use named_files::read_file;
-use run_status::Status;
+use run_status::{Status, ordinals};
 use std::alloc::Global;
 
 /// The room in which output is gathered: a large piece, and one more answer.
@@ -39,9 +39,9 @@ pub fn serve_file<F: Files, S: Source, K: Sink>(
         (sink.new ≡ sink.old))) result }
     ensures reads { ReadsOnly F.reads (name.now ∷ []) files.old files.new }
 {
-    let ordinals = match Ordinals::new() {
+    let ordinals = match ordinals() {
         Ok(ordinals) => ordinals,
-        Err(OrdinalFault::Collision(first, second)) => return Status::Collision { first, second },
+        Err(collision) => return collision,
     };
     let file = match read_file(alloc, name, MAX_FILE, files) {
         Ok(file) => file,

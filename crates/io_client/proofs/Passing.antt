@@ -4,11 +4,10 @@ use Rattle.std.specs.Prelude.{ℕ, ℤ, ◌||◌, map, Option, Some, None, Resul
 use Rattle.std.specs.FinMap as finite
 use Rattle.std.proofs.lemmas.Bool.{eq-eqb, ne_eqb}
 use Rattle.fidl_names.specs.HandleNumber.{handle_with}
-use Rattle.fidl_names.specs.Numbers.{AreBytes}
 use Rattle.fidl_names.specs.declared.methods.Method.{Method}
 use Rattle.fidl_wire.specs.declared.faults.WireFault.{WireFault}
 use Rattle.fidl_wire.specs.declared.headers.Header.{Header}
-use Rattle.fidl_wire.specs.Epitaphs.{IsEpitaph}
+use Rattle.fidl_wire.specs.Epitaphs.{IsEpitaph, is_epitaph}
 use Rattle.fidl_wire.specs.declared.faults.WireWhat.TheVariants.{Ordinal}
 use Rattle.fidl_wire.specs.Headers.{fault, header_of}
 use Rattle.fidl_wire.specs.Names.{event_ordinal, method_ordinal}
@@ -18,7 +17,7 @@ use Rattle.endpoint_link.specs.Frames.{Frame}
 use Rattle.io_messages.specs.Replies.{Answered}
 use Rattle.io_replies.specs.Reading.{reply_of}
 use Rattle.io_client.specs.Calls.{Calls, answered_at, call_at, call_cmp, is_watched}
-use Rattle.io_client.specs.Taking.{IsNoEpitaph, TakesMessage, Taking, answer_to, bad, by_call, by_header, calls_behind, calls_behind_message, is_epitaph, reply}
+use Rattle.io_client.specs.Taking.{IsNoEpitaph, TakesMessage, Taking, answer_to, bad, by_call, by_header, calls_behind, calls_behind_message, reply}
 use Rattle.io_client.proofs.Epitaphs.{epitaph_told, is_told, none_told, not_told}
 use Rattle.io_client.proofs.Tables.{calls_total, calls_exact, remove-none}
 
@@ -59,9 +58,9 @@ or_true false = refl
 pub behind_epitaph : (calls : Calls) (f : Frame) (status : ℤ) → IsEpitaph f.bytes status → calls ≡ calls_behind_message calls f
 behind_epitaph calls f status is = rw (is_told f.bytes status is, or_true (is_watched calls f.endpoint)) refl
 
-pub behind_other : (calls new : Calls) (f : Frame) → AreBytes f.bytes → is_watched calls f.endpoint ≡ false → IsNoEpitaph f.bytes →
+pub behind_other : (calls new : Calls) (f : Frame) → is_watched calls f.endpoint ≡ false → IsNoEpitaph f.bytes →
     new ≡ (by_header calls f (header_of f.bytes)).1 → new ≡ calls_behind_message calls f
-behind_other calls new f are free none is = rw (free, none_told f.bytes are none) is
+behind_other calls new f free none is = rw (free, none_told f.bytes none) is
 
 -- what waits behind another frame
 pub behind_quiet : (k : FrameKind) (calls : Calls) (f : Frame) → (k ≡ kind.Message → ⊥) → calls ≡ calls_behind k calls f
@@ -72,15 +71,15 @@ behind_quiet kind.Turn calls f other = refl
 behind_quiet kind.Pick calls f other = refl
 
 -- what is told of a message says what waits behind it
-pub behind_taken : (calls new : Calls) (f : Frame) (told : Taking) → AreBytes f.bytes → TakesMessage calls f told new → new ≡ calls_behind_message calls f
-behind_taken calls new f told are takes = by_watched (is_watched calls f.endpoint) refl where
+pub behind_taken : (calls new : Calls) (f : Frame) (told : Taking) → TakesMessage calls f told new → new ≡ calls_behind_message calls f
+behind_taken calls new f told takes = by_watched (is_watched calls f.endpoint) refl where
   by_epitaph : (ends : Bool) → is_epitaph f.bytes ≡ ends → is_watched calls f.endpoint ≡ false → new ≡ calls_behind_message calls f
   by_epitaph true e free =
-      let one = epitaph_told f.bytes are e in
+      let one = epitaph_told f.bytes e in
       (takes.ended free one.0 one.1).1 ∙ behind_epitaph calls f one.0 one.1
   by_epitaph false e free =
       let none : IsNoEpitaph f.bytes = not_told f.bytes e in
-      behind_other calls new f are free none (ap (λ (p : Taking × Calls). p.1) (takes.other free none))
+      behind_other calls new f free none (ap (λ (p : Taking × Calls). p.1) (takes.other free none))
 
   by_watched : (watched : Bool) → is_watched calls f.endpoint ≡ watched → new ≡ calls_behind_message calls f
   by_watched true there = (takes.watched there).1 ∙ behind_watched calls f there

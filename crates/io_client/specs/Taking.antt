@@ -1,5 +1,5 @@
 -- What a frame from the servers is to a client.
-use Rattle.std.specs.Prelude.{◌≡◌, ℕ, ℤ, Bool, true, false, ◌==◌, ◌&&◌, ◌||◌, if◌then◌else◌, List, length, map, Option, Some, None, Result, Ok, Err}
+use Rattle.std.specs.Prelude.{◌≡◌, ℕ, ℤ, Bool, true, false, ◌==◌, ◌||◌, if◌then◌else◌, List, map, Option, Some, None, Result, Ok, Err}
 use Rattle.std.specs.Int.{w32, cast_signed}
 use Rattle.fidl_names.specs.declared.methods.Method.{Method}
 use Rattle.fidl_names.specs.HandleNumber.{handle_with}
@@ -9,7 +9,7 @@ use Rattle.fidl_wire.specs.declared.faults.WireWhat.TheVariants.{Ordinal}
 use Rattle.fidl_wire.specs.declared.headers.Header.{Header}
 use Rattle.fidl_wire.specs.Headers.{header_of, fault}
 use Rattle.fidl_wire.specs.Names.{method_ordinal, event_ordinal}
-use Rattle.fidl_wire.specs.Epitaphs.{IsEpitaph, epitaph_ordinal}
+use Rattle.fidl_wire.specs.Epitaphs.{IsEpitaph, is_epitaph}
 use Rattle.endpoint_link.specs.declared.kinds.FrameKind.{FrameKind}
 use Rattle.endpoint_link.specs.declared.kinds.FrameKind.TheVariants as kind
 use Rattle.endpoint_link.specs.Frames.{Frame}
@@ -64,14 +64,6 @@ by_header calls f (Err e) = (bad e, calls)
 by_header calls f (Ok h) =
     if h.ordinal == event_ordinal then (told_event (event_of f.bytes), calls)
     else by_call calls f h (call_at calls f.endpoint h.txid)
-
-abbrev pub heads_epitaph : Result Header WireFault → Bool
-heads_epitaph (Err flaw) = false
-heads_epitaph (Ok header) = (header.txid == 0) && (header.ordinal == epitaph_ordinal)
-
--- 24 bytes: a header without a flaw, with the transaction id 0 and the ordinal, a status, and four zero bytes
-abbrev pub is_epitaph : List ℕ → Bool
-is_epitaph bytes = (length bytes == 24) && (heads_epitaph (header_of bytes) && (number_at 4 20 bytes == 0))
 
 -- the bytes are no epitaph
 abbrev pub IsNoEpitaph : List ℕ → Type 0

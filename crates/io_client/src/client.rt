@@ -22,15 +22,12 @@ use byteorder::{ByteOrder, LittleEndian};
 use endpoint_link::{FrameKind, FrameView, HandleBytes, Outbox, write_frame, write_message};
 use fidl_names::{Handle, MAX_BYTES, MAX_HANDLES, Method, NoMemory};
 use fidl_wire::{Header, Ordinals, Out, WireFault, WireWhat, read_epitaph};
-use io_messages::{Request, is_one_way};
+use io_messages::{ORDINAL_PLACE, Request, is_one_way};
 use io_replies::{read_event, read_reply};
 use message_writer::write_request;
 use std::alloc::Global;
 use std::marker::Model;
 use watch_events::read_events;
-
-/// Where a header's ordinal stands.
-const ORDINAL_PLACE: usize = 8;
 
 /// One end of the link that sends requests. It knows which calls wait for their reply, by endpoint and
 /// transaction id, and which endpoints a Watch carried. Contracts see both.
@@ -168,7 +165,8 @@ impl Client {
         }
     }
 
-    /// Lets a frame from the servers pass: the call that it answers, if any, waits no more, as behind `take`. What the frame says isn't read.
+    /// Lets a frame from the servers pass: the call that it answers, if any, waits no more, as behind `take`.
+    /// What the frame says isn't read.
     ///
     /// It takes no memory. The caller sees to it that the frame is a sound Message, Close or Refused frame.
     pub fn pass(&mut self, ordinals: &Ordinals, frame: FrameView<'_>)
@@ -231,7 +229,6 @@ impl Client {
 
     /// A message passes.
     fn pass_message(&mut self, ordinals: &Ordinals, frame: FrameView<'_>)
-        requires { IsFrame side.Any (frame_of frame) }
         ensures { self.new ≡ calls_behind_message self.old (frame_of frame.entry) }
     {
         let endpoint = frame.endpoint;

@@ -36,7 +36,8 @@ pub record HeardEnd (course : Course) (frames : List Frame) (held held' : List �
   pub more : course.by_end frames ≡ course.so_far frames ++ part
   pub appends : held' ≡ held ++ part
 
--- the first n bytes are whole frames; what is written for them went to the sink, but for what is held back
+-- the first n bytes are whole frames; what is written for them went to the sink, but for what is
+-- held back
 pub record Heard (side : Side) (course : Course) (Stands : List Frame → Type 0) (before : List Frame) (bytes : List ℕ)
     (written written' : Option (List ℕ)) (held : List ℕ) (n : ℕ) : Type 0 where
   pub frames : List Frame
@@ -80,8 +81,9 @@ abbrev pub end_of : List ℕ → ℕ → Status
 end_of [] taken = status.Done
 end_of (byte ∷ rest) taken = status.Truncated (taken - length (byte ∷ rest))
 
--- the end behind some frames: what it adds is written behind what was held back, and all is flushed; or a part of that is written, since the
--- sink failed; or it can't be had for want of memory, and nothing is written
+-- the end behind some frames: what it adds is written behind what was held back, and all is
+-- flushed; or a part of that is written, since the sink failed; or it can't be had for want of
+-- memory, and nothing is written
 abbrev pub Finishes : Course → List Frame → Status → List ℕ → Option (List ℕ) → Option (List ℕ) → ℕ → ℕ → ℕ → Status → Type 0
 Finishes course frames wanted held written written' flushed faults faults' answer =
     ((answer ≡ wanted) × (faults' ≡ faults) × ((last : List ℕ) × (course.by_end frames ≡ course.so_far frames ++ last) × PassedOn written written' (held ++ last) flushed))

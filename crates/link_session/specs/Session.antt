@@ -14,8 +14,8 @@ use Rattle.run_status.specs.declared.statuses.Status.TheVariants as status
 use Rattle.run_status.specs.Outside.{Streams, sink_of}
 use Rattle.run_status.specs.Texts.{GotAll}
 
--- what a session does with frames: the bytes that are written for its frames so far, those that are written by its end, which begin with
--- them, and whether memory may be wanting on the way
+-- what a session does with frames: the bytes that are written for its frames so far, those that are
+-- written by its end, which begin with them, and whether memory may be wanting on the way
 pub record Course : Type 0 where
   pub so_far : List Frame → List ℕ
   pub by_end : List Frame → List ℕ
@@ -86,7 +86,8 @@ pub record IsTooLong (side : Side) (course : Course) (before after : Streams) : 
   pub wrote : WroteAll before after (course.by_end frames)
   pub faultless : MetNoFault before after
 
--- a read failed; the whole frames that were taken are answered, and the answers are flushed, unless nothing was taken and the sink left alone
+-- a read failed; the whole frames that were taken are answered, and the answers are flushed, unless
+-- nothing was taken and the sink left alone
 pub record IsReadFault (side : Side) (course : Course) (before after : Streams) (sink_same : Type 0) : Type 0 where
   pub taken : List ℕ
   pub frames : List Frame
@@ -107,7 +108,8 @@ pub record IsPartSoFar (side : Side) (course : Course) (taken part : List ℕ) :
   pub read : Frames side front frames []
   pub lawful : Begins part (course.so_far frames)
 
--- these are the whole frames of an input that ended, or has as many bytes as one session takes, or is bad behind them
+-- these are the whole frames of an input that ended, or has as many bytes as one session takes, or
+-- is bad behind them
 abbrev pub EndsBehind : Side → List ℕ → Type 0 → List Frame → Type 0
 EndsBehind side taken at_end frames =
     ((rest : List ℕ) × Frames side taken frames rest × (at_end ⊎ (length taken ≡ limit.MAX_INPUT)))
@@ -119,8 +121,9 @@ pub record IsPartByEnd (side : Side) (course : Course) (taken : List ℕ) (at_en
   pub ends : EndsBehind side taken at_end frames
   pub lawful : Begins part (course.by_end frames)
 
--- the output for the frames that were whole before the last read is in the part, and flushed; before the first read none were. The last
--- read is what it gave, and no more than 65,536 bytes of it
+-- the output for the frames that were whole before the last read is in the part, and flushed;
+-- before the first read none were. The last read is what it gave, and no more than 65,536 bytes of
+-- it
 abbrev pub KeepsUp : Side → Course → Streams → Streams → List ℕ → List ℕ → Type 0
 KeepsUp side course before after taken part =
     (early last : List ℕ) (frames : List Frame) (rest : List ℕ) → taken ≡ early ++ last → min after.last limit.MAX_PIECE ≤ length last → early ≢ []

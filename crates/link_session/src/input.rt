@@ -63,7 +63,8 @@ impl Input {
         Ok(n)
     }
 
-    /// Drops so many of the first bytes. Where none go, as of a frame that isn't whole yet, none is moved.
+    /// Drops so many of the first bytes. Where none go, as of a frame that isn't whole yet, none is
+    /// moved.
     pub fn drop_front(&mut self, n: usize)
         requires { n ≤ length self.old }
         ensures { self.new ≡ drop n self.old }

@@ -164,8 +164,8 @@ fn serve<H: Session, K: Sink>(
     }
 }
 
-/// Where a large piece is held back all of it is written, so that no more than that is held behind a
-/// frame.
+/// Where a large piece is held back all of it is written, so that no more than that is held behind
+/// a frame.
 fn make_room<H: Session, K: Sink>(session: &mut H, sink: &mut K) -> Result<(), Failed>
     ensures passed { OnOk result (Passes (K.written sink.old) (K.written sink.new) (H.holds session.old) (H.holds session.new)) }
     ensures bounded { OnOk result (length (H.holds session.new) < limit.MAX_PIECE) }

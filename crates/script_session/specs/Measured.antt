@@ -9,7 +9,8 @@ use Rattle.vfs_script.specs.Scripts.{frames_of}
 use Rattle.script_session.specs.declared.measuring.Measured.{Measured}
 use Rattle.vfs_journal.specs.Output.{frames_behind}
 
--- the output frames of a script's text that is played to its end: those of the session that its frames end
+-- the output frames of a script's text that is played to its end: those of the session that its
+-- frames end
 abbrev pub output_frames : Start → Mode → List ℕ → List Frame
 output_frames start by text = frames_behind start (ended start by (frames_of text))
 

@@ -17,7 +17,8 @@ pub record IsScript (text : List ℕ) (script : ScriptValue) : Type 0 where
   pub bytes : script.bytes ≡ spellings (frames_of text)
   pub calls : script.calls ≡ calls_of text
 
--- a script is played so far over a start of bytes: the world stands for its journal, and what is known of calls is what happened
+-- a script is played so far over a start of bytes: the world stands for its journal, and what is
+-- known of calls is what happened
 pub record Plays (start : Start) (played : Played) (world : World) (calls : Calls) : Type 0 where
   pub distinct : AreDistinct
   pub bytes : BeginsWithBytes start

@@ -12,7 +12,8 @@ use Rattle.vfs_journal.specs.Starts.{start_of}
 use Rattle.vfs_script.specs.Scripts.{frames_of}
 use Rattle.workload.specs.Workload.{workload}
 
--- how many frames go in, how many come out, and the size and the SHA-256 of their bytes, a line each
+-- how many frames go in, how many come out, and the size and the SHA-256 of their bytes, a line
+-- each
 abbrev pub report_with : ℕ → ℕ → ℕ → List ℕ → List ℕ
 report_with frames_in frames_out bytes_out hash =
     codes "frames in " ++ decimal frames_in ++ codes "\nframes out " ++ decimal frames_out

@@ -11,8 +11,9 @@ ghost use Rattle.transcripts.specs.Answering.{count_answers};
 ghost use Rattle.script_session.specs.Playing.{play_all, transcript};
 ghost use Rattle.vfs_journal.specs.Output.{frames_behind};
 
-/// A transcript is the lines of all frames that the session of its script's frames writes, in order, and then how many calls the script
-/// makes and how many frames answer one. It computes nothing.
+/// A transcript is the lines of all frames that the session of its script's frames writes, in
+/// order, and then how many calls the script makes and how many frames answer one. It computes
+/// nothing.
 pub fn transcripts_show_the_output()
     ensures { (start : Start) (by : Mode) (text : List ℕ) →
         transcript start by text ≡ flat_map frame_line (frames_behind start (ended start by (frames_of text)))

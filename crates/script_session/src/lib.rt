@@ -1,5 +1,6 @@
-//! Scripts that are played over a tree: their frames are heard one by one in a session, and a transcript is written, or the output is
-//! measured. `run_script` plays one that is named, and `make` a generated one.
+//! Scripts that are played over a tree: their frames are heard one by one in a session, and a
+//! transcript is written, or the output is measured. `run_script` plays one that is named, and
+//! `make` a generated one.
 #![tactic(auto)]
 
 mod laws;

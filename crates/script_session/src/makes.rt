@@ -24,7 +24,8 @@ use tree_file::generated_start;
 use vfs_script::{Script, ScriptFault, script_of};
 use workload::generated;
 
-/// Plays the generated script of so many rounds over the generated tree, and tells how much goes in and comes out.
+/// Plays the generated script of so many rounds over the generated tree, and tells how much goes in
+/// and comes out.
 pub fn make<K: Sink>(alloc: Global, rounds: u32, sink: &mut K) -> Status
     requires { IsRounds rounds }
     ensures { AfterNames (sink.new ≡ sink.old) (AfterReport rounds (sink.new ≡ sink.old) (λ report. WritesText report ⊥

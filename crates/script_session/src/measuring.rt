@@ -15,8 +15,9 @@ use session_start::Start;
 use std::alloc::Global;
 use vfs_script::Script;
 
-/// What is told of output frames: how many there are, how many bytes they have, and the SHA-256 of these. The sums are wider than 64 bits,
-/// since nothing but memory bounds what each line of a script makes the servers write.
+/// What is told of output frames: how many there are, how many bytes they have, and the SHA-256 of
+/// these. The sums are wider than 64 bits, since nothing but memory bounds what each line of a
+/// script makes the servers write.
 #[derive(Clone, Copy)]
 pub struct Measured {
     pub frames: u128,
@@ -24,9 +25,11 @@ pub struct Measured {
     pub hash: [u8; 32],
 }
 
-/// Plays a script over the tree of an accepted start, and measures its output. The output is hashed as the session goes on, and isn't kept.
+/// Plays a script over the tree of an accepted start, and measures its output. The output is hashed
+/// as the session goes on, and isn't kept.
 ///
-/// The script is one that `script_of` read from a text. What it stands for are frames that may go to the servers.
+/// The script is one that `script_of` read from a text. What it stands for are frames that may go
+/// to the servers.
 pub fn measure(
     alloc: Global,
     ordinals: Ordinals,

@@ -18,7 +18,7 @@ ghost use Rattle.script_session.specs.Tallies.{Metered, Tallies};
 use crate::measuring::Measured;
 use crate::tally::Tally;
 use endpoint_link::{FrameView, Mode, Outbox, Reading, Side, frame_at};
-use fidl_names::NoMemory;
+use fidl_names::{MAX_FRAMES, NoMemory};
 use fidl_wire::Ordinals;
 use session_start::Start;
 use std::alloc::Global;
@@ -60,7 +60,8 @@ impl Meter {
         })
     }
 
-    /// Hears a script to its end, where these bytes are its frames, and tells what was written for it.
+    /// Hears a script to its end, where these bytes are its frames, and tells what was written for
+    /// it.
     pub(crate) fn hear_script(
         &mut self,
         script: &Script,
@@ -104,7 +105,7 @@ impl Meter {
     /// Hears a frame, and tallies what is written for it.
     fn hear_one(&mut self, frame: FrameView<'_>) -> Result<(), NoMemory>
         requires frame { IsFrame side.ToServers (frame_of frame) }
-        requires accepted { self.old.world.frames < 2 ^ 48 }
+        requires accepted { self.old.world.frames < MAX_FRAMES }
         requires few { self.old.tally.frames < 2 ^ 126 }
         requires small { self.old.tally.bytes < 2 ^ 126 }
         ensures metered { (start : TheStart) (journal : Journal) → Metered start journal self.old.world self.old.tally →

@@ -1,6 +1,6 @@
 //! The frames of a script, heard one by one in a session over a tree.
 
-ghost use Rattle.std.specs.Prelude.{◌≡◌, ◌<◌, ◌+◌, ◌^◌, ℕ, List, Option, Some, [], All, IfOk, OnOk, OnErr, length, slice_get};
+ghost use Rattle.std.specs.Prelude.{◌≡◌, ◌<◌, ◌+◌, ℕ, List, Option, Some, [], All, IfOk, OnOk, OnErr, length, slice_get};
 ghost use Rattle.std.specs.Io.KnownBytes.{Appends};
 ghost use Rattle.endpoint_link.specs.Frames.{IsFrame};
 ghost use Rattle.endpoint_link.specs.Views.{frame_of};
@@ -20,7 +20,7 @@ ghost use Rattle.script_session.specs.Playing.{Played, drain_played, not_yet, pl
 ghost use Rattle.script_session.specs.Steps.{IsScript, Plays};
 
 use endpoint_link::{FrameView, Mode, Outbox, Reading, Side, frame_at};
-use fidl_names::NoMemory;
+use fidl_names::{MAX_FRAMES, NoMemory};
 use fidl_wire::Ordinals;
 use host_io::Sink;
 use session_start::Start;
@@ -29,10 +29,11 @@ use transcripts::{Scribe, TranscriptFault};
 use vfs_script::Script;
 use vfs_world::World;
 
-/// Plays a script over the tree of an accepted start, and writes its transcript. It is written as the session goes on, in pieces that don't
-/// grow with it.
+/// Plays a script over the tree of an accepted start, and writes its transcript. It is written as
+/// the session goes on, in pieces that don't grow with it.
 ///
-/// The script is one that `script_of` read from a text. What it stands for are frames that may go to the servers.
+/// The script is one that `script_of` read from a text. What it stands for are frames that may go
+/// to the servers.
 pub fn play<K: Sink>(
     alloc: Global,
     ordinals: Ordinals,
@@ -152,7 +153,7 @@ impl Player {
         requires frame { IsFrame side.ToServers (frame_of frame) }
         requires place { i < length script.now.calls }
         requires free { IsFree self.old.scribe.calls (slice_get script.now.calls i) }
-        requires few { self.old.world.frames < 2 ^ 48 }
+        requires few { self.old.world.frames < MAX_FRAMES }
         ensures plays { (start : TheStart) (played : Played) (said : Spoken) → Plays start played self.old.world self.old.scribe.calls →
             spoken_frame said ≡ frame_of frame.entry → slice_get script.now.calls i ≡ Some (call_in said) →
             OnOk result (Plays start (play_line start self.old.mode played said) self.new.world self.new.scribe.calls) }

@@ -7,6 +7,7 @@ use Rattle.std.proofs.lemmas.Bool.{eqb-true, eq-eqb}
 use Rattle.fidl_names.specs.declared.methods.Method.{Method}
 use Rattle.fidl_wire.specs.declared.faults.WireFault.{WireFault}
 use Rattle.fidl_wire.specs.declared.headers.Header.{Header}
+use Rattle.fidl_wire.specs.Epitaphs.{is_epitaph}
 use Rattle.fidl_wire.specs.Headers.{header_of}
 use Rattle.fidl_wire.specs.Names.{event_ordinal}
 use Rattle.endpoint_link.specs.declared.kinds.FrameKind.{FrameKind}
@@ -14,7 +15,7 @@ use Rattle.endpoint_link.specs.declared.kinds.FrameKind.TheVariants as kind
 use Rattle.endpoint_link.specs.Frames.{Frame}
 use Rattle.io_client.specs.Calls.{Calls, answered_at, call_at, is_waiting, is_watched}
 use Rattle.io_replies.specs.Reading.{event_of}
-use Rattle.io_client.specs.Taking.{by_call, by_header, calls_behind, calls_behind_message, is_epitaph, told_event}
+use Rattle.io_client.specs.Taking.{by_call, by_header, calls_behind, calls_behind_message, told_event}
 use Rattle.transcripts.specs.Answering.{Past, gets, count_answers, count_calls, headed_txid, is_answer, is_open, is_reply_to, kind_txid, message_txid, one_if, txid_of, was_watched}
 use Rattle.transcripts.specs.Telling.{IsWithin, Knows}
 use Rattle.transcripts.proofs.Keys.{one_less, some_wait, waits_less}

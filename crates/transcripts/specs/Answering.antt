@@ -1,14 +1,15 @@
--- What happens in a session that is played from a script, and which of the frames that come back answer a call.
+-- What happens in a session that is played from a script, and which of the frames that come back
+-- answer a call.
 use Rattle.std.specs.Prelude.{ℕ, ◌+◌, ◌==◌, ◌&&◌, ◌||◌, not, Bool, true, false, if◌then◌else◌, List, [], ◌∷◌, Option, Some, None, Result, Ok, Err}
 use Rattle.std.specs.Option.{option_map_or}
 use Rattle.fidl_wire.specs.declared.faults.WireFault.{WireFault}
 use Rattle.fidl_wire.specs.declared.headers.Header.{Header}
+use Rattle.fidl_wire.specs.Epitaphs.{is_epitaph}
 use Rattle.fidl_wire.specs.Headers.{header_of}
 use Rattle.fidl_wire.specs.Names.{event_ordinal}
 use Rattle.endpoint_link.specs.declared.kinds.FrameKind.{FrameKind}
 use Rattle.endpoint_link.specs.declared.kinds.FrameKind.TheVariants as kind
 use Rattle.endpoint_link.specs.Frames.{Frame}
-use Rattle.io_client.specs.Taking.{is_epitaph}
 use Rattle.vfs_script.specs.declared.calls.Call.{Call}
 
 -- a frame of the script is sent, with the call that it makes, if any; or a frame comes back
@@ -34,7 +35,8 @@ abbrev pub kind_txid : FrameKind → List ℕ → Option ℕ
 kind_txid kind.Message bytes = message_txid bytes
 kind_txid _ bytes = None
 
--- the transaction id by which a frame may answer a call: that of a message which is neither an epitaph nor the event
+-- the transaction id by which a frame may answer a call: that of a message which is neither an
+-- epitaph nor the event
 unfoldable pub txid_of : Frame → Option ℕ
 txid_of frame = kind_txid frame.kind frame.bytes
 
@@ -59,14 +61,15 @@ was_watched [] endpoint = false
 was_watched (sends call ∷ past) endpoint = is_watch_of endpoint call || was_watched past endpoint
 was_watched (gets frame ∷ past) endpoint = was_watched past endpoint
 
--- a call was made on this endpoint with this transaction id, and no message with both came back since
+-- a call was made on this endpoint with this transaction id, and no message with both came back
+-- since
 abbrev pub is_open : Past → ℕ → ℕ → Bool
 is_open [] endpoint txid = false
 is_open (sends call ∷ past) endpoint txid = is_call endpoint txid call || is_open past endpoint txid
 is_open (gets frame ∷ past) endpoint txid = not (is_reply_to endpoint txid frame) && is_open past endpoint txid
 
--- a frame answers a call where it is the first message behind that call with its endpoint and transaction id, and no Watch carried the
--- endpoint by then
+-- a frame answers a call where it is the first message behind that call with its endpoint and
+-- transaction id, and no Watch carried the endpoint by then
 abbrev pub is_answer : Past → Frame → Bool
 is_answer past frame = not (was_watched past frame.endpoint) && option_map_or (is_open past frame.endpoint) (txid_of frame) false
 

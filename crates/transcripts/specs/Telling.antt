@@ -21,8 +21,8 @@ scribe_code =
     code_by (Calls × List ℕ) (coded× calls_code (coded_list coded_ℕ)) (λ s. (s.calls, s.gathered))
     (λ p. record { calls = p.0; gathered = p.1 }) (λ _. refl)
 
--- what is known of calls is what happened: which endpoints a Watch carried, which calls are open on others, and that those that don't
--- wait were answered
+-- what is known of calls is what happened: which endpoints a Watch carried, which calls are open on
+-- others, and that those that don't wait were answered
 pub record Knows (past : Past) (calls : Calls) : Type 0 where
   pub watched : (endpoint : ℕ) → is_watched calls endpoint ≡ was_watched past endpoint
   pub waits : (endpoint txid : ℕ) → was_watched past endpoint ≡ false → is_waiting calls endpoint txid ≡ is_open past endpoint txid

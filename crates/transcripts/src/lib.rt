@@ -1,4 +1,5 @@
-//! Transcripts: the line of each frame that comes back in a session, and how many calls were answered.
+//! Transcripts: the line of each frame that comes back in a session, and how many calls were
+//! answered.
 #![tactic(auto)]
 
 mod faults;

@@ -27,8 +27,9 @@ use std::alloc::Global;
 use std::marker::Model;
 use vfs_script::{Outtext, Script, print_counts, print_frame};
 
-/// Writes the transcript of a session: it is told each frame that is sent and each that comes back. Lines
-/// are gathered, and written in large pieces. Contracts see what waits and what isn't written yet.
+/// Writes the transcript of a session: it is told each frame that is sent and each that comes back.
+/// Lines are gathered, and written in large pieces. Contracts see what waits and what isn't written
+/// yet.
 #[derive(Drop)]
 pub struct Scribe {
     ordinals: Ordinals,
@@ -59,10 +60,11 @@ impl Scribe {
         })
     }
 
-    /// Frame `i` of the script is sent, with the call that it makes. For want of memory nothing has changed.
+    /// Frame `i` of the script is sent, with the call that it makes. For want of memory nothing has
+    /// changed.
     ///
-    /// The caller sees to it that there is such a frame, and that no call with its endpoint and transaction
-    /// id waits.
+    /// The caller sees to it that there is such a frame, and that no call with its endpoint and
+    /// transaction id waits.
     pub fn sends(&mut self, script: &Script, i: u32) -> Result<(), NoMemory>
         requires frame { i < length script.now.calls }
         requires free { IsFree self.old.calls (slice_get script.now.calls i) }
@@ -76,8 +78,9 @@ impl Scribe {
         script.note(i, &mut self.client)
     }
 
-    /// These frames come back, one after the other: their lines are gathered, or written, and the calls that
-    /// they answer wait no more. Where that fails, a front of all lines so far was written.
+    /// These frames come back, one after the other: their lines are gathered, or written, and the
+    /// calls that they answer wait no more. Where that fails, a front of all lines so far was
+    /// written.
     #[inline(always)]
     pub fn gets_all<K: Sink>(&mut self, frames: &[u8], sink: &mut K) -> Result<(), TranscriptFault>
         ensures knows { (past : Past) (all : List Frame) → All (IsFrame side.Any) all → frames.now ≡ spellings all → Knows past self.old.calls →
@@ -132,8 +135,8 @@ impl Scribe {
         Ok(())
     }
 
-    /// Nothing happens any more: the last line is put behind all others, and all that isn't written yet is
-    /// written and passed on. Where that fails, a front of the transcript was written.
+    /// Nothing happens any more: the last line is put behind all others, and all that isn't written
+    /// yet is written and passed on. Where that fails, a front of the transcript was written.
     ///
     /// The caller tells how many calls were sent, and sees to it that no more wait.
     pub fn finish<K: Sink>(&mut self, calls: u32, sink: &mut K) -> Result<(), TranscriptFault>

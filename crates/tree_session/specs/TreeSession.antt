@@ -8,7 +8,8 @@ use Rattle.vfs_journal.specs.Starts.{Start}
 use Rattle.vfs_session.specs.World.{World, StandsFor}
 use Rattle.link_session.specs.Session.{Course}
 
--- what is written for the frames of a session so far, and with the last drain; memory may be wanting for it
+-- what is written for the frames of a session so far, and with the last drain; memory may be
+-- wanting for it
 unfoldable pub tree_course : Start → Mode → Course
 tree_course start by = record {
   so_far = λ frames. spellings (frames_behind start (session start by frames));

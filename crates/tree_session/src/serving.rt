@@ -1,4 +1,4 @@
-ghost use Rattle.std.specs.Prelude.{◌≡◌, ◌<◌, ◌+◌, ◌^◌, List, [], ◌∷◌, IfOk, OnOk};
+ghost use Rattle.std.specs.Prelude.{◌≡◌, ◌<◌, ◌+◌, List, [], ◌∷◌, IfOk, OnOk};
 ghost use Rattle.endpoint_link.specs.Frames.{Frame, IsFrame};
 ghost use Rattle.endpoint_link.specs.Views.{frame_of};
 ghost use Rattle.endpoint_link.specs.declared.kinds.Side.TheVariants as side;
@@ -13,7 +13,7 @@ ghost use Rattle.named_files.specs.FileCauses.{AfterTree};
 ghost use Rattle.tree_session.specs.TreeSession.{tree_course, StandsBehind};
 
 use endpoint_link::{FrameView, Mode, Outbox, Side};
-use fidl_names::NoMemory;
+use fidl_names::{MAX_FRAMES, NoMemory};
 use fidl_wire::Ordinals;
 use host_io::{Files, Sink, Source};
 use link_session::{Input, Session, run};
@@ -135,7 +135,7 @@ fn hear(
     outbox: &mut Outbox,
 ) -> Result<(), NoMemory>
     requires frame { IsFrame side.ToServers (frame_of frame) }
-    requires few { world.old.frames < 2 ^ 48 }
+    requires few { world.old.frames < MAX_FRAMES }
     ensures heard { (start : TheStart) (before : List Frame) → StandsBehind start mode world.old before →
         OnOk result (HeardOne (tree_course start mode) (StandsBehind start mode world.new) before (frame_of frame.entry) outbox.old outbox.new) }
     ensures frames { OnOk result (world.new.frames ≡ world.old.frames + 1) }

@@ -1,4 +1,5 @@
--- That what a command writes is the output of a lawful journal, which keeps the laws of every session.
+-- That what a command writes is the output of a lawful journal, which keeps the laws of every
+-- session.
 use Rattle.std.specs.Prelude.{◌≡◌, ◌⊎◌, ℕ, All, List, ◌++◌}
 use Rattle.std.specs.Io.KnownBytes.{IsAtEnd}
 use Rattle.host_io.specs.Told.{Told}
@@ -32,14 +33,15 @@ use Rattle.vfs_program.specs.Words.{Asks, FileOf, ServeOf, RunOf, CheckOf, ShowA
 abbrev pub WroteNothing : Streams → Streams → Type 0
 WroteNothing before after = after.written ≡ before.written
 
--- the journal is that of the session over these frames; or of that which they end, only where they are all whole frames of an input that
--- ended, is bad behind them, or has the limit
+-- the journal is that of the session over these frames; or of that which they end, only where they
+-- are all whole frames of an input that ended, is bad behind them, or has the limit
 abbrev pub IsSessionOver : Start → Mode → List ℕ → Type 0 → List Frame → Journal → Type 0
 IsSessionOver start by taken at_end frames journal =
     (journal ≡ session start by frames) ⊎ ((journal ≡ ended start by frames) × EndsBehind ToServers taken at_end frames)
 
--- the tree's file stands, its start begins with bytes, and what was written is the output of a lawful journal over that start, or a front
--- of it; and that journal is the session's, in its mode, over the first frames that were taken
+-- the tree's file stands, its start begins with bytes, and what was written is the output of a
+-- lawful journal over that start, or a front of it; and that journal is the session's, in its mode,
+-- over the first frames that were taken
 pub record IsLawfulServing (told : Told) (by : Mode) (before after : Streams) : Type 0 where
   pub lists : Lists
   pub stands : Stands told lists
@@ -61,8 +63,9 @@ pub record IsLawfulServing (told : Told) (by : Mode) (before after : Streams) : 
 abbrev pub counts_of : Start → Said → List ℕ
 counts_of start said = counts_line (count_calls (calls_of said.text)) (count_answers (play_all start said.by (script_lines said.text)))
 
--- and where a script was played: a front of the lines of all frames that such a journal stands for, and then of the counts of calls and
--- answers; and that journal is that of the session which the script's frames end, in the mode that it says
+-- and where a script was played: a front of the lines of all frames that such a journal stands for,
+-- and then of the counts of calls and answers; and that journal is that of the session which the
+-- script's frames end, in the mode that it says
 pub record IsLawfulPlaying (tree script : Told) (before after : Streams) : Type 0 where
   pub lists : Lists
   pub stands : Stands tree lists
@@ -78,8 +81,9 @@ pub record IsLawfulPlaying (tree script : Told) (before after : Streams) : Type 
   pub wrote : Wrote before after bytes
   pub front : Begins bytes (lines_of (frames_behind (start_of lists) journal) ++ counts_of (start_of lists) said)
 
--- and where a workload was played: a front of the report of what went in, and of all frames that such a journal over the generated start
--- stands for; and that journal is that of the session which the workload's frames end, in mode auto
+-- and where a workload was played: a front of the report of what went in, and of all frames that
+-- such a journal over the generated start stands for; and that journal is that of the session which
+-- the workload's frames end, in mode auto
 pub record IsLawfulMaking (rounds : ℕ) (before after : Streams) : Type 0 where
   pub of_bytes : BeginsWithBytes (start_of generated_lists)
   pub journal : Journal
@@ -89,7 +93,8 @@ pub record IsLawfulMaking (rounds : ℕ) (before after : Streams) : Type 0 where
   pub wrote : Wrote before after bytes
   pub front : Begins bytes (report_for (frames_of (workload rounds)) (frames_behind (start_of generated_lists) journal))
 
--- a session over a tree wrote nothing, or what is lawful over that tree; the other commands have no such session
+-- a session over a tree wrote nothing, or what is lawful over that tree; the other commands have no
+-- such session
 abbrev pub IsLawfulRun : Asks → Outside → Outside → Type 0
 IsLawfulRun (ServeOf tree by) before after =
     WroteNothing before.streams after.streams ⊎ IsLawfulServing (before.files.told tree) by before.streams after.streams

@@ -1,4 +1,5 @@
-//! What the program `vfs` does: the words, the notes, the exit statuses, and what each command does.
+//! What the program `vfs` does: the words, the notes, the exit statuses, and what each command
+//! does.
 #![tactic(auto)]
 
 mod run;

@@ -47,7 +47,8 @@ pub fn run_words<F: Files, S: Source, K: Sink, N: Sink>(
         (asks : Asks) → Means (map string_bytes words.now) asks → IsServable asks (told files.old source.old sink.old) →
         NoFault asks (told files.old source.old sink.old) (told files.new source.new sink.new) → IsDoneOrNoMemory result }
 
-    // What a session over a tree writes is the output of a lawful journal, which keeps the laws, or a front of it.
+    // What a session over a tree writes is the output of a lawful journal, which keeps the laws, or
+    // a front of it.
     ensures lawful { let told = outside_told F.told F.faults F.overlong S.left S.last S.faults K.written K.flushed K.faults in
         (asks : Asks) → Means (map string_bytes words.now) asks →
         IsLawfulRun asks (told files.old source.old sink.old) (told files.new source.new sink.new) }

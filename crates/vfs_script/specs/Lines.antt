@@ -16,7 +16,8 @@ use Rattle.vfs_script.specs.declared.verbs.Verb.{Verb}
 use Rattle.vfs_script.specs.declared.verbs.Verb.TheVariants as verb
 use Rattle.vfs_script.specs.Words.{◌>>=◌, given, pieces, space, number_in, signed_of, bytes_of, handles_of}
 
--- what a line says: a request on an endpoint, a message as it is, an endpoint hung up, turns of a server, a pick
+-- what a line says: a request on an endpoint, a message as it is, an endpoint hung up, turns of a
+-- server, a pick
 pub data Line : Type 0 where
   request : (endpoint : ℕ) (a : Asked) → Line
   raw : (endpoint : ℕ) (handles bytes : List ℕ) → Line
@@ -227,7 +228,8 @@ line_in (first ∷ fields) = do
 abbrev pub line_of : List ℕ → Option Line
 line_of text = line_in (pieces space text)
 
--- the transaction id of a request in the line with this number: the number, or 0 where there is no reply
+-- the transaction id of a request in the line with this number: the number, or 0 where there is no
+-- reply
 abbrev pub txid_at : ℕ → Asked → ℕ
 txid_at number a = if is_one_way (method_of a) then 0 else number
 

@@ -81,7 +81,8 @@ bad_heads lines = first_of (map (λ line. cause_if (is_bad_text line) line.numbe
 abbrev pub bad_lines : List Numbered → Option ℕ
 bad_lines lines = first_of (map (λ line. cause_if (is_bad line) line.number) lines)
 
--- the first bad line of these: 0 where no line says the mode, or else one in front of that line, or else one behind it
+-- the first bad line of these: 0 where no line says the mode, or else one in front of that line, or
+-- else one behind it
 abbrev pub bad_in : List Numbered → Option ℕ
 bad_in lines =
     first_of
@@ -127,7 +128,8 @@ IsFirstBad found fault.NoMemory = ⊤
 abbrev pub count_calls : List (Option Call) → ℕ
 count_calls calls = length (filter is_some calls)
 
--- each call has a reply, and a transaction id over those of the calls before it, which are over this number
+-- each call has a reply, and a transaction id over those of the calls before it, which are over
+-- this number
 abbrev pub AreCalls : ℕ → List (Option Call) → Type 0
 AreCalls low [] = ⊤
 AreCalls low (None ∷ calls) = AreCalls low calls

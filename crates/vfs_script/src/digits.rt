@@ -3,7 +3,8 @@
 ghost use Rattle.std.specs.Prelude.{◌≡◌, ◌*◌, ◌<◌, length, slice_index};
 ghost use Rattle.hex.specs.Hex.{encode_lower, lower_digits};
 
-// The digit of a number below 16. It is computed and not looked up, so that many digits are written at once.
+// The digit of a number below 16. It is computed and not looked up, so that many digits are written
+// at once.
 #[inline(always)]
 fn digit_of(value: u8) -> u8
     requires { value < 16 }

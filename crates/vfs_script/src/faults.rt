@@ -4,8 +4,8 @@ use fidl_names::NoMemory;
 use std::alloc::AllocFailed;
 use thiserror::Error;
 
-/// Why a text is no script: its first bad line, counted from 1, or 0 where no line says the mode; or
-/// want of memory.
+/// Why a text is no script: its first bad line, counted from 1, or 0 where no line says the mode;
+/// or want of memory.
 #[derive(Clone, Copy, Debug, Error)]
 pub enum ScriptFault {
     #[error("script refused: line {0}")]

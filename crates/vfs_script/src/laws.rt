@@ -6,8 +6,8 @@ ghost use Rattle.endpoint_link.specs.Frames.{IsFrame, spellings};
 ghost use Rattle.endpoint_link.specs.declared.kinds.Side.TheVariants as side;
 ghost use Rattle.vfs_script.specs.Scripts.{AreApart, calls_of, frames_of};
 
-/// No two calls of a script have one transaction id, since that is the number of a line. It computes
-/// nothing.
+/// No two calls of a script have one transaction id, since that is the number of a line. It
+/// computes nothing.
 pub fn calls_are_apart()
     ensures { (text : List ℕ) → AreApart (calls_of text) }
 {}

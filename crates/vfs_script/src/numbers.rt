@@ -121,8 +121,8 @@ fn decimal(word: &[u8]) -> Option<u64>
     digits(word, 10)
 }
 
-/// The number that the first piece of a text is, where few decimal digits write it with no zero in front, and the end of the piece. They
-/// are read while its end is looked for.
+/// The number that the first piece of a text is, where few decimal digits write it with no zero in
+/// front, and the end of the piece. They are read while its end is looked for.
 #[inline(always)]
 pub(crate) fn decimal_in_front(by: u8, text: &[u8]) -> Option<(Option<usize>, u64)>
     ensures end { IfSome result (λ found. IsFirstByte (is_byte by) text.now found.0) }
@@ -179,7 +179,8 @@ fn hexadecimal(word: &[u8]) -> Option<u64>
     Some(number)
 }
 
-/// A number of 64 bits: decimal without leading zeros, or `0x` and 1 to 16 of the digits 0 to 9 and a to f.
+/// A number of 64 bits: decimal without leading zeros, or `0x` and 1 to 16 of the digits 0 to 9 and
+/// a to f.
 #[tactic(auto, unfolding(crate::specs::Words::number_in, crate::specs::Words::number_of))]
 pub(crate) fn long(word: &[u8]) -> Option<u64>
     ensures { result ≡ number_in 64 word.now }

@@ -87,7 +87,8 @@ impl Outtext {
         Ok(())
     }
 
-    /// Appends bytes as hexadecimal digits, or for want of memory nothing. They are written where they stay.
+    /// Appends bytes as hexadecimal digits, or for want of memory nothing. They are written where
+    /// they stay.
     pub(crate) fn put_digits(&mut self, part: &[u8]) -> Result<(), NoMemory>
         requires { length part.now ≤ MAX_BYTES }
         ensures put { OnOk result (self.new ≡ self.old ++ encode_lower part.now) }

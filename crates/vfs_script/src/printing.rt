@@ -13,11 +13,8 @@ use crate::outtext::Outtext;
 use byteorder::{ByteOrder, LittleEndian};
 use endpoint_link::{FrameKind, FrameView, HandleBytes, word_in};
 use fidl_names::{MAX_BYTES, Method, NoMemory};
-use fidl_wire::Ordinals;
+use fidl_wire::{EPITAPH_ORDINAL, HEADER_SIZE, MAGIC, Ordinals};
 use itoa::Buffer;
-
-/// The ordinal of an epitaph.
-const EPITAPH: u64 = 0xffff_ffff_ffff_ffff;
 
 /// What stands in front of the handles of a message without a label of its own.
 const RAW: &[u8] = b" message raw ";
@@ -42,8 +39,8 @@ pub fn print_frame(
     printed
 }
 
-/// Appends the last line of a transcript, with its end: how many calls there were, and how many of them
-/// were answered. For want of memory it appends nothing.
+/// Appends the last line of a transcript, with its end: how many calls there were, and how many of
+/// them were answered. For want of memory it appends nothing.
 pub fn print_counts(calls: u32, answered: u32, to: &mut Outtext) -> Result<(), NoMemory>
     ensures line { OnOk result (to.new ≡ to.old ++ counts_line calls answered) }
     ensures no_memory { OnErr result (to.new ≡ to.old) }
@@ -182,7 +179,7 @@ fn put_bytes(bytes: &[u8], to: &mut Outtext) -> Result<(), NoMemory>
 fn front_of(ordinals: &Ordinals, bytes: &[u8]) -> &'static [u8]
     ensures { result.now ≡ codes " message " ++ label_of bytes.now ++ codes " " }
 {
-    if bytes.len() < 16 || bytes[7] != 1 {
+    if bytes.len() < HEADER_SIZE || bytes[7] != MAGIC {
         return RAW;
     }
     front_with(ordinals, LittleEndian::read_u64(&bytes[8..]))
@@ -191,7 +188,7 @@ fn front_of(ordinals: &Ordinals, bytes: &[u8]) -> &'static [u8]
 fn front_with(ordinals: &Ordinals, ordinal: u64) -> &'static [u8]
     ensures { result.now ≡ codes " message " ++ label_with ordinal ++ codes " " }
 {
-    if ordinal == EPITAPH {
+    if ordinal == EPITAPH_ORDINAL {
         return b" message epitaph ";
     }
     if ordinal == ordinals.event() {

@@ -87,8 +87,8 @@ impl Script {
         count_calls(&self.calls)
     }
 
-    /// Lets a client wait for the call that frame `i` makes, counted from 0, if it makes one. For want of
-    /// memory nothing has changed.
+    /// Lets a client wait for the call that frame `i` makes, counted from 0, if it makes one. For
+    /// want of memory nothing has changed.
     ///
     /// The caller sees to it that there is such a frame, and that no call with its endpoint and
     /// transaction id waits. No two calls of a script have one.
@@ -119,8 +119,8 @@ impl Script {
     }
 }
 
-/// What a text says as a script: lines of words. `Line` is the first bad line, counted from 1, and 0 where
-/// the first line that is neither empty nor begins with `#` isn't `auto` or `given`.
+/// What a text says as a script: lines of words. `Line` is the first bad line, counted from 1, and
+/// 0 where the first line that is neither empty nor begins with `#` isn't `auto` or `given`.
 ///
 /// The caller sees to it that the text has at most 1,048,576 bytes.
 pub fn script_of(alloc: Global, ordinals: &Ordinals, text: &[u8]) -> Result<Script, ScriptFault>
@@ -155,7 +155,8 @@ fn count_calls(calls: &[Option<Call>]) -> u32
     count
 }
 
-/// The lines of a text that are left, each with its number. Where the whole text is UTF-8 no line is tested.
+/// The lines of a text that are left, each with its number. Where the whole text is UTF-8 no line
+/// is tested.
 #[derive(Drop)]
 struct Lines<'a> {
     number: u32,

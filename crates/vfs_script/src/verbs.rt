@@ -32,7 +32,8 @@ pub(crate) enum Verb {
     Raw,
 }
 
-// Whether a word is this text, which has its length. A loop over few known bytes costs less than a call.
+// Whether a word is this text, which has its length. A loop over few known bytes costs less than a
+// call.
 #[inline(always)]
 fn is_word(word: &[u8], text: &[u8]) -> bool
     requires { length word.now ≡ length text.now }

@@ -5,7 +5,8 @@ use Rattle.fidl_names.specs.declared.limits.TheConstants as limit
 use Rattle.vfs_script.specs.Scripts.{bad_line, frames_of, script_mode}
 use Rattle.workload.specs.Workload.{IsRounds, workload}
 
--- it is a script in mode auto: it isn't too long, none of its lines is bad, and each round has three frames
+-- it is a script in mode auto: it isn't too long, none of its lines is bad, and each round has
+-- three frames
 pub record IsGoodScript (rounds : ℕ) : Type 0 where
   pub short : length (workload rounds) ≤ limit.MAX_TEXT
   pub good : bad_line (workload rounds) ≡ None

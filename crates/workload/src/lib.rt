@@ -1,5 +1,5 @@
-//! The generated workload: a script of so many rounds, which opens, writes, reads, lists and unlinks files over the
-//! generated start.
+//! The generated workload: a script of so many rounds, which opens, writes, reads, lists and
+//! unlinks files over the generated start.
 #![tactic(auto)]
 
 mod draws;

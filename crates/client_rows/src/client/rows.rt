@@ -1,7 +1,7 @@
 //! Outside values of a client: what it does in order, row by row. A row has a name and
 //!
-//! - `send`, an endpoint, a transaction id and a request, and the frame that is sent, or why none is; `write` and `echo` have the bytes of a
-//!   Write and of an EchoString in place of a request;
+//! - `send`, an endpoint, a transaction id and a request, and the frame that is sent, or why none
+//!   is; `write` and `echo` have the bytes of a Write and of an EchoString in place of a request;
 //! - `note`, the same with a method, the watcher that it brings, and what noting the call answers;
 //! - `take`, a frame, and what it is to the client;
 //! - `hang up`, an endpoint and the frame that is sent; or `waiting`, and how many calls wait.
@@ -20,7 +20,8 @@ four calls wait | waiting | 4
 the longest message | write | 2 | 7 | [61*65504] | 0200000001[00*5]0100070000000200000185013bc628059049e0ff[00*6][ff*8][61*65504]
 ";
 
-/// The requests that no other rows send, in frames around their outside values, and a text that is one byte too long.
+/// The requests that no other rows send, in frames around their outside values, and a text that is
+/// one byte too long.
 pub const EACH: &[u8] = b"
 a clone | send | 2 | 0 | clone | 02000000010100001800000005000000[00*4]02000001798a16a2aba7d820[ff*4][00*4]
 entries | send | 2 | 2 | entries | 020000000100000018000000020000000200000114916b2a59ccb0050020[00*6]

@@ -1,9 +1,10 @@
 //! Outside values of the link.
 
-/// A name, `fixed`, a fixed part, and the frame that it begins on its way to the servers, and either way: its endpoint, its kind, and how many
-/// handles and bytes it has; or the first reason against it. Or a name, `frames`, frames that are sent over one first connection, three mount
-/// ends and two servers, and which of them are refused, each with its place, its endpoint and why. Before those of a `crowd` go 1,023
-/// messages with 64 new numbers each, from 2 on.
+/// A name, `fixed`, a fixed part, and the frame that it begins on its way to the servers, and
+/// either way: its endpoint, its kind, and how many handles and bytes it has; or the first reason
+/// against it. Or a name, `frames`, frames that are sent over one first connection, three mount
+/// ends and two servers, and which of them are refused, each with its place, its endpoint and why.
+/// Before those of a `crowd` go 1,023 messages with 64 new numbers each, from 2 on.
 pub const ROWS: &[u8] = b"
 empty_message | fixed | 0100000001[00*7] | Ok((1, Message, 0, 0)) | Ok((1, Message, 0, 0))
 message_of_24 | fixed | 010000000100000018000000 | Ok((1, Message, 0, 24)) | Ok((1, Message, 0, 24))

@@ -4,8 +4,9 @@ use std::alloc::Global;
 use std::test::Fail;
 use test_rows::{Row, Table, all_hold};
 
-/// A name, a stream on its way to the servers, and what a deframer makes of it in whatever pieces: the frames, each with its endpoint, its
-/// kind, and how many handles and bytes it has; where the unfinished frame begins; how many bytes were taken; and the fault.
+/// A name, a stream on its way to the servers, and what a deframer makes of it in whatever pieces:
+/// the frames, each with its endpoint, its kind, and how many handles and bytes it has; where the
+/// unfinished frame begins; how many bytes were taken; and the fault.
 const STREAMS: &[u8] = b"
 nothing | - | ([], None, 0, None)
 a message | 010000000100000003000000616263 | ([(1, Message, 0, 3)], None, 15, None)
@@ -38,7 +39,8 @@ fn take_frame(deframer: &mut Deframer) -> Option<Shape> {
 /// No stream here is longer.
 const LONGEST: u64 = 1_000;
 
-/// Feeds a piece, and puts the frames that are whole then. No where they are too many, or memory is wanting; else the fault, if there is one.
+/// Feeds a piece, and puts the frames that are whole then. No where they are too many, or memory is
+/// wanting; else the fault, if there is one.
 fn feed(
     deframer: &mut Deframer,
     piece: &[u8],

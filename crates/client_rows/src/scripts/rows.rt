@@ -1,7 +1,8 @@
 //! Outside values of scripts and generated workloads.
 
-/// A name, `script`, a script, with `;` between its lines, and its frames; or a name, `rounds`, how many, and the script of so
-/// many rounds; or `most`, and how many bytes the script of the most rounds has.
+/// A name, `script`, a script, with `;` between its lines, and its frames; or a name, `rounds`, how
+/// many, and the script of so many rounds; or `most`, and how many bytes the script of the most
+/// rounds has.
 pub const SCRIPTS: &[u8] = b"
 lines that are skipped count | script | auto;;# the root;;list 1 10 | 010000000100000018000000050000000200000114916b2a59ccb0050a[00*7]
 rewind and sync | script | given;rewind 7;sync 0xffffffff | 0700000001000000100000000200000002000001594705f815b1c77d[ff*4]0100000010000000030000000200000149dcb50aca275c2c

@@ -10,4 +10,4 @@ unfolding number_at
 returns c =
     c.front_with.ensures
     ∙ ap (λ (label : List ℕ). codes " message " ++ label ++ codes " ")
-    (label_read c.args.bytes.now c.read_u64.result c.if-bytes-lt16.false c.if-bytes-ne1.false (rw (tail_is 8 c.args.bytes.now) at c.read_u64.ensures))
+    (label_read c.args.bytes.now c.read_u64.result c.if-bytes-lt-HEADER_SIZE.false c.if-bytes-ne-MAGIC.false (rw (tail_is 8 c.args.bytes.now) at c.read_u64.ensures))

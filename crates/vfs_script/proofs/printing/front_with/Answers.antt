@@ -9,12 +9,12 @@ returns-in-Some c =
     c.front_by.ensures
     ∙ ap (λ (label : List ℕ). codes " message " ++ label ++ codes " ")
     (sym
-    (label_with-other c.args.ordinal c.event.result (Some c.in-Some.method) c.if-ordinal-eq-EPITAPH.false c.event.ensures.value c.if-ordinal-event.false
+    (label_with-other c.args.ordinal c.event.result (Some c.in-Some.method) c.if-ordinal-eq-EPITAPH_ORDINAL.false c.event.ensures.value c.if-ordinal-event.false
     (method_with-found c.args.ordinal c.in-Some.method c.in-Some.ensures.found (λ n e. sym (same_Some c.in-Some.method n (c.in-Some.ensures.only n e))))))
 
 pub returns-in-None : goal.returns-in-None
 returns-in-None c =
     ap (λ (label : List ℕ). codes " message " ++ label ++ codes " ")
     (sym
-    (label_with-other c.args.ordinal c.event.result None c.if-ordinal-eq-EPITAPH.false c.event.ensures.value c.if-ordinal-event.false
+    (label_with-other c.args.ordinal c.event.result None c.if-ordinal-eq-EPITAPH_ORDINAL.false c.event.ensures.value c.if-ordinal-event.false
     (method_with-none c.args.ordinal (c.in-None.ensures.none refl))))

@@ -10,10 +10,10 @@ returns-then-has c =
     (sym (ap (λ (v : Calls). is_watched v c.args.frame.endpoint) c.self.view_is) ∙ (sym c.has.ensures ∙ c.if-has.true))
 
 pub returns-in-Some : goal.returns-in-Some
-returns-in-Some c = behind_epitaph c.args.self.now (frame_of c.args.frame) c.in-Some.field-0 c.in-Some.ensures.found
+returns-in-Some c = behind_epitaph c.args.self.now (frame_of c.args.frame) c.in-Some.field-0 (sym c.read_epitaph.ensures ∙ c.in-Some.is)
 
 pub returns : goal.returns
 returns c =
-    behind_other c.args.self.now c.pass_headed.new.self (frame_of c.args.frame) c.requires.bytes
+    behind_other c.args.self.now c.pass_headed.new.self (frame_of c.args.frame)
     (sym (ap (λ (v : Calls). is_watched v c.args.frame.endpoint) c.self.view_is) ∙ (sym c.has.ensures ∙ c.if-has.false))
-    (λ status is. c.in_default.not-Some status (c.read_epitaph.ensures.only status is)) c.pass_headed.ensures
+    (λ status is. c.in_default.not-Some status (c.read_epitaph.ensures ∙ is)) c.pass_headed.ensures
