@@ -1,5 +1,7 @@
 //! Bytes and the entries that they are, as far as whole entries stand in front.
 
+ghost use Rattle.std.specs.Prelude.{◌≤◌};
+
 use dirents::{
     Entries, bytes_have_entries, entries_are_given_in_order, entries_are_read_once,
     written_entries_are_read,
@@ -26,7 +28,9 @@ two, cut in a name | 01[00*7]01042e02[00*7]01086103[00*7]ff08[63*254] | 1       
 struct Read;
 
 // Whether the next entry is the one that stands from a cell on; the last is followed by none.
-fn gives(alloc: Global, entries: &mut Entries<'_>, row: &Row<'_>, at: usize) -> bool {
+fn gives(alloc: Global, entries: &mut Entries<'_>, row: &Row<'_>, at: usize) -> bool
+    requires { at ≤ 5 }
+{
     match (entries.next(), row.number(at)) {
         (Some(entry), Some(ino)) => {
             entry.ino == ino
