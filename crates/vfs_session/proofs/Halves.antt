@@ -1,6 +1,7 @@
 -- The two parts of a serving make the whole.
-use Rattle.std.proofs.Common.{◌≡◌, ℕ, ◌+◌, ◌-◌, ◌^◌, ◌≤◌, ◌<◌, ◌++◌, Bool, true, false, if◌then◌else◌, List, [], All, fold, append_assoc, refl, sym, ap, ◌∙◌, subst, arith}
+use Rattle.std.proofs.Common.{◌≡◌, ℕ, ◌+◌, ◌-◌, ◌≤◌, ◌<◌, ◌++◌, Bool, true, false, if◌then◌else◌, List, [], All, fold, append_assoc, refl, sym, ap, ◌∙◌, subst, arith}
 use Rattle.std.proofs.lemmas.List.Elements.{All-nil, All-weaker}
+use Rattle.fidl_names.specs.declared.limits.TheConstants as limit
 use Rattle.fidl_wire.specs.Written.{Written}
 use Rattle.endpoint_link.specs.Frames.{spellings}
 use Rattle.endpoint_link.specs.Numbering.{among}
@@ -94,7 +95,7 @@ both_parts old mid new endpoint server sent fate out before between after on d e
   spent : List ℕ
   spent = spent_told sent mid.queues e.dead
 
-pub one_served : (old mid new last : World) (run : IsRunning (2 ^ 61) old) (endpoint server : ℕ) (sent : Sent) (fate : Fate) (out : Written) (before between after : List ℕ) →
+pub one_served : (old mid new last : World) (run : IsRunning limit.MAX_PLACES old) (endpoint server : ℕ) (sent : Sent) (fate : Fate) (out : Written) (before between after : List ℕ) →
     TakesHead old endpoint server sent fate out mid before between → SettlesHead mid sent fate out new between after → last ≡ new → last.spent ≡ false → ServesOne (λ one. one ≡ endpoint) old last before after
 one_served old mid new last run endpoint server sent fate out before between after d e same able = record {
   endpoint = endpoint;
@@ -117,7 +118,7 @@ goes_on most old new run endpoint before after one =
 
 -- so that what is served, whatever it was taken from, runs on as that did
 pub serves_taken : (endpoint server : ℕ) (sent : Sent) (old new : World) (before after : List ℕ) →
-    ((from : World) → IsRunning (2 ^ 61) from → Takes from endpoint server sent old → ServesOne (λ one. one ≡ endpoint) from new before after) → ServesTaken endpoint server sent old new before after
+    ((from : World) → IsRunning limit.MAX_PLACES from → Takes from endpoint server sent old → ServesOne (λ one. one ≡ endpoint) from new before after) → ServesTaken endpoint server sent old new before after
 serves_taken endpoint server sent old new before after serves = record {
   served = serves;
   running = λ most from run few takes. goes_on most from new few endpoint before after (serves from run takes);

@@ -1,5 +1,6 @@
 -- A world goes on, and its places with those that are left stay few.
 use Rattle.std.proofs.Common.{◌≡◌, ℕ, ◌+◌, ◌≤◌, ◌∷◌, Some, None, sym, ◌∙◌, subst, arith}
+use Rattle.fidl_names.specs.declared.limits.TheConstants as limit
 use Rattle.endpoint_link.specs.Admission.{admission}
 use Rattle.endpoint_link.specs.Frames.{Frame}
 use Rattle.endpoint_link.specs.declared.kinds.FrameKind.TheVariants as kind
@@ -38,7 +39,7 @@ lasts_served most old new r sent first stands =
           (omega (arith, taken, few));
     }
 
-pub lasts_refused : (most : ℕ) (old new : World) (r : IsRunning most old) (endpoint : ℕ) (why : Refusal) → StandsFor r.start new (refuses endpoint why ∷ r.journal) → IsRunning (most + 4098) new
+pub lasts_refused : (most : ℕ) (old new : World) (r : IsRunning most old) (endpoint : ℕ) (why : Refusal) → StandsFor r.start new (refuses endpoint why ∷ r.journal) → IsRunning (most + limit.FRAME_PLACES) new
 unfolding history_of
 lasts_refused most old new r endpoint why stands =
     let few = r.few in
@@ -47,15 +48,15 @@ lasts_refused most old new r endpoint why stands =
       start = r.start;
       journal = refuses endpoint why ∷ r.journal;
       stands = stands;
-      few = few_in (view_behind r.start (refuses endpoint why ∷ r.journal)) (refusing_in (view_behind r.start r.journal)) (most + 4098)
+      few = few_in (view_behind r.start (refuses endpoint why ∷ r.journal)) (refusing_in (view_behind r.start r.journal)) (most + limit.FRAME_PLACES)
           (refused_viewed r.start (history_of r.start r.journal) endpoint why) (omega (arith, few));
     }
 
-sent_few : (view : View) (sent : Sent) (most : ℕ) → names_left sent.sending ≤ 2048 → view.places + places_left view ≤ most → (sending_in view sent).places + places_left (sending_in view sent) ≤ most + 4098
+sent_few : (view : View) (sent : Sent) (most : ℕ) → names_left sent.sending ≤ 2048 → view.places + places_left view ≤ most → (sending_in view sent).places + places_left (sending_in view sent) ≤ most + limit.FRAME_PLACES
 sent_few view sent most names few = let more = sending_takes view sent in omega (arith, more, names, few)
 
 pub lasts_message : (most : ℕ) (old new : World) (r : IsRunning most old) (frame : Frame) → admission (look_ups r.start (history_of r.start r.journal)) frame ≡ None → frame.kind ≡ kind.Message →
-    StandsFor r.start new (sends (sent_behind r.journal frame.endpoint (message frame.bytes frame.handles) None) ∷ r.journal) → IsRunning (most + 4098) new
+    StandsFor r.start new (sends (sent_behind r.journal frame.endpoint (message frame.bytes frame.handles) None) ∷ r.journal) → IsRunning (most + limit.FRAME_PLACES) new
 lasts_message most old new r frame admits e stands =
     let sent = sent_behind r.journal frame.endpoint (message frame.bytes frame.handles) None in
     record {
@@ -63,13 +64,13 @@ lasts_message most old new r frame admits e stands =
       start = r.start;
       journal = sends sent ∷ r.journal;
       stands = stands;
-      few = few_in (view_behind r.start (sends sent ∷ r.journal)) (sending_in (view_behind r.start r.journal) sent) (most + 4098)
+      few = few_in (view_behind r.start (sends sent ∷ r.journal)) (sending_in (view_behind r.start r.journal) sent) (most + limit.FRAME_PLACES)
           (message_viewed r.start r.journal frame r.stands.lawful admits e)
           (sent_few (view_behind r.start r.journal) sent most (few_left (below r.apart) (message frame.bytes frame.handles)) r.few);
     }
 
 pub lasts_hang_up : (most : ℕ) (old new : World) (r : IsRunning most old) (frame : Frame) → admission (look_ups r.start (history_of r.start r.journal)) frame ≡ None → frame.kind ≡ kind.Close →
-    StandsFor r.start new (sends (sent_behind r.journal frame.endpoint hang_up None) ∷ r.journal) → IsRunning (most + 4098) new
+    StandsFor r.start new (sends (sent_behind r.journal frame.endpoint hang_up None) ∷ r.journal) → IsRunning (most + limit.FRAME_PLACES) new
 lasts_hang_up most old new r frame admits e stands =
     let sent = sent_behind r.journal frame.endpoint hang_up None in
     record {
@@ -77,7 +78,7 @@ lasts_hang_up most old new r frame admits e stands =
       start = r.start;
       journal = sends sent ∷ r.journal;
       stands = stands;
-      few = few_in (view_behind r.start (sends sent ∷ r.journal)) (sending_in (view_behind r.start r.journal) sent) (most + 4098)
+      few = few_in (view_behind r.start (sends sent ∷ r.journal)) (sending_in (view_behind r.start r.journal) sent) (most + limit.FRAME_PLACES)
           (hang_up_viewed r.start r.journal frame r.stands.lawful admits e)
           (sent_few (view_behind r.start r.journal) sent most (few_left (below r.apart) hang_up) r.few);
     }

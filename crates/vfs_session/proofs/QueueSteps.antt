@@ -11,7 +11,6 @@ use Rattle.vfs_journal.specs.History.{tree_at}
 use Rattle.vfs_journal.specs.Outcomes.{Forwarded}
 use Rattle.vfs_journal.specs.Starts.{Bound}
 use Rattle.vfs_journal.specs.View.{View, at_in, deaths_in, event_in, head_in, moved, onward_in, onward_sent, outcome_in, queue_in, serving_in, then_in}
-use Rattle.journal_laws.specs.Behind.{later_of}
 use Rattle.journal_laws.specs.Choosing.{queue_beside}
 use Rattle.journal_laws.proofs.Lists.{eqb_sym}
 use Rattle.journal_laws.proofs.LookedUp.{is_behind}
@@ -30,10 +29,6 @@ pub record SendsOne (view : View) (sent : Sent) (old : Queues) (forward : Option
   pub waiting : (endpoint : ℕ) → queue_of new endpoint ≡ queue_of old endpoint ++ option_map_or (λ f. if f.endpoint == endpoint then onward_sent (view.places + 1) sent f ∷ [] else []) forward []
   pub bound : (endpoint : ℕ) → server_of new endpoint ≡ server_of old endpoint
   pub those : new.servers ≡ old.servers
-
-pub drop_one : (xs : List Sent) → drop 1 xs ≡ later_of xs
-drop_one [] = refl
-drop_one (x ∷ xs) = refl
 
 onward_trees : (view : View) (sent : Sent) (o : Option Forwarded) → (onward_in view sent o).trees ≡ view.trees
 onward_trees view sent None = refl
@@ -63,15 +58,14 @@ if_mapped f false x y = refl
 pub queue_taken : (view : View) (sent : Sent) (q0 q1 : Queues) → HoldsQueues view q0 → Requeues q0 sent.endpoint (drop 1 (queue_of q0 sent.endpoint)) q1 → (n : ℕ) → queue_of q1 n ≡ queue_beside view sent n
 queue_taken view sent q0 q1 h taken n = taken.waiting n ∙ by_test (n == sent.endpoint) (sent.endpoint == n) refl (eqb_sym sent.endpoint n) where
   by_test : (b c : Bool) → (n == sent.endpoint) ≡ b → (sent.endpoint == n) ≡ (n == sent.endpoint) →
-      (if b then drop 1 (queue_of q0 sent.endpoint) else queue_of q0 n) ≡ (if sent.endpoint == n then later_of (queue_in view n) else queue_in view n)
+      (if b then drop 1 (queue_of q0 sent.endpoint) else queue_of q0 n) ≡ (if sent.endpoint == n then drop 1 (queue_in view n) else queue_in view n)
   by_test true c e s =
       ap (λ (m : ℕ). drop 1 (queue_of q0 m)) (sym (eqb-true n sent.endpoint e))
       ∙ ap (drop 1) (h.queue n)
-      ∙ drop_one (queue_in view n)
-      ∙ sym (ap (λ (b : Bool). if b then later_of (queue_in view n) else queue_in view n) (s ∙ e))
+      ∙ sym (ap (λ (b : Bool). if b then drop 1 (queue_in view n) else queue_in view n) (s ∙ e))
   by_test false c e s =
       h.queue n
-      ∙ sym (ap (λ (b : Bool). if b then later_of (queue_in view n) else queue_in view n) (s ∙ e))
+      ∙ sym (ap (λ (b : Bool). if b then drop 1 (queue_in view n) else queue_in view n) (s ∙ e))
 
 pub queues_then : (view : View) (sent : Sent) (dead : List ℕ) (q0 q1 q2 q3 q4 : Queues) → IsFit view → head_in view sent.endpoint ≡ Some sent → HoldsQueues view q0 →
     Requeues q0 sent.endpoint (drop 1 (queue_of q0 sent.endpoint)) q1 → BindsOne q1 (outcome_in view sent).bound q2 → Buries q2 dead q3 → SendsOne view sent q3 (outcome_in view sent).forward q4 →

@@ -1,9 +1,10 @@
 -- What asks for a part of a file and was taken is served as if it had been answered, and settled.
-use Rattle.std.proofs.Common.{◌≡◌, ℕ, ◌+◌, ◌-◌, ◌^◌, ◌==◌, ◌∷◌, true, false, append-nil, length, List, [], Option, Some, Result, Ok, Err, refl, sym, ap, ◌∙◌, subst, arith}
+use Rattle.std.proofs.Common.{◌≡◌, ℕ, ◌+◌, ◌-◌, ◌==◌, ◌∷◌, true, false, append-nil, length, List, [], Option, Some, Result, Ok, Err, refl, sym, ap, ◌∙◌, subst, arith}
 use Rattle.std.specs.Prelude.{slice_get, slice_set}
 use Rattle.std.specs.Result.{OnErr, OnOk}
 use Rattle.std.proofs.lemmas.Bool.{eqb-true}
 use Rattle.std.proofs.lemmas.Option.{same_Some}
+use Rattle.fidl_names.specs.declared.limits.TheConstants as limit
 use Rattle.fidl_names.specs.declared.memory.NoMemory.{NoMemory}
 use Rattle.fidl_wire.specs.Written.{Written}
 use Rattle.io_messages.specs.Asked.{Asked}
@@ -31,7 +32,7 @@ use Rattle.vfs_session.proofs.Taken.{can_answer, takes_head}
 abbrev pub behind : World → ℕ → Server → World
 behind old server now = record old { servers = slice_set old.servers server now; known = record old.known { waiting = old.known.waiting - 1 }; places = old.places + 1 }
 
-module _ (first old : World) (run : IsRunning (2 ^ 61) first) (endpoint server : ℕ) (sent : Sent) (takes : Takes first endpoint server sent old) (bytes : List ℕ) (sending : sent.sending ≡ message bytes [])
+module _ (first old : World) (run : IsRunning limit.MAX_PLACES first) (endpoint server : ℕ) (sent : Sent) (takes : Takes first endpoint server sent old) (bytes : List ℕ) (sending : sent.sending ≡ message bytes [])
     (txid : ℕ) (a : Asked) (asks : request_of protocol.File bytes [] ≡ Ok (txid, a)) (one now : Server) (there : slice_get old.servers server ≡ Some one) (out : Written) (before after : List ℕ)
     (serves : (bytes : List ℕ) (token : Option ℕ) (moment : Moment) → request_of protocol.File bytes [] ≡ Ok (txid, a) → IsMomentOf one endpoint token [] moment →
     Serves moment (outcome_of_sending moment (message bytes [])) fates.Stays out one now before after) where
@@ -77,7 +78,7 @@ read_taken old endpoint server sent bytes sending txid a asks one now there out 
 read_taken old endpoint server sent bytes sending txid a asks one now there out before after (Err e) serves able = tt
 
 -- and whether it did or not, what was written stays in front
-pub read_begins : (first old : World) (run : IsRunning (2 ^ 61) first) (endpoint server : ℕ) (sent : Sent) → Takes first endpoint server sent old → (bytes : List ℕ) → sent.sending ≡ message bytes [] → (txid : ℕ) (a : Asked) →
+pub read_begins : (first old : World) (run : IsRunning limit.MAX_PLACES first) (endpoint server : ℕ) (sent : Sent) → Takes first endpoint server sent old → (bytes : List ℕ) → sent.sending ≡ message bytes [] → (txid : ℕ) (a : Asked) →
     request_of protocol.File bytes [] ≡ Ok (txid, a) → (one now : Server) → slice_get old.servers server ≡ Some one → (out : Written) (before after : List ℕ) (r : Result (Unit {0}) NoMemory) →
     ((bytes : List ℕ) (token : Option ℕ) (moment : Moment) → request_of protocol.File bytes [] ≡ Ok (txid, a) → IsMomentOf one endpoint token [] moment →
     OnOk r (Serves moment (outcome_of_sending moment (message bytes [])) fates.Stays out one now before after)) →

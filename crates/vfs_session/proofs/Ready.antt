@@ -1,15 +1,16 @@
 -- What the parts of a serving count on, in a world that stands for a journal and where something waits on a bound endpoint.
-use Rattle.std.proofs.Common.{◌≡◌, ℕ, ◌-◌, ◌^◌, ◌<◌, ◌==◌, Bool, true, false, if◌then◌else◌, List, [], ◌∷◌, length, All, Contains, Some, None, sym, ap, ◌∙◌, subst, arith}
+use Rattle.std.proofs.Common.{◌≡◌, ℕ, ◌-◌, ◌^◌, ◌<◌, ◌==◌, Bool, true, false, if◌then◌else◌, List, [], ◌∷◌, length, All, Contains, Some, None, drop, sym, ap, ◌∙◌, subst, arith}
 use Rattle.std.specs.Prelude.{slice_get}
 use Rattle.std.specs.Option.{option_map}
 use Rattle.std.proofs.lemmas.List.Elements.{All-contains_itself, All-filter, All-tail, All-weaker}
 use Rattle.std.proofs.lemmas.Option.{same_Some, slice_get_within}
+use Rattle.fidl_names.specs.declared.limits.TheConstants as limit
 use Rattle.fidl_wire.specs.Written.{Written}
 use Rattle.endpoint_link.specs.Numbering.{among}
 use Rattle.endpoint_link.specs.Standings.{Known, is_live, next_token_of, standing_of}
 use Rattle.node_graph.specs.declared.nodes.NodeRef.{NodeRef}
 use Rattle.node_graph.specs.Graph.{number_of}
-use Rattle.session_start.specs.Numbering.{end_of_mount}
+use Rattle.fidl_names.specs.HandleNumber.{end_of_mount}
 use Rattle.conn_rules.specs.Births.{Position}
 use Rattle.vfs_journal.specs.Entries.{Sent, endpoints_in, handles_of}
 use Rattle.vfs_journal.specs.Fit.{IsFit}
@@ -18,7 +19,6 @@ use Rattle.vfs_journal.specs.Past.{history_of}
 use Rattle.vfs_journal.specs.Serving.{Moment}
 use Rattle.vfs_journal.specs.Starts.{Bound}
 use Rattle.vfs_journal.specs.View.{View, at_in, deaths_in, head_in, moment_in, moved, outcome_in, queue_in}
-use Rattle.journal_laws.specs.Behind.{later_of}
 use Rattle.journal_laws.specs.Choosing.{queue_beside}
 use Rattle.journal_laws.specs.Viewing.{view_behind}
 use Rattle.journal_laws.proofs.Among.{among_of}
@@ -69,19 +69,19 @@ pub record CanTake (world : World) (endpoint server : ℕ) (sent : Sent) : Type 
   pub binds : (fate : Fate) (out : Written) (new : List Server) (before after : List ℕ) → Answers world.servers server endpoint (next_token_of world.known) sent fate out new before after →
       CanBind server fate new world.queues
 
-later_all : (P : Sent → Type 0) (ones : List Sent) → All P ones → All P (later_of ones)
+later_all : (P : Sent → Type 0) (ones : List Sent) → All P ones → All P (drop 1 ones)
 later_all P [] all = all
 later_all P (one ∷ ones) all = All-tail P one ones all
 
 beside_below : (view : View) (sent : Sent) (n place : ℕ) → All (λ one. one.place < place) view.waiting → All (λ one. one.place < place) (queue_beside view sent n)
 beside_below view sent n place all = by_test (sent.endpoint == n) (All-filter (λ one. one.endpoint == n) (λ (one : Sent). one.place < place) view.waiting all) where
-  by_test : (b : Bool) → All (λ one. one.place < place) (queue_in view n) → All (λ (one : Sent). one.place < place) (if b then later_of (queue_in view n) else queue_in view n)
+  by_test : (b : Bool) → All (λ one. one.place < place) (queue_in view n) → All (λ (one : Sent). one.place < place) (if b then drop 1 (queue_in view n) else queue_in view n)
   by_test true whole = later_all (λ (one : Sent). one.place < place) (queue_in view n) whole
   by_test false whole = whole
 
 -- ---- at the server and on the endpoint that are found
 
-module _ (old : World) (run : IsRunning (2 ^ 61) old) (sent : Sent) (pair : Bound × Position)
+module _ (old : World) (run : IsRunning limit.MAX_PLACES old) (sent : Sent) (pair : Bound × Position)
     (found : at_in (view_behind run.start run.journal) sent.endpoint ≡ Some pair) (first : head_in (view_behind run.start run.journal) sent.endpoint ≡ Some sent) where
   fit : IsFit (view_behind run.start run.journal)
   fit = views_fit (below run.apart) run.start run.journal run.stands.sound run.stands.lawful
@@ -256,18 +256,18 @@ module _ (old : World) (run : IsRunning (2 ^ 61) old) (sent : Sent) (pair : Boun
 
 -- ---- where the queues tell it
 
-found_in : (old : World) (run : IsRunning (2 ^ 61) old) (endpoint server : ℕ) (sent : Sent) → server_of old.queues endpoint ≡ Some server → head_of old.queues endpoint ≡ Some sent →
+found_in : (old : World) (run : IsRunning limit.MAX_PLACES old) (endpoint server : ℕ) (sent : Sent) → server_of old.queues endpoint ≡ Some server → head_of old.queues endpoint ≡ Some sent →
     IsReadyIn (view_behind run.start run.journal) endpoint server sent
 found_in old run endpoint server sent bound waits = ready_in (view_behind run.start run.journal) old.queues endpoint server sent run.stands.holds.queues bound waits
 
-pub can_take : (old : World) (run : IsRunning (2 ^ 61) old) (endpoint server : ℕ) (sent : Sent) → server_of old.queues endpoint ≡ Some server → head_of old.queues endpoint ≡ Some sent → CanTake old endpoint server sent
+pub can_take : (old : World) (run : IsRunning limit.MAX_PLACES old) (endpoint server : ℕ) (sent : Sent) → server_of old.queues endpoint ≡ Some server → head_of old.queues endpoint ≡ Some sent → CanTake old endpoint server sent
 can_take old run endpoint server sent bound waits =
     let r = found_in old run endpoint server sent bound waits in
     subst (λ (n : ℕ). CanTake old n server sent) r.on
     (subst (λ (n : ℕ). CanTake old sent.endpoint n sent) r.at (can_take_there old run sent r.pair r.found r.first))
 
 -- the taking leaves it so
-pub can_bind : (old : World) (left : Queues) (run : IsRunning (2 ^ 61) old) (endpoint server : ℕ) (sent : Sent) (queue : List Sent) (fate : Fate) (out : Written) (new : List Server) (before after : List ℕ) →
+pub can_bind : (old : World) (left : Queues) (run : IsRunning limit.MAX_PLACES old) (endpoint server : ℕ) (sent : Sent) (queue : List Sent) (fate : Fate) (out : Written) (new : List Server) (before after : List ℕ) →
     server_of old.queues endpoint ≡ Some server → head_of old.queues endpoint ≡ Some sent → Answers old.servers server endpoint (next_token_of old.known) sent fate out new before after → Requeues old.queues endpoint queue left →
     CanBind server fate new left
 can_bind old left run endpoint server sent queue fate out new before after bound waits answers taken =
@@ -284,7 +284,7 @@ can_bind old left run endpoint server sent queue fate out new before after bound
       names = can.names;
     }
 
-pub can_settle : (old mid : World) (run : IsRunning (2 ^ 61) old) (endpoint server : ℕ) (sent : Sent) (fate : Fate) (out : Written) (before after : List ℕ) → TakesHead old endpoint server sent fate out mid before after → CanSettle mid sent fate
+pub can_settle : (old mid : World) (run : IsRunning limit.MAX_PLACES old) (endpoint server : ℕ) (sent : Sent) (fate : Fate) (out : Written) (before after : List ℕ) → TakesHead old endpoint server sent fate out mid before after → CanSettle mid sent fate
 can_settle old mid run endpoint server sent fate out before after d =
     let r = found_in old run endpoint server sent d.bound d.first in
     can_settle_there old run sent r.pair r.found r.first mid fate out before after

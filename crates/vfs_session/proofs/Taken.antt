@@ -1,6 +1,7 @@
 -- What the answer to an entry that was taken counts on, and that taking and answering are the first half of a serving.
 use Rattle.std.proofs.Common.{◌≡◌, ℕ, ◌+◌, ◌-◌, ◌^◌, ◌<◌, List, Some, sym, ap, ◌∙◌, subst, arith}
 use Rattle.std.specs.Prelude.{slice_get}
+use Rattle.fidl_names.specs.declared.limits.TheConstants as limit
 use Rattle.fidl_wire.specs.Written.{Written}
 use Rattle.endpoint_link.specs.Standings.{next_token_of}
 use Rattle.vfs_journal.specs.Entries.{Sent, handles_of}
@@ -26,7 +27,7 @@ pub record CanAnswer (world : World) (endpoint server : ℕ) (sent : Sent) : Typ
   pub binds : (fate : Fate) (out : Written) (new : List Server) (before after : List ℕ) → Answers world.servers server endpoint (next_token_of world.known) sent fate out new before after →
       CanBind server fate new world.queues
 
-pub can_answer : (old now : World) (endpoint server : ℕ) (sent : Sent) → IsRunning (2 ^ 61) old → Takes old endpoint server sent now → CanAnswer now endpoint server sent
+pub can_answer : (old now : World) (endpoint server : ℕ) (sent : Sent) → IsRunning limit.MAX_PLACES old → Takes old endpoint server sent now → CanAnswer now endpoint server sent
 can_answer old now endpoint server sent run t =
     let can = can_take old run endpoint server sent t.bound t.first in
     subst (λ (w : World). CanAnswer w endpoint server sent) (sym t.same)

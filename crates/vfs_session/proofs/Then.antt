@@ -10,7 +10,7 @@ use Rattle.endpoint_link.specs.Frames.{Frame, spelling, spellings}
 use Rattle.endpoint_link.specs.Numbering.{among}
 use Rattle.fidl_wire.specs.Written.{Written}
 use Rattle.node_graph.specs.Graph.{number_of}
-use Rattle.session_start.specs.Numbering.{end_of_mount}
+use Rattle.fidl_names.specs.HandleNumber.{end_of_mount}
 use Rattle.conn_rules.specs.Births.{Position, fresh}
 use Rattle.vfs_journal.specs.Entries.{Sent, endpoints_in, handles_of, serves}
 use Rattle.vfs_journal.specs.Fit.{IsFit}

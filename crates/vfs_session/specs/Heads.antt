@@ -31,7 +31,7 @@ pub record Takes (old : World) (endpoint server : ℕ) (sent : Sent) (new : Worl
 
 -- it was taken so from a world that runs
 abbrev pub WasTaken : ℕ → ℕ → Sent → World → Type 0
-WasTaken endpoint server sent world = (from : World) × (IsRunning (2 ^ 61) from × Takes from endpoint server sent world)
+WasTaken endpoint server sent world = (from : World) × (IsRunning limit.MAX_PLACES from × Takes from endpoint server sent world)
 
 -- a message without handles in which a file reads this request
 pub record AsksFile (sent : Sent) (txid : ℕ) (a : Asked) : Type 0 where
@@ -41,8 +41,8 @@ pub record AsksFile (sent : Sent) (txid : ℕ) (a : Asked) : Type 0 where
 
 -- what was taken is served: behind whatever world that runs it was taken from, that one's first entry is served, and it runs on
 pub record ServesTaken (endpoint server : ℕ) (sent : Sent) (old new : World) (before after : List ℕ) : Type 0 where
-  pub served : (from : World) → IsRunning (2 ^ 61) from → Takes from endpoint server sent old → ServesOne (λ one. one ≡ endpoint) from new before after
-  pub running : (most : ℕ) (from : World) → IsRunning (2 ^ 61) from → IsRunning most from → Takes from endpoint server sent old → IsRunning most new
+  pub served : (from : World) → IsRunning limit.MAX_PLACES from → Takes from endpoint server sent old → ServesOne (λ one. one ≡ endpoint) from new before after
+  pub running : (most : ℕ) (from : World) → IsRunning limit.MAX_PLACES from → IsRunning most from → Takes from endpoint server sent old → IsRunning most new
 
 -- the first entry of an endpoint is answered at its server and taken, and what its fate binds is bound
 pub record TakesHead (old : World) (endpoint server : ℕ) (sent : Sent) (fate : Fate) (out : Written) (new : World) (before after : List ℕ) : Type 0 where

@@ -1,5 +1,6 @@
 -- What a session keeps, as a world that isn't spent; and that it runs.
-use Rattle.std.specs.Prelude.{◌≡◌, ◌≤◌, ◌+◌, ◌*◌, ◌^◌, ℕ, Bool, false, OnOk, Result}
+use Rattle.std.specs.Prelude.{◌≡◌, ◌≤◌, ◌+◌, ◌*◌, ℕ, Bool, false, OnOk, Result}
+use Rattle.fidl_names.specs.declared.limits.TheConstants as limit
 use Rattle.fidl_wire.specs.Names.{AreDistinct}
 use Rattle.vfs_journal.specs.Entries.{Journal}
 use Rattle.vfs_journal.specs.Starts.{Start}
@@ -32,8 +33,8 @@ RunsOn result old new = (most : ℕ) → IsRunning most old → OnOk result (IsR
 
 -- what accepts a frame keeps it running in those of a frame more
 abbrev pub RunsOnByAFrame : {A E : Type 0} → Result A E → World → World → Type 0
-RunsOnByAFrame result old new = (most : ℕ) → IsRunning most old → OnOk result (IsRunning (most + 4098) new)
+RunsOnByAFrame result old new = (most : ℕ) → IsRunning most old → OnOk result (IsRunning (most + limit.FRAME_PLACES) new)
 
--- each accepted frame takes 4,098 places at most, its own and those of its servings, so that places don't run out
+-- each accepted frame takes so many places at most, its own and those of its servings, so that places don't run out
 abbrev pub IsWithin : World → Bool → ℕ → Type 0
-IsWithin world spent frames = spent ≡ false → IsRunning (4098 * frames) world × (frames ≤ 2 ^ 48)
+IsWithin world spent frames = spent ≡ false → IsRunning (limit.FRAME_PLACES * frames) world × (frames ≤ limit.MAX_FRAMES)

@@ -8,7 +8,7 @@ use Rattle.fidl_wire.specs.Written.{Written}
 use Rattle.endpoint_link.specs.Frames.{Frame}
 use Rattle.endpoint_link.specs.Numbering.{among}
 use Rattle.endpoint_link.specs.Standings.{Known, given, gone}
-use Rattle.session_start.specs.Numbering.{end_of_mount}
+use Rattle.fidl_names.specs.HandleNumber.{end_of_mount}
 use Rattle.conn_rules.specs.Births.{Position}
 use Rattle.conn_rules.specs.declared.births.Birth.{Birth}
 use Rattle.node_graph.specs.declared.nodes.NodeRef.{NodeRef}

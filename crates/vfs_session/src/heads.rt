@@ -1,6 +1,7 @@
 //! The serving of the first entry of an endpoint.
 
-ghost use Rattle.std.specs.Prelude.{◌≡◌, ◌<◌, ◌^◌, ◌∷◌, [], ℕ, true, false, All, IfOk, IfSome, List, None, Ok, OnOk};
+ghost use Rattle.std.specs.Prelude.{◌≡◌, ◌<◌, ◌∷◌, [], ℕ, true, false, All, IfOk, IfSome, List, None, Ok, OnOk};
+ghost use Rattle.fidl_names.specs.declared.limits.TheConstants as limit;
 ghost use Rattle.endpoint_link.specs.Standings.{is_live, standing_of};
 ghost use Rattle.io_messages.specs.Asked.{asked};
 ghost use Rattle.request_reader.specs.Parts.{AsksPart};
@@ -36,7 +37,7 @@ const SMALL_ROOM: usize = 256;
 impl Session {
     /// Serves the first entry of an endpoint that is bound and on which something waits.
     pub(crate) fn serve_head(&mut self, endpoint: u32, outbox: &mut Outbox) -> Result<(), NoMemory>
-        requires running { IsRunning (2 ^ 61) (whole self.old) }
+        requires running { IsRunning limit.MAX_PLACES (whole self.old) }
         requires ready { IsReady self.old.queues endpoint }
         ensures served { OnOk result (ServesOne (λ one. one ≡ endpoint) (whole self.old) (whole self.new) outbox.old outbox.new) }
         ensures running { RunsOn result (whole self.old) (whole self.new) }
@@ -85,7 +86,14 @@ impl Session {
     {
         let (txid, request) = read_asked(&self.ordinals, sent)?;
         let one = &mut self.servers[server as usize];
-        let read = one.read(&self.ordinals, endpoint, txid, &request, &mut self.out, outbox)?;
+        let read = one.read(
+            &self.ordinals,
+            endpoint,
+            txid,
+            &request,
+            &mut self.out,
+            outbox,
+        )?;
         self.endpoints.served();
         self.places += 1;
         Some(read)

@@ -1,6 +1,7 @@
 //! Servings: of one entry, and one after another.
 
-ghost use Rattle.std.specs.Prelude.{◌≡◌, ◌^◌, false, IfOk, OnOk, Ok};
+ghost use Rattle.std.specs.Prelude.{◌≡◌, false, IfOk, OnOk, Ok};
+ghost use Rattle.fidl_names.specs.declared.limits.TheConstants as limit;
 ghost use Rattle.message_queues.specs.Oldest.{IsBound, IsBoundAt, NothingWaits};
 ghost use Rattle.message_queues.specs.Queues.{IsReady};
 ghost use Rattle.vfs_journal.specs.Output.{Begins};
@@ -15,7 +16,7 @@ impl Session {
     /// Serves the oldest entries of a server's endpoints, at most so many, and tells how many it served.
     /// Memory is wanting only where something can be served.
     pub fn turn(&mut self, server: u32, times: u32, outbox: &mut Outbox) -> Result<u32, NoMemory>
-        requires running { IsRunning (2 ^ 61) (whole self.old) }
+        requires running { IsRunning limit.MAX_PLACES (whole self.old) }
         ensures turned { IfOk result (λ done. IsTurn server times done (whole self.old) (whole self.new) outbox.old outbox.new) }
         ensures idle { NothingWaits self.old.queues (IsBoundAt self.old.queues server) → result ≡ Ok 0 }
         ensures running { RunsOn result (whole self.old) (whole self.new) }
@@ -33,7 +34,7 @@ impl Session {
     /// Serves the first entry of an endpoint, if that is bound and something waits on it, and tells
     /// whether it did. Memory is wanting only where there is one to serve.
     pub fn pick(&mut self, endpoint: u32, outbox: &mut Outbox) -> Result<bool, NoMemory>
-        requires running { IsRunning (2 ^ 61) (whole self.old) }
+        requires running { IsRunning limit.MAX_PLACES (whole self.old) }
         ensures picked { OnOk result (IsPick endpoint (whole self.old) (whole self.new) outbox.old outbox.new) }
         ensures idle { ¬ (IsReady self.old.queues endpoint) → result ≡ Ok false }
         ensures only_idle { result ≡ Ok false → ¬ (IsReady self.old.queues endpoint) }
@@ -51,7 +52,7 @@ impl Session {
     /// where something can be served.
     #[inline(always)]
     pub fn drain(&mut self, outbox: &mut Outbox) -> Result<(), NoMemory>
-        requires running { IsRunning (2 ^ 61) (whole self.old) }
+        requires running { IsRunning limit.MAX_PLACES (whole self.old) }
         ensures drained { OnOk result (IsDrain (whole self.old) (whole self.new) outbox.old outbox.new) }
         ensures idle { NothingWaits self.old.queues (IsBound self.old.queues) → result ≡ Ok tt }
         ensures running { RunsOn result (whole self.old) (whole self.new) }

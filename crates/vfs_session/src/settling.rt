@@ -11,7 +11,7 @@ ghost use Rattle.vfs_session.specs.Holding.{HoldsEach};
 ghost use Rattle.vfs_session.specs.Steps.{AreApart, BindsTold, CanBind, SendsOn, is_sent_on, without_in};
 
 use endpoint_link::Endpoints;
-use fidl_names::{FIRST_MOUNT_END, MAX_WAITING, NoMemory};
+use fidl_names::{MAX_WAITING, NoMemory, end_of_mount};
 use fidl_wire::Out;
 use message_queues::{Buried, Parcel, Queues, Sent};
 use std::alloc::Global;
@@ -135,7 +135,7 @@ pub(crate) fn send_on(
     let parcel = Parcel::carrying(alloc, out.as_bytes(), *object)?;
     queues.push(Sent {
         place,
-        endpoint: FIRST_MOUNT_END + *mount,
+        endpoint: end_of_mount(*mount),
         parcel,
         origin: Some(origin),
     })?;

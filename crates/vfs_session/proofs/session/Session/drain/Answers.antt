@@ -1,4 +1,5 @@
-use Rattle.std.proofs.Common.{◌≡◌, ◌+◌, ◌^◌, refl}
+use Rattle.std.proofs.Common.{◌≡◌, ◌+◌, refl}
+use Rattle.fidl_names.specs.declared.limits.TheConstants as limit
 use Rattle.vfs_session.specs.Running.{whole}
 use Rattle.message_queues.specs.Oldest.{IsBound}
 use Rattle.vfs_session.specs.Servings.{IsOldestOfAll}
@@ -9,8 +10,8 @@ use Rattle.vfs_session.proofs.session.Session.drain.Goals as goal
 
 pub loop-endpoint-smaller : goal.loop-endpoint-smaller
 loop-endpoint-smaller c =
-    fewer_left (λ one. one ≡ c.in-Some.endpoint) (2 ^ 61) (whole c.loop-endpoint.self) (whole c.serve_head.new.self) c.loop-endpoint.outbox c.serve_head.new.outbox
-    c.in_ok-serve_head.ensures.served (c.in_ok-serve_head.ensures.running (2 ^ 61) (c.loop-endpoint.invariant.1.running (2 ^ 61) c.requires.running))
+    fewer_left (λ one. one ≡ c.in-Some.endpoint) limit.MAX_PLACES (whole c.loop-endpoint.self) (whole c.serve_head.new.self) c.loop-endpoint.outbox c.serve_head.new.outbox
+    c.in_ok-serve_head.ensures.served (c.in_ok-serve_head.ensures.running limit.MAX_PLACES (c.loop-endpoint.invariant.1.running limit.MAX_PLACES c.requires.running))
 
 pub loop-endpoint-preserved : goal.loop-endpoint-preserved
 loop-endpoint-preserved c = (
@@ -30,7 +31,7 @@ pub loop-endpoint-init : goal.loop-endpoint-init
 loop-endpoint-init c = (0, none_done IsOldestOfAll (whole c.args.self.now) c.args.outbox.now)
 
 pub serve_head-requires-clause-running : goal.serve_head-requires-clause-running
-serve_head-requires-clause-running c = c.loop-endpoint.invariant.1.running (2 ^ 61) c.requires.running
+serve_head-requires-clause-running c = c.loop-endpoint.invariant.1.running limit.MAX_PLACES c.requires.running
 
 pub serve_head-requires-clause-ready : goal.serve_head-requires-clause-ready
 serve_head-requires-clause-ready c = (c.in-Some.ensures.one_of, some_is _ _ c.in-Some.ensures.waits)

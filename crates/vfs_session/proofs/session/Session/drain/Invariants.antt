@@ -1,4 +1,5 @@
-use Rattle.std.proofs.Common.{ℕ, ◌-◌, ◌^◌}
+use Rattle.std.proofs.Common.{ℕ, ◌-◌}
+use Rattle.fidl_names.specs.declared.limits.TheConstants as limit
 use Rattle.vfs_session.specs.Running.{whole}
 use Rattle.vfs_session.specs.Servings.{IsOldestOfAll}
 use Rattle.vfs_session.proofs.OneMore.{AreDone}
@@ -8,4 +9,4 @@ abbrev pub invariant-loop-endpoint : goal.invariant-loop-endpoint
 invariant-loop-endpoint l = (done : ℕ) × AreDone IsOldestOfAll done (whole l.initial.self) (whole l.self) l.initial.outbox l.outbox
 
 abbrev pub decreases-loop-endpoint : goal.decreases-loop-endpoint
-decreases-loop-endpoint l = 2 ^ 61 - l.self.places
+decreases-loop-endpoint l = limit.MAX_PLACES - l.self.places

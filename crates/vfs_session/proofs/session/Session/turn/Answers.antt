@@ -1,4 +1,5 @@
-use Rattle.std.proofs.Common.{◌≡◌, ◌^◌, ℕ, arith, subst}
+use Rattle.std.proofs.Common.{◌≡◌, ℕ, arith, subst}
+use Rattle.fidl_names.specs.declared.limits.TheConstants as limit
 use Rattle.vfs_session.specs.Running.{whole}
 use Rattle.message_queues.specs.Oldest.{IsBoundAt}
 use Rattle.vfs_session.specs.Servings.{IsOldestAt, ServesTimes}
@@ -22,7 +23,7 @@ pub loop-done-init : goal.loop-done-init
 loop-done-init c = none_done (IsOldestAt c.args.server) (whole c.args.self.now) c.args.outbox.now
 
 pub serve_head-requires-clause-running : goal.serve_head-requires-clause-running
-serve_head-requires-clause-running c = c.loop-done.invariant.running (2 ^ 61) c.requires.running
+serve_head-requires-clause-running c = c.loop-done.invariant.running limit.MAX_PLACES c.requires.running
 
 pub serve_head-requires-clause-ready : goal.serve_head-requires-clause-ready
 serve_head-requires-clause-ready c = oldest_is_ready c.loop-done.self.queues _ c.in-Some.endpoint c.in-Some.ensures
