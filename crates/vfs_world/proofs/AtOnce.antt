@@ -10,6 +10,7 @@ use Rattle.std.proofs.Math.Nat.{zero-add}
 use Rattle.std.proofs.lemmas.Bool.{eq-eqb, eqb-true, or_left}
 use Rattle.std.proofs.lemmas.Bool.Decides.{nat_tests}
 use Rattle.std.proofs.lemmas.Option.{none-some, same_Some}
+use Rattle.fidl_names.specs.declared.limits.TheConstants as limit
 use Rattle.fidl_names.specs.First.{cause_if, first_of}
 use Rattle.fidl_names.specs.HandleNumber.{is_client}
 use Rattle.fidl_wire.specs.Names.{AreDistinct}
@@ -159,7 +160,7 @@ sent_leads apart start journal old now new frame before s is (inr close) admitte
     hang_up_leads apart start journal old now new frame before s is close admitted (subst (λ k. WaitsLast now frame.endpoint (sent_by k frame) new) close waits)
 
 pub sent_lasts : (most : ℕ) (old now new : World) (frame : Frame) → IsRunning most old → IsFrame ToServers frame → Sends frame.kind → IsAdmitted old frame now →
-    WaitsLast now frame.endpoint (sent_by frame.kind frame) new → IsRunning (most + 4098) new
+    WaitsLast now frame.endpoint (sent_by frame.kind frame) new → IsRunning (most + limit.FRAME_PLACES) new
 sent_lasts most old now new frame r is (inl message) admitted waits =
     message_lasts most old now new frame r is message admitted (subst (λ k. WaitsLast now frame.endpoint (sent_by k frame) new) message waits)
 sent_lasts most old now new frame r is (inr close) admitted waits =

@@ -9,13 +9,13 @@ use Rattle.std.proofs.lemmas.List.Elements.{All-from_get_or, All-head, All-map, 
 use Rattle.std.proofs.lemmas.List.Folds.{find-append, list_any_none}
 use Rattle.std.proofs.lemmas.List.FromFn.{length-enumerate_from, length-map-range_with_len}
 use Rattle.std.proofs.lemmas.Option.{get_or_from_slice_get, same_Some, slice_get-map, slice_get_within}
-use Rattle.fidl_names.specs.HandleNumber.{is_client}
+use Rattle.fidl_names.specs.HandleNumber.{end_of_mount, is_client}
 use Rattle.fidl_names.specs.declared.limits.TheConstants as limit
 use Rattle.endpoint_link.specs.Standings.{Known, Starts}
 use Rattle.endpoint_link.specs.Tables.{AreEachOnce}
 use Rattle.session_start.specs.Accepted.{AreAccepted}
 use Rattle.session_start.specs.Items.{ClientItem, Lists, MountItem}
-use Rattle.session_start.specs.Numbering.{end_of_mount, tree_of}
+use Rattle.session_start.specs.Numbering.{tree_of}
 use Rattle.session_start.proofs.Accepted.{few_of}
 use Rattle.conn_rules.specs.Births.{Position}
 use Rattle.vfs_journal.specs.History.{living}

@@ -1,5 +1,5 @@
 -- What a frame leaves, whether it is refused or admitted, and behind its admission waits or is served.
-use Rattle.std.proofs.Common.{◌≡◌, ℕ, ◌+◌, ◌<◌, ◌≤◌, ◌^◌, ◌==◌, Bool, true, false, not, List, [], ◌∷◌, ◌++◌, Option, Some, None, refl, sym, ap, ◌∙◌, subst, arith}
+use Rattle.std.proofs.Common.{◌≡◌, ℕ, ◌+◌, ◌<◌, ◌≤◌, ◌==◌, Bool, true, false, not, List, [], ◌∷◌, ◌++◌, Option, Some, None, refl, sym, ap, ◌∙◌, subst, arith}
 use Rattle.std.specs.Prelude.{All}
 use Rattle.std.proofs.lemmas.Bool.{leb-false}
 use Rattle.std.proofs.lemmas.List.Elements.{All-filter}
@@ -68,7 +68,7 @@ refused_leads apart start journal old new frame why before after s is some takes
       able = ap (λ (w : World). w.spent) takes ∙ s.able;
     }) written
 
-pub refused_lasts : (most : ℕ) (old new : World) (frame : Frame) (why : Refusal) → IsRunning most old → IsFrame ToServers frame → admission (known_look_ups old.known) frame ≡ Some why → new ≡ placed old → IsRunning (most + 4098) new
+pub refused_lasts : (most : ℕ) (old new : World) (frame : Frame) (why : Refusal) → IsRunning most old → IsFrame ToServers frame → admission (known_look_ups old.known) frame ≡ Some why → new ≡ placed old → IsRunning (most + limit.FRAME_PLACES) new
 refused_lasts most old new frame why r is some takes =
     let leads : LeadsTo r.start (arrives r.start r.journal frame) new r.journal [] (spelling (refused_frame frame.endpoint why)) =
     refused_leads r.apart r.start r.journal old new frame why [] (spelling (refused_frame frame.endpoint why)) r.stands is some takes refl in
@@ -112,7 +112,7 @@ hang_up_fits known frame is none =
     (no_cause (is_full l) refusal.ShouldWait
     (third_none (by_standing (l.standing frame.endpoint)) (cause_if (not (is_client frame.endpoint)) refusal.BadHandle) (cause_if (is_full l) refusal.ShouldWait) [] by_kind))
 
-can_wait : (old now : World) (frame : Frame) → IsRunning (2 ^ 61) old → IsAdmitted old frame now → old.known.waiting < limit.MAX_WAITING → CanWait now
+can_wait : (old now : World) (frame : Frame) → IsRunning limit.MAX_PLACES old → IsAdmitted old frame now → old.known.waiting < limit.MAX_WAITING → CanWait now
 can_wait old now frame r admitted few =
     let view = view_behind r.start r.journal in
     let fit = views_fit (below r.apart) r.start r.journal r.stands.sound r.stands.lawful in
@@ -130,10 +130,10 @@ can_wait old now frame r admitted few =
       low = omega (arith, places, least);
     })
 
-pub message_can_wait : (old now : World) (frame : Frame) → IsRunning (2 ^ 61) old → IsAdmitted old frame now → frame.kind ≡ kind.Message → CanWait now
+pub message_can_wait : (old now : World) (frame : Frame) → IsRunning limit.MAX_PLACES old → IsAdmitted old frame now → frame.kind ≡ kind.Message → CanWait now
 message_can_wait old now frame r admitted is = can_wait old now frame r admitted (message_fits old.known frame is admitted.none)
 
-pub hang_up_can_wait : (old now : World) (frame : Frame) → IsRunning (2 ^ 61) old → IsAdmitted old frame now → frame.kind ≡ kind.Close → CanWait now
+pub hang_up_can_wait : (old now : World) (frame : Frame) → IsRunning limit.MAX_PLACES old → IsAdmitted old frame now → frame.kind ≡ kind.Close → CanWait now
 hang_up_can_wait old now frame r admitted is = can_wait old now frame r admitted (hang_up_fits old.known frame is admitted.none)
 
 -- ---- it waits
@@ -160,14 +160,14 @@ hang_up_leads apart start journal old now new frame before s is e admitted waits
     hang_up_on (below apart) start journal old new frame before s is e admitted.none (sends_it old now new frame hang_up s.able admitted waits)
 
 pub message_lasts : (most : ℕ) (old now new : World) (frame : Frame) → IsRunning most old → IsFrame ToServers frame → frame.kind ≡ kind.Message → IsAdmitted old frame now →
-    WaitsLast now frame.endpoint (message frame.bytes frame.handles) new → IsRunning (most + 4098) new
+    WaitsLast now frame.endpoint (message frame.bytes frame.handles) new → IsRunning (most + limit.FRAME_PLACES) new
 message_lasts most old now new frame r is e admitted waits =
     let leads : LeadsTo r.start (arrives r.start r.journal frame) new r.journal [] [] = message_leads r.apart r.start r.journal old now new frame [] r.stands is e admitted waits in
     lasts_message most old new r frame (admits_too r.apart r.start r.journal old frame r.stands admitted.none) e
     (subst (λ (j : Journal). StandsFor r.start new j) (arrives_by r.apart r.start r.journal old frame kind.Message r.stands admitted.none e) leads.stands)
 
 pub hang_up_lasts : (most : ℕ) (old now new : World) (frame : Frame) → IsRunning most old → IsFrame ToServers frame → frame.kind ≡ kind.Close → IsAdmitted old frame now →
-    WaitsLast now frame.endpoint hang_up new → IsRunning (most + 4098) new
+    WaitsLast now frame.endpoint hang_up new → IsRunning (most + limit.FRAME_PLACES) new
 hang_up_lasts most old now new frame r is e admitted waits =
     let leads : LeadsTo r.start (arrives r.start r.journal frame) new r.journal [] [] = hang_up_leads r.apart r.start r.journal old now new frame [] r.stands is e admitted waits in
     lasts_hang_up most old new r frame (admits_too r.apart r.start r.journal old frame r.stands admitted.none) e
@@ -205,5 +205,5 @@ pick_on apart start journal old now new frame before after s e admitted pick =
 pub runs_now : (most : ℕ) (old now : World) → now ≡ old → IsRunning most old → IsRunning most now
 runs_now most old now same r = subst (IsRunning most) (sym same) r
 
-pub runs_on : (most : ℕ) (world : World) → IsRunning most world → IsRunning (most + 4098) world
-runs_on most world r = lasts_more most (most + 4098) world (omega arith) r
+pub runs_on : (most : ℕ) (world : World) → IsRunning most world → IsRunning (most + limit.FRAME_PLACES) world
+runs_on most world r = lasts_more most (most + limit.FRAME_PLACES) world (omega arith) r

@@ -49,7 +49,7 @@ kept_there start world journal stands index server count there counts =
 
 module _ (inside : Inside) {now : World} (view : as_world (whole inside.session) inside.spent inside.frames ≡ now) (within : IsWithin (whole inside.session) inside.spent inside.frames) (able : now.spent ≡ false)
     (index : ℕ) (known : index < now.queues.servers) where
-  run : IsRunning (4098 * inside.frames) (whole inside.session)
+  run : IsRunning (limit.FRAME_PLACES * inside.frames) (whole inside.session)
   run = (within (ap (λ (w : World). w.spent) view ∙ able)).0
 
   pub is_there : index < length inside.session.servers.items

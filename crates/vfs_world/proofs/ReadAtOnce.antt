@@ -1,5 +1,5 @@
 -- What asks for a part of a file and is served at once is served as if it had waited, been taken and answered, and settled.
-use Rattle.std.proofs.Common.{◌≡◌, ℕ, inl, ◌+◌, ◌-◌, ◌^◌, ◌≤◌, ◌==◌, ◌&&◌, Bool, true, false, not, if◌then◌else◌, IsSome, List, [], ◌∷◌, Option, Some, None, Result, Ok, Err, IfSome, length, refl, sym, ap, ◌∙◌, subst, arith}
+use Rattle.std.proofs.Common.{◌≡◌, ℕ, inl, ◌+◌, ◌-◌, ◌≤◌, ◌==◌, ◌&&◌, Bool, true, false, not, if◌then◌else◌, IsSome, List, [], ◌∷◌, Option, Some, None, Result, Ok, Err, IfSome, length, refl, sym, ap, ◌∙◌, subst, arith}
 use Rattle.std.specs.Prelude.{nat_le, nat_lt, slice_get, slice_set}
 use Rattle.std.specs.Result.{OnOk}
 use Rattle.fidl_names.specs.declared.memory.NoMemory.{NoMemory}
@@ -115,7 +115,7 @@ none_counted most world run none = run.stands.knows.waiting ∙ ap length (nothi
 
 -- ---- from its admission to the drain
 
-module _ (old : World) (run : IsRunning (2 ^ 61 - 4098) old) (frame : Frame) (is : IsFrame ToServers frame) (can : CanBeServed frame old) (at txid : ℕ) (a : Asked) (out : Written) (servers : List Server)
+module _ (old : World) (run : IsRunning (limit.MAX_PLACES - limit.FRAME_PLACES) old) (frame : Frame) (is : IsFrame ToServers frame) (can : CanBeServed frame old) (at txid : ℕ) (a : Asked) (out : Written) (servers : List Server)
     (before after : List ℕ) (asks : request_of protocol.File frame.bytes [] ≡ Ok (txid, a)) (answers : AnswersPart old.servers at frame.endpoint txid a out servers before after) where
   abbrev now : World
   now = let_in old
@@ -134,10 +134,10 @@ module _ (old : World) (run : IsRunning (2 ^ 61 - 4098) old) (frame : Frame) (is
   sent = sent_in now frame
 
   bound : server_of old.queues frame.endpoint ≡ Some at
-  bound = bound_at (2 ^ 61 - 4098) old run at frame.endpoint answers.one answers.there answers.bound
+  bound = bound_at (limit.MAX_PLACES - limit.FRAME_PLACES) old run at frame.endpoint answers.one answers.there answers.bound
 
   none : (endpoint : ℕ) → queue_of old.queues endpoint ≡ []
-  none = none_waits old old (2 ^ 61 - 4098) run refl can.none
+  none = none_waits old old (limit.MAX_PLACES - limit.FRAME_PLACES) run refl can.none
 
   sends : Sends frame.kind
   sends = inl can.plain.message
@@ -148,8 +148,8 @@ module _ (old : World) (run : IsRunning (2 ^ 61 - 4098) old) (frame : Frame) (is
   admitted : IsAdmitted old frame now
   admitted = record {
     none =
-        plain_admission old.known frame None can.plain (bound_lives (2 ^ 61 - 4098) old frame.endpoint at run bound can.none)
-        (no_want old.known (none_counted (2 ^ 61 - 4098) old run can.none) can.few);
+        plain_admission old.known frame None can.plain (bound_lives (limit.MAX_PLACES - limit.FRAME_PLACES) old frame.endpoint at run bound can.none)
+        (no_want old.known (none_counted (limit.MAX_PLACES - limit.FRAME_PLACES) old run can.none) can.few);
     admits = plain_admits old.known (with_one old.known) frame can.plain (sends_none old.known);
     same = refl;
   }
@@ -183,10 +183,10 @@ module _ (old : World) (run : IsRunning (2 ^ 61 - 4098) old) (frame : Frame) (is
   head = takes_head (waits_in now frame) taken answered frame.endpoint at sent fates.Stays out servers before after takes serves (refl, refl) refl known_then refl
 
   settles : SettlesHead answered sent fates.Stays out (record answered { places = answered.places + 1 }) after after
-  settles = settles_quietly answered sent fates.Stays out after (quiet_stays sent bare) (can.none ∙ sym (none_counted (2 ^ 61 - 4098) old run can.none))
+  settles = settles_quietly answered sent fates.Stays out after (quiet_stays sent bare) (can.none ∙ sym (none_counted (limit.MAX_PLACES - limit.FRAME_PLACES) old run can.none))
 
-  runs : IsRunning (2 ^ 61) (waits_in now frame)
-  runs = sent_lasts (2 ^ 61 - 4098) old now (waits_in now frame) frame run is sends admitted (waits_last now frame)
+  runs : IsRunning limit.MAX_PLACES (waits_in now frame)
+  runs = sent_lasts (limit.MAX_PLACES - limit.FRAME_PLACES) old now (waits_in now frame) frame run is sends admitted (waits_last now frame)
 
   two_more : new ≡ record answered { places = answered.places + 1 }
   two_more = let same : old.places + 2 ≡ old.places + 1 + 1 = omega arith in ap (λ (n : ℕ). record old { servers = servers; places = n }) same
@@ -194,8 +194,8 @@ module _ (old : World) (run : IsRunning (2 ^ 61 - 4098) old) (frame : Frame) (is
   one : ServesOne (λ one. one ≡ frame.endpoint) (waits_in now frame) new before after
   one = one_served (waits_in now frame) answered (record answered { places = answered.places + 1 }) new runs frame.endpoint at sent fates.Stays out before after after head settles two_more run.stands.able
 
-  pub read_lasts : (most : ℕ) → IsRunning most old → IsRunning (most + 4098) new
-  read_lasts most running = goes_on (most + 4098) (waits_in now frame) new (sent_lasts most old now (waits_in now frame) frame running is sends admitted (waits_last now frame)) frame.endpoint before after one
+  pub read_lasts : (most : ℕ) → IsRunning most old → IsRunning (most + limit.FRAME_PLACES) new
+  read_lasts most running = goes_on (most + limit.FRAME_PLACES) (waits_in now frame) new (sent_lasts most old now (waits_in now frame) frame running is sends admitted (waits_last now frame)) frame.endpoint before after one
 
   idle : IsDrain new new after after
   idle = record { done = 0; serves = (refl, refl); last = λ endpoint is_bound. none endpoint }

@@ -1,6 +1,7 @@
 -- A world is a session with whether it is spent and how many frames it has accepted.
-use Rattle.std.proofs.Common.{◌≡◌, ℕ, ◌+◌, ◌*◌, ◌<◌, ◌≤◌, ◌^◌, ◌==◌, Bool, false, List, [], filter, length, take, refl, sym, subst, ap, ◌∙◌, arith}
+use Rattle.std.proofs.Common.{◌≡◌, ℕ, ◌+◌, ◌*◌, ◌<◌, ◌≤◌, ◌==◌, Bool, false, List, [], filter, length, take, refl, sym, subst, ap, ◌∙◌, arith}
 use Rattle.std.proofs.lemmas.List.{take-append-le, take_all}
+use Rattle.fidl_names.specs.declared.limits.TheConstants as limit
 use Rattle.fidl_wire.specs.Names.{AreDistinct}
 use Rattle.vfs_journal.specs.Entries.{Journal, Sent}
 use Rattle.vfs_journal.specs.History.{waiting}
@@ -32,8 +33,8 @@ stands_as start session spent frames journal able s = record {
 
 -- ---- its places
 
-pub within_more : (frames : ℕ) (session : World) → frames < 2 ^ 48 → IsRunning (4098 * frames + 4098) session → IsRunning (4098 * (frames + 1)) session × (frames + 1 ≤ 2 ^ 48)
-within_more frames session few r = (lasts_more (4098 * frames + 4098) (4098 * (frames + 1)) session (omega arith) r, omega (arith, few))
+pub within_more : (frames : ℕ) (session : World) → frames < limit.MAX_FRAMES → IsRunning (limit.FRAME_PLACES * frames + limit.FRAME_PLACES) session → IsRunning (limit.FRAME_PLACES * (frames + 1)) session × (frames + 1 ≤ limit.MAX_FRAMES)
+within_more frames session few r = (lasts_more (limit.FRAME_PLACES * frames + limit.FRAME_PLACES) (limit.FRAME_PLACES * (frames + 1)) session (omega arith) r, omega (arith, few))
 
 pub begins_within : AreDistinct → (start : Start) (session : World) → StandsFor start session [] → IsWithin session false 0
 unfolding history_of
@@ -48,11 +49,11 @@ module _ (inside : Inside) {now : World} (view : as_world (whole inside.session)
   pub able_of : inside.spent ≡ false → now.spent ≡ false
   able_of is = sym (ap (λ (w : World). w.spent) view) ∙ is
 
-  pub runs_inside : IsWithin (whole inside.session) inside.spent inside.frames → now.spent ≡ false → IsRunning (2 ^ 61) (whole inside.session)
+  pub runs_inside : IsWithin (whole inside.session) inside.spent inside.frames → now.spent ≡ false → IsRunning limit.MAX_PLACES (whole inside.session)
   runs_inside within is =
       let runs = within (able is) in
-      let few : inside.frames ≤ 2 ^ 48 = runs.1 in
-      lasts_more (4098 * inside.frames) (2 ^ 61) (whole inside.session) (omega (arith, few)) runs.0
+      let few : inside.frames ≤ limit.MAX_FRAMES = runs.1 in
+      lasts_more (limit.FRAME_PLACES * inside.frames) limit.MAX_PLACES (whole inside.session) (omega (arith, few)) runs.0
 
   pub stands_inside : (start : Start) (journal : Journal) → StandsFor start now journal → StandsFor start (whole inside.session) journal
   stands_inside start journal stands =

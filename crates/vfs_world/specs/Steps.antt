@@ -1,5 +1,5 @@
 -- Words of the steps of a frame. No public clause needs these.
-use Rattle.std.specs.Prelude.{◌≡◌, ◌⊎◌, ◌≤◌, ◌<◌, ◌+◌, ◌^◌, ℕ, true, IsSome, List, [], ◌∷◌, ◌++◌, None, Ok, Option, Some, slice_get, slice_set}
+use Rattle.std.specs.Prelude.{◌≡◌, ◌⊎◌, ◌≤◌, ◌<◌, ◌+◌, ℕ, true, IsSome, List, [], ◌∷◌, ◌++◌, None, Ok, Option, Some, slice_get, slice_set}
 use Rattle.fidl_names.specs.declared.limits.TheConstants as limit
 use Rattle.fidl_names.specs.HandleNumber.{is_client}
 use Rattle.endpoint_link.specs.Admission.{Admits, admission, look_ups}
@@ -37,7 +37,7 @@ pub record Hears (most : ℕ) (frame : Frame) (world : World) : Type 0 where
 pub record CanWait (world : World) : Type 0 where
   pub newest : IsAbove world.queues world.places
   pub few : count world.queues < limit.MAX_WAITING
-  pub low : world.places ≤ 2 ^ 61
+  pub low : world.places ≤ limit.MAX_PLACES
 
 -- it waits behind all that waits on its endpoint, and takes a place
 pub record WaitsLast (old : World) (endpoint : ℕ) (sending : Sending) (new : World) : Type 0 where

@@ -1,6 +1,6 @@
 //! A frame that arrives: a refused one is answered, and for an admitted one what it asks is done.
 
-ghost use Rattle.std.specs.Prelude.{◌≡◌, ◌≤◌, ◌<◌, ◌+◌, ◌-◌, ◌^◌, ◌++◌, ℕ, true, [], IfSome, OnOk, OnErr, length};
+ghost use Rattle.std.specs.Prelude.{◌≡◌, ◌≤◌, ◌<◌, ◌+◌, ◌-◌, ◌++◌, ℕ, true, [], IfSome, OnOk, OnErr, length};
 ghost use Rattle.fidl_names.specs.declared.limits.TheConstants as limit;
 ghost use Rattle.endpoint_link.specs.Frames.{IsFrame, spelling};
 ghost use Rattle.endpoint_link.specs.Numbers.{word_in};
@@ -28,7 +28,7 @@ use vfs_session::Session;
 /// Accepts a frame.
 fn arrive(session: &mut Session, frame: FrameView<'_>, outbox: &mut Outbox) -> Result<(), NoMemory>
     requires frame { IsFrame side.ToServers (frame_of frame) }
-    requires running { IsRunning (2 ^ 61) (whole session.old) }
+    requires running { IsRunning limit.MAX_PLACES (whole session.old) }
     ensures arrived { (start : Start) (journal : Journal) → StandsFor start (whole session.old) journal →
         OnOk result (LeadsTo start (arrives start journal (frame_of frame.entry)) (whole session.new) journal outbox.old outbox.new) }
     ensures running { RunsOnByAFrame result (whole session.old) (whole session.new) }
@@ -49,7 +49,7 @@ pub(crate) fn hear(
     outbox: &mut Outbox,
 ) -> Result<(), NoMemory>
     requires frame { IsFrame side.ToServers (frame_of frame) }
-    requires running { IsRunning (2 ^ 61 - 4098) (whole session.old) }
+    requires running { IsRunning (limit.MAX_PLACES - limit.FRAME_PLACES) (whole session.old) }
     ensures heard { (start : Start) (journal : Journal) → StandsFor start (whole session.old) journal →
         OnOk result (LeadsTo start (steps start mode journal (frame_of frame.entry)) (whole session.new) journal outbox.old outbox.new) }
     ensures none { mode ≡ Mode.Auto → (start : Start) (journal : Journal) → StandsFor start (whole session.old) journal →
@@ -74,7 +74,7 @@ fn hear_out(
     outbox: &mut Outbox,
 ) -> Result<(), NoMemory>
     requires frame { IsFrame side.ToServers (frame_of frame) }
-    requires running { IsRunning (2 ^ 61 - 4098) (whole session.old) }
+    requires running { IsRunning (limit.MAX_PLACES - limit.FRAME_PLACES) (whole session.old) }
     ensures heard { (start : Start) (journal : Journal) → StandsFor start (whole session.old) journal →
         OnOk result (LeadsTo start (drained start (arrives start journal (frame_of frame.entry))) (whole session.new) journal outbox.old outbox.new) }
     ensures none { (start : Start) (journal : Journal) → StandsFor start (whole session.old) journal →
@@ -89,7 +89,7 @@ fn hear_out(
 /// Accepts a frame, on the way to a drain: what can be served at once doesn't wait.
 fn reach(session: &mut Session, frame: FrameView<'_>, outbox: &mut Outbox) -> Result<(), NoMemory>
     requires frame { IsFrame side.ToServers (frame_of frame) }
-    requires running { IsRunning (2 ^ 61 - 4098) (whole session.old) }
+    requires running { IsRunning (limit.MAX_PLACES - limit.FRAME_PLACES) (whole session.old) }
     ensures reached { (start : Start) (journal : Journal) → StandsFor start (whole session.old) journal →
         OnOk result (Reaches start (arrives start journal (frame_of frame.entry)) (whole session.new) journal outbox.old outbox.new) }
     ensures running { RunsOnByAFrame result (whole session.old) (whole session.new) }
@@ -122,7 +122,7 @@ fn serve_at_once(
     outbox: &mut Outbox,
 ) -> Result<(), NoMemory>
     requires frame { IsFrame side.ToServers (frame_of frame) }
-    requires running { IsRunning (2 ^ 61 - 4098) (whole session.old) }
+    requires running { IsRunning (limit.MAX_PLACES - limit.FRAME_PLACES) (whole session.old) }
     requires free { IsFree (frame_of frame) server (whole session.old) }
     ensures reached { (start : Start) (journal : Journal) → StandsFor start (whole session.old) journal →
         OnOk result (Reaches start (arrives start journal (frame_of frame.entry)) (whole session.new) journal outbox.old outbox.new) }
@@ -156,7 +156,7 @@ fn serve_plain(
     outbox: &mut Outbox,
 ) -> Result<(), NoMemory>
     requires frame { IsFrame side.ToServers (frame_of frame) }
-    requires running { IsRunning (2 ^ 61 - 4098) (whole session.old) }
+    requires running { IsRunning (limit.MAX_PLACES - limit.FRAME_PLACES) (whole session.old) }
     requires free { IsFree (frame_of frame) server (whole session.old) }
     requires plain { IsPlain (frame_of frame) }
     ensures reached { (start : Start) (journal : Journal) → StandsFor start (whole session.old) journal →
@@ -179,7 +179,7 @@ fn serve_sending(
     outbox: &mut Outbox,
 ) -> Result<(), NoMemory>
     requires frame { IsFrame side.ToServers (frame_of frame) }
-    requires running { IsRunning (2 ^ 61 - 4098) (whole session.old) }
+    requires running { IsRunning (limit.MAX_PLACES - limit.FRAME_PLACES) (whole session.old) }
     requires free { IsFree (frame_of frame) server (whole session.old) }
     ensures reached { (start : Start) (journal : Journal) → StandsFor start (whole session.old) journal →
         OnOk result (Reaches start (arrives start journal (frame_of frame.entry)) (whole session.new) journal outbox.old outbox.new) }
@@ -202,12 +202,12 @@ fn serve_admitted(
     outbox: &mut Outbox,
 ) -> Result<(), NoMemory>
     requires frame { IsFrame side.ToServers (frame_of frame) }
-    requires heard { Hears (2 ^ 61 - 4098) (frame_of frame) (whole session.old) }
+    requires heard { Hears (limit.MAX_PLACES - limit.FRAME_PLACES) (frame_of frame) (whole session.old) }
     requires free { IsFree (frame_of frame) server (whole session.old) }
     ensures reached { (start : Start) (journal : Journal) (before : World) → StandsFor start before journal → IsAdmitted before (frame_of frame.entry) (whole session.old) →
         OnOk result (Reaches start (arrives start journal (frame_of frame.entry)) (whole session.new) journal outbox.old outbox.new) }
     ensures running { (most : ℕ) (before : World) → IsRunning most before → IsAdmitted before (frame_of frame.entry) (whole session.old) →
-        OnOk result (IsRunning (most + 4098) (whole session.new)) }
+        OnOk result (IsRunning (most + limit.FRAME_PLACES) (whole session.new)) }
     ensures begins { Begins outbox.old outbox.new }
 {
     match frame.handles.len() {
@@ -233,14 +233,14 @@ fn serve_with(
     outbox: &mut Outbox,
 ) -> Result<(), NoMemory>
     requires frame { IsFrame side.ToServers (frame_of frame) }
-    requires heard { Hears (2 ^ 61 - 4098) (frame_of frame) (whole session.old) }
+    requires heard { Hears (limit.MAX_PLACES - limit.FRAME_PLACES) (frame_of frame) (whole session.old) }
     requires free { IsFree (frame_of frame) server (whole session.old) }
     requires handles { numbers_of handles.now ≡ handle_numbers frame.handles }
     requires by_number { AreByNumber handles.now }
     ensures reached { (start : Start) (journal : Journal) (before : World) → StandsFor start before journal → IsAdmitted before (frame_of frame.entry) (whole session.old) →
         OnOk result (Reaches start (arrives start journal (frame_of frame.entry)) (whole session.new) journal outbox.old outbox.new) }
     ensures running { (most : ℕ) (before : World) → IsRunning most before → IsAdmitted before (frame_of frame.entry) (whole session.old) →
-        OnOk result (IsRunning (most + 4098) (whole session.new)) }
+        OnOk result (IsRunning (most + limit.FRAME_PLACES) (whole session.new)) }
     ensures begins { Begins outbox.old outbox.new }
 {
     let sent = Lent::of_frame(session.places, frame, handles);
@@ -251,11 +251,11 @@ fn serve_with(
 /// Does what an admitted frame asks, behind its admission.
 fn perform(session: &mut Session, frame: FrameView<'_>, outbox: &mut Outbox) -> Result<(), NoMemory>
     requires frame { IsFrame side.ToServers (frame_of frame) }
-    requires heard { Hears (2 ^ 61) (frame_of frame) (whole session.old) }
+    requires heard { Hears limit.MAX_PLACES (frame_of frame) (whole session.old) }
     ensures arrived { (start : Start) (journal : Journal) (before : World) → StandsFor start before journal → IsAdmitted before (frame_of frame.entry) (whole session.old) →
         OnOk result (LeadsTo start (arrives start journal (frame_of frame.entry)) (whole session.new) journal outbox.old outbox.new) }
     ensures running { (most : ℕ) (before : World) → IsRunning most before → IsAdmitted before (frame_of frame.entry) (whole session.old) →
-        OnOk result (IsRunning (most + 4098) (whole session.new)) }
+        OnOk result (IsRunning (most + limit.FRAME_PLACES) (whole session.new)) }
     ensures begins { Begins outbox.old outbox.new }
 {
     match frame.kind {
@@ -310,7 +310,7 @@ fn refuse(
     why: Refusal,
     outbox: &mut Outbox,
 ) -> Result<(), NoMemory>
-    requires places { session.old.places ≤ 2 ^ 61 }
+    requires places { session.old.places ≤ limit.MAX_PLACES }
     ensures place { OnOk result (whole session.new ≡ record (whole session.old) { places = session.old.places + 1 }) }
     ensures written { OnOk result (outbox.new ≡ outbox.old ++ spelling (refused_frame endpoint why)) }
     ensures begins { Begins outbox.old outbox.new }

@@ -11,7 +11,7 @@ ghost use Rattle.vfs_session.specs.World.{StandsFor};
 ghost use Rattle.vfs_world.specs.Beginning.{BindsJust};
 
 use endpoint_link::Endpoints;
-use fidl_names::{FIRST_MOUNT_END, NoMemory};
+use fidl_names::{NoMemory, end_of_mount};
 use fidl_wire::{Ordinals, Out};
 use message_queues::Queues;
 use session_start::Start;
@@ -61,7 +61,7 @@ fn bind_mounts(start: &Start, queues: &mut Queues) -> Result<(), NoMemory>
 {
     for item in 0..start.mounts() {
         let mount = start.mount_at(item);
-        queues.bind(FIRST_MOUNT_END + item, mount.target)?;
+        queues.bind(end_of_mount(item), mount.target)?;
     }
     Ok(())
 }

@@ -1,7 +1,8 @@
 //! A Read or a ReadAt of a file that arrives while nothing waits. Nothing becomes of anybody by it, so that it is
 //! neither put among what waits nor settled.
 
-ghost use Rattle.std.specs.Prelude.{◌≡◌, ◌≢◌, ◌<◌, ◌+◌, ◌-◌, ◌^◌, ℕ, [], true, IfSome, None, Ok, OnErr, OnOk, Some, length};
+ghost use Rattle.std.specs.Prelude.{◌≡◌, ◌≢◌, ◌<◌, ◌+◌, ◌-◌, ℕ, [], true, IfSome, None, Ok, OnErr, OnOk, Some, length};
+ghost use Rattle.fidl_names.specs.declared.limits.TheConstants as limit;
 ghost use Rattle.endpoint_link.specs.Frames.{IsFrame};
 ghost use Rattle.endpoint_link.specs.Views.{frame_of};
 ghost use Rattle.endpoint_link.specs.declared.kinds.Side.TheVariants as side;
@@ -36,12 +37,12 @@ pub(crate) fn hear_read(
     outbox: &mut Outbox,
 ) -> Option<Result<(), NoMemory>>
     requires frame { IsFrame side.ToServers (frame_of frame) }
-    requires running { IsRunning (2 ^ 61 - 4098) (whole session.old) }
+    requires running { IsRunning (limit.MAX_PLACES - limit.FRAME_PLACES) (whole session.old) }
     ensures heard { (start : Start) (journal : Journal) → StandsFor start (whole session.old) journal →
         IfSome result (λ heard. OnOk heard (LeadsTo start (drained start (arrives start journal (frame_of frame.entry))) (whole session.new) journal outbox.old outbox.new)) }
     ensures none { (start : Start) (journal : Journal) → StandsFor start (whole session.old) journal →
         IfSome result (λ heard. OnOk heard (waiting (history_of start (drained start (arrives start journal (frame_of frame.entry)))) ≡ [])) }
-    ensures running { (most : ℕ) → IsRunning most (whole session.old) → IfSome result (λ heard. OnOk heard (IsRunning (most + 4098) (whole session.new))) }
+    ensures running { (most : ℕ) → IsRunning most (whole session.old) → IfSome result (λ heard. OnOk heard (IsRunning (most + limit.FRAME_PLACES) (whole session.new))) }
     ensures unchanged { result ≡ None → (whole session.new ≡ whole session.old) × (outbox.new ≡ outbox.old) }
     ensures begins { Begins outbox.old outbox.new }
 {

@@ -1,4 +1,5 @@
-ghost use Rattle.std.specs.Prelude.{◌≡◌, ◌<◌, ◌+◌, ◌^◌, true, false, [], None, IfOk, OnOk, Ok, is_ok, if◌then◌else◌, length, take};
+ghost use Rattle.std.specs.Prelude.{◌≡◌, ◌<◌, ◌+◌, true, false, [], None, IfOk, OnOk, Ok, is_ok, if◌then◌else◌, length, take};
+ghost use Rattle.fidl_names.specs.declared.limits.TheConstants as limit;
 ghost use Rattle.endpoint_link.specs.Frames.{IsFrame};
 ghost use Rattle.endpoint_link.specs.declared.kinds.Side.TheVariants as side;
 ghost use Rattle.endpoint_link.specs.Views.{frame_of};
@@ -93,7 +94,7 @@ impl World {
     /// served.
     pub fn accept(&mut self, frame: FrameView<'_>, outbox: &mut Outbox) -> Result<(), WorldFault>
         requires frame { IsFrame side.ToServers (frame_of frame) }
-        requires few { self.old.frames < 2 ^ 48 }
+        requires few { self.old.frames < limit.MAX_FRAMES }
         ensures arrived { (start : Start) (journal : Journal) → StandsFor start self.old journal →
             OnOk result (LeadsTo start (arrives start journal (frame_of frame.entry)) self.new journal outbox.old outbox.new) }
         ensures frames { self.new.frames ≡ (if is_ok result then self.old.frames + 1 else self.old.frames) }
@@ -111,7 +112,7 @@ impl World {
         outbox: &mut Outbox,
     ) -> Result<(), WorldFault>
         requires frame { IsFrame side.ToServers (frame_of frame) }
-        requires few { self.old.frames < 2 ^ 48 }
+        requires few { self.old.frames < limit.MAX_FRAMES }
         ensures heard { (start : Start) (journal : Journal) → StandsFor start self.old journal →
             OnOk result (LeadsTo start (steps start mode journal (frame_of frame.entry)) self.new journal outbox.old outbox.new) }
         ensures none { mode ≡ Mode.Auto → (start : Start) (journal : Journal) → StandsFor start self.old journal →

@@ -1,4 +1,5 @@
-use Rattle.std.proofs.Common.{◌+◌, ◌^◌, ◌∙◌, ap, refl}
+use Rattle.std.proofs.Common.{◌+◌, ◌∙◌, ap, refl}
+use Rattle.fidl_names.specs.declared.limits.TheConstants as limit
 use Rattle.endpoint_link.specs.Admission.{admission, look_ups}
 use Rattle.endpoint_link.specs.Standings.{Known}
 use Rattle.endpoint_link.specs.Views.{frame_of}
@@ -16,7 +17,7 @@ perform-requires-clause-heard c = record {
 }
 
 pub refuse-requires : goal.refuse-requires
-refuse-requires c = record { places = places_low (2 ^ 61) (whole c.args.session.now) c.requires.running }
+refuse-requires c = record { places = places_low limit.MAX_PLACES (whole c.args.session.now) c.requires.running }
 
 pub returns-in-Ok-clause-arrived : goal.returns-in-Ok-clause-arrived
 returns-in-Ok-clause-arrived c =

@@ -1,4 +1,5 @@
-use Rattle.std.proofs.Common.{◌≡◌, ◌-◌, ◌^◌, ℕ, [], List, OnOk, arith, refl, subst, sym}
+use Rattle.std.proofs.Common.{◌≡◌, ◌-◌, ℕ, [], List, OnOk, arith, refl, subst, sym}
+use Rattle.fidl_names.specs.declared.limits.TheConstants as limit
 use Rattle.endpoint_link.specs.declared.kinds.Mode.{Mode}
 use Rattle.endpoint_link.specs.Views.{frame_of}
 use Rattle.vfs_journal.specs.History.{waiting}
@@ -33,7 +34,7 @@ returns-in-Some-clause-begins c = c.hear_read.ensures.begins
 -- ---- where it was none, all was as before
 
 pub hear_out-requires-clause-running : goal.hear_out-requires-clause-running
-hear_out-requires-clause-running c = subst (IsRunning (2 ^ 61 - 4098)) (sym (c.in-None.ensures.unchanged refl).0) c.requires.running
+hear_out-requires-clause-running c = subst (IsRunning (limit.MAX_PLACES - limit.FRAME_PLACES)) (sym (c.in-None.ensures.unchanged refl).0) c.requires.running
 
 pub returns-in-None-clause-heard : goal.returns-in-None-clause-heard
 returns-in-None-clause-heard c =
@@ -58,7 +59,7 @@ returns-in-None-clause-begins c = subst (λ (before : List ℕ). Begins before c
 -- ---- in mode given
 
 pub arrive-requires-clause-running : goal.arrive-requires-clause-running
-arrive-requires-clause-running c = lasts_more (2 ^ 61 - 4098) (2 ^ 61) (whole c.args.session.now) (omega arith) c.requires.running
+arrive-requires-clause-running c = lasts_more (limit.MAX_PLACES - limit.FRAME_PLACES) limit.MAX_PLACES (whole c.args.session.now) (omega arith) c.requires.running
 
 pub returns-in-Given-clause-heard : goal.returns-in-Given-clause-heard
 returns-in-Given-clause-heard c =

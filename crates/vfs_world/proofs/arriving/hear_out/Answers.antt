@@ -1,4 +1,5 @@
-use Rattle.std.proofs.Common.{◌+◌, ◌-◌, ◌^◌}
+use Rattle.std.proofs.Common.{◌+◌, ◌-◌}
+use Rattle.fidl_names.specs.declared.limits.TheConstants as limit
 use Rattle.endpoint_link.specs.Views.{frame_of}
 use Rattle.vfs_journal.specs.Session.{arrives}
 use Rattle.vfs_session.specs.Running.{whole}
@@ -8,7 +9,7 @@ use Rattle.vfs_world.proofs.AtOnce.{drained_behind}
 use Rattle.vfs_world.proofs.arriving.hear_out.Goals as goal
 
 pub drain-requires : goal.drain-requires
-drain-requires c = record { running = c.in_ok-reach.ensures.running (2 ^ 61 - 4098) c.requires.running }
+drain-requires c = record { running = c.in_ok-reach.ensures.running (limit.MAX_PLACES - limit.FRAME_PLACES) c.requires.running }
 
 pub returns-clause-heard : goal.returns-clause-heard
 returns-clause-heard c =
@@ -27,7 +28,7 @@ returns-clause-none c =
     c.drain.ensures.drained
 
 pub returns-clause-running : goal.returns-clause-running
-returns-clause-running c = λ most runs. c.drain.ensures.running (most + 4098) (c.in_ok-reach.ensures.running most runs)
+returns-clause-running c = λ most runs. c.drain.ensures.running (most + limit.FRAME_PLACES) (c.in_ok-reach.ensures.running most runs)
 
 pub returns-clause-begins : goal.returns-clause-begins
 returns-clause-begins c = begins_on c.args.outbox.now c.reach.new.outbox c.drain.new.outbox c.reach.ensures.begins c.drain.ensures.begins

@@ -1,4 +1,5 @@
-use Rattle.std.proofs.Common.{◌^◌, subst}
+use Rattle.std.proofs.Common.{subst}
+use Rattle.fidl_names.specs.declared.limits.TheConstants as limit
 use Rattle.endpoint_link.specs.Views.{frame_of}
 use Rattle.vfs_journal.specs.Entries.{Sending}
 use Rattle.vfs_session.specs.Running.{whole}
@@ -16,12 +17,12 @@ send-requires c = record { room = hang_up_can_wait c.requires.heard.before (whol
 pub turn-requires : goal.turn-requires
 turn-requires c =
     let heard = c.requires.heard in
-    record { running = runs_now (2 ^ 61) heard.before (whole c.args.session.now) (turn_same heard.before (whole c.args.session.now) (frame_of c.args.frame) c.in-Turn.is heard.admitted) heard.running }
+    record { running = runs_now limit.MAX_PLACES heard.before (whole c.args.session.now) (turn_same heard.before (whole c.args.session.now) (frame_of c.args.frame) c.in-Turn.is heard.admitted) heard.running }
 
 pub pick-requires : goal.pick-requires
 pick-requires c =
     let heard = c.requires.heard in
-    record { running = runs_now (2 ^ 61) heard.before (whole c.args.session.now) (pick_same heard.before (whole c.args.session.now) (frame_of c.args.frame) c.in-Pick.is heard.admitted) heard.running }
+    record { running = runs_now limit.MAX_PLACES heard.before (whole c.args.session.now) (pick_same heard.before (whole c.args.session.now) (frame_of c.args.frame) c.in-Pick.is heard.admitted) heard.running }
 
 pub returns-in-Message-clause-arrived : goal.returns-in-Message-clause-arrived
 returns-in-Message-clause-arrived c =

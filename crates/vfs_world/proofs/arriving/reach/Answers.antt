@@ -1,4 +1,5 @@
-use Rattle.std.proofs.Common.{◌-◌, ◌^◌, arith}
+use Rattle.std.proofs.Common.{◌-◌, arith}
+use Rattle.fidl_names.specs.declared.limits.TheConstants as limit
 use Rattle.endpoint_link.specs.Views.{frame_of}
 use Rattle.vfs_journal.specs.Session.{arrives}
 use Rattle.vfs_session.specs.Running.{whole}
@@ -8,7 +9,7 @@ use Rattle.vfs_world.proofs.AtOnce.{reached_by}
 use Rattle.vfs_world.proofs.arriving.reach.Goals as goal
 
 pub arrive-requires-clause-running : goal.arrive-requires-clause-running
-arrive-requires-clause-running c = lasts_more (2 ^ 61 - 4098) (2 ^ 61) (whole c.args.session.now) (omega arith) c.requires.running
+arrive-requires-clause-running c = lasts_more (limit.MAX_PLACES - limit.FRAME_PLACES) limit.MAX_PLACES (whole c.args.session.now) (omega arith) c.requires.running
 
 pub returns-in-None-clause-reached : goal.returns-in-None-clause-reached
 returns-in-None-clause-reached c =

@@ -1,4 +1,5 @@
-use Rattle.std.proofs.Common.{◌≡◌, ℕ, ◌+◌, ◌-◌, ◌^◌, ◌∙◌, [], MatchOption, None, Some, Result, ap, refl}
+use Rattle.std.proofs.Common.{◌≡◌, ℕ, ◌+◌, ◌-◌, ◌∙◌, [], MatchOption, None, Some, Result, ap, refl}
+use Rattle.fidl_names.specs.declared.limits.TheConstants as limit
 use Rattle.endpoint_link.specs.Admission.{admission, look_ups}
 use Rattle.endpoint_link.specs.Frames.{Frame}
 use Rattle.endpoint_link.specs.Standings.{Known, Sends as SendsHandles, standing_of}
@@ -14,14 +15,14 @@ use Rattle.vfs_world.proofs.AtOnce.{bound_lives, for_want_of_room, plain_admissi
 use Rattle.vfs_world.proofs.Hearing.{refused_lasts, refused_leads}
 use Rattle.vfs_world.proofs.arriving.serve_plain.Goals as goal
 
-lives : (world : World) (frame : Frame) (server : ℕ) → IsRunning (2 ^ 61 - 4098) world → IsFree frame server world → standing_of world.known frame.endpoint ≡ standing.Live
-lives world frame server running free = bound_lives (2 ^ 61 - 4098) world frame.endpoint server running free.bound free.none
+lives : (world : World) (frame : Frame) (server : ℕ) → IsRunning (limit.MAX_PLACES - limit.FRAME_PLACES) world → IsFree frame server world → standing_of world.known frame.endpoint ≡ standing.Live
+lives world frame server running free = bound_lives (limit.MAX_PLACES - limit.FRAME_PLACES) world frame.endpoint server running free.bound free.none
 
 -- what it is refused for, and that else it is admitted
 abbrev first_of_plain : World → Result (Unit {0}) Refusal → Type 0
 first_of_plain world result = MatchOption (for_want_of_room world.known) (result ≡ let_in) (λ why. result ≡ refused_for why)
 
-admitted : (world : World) (known : Known) (frame : Frame) (server : ℕ) → IsRunning (2 ^ 61 - 4098) world → IsFree frame server world → IsPlain frame → first_of_plain world let_in → SendsHandles world.known [] known →
+admitted : (world : World) (known : Known) (frame : Frame) (server : ℕ) → IsRunning (limit.MAX_PLACES - limit.FRAME_PLACES) world → IsFree frame server world → IsPlain frame → first_of_plain world let_in → SendsHandles world.known [] known →
     IsAdmitted world frame (record world { known = known })
 admitted world known frame server running free plain first sends =
     record {
@@ -30,7 +31,7 @@ admitted world known frame server running free plain first sends =
       same = refl;
     }
 
-refused : (world : World) (frame : Frame) (server : ℕ) (why : Refusal) → IsRunning (2 ^ 61 - 4098) world → IsFree frame server world → IsPlain frame → first_of_plain world (refused_for why) →
+refused : (world : World) (frame : Frame) (server : ℕ) (why : Refusal) → IsRunning (limit.MAX_PLACES - limit.FRAME_PLACES) world → IsFree frame server world → IsPlain frame → first_of_plain world (refused_for why) →
     admission (look_ups world.known) frame ≡ Some why
 refused world frame server why running free plain first =
     plain_admission world.known frame (Some why) plain (lives world frame server running free) (plain_refused (for_want_of_room world.known) why first)

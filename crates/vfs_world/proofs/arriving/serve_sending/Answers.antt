@@ -1,4 +1,5 @@
-use Rattle.std.proofs.Common.{◌+◌, ◌-◌, ◌^◌, ◌∙◌, ap, refl, arith}
+use Rattle.std.proofs.Common.{◌+◌, ◌-◌, ◌∙◌, ap, refl, arith}
+use Rattle.fidl_names.specs.declared.limits.TheConstants as limit
 use Rattle.endpoint_link.specs.Admission.{admission, look_ups}
 use Rattle.endpoint_link.specs.Standings.{Known}
 use Rattle.endpoint_link.specs.Views.{frame_of}
@@ -12,7 +13,7 @@ use Rattle.vfs_world.proofs.arriving.serve_sending.Goals as goal
 
 pub admit_live-requires-clause-live : goal.admit_live-requires-clause-live
 admit_live-requires-clause-live c =
-    bound_lives (2 ^ 61 - 4098) (whole c.args.session.now) c.args.frame.endpoint c.args.server c.requires.running c.requires.free.bound c.requires.free.none
+    bound_lives (limit.MAX_PLACES - limit.FRAME_PLACES) (whole c.args.session.now) c.args.frame.endpoint c.args.server c.requires.running c.requires.free.bound c.requires.free.none
 
 pub serve_admitted-requires : goal.serve_admitted-requires
 serve_admitted-requires c = record {
@@ -26,7 +27,7 @@ serve_admitted-requires c = record {
 }
 
 pub refuse-requires : goal.refuse-requires
-refuse-requires c = let low = places_low (2 ^ 61 - 4098) (whole c.args.session.now) c.requires.running in record { places = omega (arith, low) }
+refuse-requires c = let low = places_low (limit.MAX_PLACES - limit.FRAME_PLACES) (whole c.args.session.now) c.requires.running in record { places = omega (arith, low) }
 
 pub returns-in-Ok-clause-reached : goal.returns-in-Ok-clause-reached
 returns-in-Ok-clause-reached c =

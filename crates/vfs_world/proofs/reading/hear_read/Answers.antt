@@ -1,4 +1,5 @@
-use Rattle.std.proofs.Common.{◌∙◌, ◌-◌, ◌^◌, [], List, append-nil, ap, arith, refl, sym}
+use Rattle.std.proofs.Common.{◌∙◌, ◌-◌, [], List, append-nil, ap, arith, refl, sym}
+use Rattle.fidl_names.specs.declared.limits.TheConstants as limit
 use Rattle.endpoint_link.specs.Views.{frame_of}
 use Rattle.io_messages.specs.Asked.{asked}
 use Rattle.vfs_server.specs.Servers.{Server}
@@ -10,7 +11,7 @@ use Rattle.vfs_world.proofs.ReadAtOnce.{read_lasts, read_leads}
 use Rattle.vfs_world.proofs.reading.hear_read.Goals as goal
 
 pub overflow_add-session : goal.overflow_add-session
-overflow_add-session c = let low = places_low (2 ^ 61 - 4098) (whole c.args.session.now) c.requires.running in omega (arith, low)
+overflow_add-session c = let low = places_low (limit.MAX_PLACES - limit.FRAME_PLACES) (whole c.args.session.now) c.requires.running in omega (arith, low)
 
 pub returns-clause-heard : goal.returns-clause-heard
 returns-clause-heard c =

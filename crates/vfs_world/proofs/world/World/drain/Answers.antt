@@ -1,4 +1,5 @@
 use Rattle.std.proofs.Common.{◌*◌, ◌∙◌, refl, sym}
+use Rattle.fidl_names.specs.declared.limits.TheConstants as limit
 use Rattle.vfs_session.specs.Running.{whole}
 use Rattle.vfs_session.proofs.Serves.{drain_leads}
 use Rattle.vfs_world.proofs.Answered.{not_err}
@@ -13,7 +14,7 @@ pub invariant_of-self-in_default : goal.invariant_of-self-in_default
 invariant_of-self-in_default c =
     λ able.
     let within = c.self.invariant able in
-    (c.in_default.ensures.running (4098 * c.self.inside.frames) within.0, within.1)
+    (c.in_default.ensures.running (limit.FRAME_PLACES * c.self.inside.frames) within.0, within.1)
 
 pub returns-clause-drained : goal.returns-clause-drained
 returns-clause-drained c =

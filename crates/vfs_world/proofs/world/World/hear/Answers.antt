@@ -1,4 +1,5 @@
-use Rattle.std.proofs.Common.{◌≡◌, ◌∙◌, ◌+◌, ◌-◌, ◌*◌, ◌^◌, ◌<◌, ap, arith}
+use Rattle.std.proofs.Common.{◌≡◌, ◌∙◌, ◌+◌, ◌-◌, ◌*◌, ◌<◌, ap, arith}
+use Rattle.fidl_names.specs.declared.limits.TheConstants as limit
 use Rattle.vfs_session.specs.Running.{whole}
 use Rattle.vfs_session.specs.World.{World}
 use Rattle.vfs_session.proofs.Lasting.{lasts_more}
@@ -10,16 +11,16 @@ pub hear-requires-clause-running : goal.hear-requires-clause-running
 hear-requires-clause-running c =
     let within = c.self.invariant c.if-self.false in
     let same : c.self.inside.frames ≡ c.args.self.now.frames = ap (λ (w : World). w.frames) c.self.view_is in
-    let few : c.args.self.now.frames < 2 ^ 48 = c.requires.few in
-    lasts_more (4098 * c.self.inside.frames) (2 ^ 61 - 4098) (whole c.self.inside.session) (omega (arith, same, few)) within.0
+    let few : c.args.self.now.frames < limit.MAX_FRAMES = c.requires.few in
+    lasts_more (limit.FRAME_PLACES * c.self.inside.frames) (limit.MAX_PLACES - limit.FRAME_PLACES) (whole c.self.inside.session) (omega (arith, same, few)) within.0
 
 pub invariant_of-self-2 : goal.invariant_of-self-2
 invariant_of-self-2 c =
     λ able.
     let within = c.self.invariant able in
     let same : c.self.inside.frames ≡ c.args.self.now.frames = ap (λ (w : World). w.frames) c.self.view_is in
-    let few : c.args.self.now.frames < 2 ^ 48 = c.requires.few in
-    within_more c.self.inside.frames (whole c.hear.new.session) (omega (arith, same, few)) (c.in_default.ensures.running (4098 * c.self.inside.frames) within.0)
+    let few : c.args.self.now.frames < limit.MAX_FRAMES = c.requires.few in
+    within_more c.self.inside.frames (whole c.hear.new.session) (omega (arith, same, few)) (c.in_default.ensures.running (limit.FRAME_PLACES * c.self.inside.frames) within.0)
 
 pub returns-clause-heard : goal.returns-clause-heard
 returns-clause-heard c =
