@@ -9,16 +9,12 @@ use Rattle.io_messages.specs.declared.replies.Attributes.{Attributes}
 use Rattle.node_graph.specs.declared.nodes.NodeKind.{NodeKind}
 use Rattle.node_graph.specs.declared.nodes.NodeKind.TheVariants.{Directory, File, Service, Mount}
 pub use Rattle.dirents.specs.Listings.{kind_here}
-pub use Rattle.node_graph.specs.Refusals.{edge_at, is_directory, is_mount}
+pub use Rattle.node_graph.specs.Refusals.{edge_at, is_directory, is_file, is_mount}
 use Rattle.node_graph.specs.Tree.{Tree, EdgeTo, row_of, link_count}
 
 -- a file's bytes
 abbrev pub bytes_of : Tree → ℕ → List ℕ
 bytes_of tree number = option_map_or (λ row. row.bytes) (row_of tree.nodes number) []
-
-abbrev pub is_file : NodeKind → Bool
-is_file File = true
-is_file _ = false
 
 abbrev pub is_service : NodeKind → Bool
 is_service Service = true

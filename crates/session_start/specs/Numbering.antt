@@ -4,7 +4,6 @@ use Rattle.std.specs.List.{enumerate_from}
 use Rattle.std.specs.FinMap as finite
 use Rattle.std.specs.Option.{option_map_or}
 use Rattle.std.specs.Str.{bytes_eq}
-use Rattle.fidl_names.specs.declared.limits.TheConstants as limit
 use Rattle.io_rights.specs.Operations.{OperationSet}
 use Rattle.path_walk.specs.Parts.{is_dot, last_name, parent_of}
 use Rattle.node_graph.specs.declared.nodes.NodeKind.{NodeKind}
@@ -60,10 +59,6 @@ with_node tree key kind mask bytes = after tree (make key (record { kind = kind;
 -- the tree that a server begins with
 abbrev pub tree_of : Lists → ℕ → Tree
 tree_of lists server = tree_from (named_of lists server)
-
--- the endpoint of the end of a mount, by its index over the mounts of all servers
-abbrev pub end_of_mount : ℕ → ℕ
-end_of_mount index = limit.FIRST_MOUNT_END + index
 
 -- the number of the node at which a path of a server stands: a client's, or a mount's `at`
 abbrev pub number_in : Lists → ℕ → List ℕ → ℕ

@@ -1,17 +1,13 @@
 -- The frames that a journal stands for.
 use Rattle.std.specs.Prelude.{ℕ, Bool, true, false, not, List, [], ◌∷◌, ◌++◌, map, filter}
 use Rattle.std.specs.FinMap as finite
-use Rattle.std.specs.Int.{w32, cast_unsigned}
 use Rattle.std.specs.Option.{option_map_or}
 use Rattle.std.specs.Ordering.{nat_cmp}
-use Rattle.fidl_names.specs.StatusNumber.{number_of}
-use Rattle.fidl_names.specs.Numbers.{number_bytes}
-use Rattle.endpoint_link.specs.Frames.{Frame, frame_with, spellings}
+use Rattle.endpoint_link.specs.Frames.{Frame, spellings}
 pub use Rattle.endpoint_link.specs.Fronts.{Begins}
 use Rattle.endpoint_link.specs.declared.kinds.FrameKind.{FrameKind}
 use Rattle.endpoint_link.specs.declared.kinds.FrameKind.TheVariants as kind
-use Rattle.endpoint_link.specs.declared.kinds.Refusal.{Refusal}
-use Rattle.endpoint_link.specs.Refusals.{status_of}
+pub use Rattle.endpoint_link.specs.Refusals.{refused_frame}
 use Rattle.endpoint_link.specs.Numbering.{among}
 use Rattle.node_graph.specs.Tree.{Tree}
 use Rattle.vfs_journal.specs.Entries.{Entry, sends, serves, refuses, Journal}
@@ -24,10 +20,6 @@ use Rattle.vfs_journal.specs.Watching.{first_frames, told_frames}
 abbrev pub is_message : FrameKind → Bool
 is_message kind.Message = true
 is_message _ = false
-
--- a Refused frame, on the number that the refused frame had
-abbrev pub refused_frame : ℕ → Refusal → Frame
-refused_frame number why = frame_with number kind.Refused [] (number_bytes 4 (cast_unsigned w32 (number_of (status_of why))))
 
 -- these numbers once each, from the least on
 abbrev pub rising : List ℕ → List ℕ
