@@ -4,7 +4,7 @@ PROGRAM := build/vfs
 TREE := examples/trees/small.toml
 SCRIPT := examples/scripts/reading.script
 
-.PHONY: help try build run test check bench starve soak clean
+.PHONY: help try build run test check bench starve soak map clean
 
 help:
 	@echo "make try    play a script over a small tree before anything is proved, in some minutes (SCRIPT=FILE TREE=FILE: another)"
@@ -15,6 +15,7 @@ help:
 	@echo "make bench  processor time, instructions a frame where valgrind is there, and memory"
 	@echo "make starve each allocation of sessions of every command refused in turn (wants a C compiler)"
 	@echo "make soak   minutes: ten million frames in both modes, with the memory and the time a frame at each tenth"
+	@echo "make map    where each definition stands: every crate, lowest first, with what each file of its specs/ defines"
 	@echo "make clean  remove what was built and what checks kept"
 	@echo
 	@echo "A build proves all crates below the program, those that don't stand on each other side by side."
@@ -68,6 +69,9 @@ starve: build
 
 soak: build
 	@tools/soak.sh $(PROGRAM)
+
+map:
+	@tools/map.sh
 
 clean:
 	rm -rf build crates/*/out

@@ -1,8 +1,8 @@
 -- Answers that are Ok, or aren't.
 use Rattle.std.proofs.Common.{ℕ, List, Option, Result, Ok, Err, OnOk, OnErr, sym, subst}
 use Rattle.host_io.specs.Streams.{AppendsPart}
-use Rattle.transcripts.specs.Telling.{IsTold}
-use Rattle.transcripts.proofs.Lines.{front_told, part_longer}
+use Rattle.script_session.specs.Telling.{IsTold}
+use Rattle.script_session.proofs.Lines.{front_told, part_longer}
 use Rattle.script_session.proofs.Played.{Grows}
 
 pub any_err : {X E : Type 0} (r : Result X E) (P : Type 0) → P → OnErr r P

@@ -9,7 +9,7 @@ use Rattle.endpoint_link.specs.declared.frame.Reading.{Reading}
 use Rattle.endpoint_link.specs.declared.frame.Reading.TheVariants as reading
 use Rattle.endpoint_link.specs.declared.kinds.Side.{Side}
 use Rattle.endpoint_link.proofs.Streams.{spelling-long}
-use Rattle.transcripts.proofs.Fronts.{all_read, first_is}
+use Rattle.script_session.proofs.Fronts.{all_read, first_is}
 
 -- so many of all frames are read, of which this holds, and the bytes that are left spell the others
 pub record Read (s : Side) (all : List Frame) (count : ℕ) (rest : List ℕ) (Holds : List Frame → Type 0) : Type 0 where

@@ -1,3 +1,9 @@
+mod Keys
+mod Sending
+mod Getting
+pub mod Fronts
+pub mod Lines
+mod Scribing
 mod ReadBack
 mod Played
 pub mod Shown

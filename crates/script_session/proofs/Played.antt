@@ -9,8 +9,8 @@ use Rattle.vfs_journal.specs.Starts.{Start}
 use Rattle.vfs_script.specs.Scripts.{Spoken, call_in, count_calls, frame_of}
 use Rattle.vfs_script.specs.Transcripts.{counts_line, frame_line}
 use Rattle.vfs_script.specs.declared.calls.Call.{Call}
-use Rattle.transcripts.specs.Answering.{Past, sends, gets, count_answers, count_calls as calls_made, one_of}
-use Rattle.transcripts.specs.Transcript.{lines_of, text_of, with_frames}
+use Rattle.script_session.specs.Answering.{Past, sends, gets, count_answers, count_calls as calls_made, one_of}
+use Rattle.script_session.specs.Transcript.{lines_of, text_of, with_frames}
 use Rattle.script_session.specs.Playing.{Played, drain_played, frames_since, not_yet, play_all, play_line, play_lines}
 
 -- ---- lines

@@ -11,8 +11,8 @@ use Rattle.vfs_journal.specs.Session.{drained, ended, steps}
 use Rattle.vfs_journal.specs.Starts.{Start}
 use Rattle.vfs_script.specs.Scripts.{Spoken, call_in, calls_of, count_calls, frame_of, frames_of, script_lines}
 use Rattle.vfs_script.specs.Transcripts.{counts_line, frame_line}
-use Rattle.transcripts.specs.Answering.{Past, sends, count_answers, count_calls as calls_made}
-use Rattle.transcripts.specs.Transcript.{lines_of, with_frames}
+use Rattle.script_session.specs.Answering.{Past, sends, count_answers, count_calls as calls_made}
+use Rattle.script_session.specs.Transcript.{lines_of, with_frames}
 use Rattle.script_session.specs.Playing.{Played, frames_since, not_yet, play_all, play_line, play_lines, transcript}
 use Rattle.vfs_world.proofs.Growth.{Begins, begins_drained, begins_stepped}
 use Rattle.script_session.proofs.Played.{calls_are_made, frames_grow, frames_make_none, journal_is}

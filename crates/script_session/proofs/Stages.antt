@@ -19,9 +19,9 @@ use Rattle.vfs_script.proofs.ScriptFacts.{script_calls, script_frames}
 use Rattle.vfs_script.specs.Kept.{ScriptValue}
 use Rattle.vfs_script.specs.Scripts.{AreCalls, Spoken, call_in, count_calls, frame_of, frames_of, script_lines}
 use Rattle.vfs_script.specs.declared.calls.Call.{Call}
-use Rattle.transcripts.specs.Answering.{one_of}
-use Rattle.transcripts.specs.Telling.{IsOver, IsTold, IsWithin, last_of}
-use Rattle.transcripts.specs.Transcript.{lines_of}
+use Rattle.script_session.specs.Answering.{one_of}
+use Rattle.script_session.specs.Telling.{IsOver, IsTold, IsWithin, last_of}
+use Rattle.script_session.specs.Transcript.{lines_of}
 use Rattle.endpoint_link.specs.declared.kinds.Mode.{Mode}
 use Rattle.vfs_journal.specs.Starts.{Start}
 use Rattle.vfs_session.specs.World.{World}

@@ -15,9 +15,9 @@ use Rattle.vfs_journal.specs.Starts.{Start, start_of}
 use Rattle.vfs_script.specs.Kept.{ScriptValue}
 use Rattle.vfs_script.specs.Scripts.{count_calls, script_lines}
 use Rattle.vfs_session.specs.World.{StandsFor, World}
-use Rattle.transcripts.specs.Answering.{count_calls as calls_made}
-use Rattle.transcripts.specs.Telling.{IsTold, Knows, Scribe}
-use Rattle.transcripts.specs.Transcript.{lines_of, text_of}
+use Rattle.script_session.specs.Answering.{count_calls as calls_made}
+use Rattle.script_session.specs.Telling.{IsTold, Knows, Scribe}
+use Rattle.script_session.specs.Transcript.{lines_of, text_of}
 use Rattle.script_session.specs.Playing.{drain_played, not_yet, play_lines, transcript}
 use Rattle.script_session.specs.Steps.{IsScript, Plays}
 use Rattle.script_session.proofs.Played.{Grows, calls_are_made, drain_grows}

@@ -1,3 +1,6 @@
+pub mod Answering
+pub mod Transcript
+pub mod Telling
 pub mod Playing
 pub mod Steps
 pub mod Measured

@@ -7,8 +7,8 @@ use Rattle.vfs_journal.specs.Output.{frames_behind}
 use Rattle.vfs_journal.specs.Session.{drained, steps}
 use Rattle.vfs_journal.specs.Starts.{Start}
 use Rattle.vfs_script.specs.Scripts.{Spoken, call_in, frame_of, script_lines}
-use Rattle.transcripts.specs.Answering.{Past, sends}
-use Rattle.transcripts.specs.Transcript.{text_of, with_frames}
+use Rattle.script_session.specs.Answering.{Past, sends}
+use Rattle.script_session.specs.Transcript.{text_of, with_frames}
 
 -- those that a later journal has more
 abbrev pub frames_since : Start → Journal → Journal → List Frame

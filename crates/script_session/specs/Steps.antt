@@ -8,7 +8,7 @@ use Rattle.vfs_journal.specs.Starts.{Start}
 use Rattle.vfs_script.specs.Kept.{ScriptValue}
 use Rattle.vfs_script.specs.Scripts.{calls_of, frames_of, script_mode}
 use Rattle.vfs_session.specs.World.{World, StandsFor}
-use Rattle.transcripts.specs.Telling.{Knows}
+use Rattle.script_session.specs.Telling.{Knows}
 use Rattle.script_session.specs.Playing.{Played}
 
 -- what is kept of a script is its text's mode, frames and calls

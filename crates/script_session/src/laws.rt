@@ -7,7 +7,7 @@ ghost use Rattle.vfs_journal.specs.Session.{ended};
 ghost use Rattle.vfs_journal.specs.Starts.{Start};
 ghost use Rattle.vfs_script.specs.Scripts.{calls_of, count_calls, frames_of, script_lines};
 ghost use Rattle.vfs_script.specs.Transcripts.{counts_line, frame_line};
-ghost use Rattle.transcripts.specs.Answering.{count_answers};
+ghost use Rattle.script_session.specs.Answering.{count_answers};
 ghost use Rattle.script_session.specs.Playing.{play_all, transcript};
 ghost use Rattle.vfs_journal.specs.Output.{frames_behind};
 

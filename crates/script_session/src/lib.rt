@@ -3,14 +3,17 @@
 //! `make` a generated one.
 #![tactic(auto)]
 
+mod faults;
 mod laws;
 mod makes;
 mod measuring;
 mod meter;
 mod playing;
+mod scribe;
 mod scripts;
 mod tally;
 
+pub use faults::TranscriptFault;
 pub use laws::transcripts_show_the_output;
 pub use makes::make;
 pub use measuring::{Measured, measure};

@@ -13,19 +13,20 @@ ghost use Rattle.vfs_script.specs.Noting.{IsFree};
 ghost use Rattle.vfs_script.specs.Scripts.{Spoken, call_in, count_calls, frame_of as spoken_frame, frames_of, script_lines};
 ghost use Rattle.vfs_script.specs.declared.calls.Call.{Call};
 ghost use Rattle.vfs_session.specs.World.{StandsFor};
-ghost use Rattle.transcripts.specs.Answering.{count_calls as calls_made, one_of};
-ghost use Rattle.transcripts.specs.Telling.{HasSinkCause, IsOver, IsTold, IsWithin, last_of};
-ghost use Rattle.transcripts.specs.Transcript.{lines_of, text_of};
+ghost use Rattle.script_session.specs.Answering.{count_calls as calls_made, one_of};
+ghost use Rattle.script_session.specs.Telling.{HasSinkCause, IsOver, IsTold, IsWithin, last_of};
+ghost use Rattle.script_session.specs.Transcript.{lines_of, text_of};
 ghost use Rattle.script_session.specs.Playing.{Played, drain_played, not_yet, play_line, play_lines, transcript};
 ghost use Rattle.script_session.specs.Steps.{IsScript, Plays};
 
+use crate::faults::TranscriptFault;
+use crate::scribe::Scribe;
 use endpoint_link::{FrameView, Mode, Outbox, Reading, Side, frame_at};
 use fidl_names::{MAX_FRAMES, NoMemory};
 use fidl_wire::Ordinals;
 use host_io::Sink;
 use session_start::Start;
 use std::alloc::Global;
-use transcripts::{Scribe, TranscriptFault};
 use vfs_script::Script;
 use vfs_world::World;
 

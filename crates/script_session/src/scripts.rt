@@ -10,13 +10,13 @@ ghost use Rattle.run_status.specs.FileCauses.{AfterTree};
 ghost use Rattle.script_session.specs.ScriptCauses.{AfterScript, HasNoScript};
 ghost use Rattle.script_session.specs.Scripts.{Says};
 
+use crate::faults::TranscriptFault;
 use crate::playing::play;
 use fidl_names::MAX_TEXT;
 use fidl_wire::Ordinals;
 use host_io::{Files, Sink};
 use run_status::{Status, ordinals, read_file, read_start};
 use std::alloc::Global;
-use transcripts::TranscriptFault;
 use vfs_script::{Script, ScriptFault, script_of};
 
 /// Plays the script of this name over the tree of that one, and writes its transcript.

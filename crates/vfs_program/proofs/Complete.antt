@@ -27,8 +27,8 @@ use Rattle.run_status.specs.FileCauses.{AfterFile, AfterTree, HasNoFile, HasNoSt
 use Rattle.run_status.specs.Files.{IsFileFault, IsWithin}
 use Rattle.run_status.specs.Trees.{IsBroken, IsTree, Stands, line_of}
 use Rattle.file_session.specs.OneFile.{file_course}
-use Rattle.tree_session.specs.TreeSession.{tree_course}
-use Rattle.frame_printer.specs.Shown.{lines_course}
+use Rattle.vfs_program.specs.TreeSession.{tree_course}
+use Rattle.vfs_program.specs.Shown.{lines_course}
 use Rattle.script_session.specs.ScriptCauses.{AfterReport, AfterScript, HasNoScript, IsStarved}
 use Rattle.script_session.specs.Scripts.{IsBadAt, IsPlayable, Said, Says}
 use Rattle.script_session.specs.Workloads.{IsReport}

@@ -41,7 +41,7 @@ use Rattle.run_status.specs.Texts.{WritesPieces, WritesText}
 use Rattle.link_session.specs.Session.{EndsBehind, IsCutOff, IsPartByEnd, IsPartSoFar, SessionAnswers, Took, Wrote}
 use Rattle.run_status.specs.FileCauses.{AfterTree, HasNoStart}
 use Rattle.run_status.specs.Trees.{IsTree, Stands}
-use Rattle.tree_session.specs.TreeSession.{tree_course}
+use Rattle.vfs_program.specs.TreeSession.{tree_course}
 use Rattle.script_session.specs.ScriptCauses.{AfterReport, AfterScript, HasNoScript, IsStarved}
 use Rattle.script_session.specs.Scripts.{IsPlayable, Said}
 use Rattle.script_session.specs.Workloads.{IsReport, report_of}

@@ -1,3 +1,6 @@
+mod ShowLemmas
+pub mod Outputs
+pub mod TreeLemmas
 pub mod WordLists
 pub mod Complete
 pub mod OneMeaning

@@ -18,8 +18,8 @@ use Rattle.run_status.specs.FileCauses.{AfterFile, AfterTree}
 use Rattle.run_status.specs.Files.{IsFileFault}
 use Rattle.run_status.specs.Trees.{Stands, line_of}
 use Rattle.file_session.specs.OneFile.{file_course}
-use Rattle.tree_session.specs.TreeSession.{tree_course}
-use Rattle.frame_printer.specs.Shown.{lines_course}
+use Rattle.vfs_program.specs.TreeSession.{tree_course}
+use Rattle.vfs_program.specs.Shown.{lines_course}
 use Rattle.script_session.specs.ScriptCauses.{AfterReport, AfterScript}
 use Rattle.script_session.specs.Scripts.{Said, Says}
 use Rattle.vfs_program.specs.Words.{Asks, FileOf, ServeOf, RunOf, CheckOf, ShowAll, MakeOf}

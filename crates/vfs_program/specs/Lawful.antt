@@ -16,7 +16,7 @@ use Rattle.vfs_journal.specs.Session.{ended, session}
 use Rattle.vfs_journal.specs.Starts.{Start, start_of}
 use Rattle.vfs_script.specs.Scripts.{calls_of, count_calls, frames_of, script_lines}
 use Rattle.vfs_script.specs.Transcripts.{counts_line}
-use Rattle.transcripts.specs.Answering.{count_answers}
+use Rattle.script_session.specs.Answering.{count_answers}
 use Rattle.script_session.specs.Playing.{play_all}
 use Rattle.frame_laws.specs.Bytes.{BeginsWithBytes}
 use Rattle.session_laws.specs.Laws.{IsLawfulOutput, IsLawfulOver}
@@ -24,7 +24,7 @@ use Rattle.workload.specs.Workload.{workload}
 use Rattle.run_status.specs.Outside.{Outside, Streams}
 use Rattle.link_session.specs.Session.{EndsBehind, Took, Wrote}
 use Rattle.run_status.specs.Trees.{Stands}
-use Rattle.frame_printer.specs.Shown.{lines_of}
+use Rattle.vfs_program.specs.Shown.{lines_of}
 use Rattle.script_session.specs.Scripts.{Said, Says}
 use Rattle.script_session.specs.Workloads.{report_for}
 use Rattle.vfs_program.specs.Words.{Asks, FileOf, ServeOf, RunOf, CheckOf, ShowAll, MakeOf}

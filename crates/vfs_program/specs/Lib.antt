@@ -1,3 +1,5 @@
+pub mod Shown
+pub mod TreeSession
 pub mod Words
 pub mod Answers
 pub mod Lawful

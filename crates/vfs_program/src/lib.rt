@@ -2,7 +2,9 @@
 //! does.
 #![tactic(auto)]
 
+mod lines;
 mod run;
+mod serving;
 mod words;
 
 pub use run::run_words;

@@ -8,14 +8,14 @@ ghost use Rattle.vfs_program.specs.Answers.{Answers, IsServable, NoFault, IsDone
 ghost use Rattle.vfs_program.specs.Lawful.{IsLawfulRun};
 ghost use Rattle.vfs_program.specs.Words.{Asks, HasRounds, Means, MeanNothing, command_seen, files_of};
 
+use crate::lines::show;
+use crate::serving::serve_tree;
 use crate::words::{Command, command_of};
 use file_session::serve_file;
-use frame_printer::show;
 use host_io::{Files, Sink, Source};
 use run_status::{Status, check_tree, tell};
 use script_session::{make, run_script};
 use std::alloc::Global;
-use tree_session::serve_tree;
 
 /// Does what the words ask for, and tells the note of the status that it answers.
 ///

@@ -1,7 +1,7 @@
 use Rattle.std.proofs.Common.{◌≡◌, Err, subst, inr}
 use Rattle.host_io.specs.Causes.{Rose}
-use Rattle.transcripts.specs.declared.faults.TranscriptFault.{TranscriptFault}
-use Rattle.transcripts.specs.Telling.{FailedOnly, UnlessFailed}
+use Rattle.script_session.specs.declared.faults.TranscriptFault.{TranscriptFault}
+use Rattle.script_session.specs.Telling.{FailedOnly, UnlessFailed}
 use Rattle.script_session.proofs.ScriptLemmas.{still_says}
 use Rattle.script_session.proofs.scripts.run_script.Goals as goal
 

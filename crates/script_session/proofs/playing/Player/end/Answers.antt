@@ -1,7 +1,7 @@
 use Rattle.std.proofs.Common.{◌∙◌}
 use Rattle.host_io.specs.Streams.{AppendsPart}
 use Rattle.vfs_journal.specs.Session.{drained}
-use Rattle.transcripts.specs.Transcript.{lines_of, text_of}
+use Rattle.script_session.specs.Transcript.{lines_of, text_of}
 use Rattle.script_session.specs.Playing.{drain_played, frames_since}
 use Rattle.script_session.proofs.Answered.{any_err, front_grows_on, part_grows}
 use Rattle.script_session.proofs.Played.{counts_behind, drain_grows, frames_make_none}

@@ -2,7 +2,7 @@ use Rattle.std.proofs.Common.{refl, subst}
 use Rattle.std.specs.Io.KnownBytes.{Appends}
 use Rattle.host_io.specs.Streams.{AppendsPart}
 use Rattle.vfs_script.specs.Scripts.{script_lines}
-use Rattle.transcripts.specs.Transcript.{lines_of, text_of}
+use Rattle.script_session.specs.Transcript.{lines_of, text_of}
 use Rattle.script_session.specs.Playing.{drain_played, play_lines, transcript}
 use Rattle.script_session.proofs.Answered.{any_err, on_err, on_ok, part_grows}
 use Rattle.script_session.proofs.Whole.{calls_counted, lines_begin, text_is}

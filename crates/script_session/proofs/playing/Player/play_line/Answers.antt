@@ -2,9 +2,9 @@ use Rattle.std.proofs.Common.{◌∷◌, ◌+◌, sym, subst}
 use Rattle.endpoint_link.specs.Views.{frame_of}
 use Rattle.host_io.specs.Streams.{AppendsPart}
 use Rattle.vfs_script.specs.Scripts.{call_in}
-use Rattle.transcripts.specs.Answering.{one_of, sends}
-use Rattle.transcripts.specs.Telling.{IsTold, Knows, last_of}
-use Rattle.transcripts.specs.Transcript.{lines_of, with_frames}
+use Rattle.script_session.specs.Answering.{one_of, sends}
+use Rattle.script_session.specs.Telling.{IsTold, Knows, last_of}
+use Rattle.script_session.specs.Transcript.{lines_of, with_frames}
 use Rattle.script_session.specs.Playing.{play_line}
 use Rattle.script_session.specs.Steps.{Plays}
 use Rattle.script_session.proofs.Answered.{any_err, front_grows_on, on_ok}

@@ -4,8 +4,8 @@ use Rattle.endpoint_link.specs.Views.{frame_of}
 use Rattle.endpoint_link.specs.declared.kinds.Mode.{Mode}
 use Rattle.host_io.specs.Streams.{AppendsPart}
 use Rattle.vfs_script.specs.Scripts.{Spoken, call_in, count_calls, script_lines}
-use Rattle.transcripts.specs.Telling.{IsTold}
-use Rattle.transcripts.specs.Transcript.{lines_of}
+use Rattle.script_session.specs.Telling.{IsTold}
+use Rattle.script_session.specs.Transcript.{lines_of}
 use Rattle.script_session.specs.Playing.{play_line, play_lines}
 use Rattle.script_session.specs.Steps.{Plays}
 use Rattle.script_session.proofs.Answered.{any_err, part_grows}

@@ -1,5 +1,0 @@
-use Rattle.frame_printer.proofs.ShowLemmas.{shown_end}
-use Rattle.frame_printer.proofs.lines.LinesSessionSession.finish.Goals as goal
-
-pub returns-clause-heard : goal.returns-clause-heard
-returns-clause-heard c = λ course frames behind. shown_end course frames _ behind
