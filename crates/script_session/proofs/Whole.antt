@@ -14,7 +14,7 @@ use Rattle.session_start.specs.Items.{Lists}
 use Rattle.vfs_journal.specs.Starts.{Start, start_of}
 use Rattle.vfs_script.specs.Kept.{ScriptValue}
 use Rattle.vfs_script.specs.Scripts.{count_calls, script_lines}
-use Rattle.vfs_session.specs.World.{StandsFor, World}
+use Rattle.vfs_world.specs.World.{StandsFor, World}
 use Rattle.transcripts.specs.Answering.{count_calls as calls_made}
 use Rattle.transcripts.specs.Telling.{IsTold, Knows, Scribe}
 use Rattle.transcripts.specs.Transcript.{lines_of, text_of}

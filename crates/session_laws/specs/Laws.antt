@@ -8,7 +8,7 @@ use Rattle.vfs_journal.specs.Output.{output_of}
 use Rattle.vfs_journal.specs.Starts.{Start, start_of}
 use Rattle.journal_laws.specs.Soundness.{IsStart}
 use Rattle.watch_laws.specs.Laws.{HasNames}
-use Rattle.vfs_session.specs.World.{StandsFor, World}
+use Rattle.vfs_world.specs.World.{StandsFor, World}
 use Rattle.session_laws.specs.Keeping.{KeepsLaws}
 
 abbrev pub LawfulJournalsKeepLaws : Type 0

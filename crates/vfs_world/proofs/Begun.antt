@@ -32,8 +32,8 @@ use Rattle.journal_laws.proofs.Starting.{accepted_starts_are_starts}
 use Rattle.message_queues.specs.Queues.{Binds, IsNew, Queues, server_of}
 use Rattle.vfs_server.specs.Holding.{HoldsAt}
 use Rattle.vfs_server.specs.Servers.{Server}
-use Rattle.vfs_session.specs.Holding.{HoldsEach, HoldsQueues}
-use Rattle.vfs_session.specs.World.{StandsFor}
+use Rattle.vfs_world.specs.Holding.{HoldsEach, HoldsQueues}
+use Rattle.vfs_world.specs.World.{StandsFor}
 use Rattle.vfs_world.specs.Beginning.{BindsJust}
 
 -- ---- lists

@@ -36,16 +36,16 @@ use Rattle.vfs_server.specs.declared.fate.Fate.TheVariants as fates
 use Rattle.vfs_server.specs.Holding.{if_at}
 use Rattle.vfs_server.specs.Servers.{Server, seen}
 use Rattle.vfs_server.specs.Serving.{IsMomentOf, Serves}
-use Rattle.vfs_session.specs.Heads.{SettlesHead, Takes, TakesHead}
-use Rattle.vfs_session.specs.Running.{IsRunning}
-use Rattle.vfs_session.specs.Servings.{IsDrain, ServesOne}
-use Rattle.vfs_session.specs.Steps.{Answers}
-use Rattle.vfs_session.specs.World.{LeadsTo, StandsFor, World}
-use Rattle.vfs_session.proofs.Carried.{quiet_stays}
-use Rattle.vfs_session.proofs.Halves.{goes_on, one_served}
-use Rattle.vfs_session.proofs.Quiet.{settles_quietly}
-use Rattle.vfs_session.proofs.Taken.{takes_head}
-use Rattle.vfs_world.specs.Steps.{AnswersPart, CanBeServed, IsAdmitted, IsFree, Sends}
+use Rattle.vfs_world.specs.Heads.{SettlesHead, Takes, TakesHead}
+use Rattle.vfs_world.specs.Running.{IsRunning}
+use Rattle.vfs_world.specs.Servings.{IsDrain, ServesOne}
+use Rattle.vfs_world.specs.ServingSteps.{Answers}
+use Rattle.vfs_world.specs.World.{LeadsTo, StandsFor, World}
+use Rattle.vfs_world.proofs.Carried.{quiet_stays}
+use Rattle.vfs_world.proofs.Halves.{goes_on, one_served}
+use Rattle.vfs_world.proofs.Quiet.{settles_quietly}
+use Rattle.vfs_world.proofs.Taken.{takes_head}
+use Rattle.vfs_world.specs.Arrivals.{AnswersPart, CanBeServed, IsAdmitted, IsFree, Sends}
 use Rattle.vfs_world.proofs.AtOnce.{bound_lives, drained_behind, for_want_of_room, none_waits, nothing_waits, plain_admission, plain_admits, reached_at_once, sent_in, sent_lasts, taken_again, waits_in, waits_last}
 
 -- ---- at its server

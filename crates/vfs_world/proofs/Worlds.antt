@@ -12,9 +12,9 @@ use Rattle.journal_laws.specs.Viewing.{view_behind}
 use Rattle.message_queues.specs.Oldest.{IsBound, NothingWaits}
 use Rattle.message_queues.specs.Queues.{count}
 use Rattle.message_queues.proofs.Counting.{counts_its_list}
-use Rattle.vfs_session.specs.Running.{IsRunning, IsWithin, whole}
-use Rattle.vfs_session.specs.World.{LeadsTo, StandsFor, World}
-use Rattle.vfs_session.proofs.Lasting.{lasts_more}
+use Rattle.vfs_world.specs.Running.{IsRunning, IsWithin, whole}
+use Rattle.vfs_world.specs.World.{LeadsTo, StandsFor, World}
+use Rattle.vfs_world.proofs.Lasting.{lasts_more}
 use Rattle.vfs_world.specs.declared.world.World.TheInside.{Inside}
 
 -- ---- what it stands for

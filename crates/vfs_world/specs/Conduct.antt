@@ -1,6 +1,6 @@
 -- How a call of a world ends, whatever it does.
 use Rattle.std.specs.Prelude.{◌≡◌, ℕ, List, true, false, Err, OnErr, OnOk, Result}
-use Rattle.vfs_session.specs.World.{World}
+use Rattle.vfs_world.specs.World.{World}
 use Rattle.vfs_world.specs.declared.world.WorldFault.{WorldFault}
 use Rattle.vfs_world.specs.declared.world.WorldFault.TheVariants as fault
 

@@ -5,11 +5,12 @@ ghost use Rattle.session_start.specs.Accepted.{AreAccepted, HasFilesOfBytes};
 ghost use Rattle.vfs_journal.specs.Starts.{start_of};
 ghost use Rattle.vfs_journal.specs.View.{view_of};
 ghost use Rattle.journal_laws.specs.Knowing.{Knows};
-ghost use Rattle.vfs_session.specs.Holding.{HoldsEach, HoldsQueues};
-ghost use Rattle.vfs_session.specs.Running.{whole};
-ghost use Rattle.vfs_session.specs.World.{StandsFor};
+ghost use Rattle.vfs_world.specs.Holding.{HoldsEach, HoldsQueues};
+ghost use Rattle.vfs_world.specs.Running.{whole};
+ghost use Rattle.vfs_world.specs.World.{StandsFor};
 ghost use Rattle.vfs_world.specs.Beginning.{BindsJust};
 
+use crate::session::Session;
 use endpoint_link::Endpoints;
 use fidl_names::{NoMemory, end_of_mount};
 use fidl_wire::{Ordinals, Out};
@@ -17,7 +18,6 @@ use message_queues::Queues;
 use session_start::Start;
 use std::alloc::Global;
 use vfs_server::Server;
-use vfs_session::Session;
 
 // Puts the servers of a start behind each other, by their indexes.
 fn add_servers(alloc: Global, start: &Start, servers: &mut Vec<Server>) -> Result<(), NoMemory>
@@ -118,15 +118,5 @@ pub(crate) fn begin(alloc: Global, ordinals: Ordinals, start: &Start) -> Result<
     let out = Out::new(alloc)?;
     let endpoints = known_endpoints(alloc, start)?;
     let servers = begin_servers(alloc, start)?;
-    Ok(Session {
-        alloc,
-        ordinals,
-        servers,
-        queues,
-        endpoints,
-        places: 0,
-        out,
-        rooms: Vec::new(alloc),
-        dying: Vec::new(alloc),
-    })
+    Ok(Session::new(alloc, ordinals, servers, queues, endpoints, out))
 }

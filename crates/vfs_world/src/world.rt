@@ -12,18 +12,18 @@ ghost use Rattle.vfs_journal.specs.Starts.{Start, start_of};
 ghost use Rattle.journal_laws.specs.Viewing.{view_behind};
 ghost use Rattle.message_queues.specs.Queues.{count};
 ghost use Rattle.vfs_server.specs.KeptNodes.{kept_in};
-ghost use Rattle.vfs_session.specs.Servings.{served_in};
-ghost use Rattle.vfs_session.specs.World.{LeadsTo, StandsFor};
+ghost use Rattle.vfs_world.specs.Servings.{served_in};
+ghost use Rattle.vfs_world.specs.World.{LeadsTo, StandsFor};
 ghost use Rattle.vfs_world.specs.Conduct.{Conducts};
 
 use crate::arriving::hear;
 use crate::beginning::begin;
+use crate::session::Session;
 use endpoint_link::{FrameView, Mode, Outbox};
 use fidl_names::NoMemory;
 use fidl_wire::Ordinals;
 use std::alloc::Global;
 use std::marker::Model;
-use vfs_session::Session;
 
 /// Why a call of a world did nothing.
 #[derive(Clone, Copy)]
@@ -57,9 +57,9 @@ pub struct World {
 }
 
 impl Model for World {
-    ghost use Rattle.vfs_session.specs.Codes.{world_code};
-    ghost use Rattle.vfs_session.specs.Running.{IsWithin, whole};
-    ghost use Rattle.vfs_session.specs.World as worlds;
+    ghost use Rattle.vfs_world.specs.Codes.{world_code};
+    ghost use Rattle.vfs_world.specs.Running.{IsWithin, whole};
+    ghost use Rattle.vfs_world.specs.World as worlds;
 
     ghost Value = { worlds.World };
 
@@ -199,7 +199,7 @@ impl World {
     pub fn servers(&self) -> u32
         ensures { result ≡ self.now.queues.servers }
     {
-        self.session.queues.servers()
+        self.session.servers()
     }
 
     /// How many nodes of a server are kept: its root, those that names lead to, and those that the births of
@@ -212,7 +212,7 @@ impl World {
         if self.spent {
             return 0;
         }
-        self.session.servers[server as usize].kept() as u32
+        self.session.kept(server)
     }
 
     /// How many entries wait.
@@ -220,7 +220,7 @@ impl World {
         ensures count { result ≡ count self.now.queues }
         ensures waiting { (start : Start) (journal : Journal) → StandsFor start self.now journal → result ≡ length (waiting (history_of start journal)) }
     {
-        self.session.queues.len()
+        self.session.waiting()
     }
 
     /// How many frames were accepted.

@@ -1,8 +1,8 @@
 use Rattle.std.proofs.Common.{◌*◌, ◌∙◌, refl, sym}
 use Rattle.fidl_names.specs.declared.limits.TheConstants as limit
-use Rattle.vfs_session.specs.Running.{whole}
-use Rattle.vfs_session.proofs.Serves.{drain_leads}
-use Rattle.vfs_world.proofs.Answered.{not_err}
+use Rattle.vfs_world.specs.Running.{whole}
+use Rattle.vfs_world.proofs.Serves.{drain_leads}
+use Rattle.vfs_world.proofs.CallResults.{not_err}
 use Rattle.vfs_world.proofs.Conduct.{done, wanting}
 use Rattle.vfs_world.proofs.Worlds.{able_of, leads_inside, nothing_waits, runs_inside, stands_inside, taken_back}
 use Rattle.vfs_world.proofs.world.World.drain.Goals as goal

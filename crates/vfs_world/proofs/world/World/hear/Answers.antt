@@ -1,8 +1,8 @@
 use Rattle.std.proofs.Common.{◌≡◌, ◌∙◌, ◌+◌, ◌-◌, ◌*◌, ◌<◌, ap, arith}
 use Rattle.fidl_names.specs.declared.limits.TheConstants as limit
-use Rattle.vfs_session.specs.Running.{whole}
-use Rattle.vfs_session.specs.World.{World}
-use Rattle.vfs_session.proofs.Lasting.{lasts_more}
+use Rattle.vfs_world.specs.Running.{whole}
+use Rattle.vfs_world.specs.World.{World}
+use Rattle.vfs_world.proofs.Lasting.{lasts_more}
 use Rattle.vfs_world.proofs.Conduct.{done, wanting}
 use Rattle.vfs_world.proofs.Worlds.{able_of, leads_inside, stands_inside, taken_back, within_more}
 use Rattle.vfs_world.proofs.world.World.hear.Goals as goal

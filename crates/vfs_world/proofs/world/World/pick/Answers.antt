@@ -1,7 +1,7 @@
 use Rattle.std.proofs.Common.{Ok, ap, ◌∙◌, sym}
-use Rattle.vfs_session.specs.Running.{whole}
-use Rattle.vfs_session.proofs.Serves.{head_none, pick_idle, pick_leads}
-use Rattle.vfs_world.proofs.Answered.{not_err, same_ok}
+use Rattle.vfs_world.specs.Running.{whole}
+use Rattle.vfs_world.proofs.Serves.{head_none, pick_idle, pick_leads}
+use Rattle.vfs_world.proofs.CallResults.{not_err, same_ok}
 use Rattle.vfs_world.proofs.Conduct.{done, wanting}
 use Rattle.vfs_world.proofs.Worlds.{able_of, leads_inside, runs_inside, stands_inside, taken_back}
 use Rattle.vfs_world.proofs.world.World.pick.Goals as goal
