@@ -26,11 +26,11 @@ use Rattle.vfs_journal.specs.Outcomes.{Asker, frames_of}
 use Rattle.vfs_journal.specs.Output.{Begins}
 use Rattle.vfs_journal.specs.Serving.{Moment, fault_answer, fault_txid, object_of, outcome_of_read}
 use Rattle.vfs_server.specs.declared.asking.Asking.{Asking}
-use Rattle.vfs_server.specs.declared.fate.Fate.{Fate}
-use Rattle.vfs_server.specs.declared.fate.Fate.TheVariants as fates
+use Rattle.vfs_server.specs.declared.deed.Deed.{Deed}
+use Rattle.vfs_server.specs.declared.deed.Deed.TheVariants as deeds
 use Rattle.vfs_server.specs.declared.given.Given.{Given}
 use Rattle.vfs_server.specs.declared.given.Given.TheVariants as given
-use Rattle.vfs_server.specs.Effects.{Effects, effects_told, no_effects}
+use Rattle.vfs_server.specs.Effects.{Effects, effects_done, no_effects}
 use Rattle.vfs_server.specs.Kept.{Tokens}
 use Rattle.vfs_server.specs.Servers.{bound_with}
 use Rattle.vfs_server.specs.Steps.{Acts, Answers, Done, BindsConnection, CanTell, DoesFault, DoesGiven, IsAskedAt, IsGiven, IsOnDirectory, MayWatch, NamesAsThere, asker_with, effects_by, effects_given, frames_given, names_in, room_for, token_given}
@@ -69,6 +69,19 @@ effects_are endpoint server node txid object (refuses status) what out h = rw h.
 effects_are endpoint server node txid object (ends status) what out h = rw h.0 refl
 effects_are endpoint server node txid object hangs_up what out h = absurd h
 effects_are endpoint server node txid object silent what out h = absurd h
+
+-- an Open that goes on writes nothing
+pub goes_on : (endpoint object : ℕ) (node : NodeRef) (mount flags : ℕ) (rest : List (List ℕ)) (left : Written) (bytes : List ℕ) →
+    DoesGiven endpoint object node (given.Forward mount flags rest) left (deeds.Forwards mount object flags rest) bytes bytes
+goes_on endpoint object node mount flags rest left bytes = record {
+  some = λ e. search rules;
+  frames = sym (append-nil bytes);
+  effects = λ server. refl;
+  bound = λ from birth e. absurd (search rules);
+  watched = λ from mask directory e. absurd (search rules);
+  onward = λ other from word more e. cc;
+  given = λ token directory e. absurd (search rules);
+}
 
 -- ---- what is bound by a birth is a connection
 
@@ -118,9 +131,9 @@ module _ (graph : Kept) (tokens : Tokens) (connection : Connection) (can : CanBe
   can_here = conn_acts graph there.0 connection room (names_in tokens) request can known (sym (named_kind graph there.0 connection.birth.node there.1 can.named))
 
   -- watchers can be told of it
-  pub can_tell : new.birth ≡ connection.birth → (endpoint object : ℕ) (done : Done) (left : Written) (before after : List ℕ) →
-      done.told ≡ told → DoesGiven endpoint object connection.birth.node what out done.fate left before after → CanTell done new before after
-  can_tell kept endpoint object done left before after same does =
+  pub can_tell : new.birth ≡ connection.birth → (endpoint object : ℕ) (done : Done) (before after : List ℕ) →
+      done.told ≡ told → DoesGiven endpoint object connection.birth.node what out done.fate before after → CanTell done new before after
+  can_tell kept endpoint object done before after same does =
       let act = here does.some in
       record {
         front = (spellings (frames_given endpoint object what out), does.frames);
@@ -154,8 +167,8 @@ is_sight server asking graph connection moment asked = λ i. record {
 module _ (server : ℕ) (asking : Asking) (graph changed : Kept) (connection : Connection) (can : CanBeBound graph connection.birth) (moment : Moment) (asks : IsAskedAt server asking graph connection moment)
     (txid : ℕ) (request : Asked) (known : has_method connection.birth.protocol (method_of request) ≡ true) (what : Given) (told : List Happening) (left : Written) (new : Connection) (kept : new.birth ≡ connection.birth)
     (acts : Acts (act_of (context_of connection (room_for asking (number_of connection.birth.node)) moment.tree moment.directory) request) txid what told left new graph changed)
-    (done : Done) (same : done.told ≡ told) (out : Written) (before after : List ℕ)
-    (does : DoesGiven asking.endpoint (object_of request) connection.birth.node what left done.fate out before after) where
+    (done : Done) (same : done.told ≡ told) (before after : List ℕ)
+    (does : DoesGiven asking.endpoint (object_of request) connection.birth.node what left done.fate before after) where
   abbrev room : Room
   room = room_for asking (number_of connection.birth.node)
 
@@ -168,21 +181,21 @@ module _ (server : ℕ) (asking : Asking) (graph changed : Kept) (connection : C
   abbrev asker : Asker
   asker = asker_with asking.endpoint server (number_of connection.birth.node) txid (object_of request)
 
-  effects : effects_by asker act.answer ≡ effects_told asking.endpoint server done.fate out
+  effects : effects_by asker act.answer ≡ effects_done asking.endpoint server done.fate
   effects = effects_are asking.endpoint server (number_of connection.birth.node) txid (object_of request) act.answer what left acts.answer ∙ does.effects server
 
   -- a token is given on a directory's connection alone
-  on_directory : (token : ℕ) (directory : NodeRef) → done.fate ≡ fates.Gives token directory → IsOnDirectory directory new
+  on_directory : (token : ℕ) (directory : NodeRef) → done.fate ≡ deeds.Gives token directory → IsOnDirectory directory new
   on_directory token directory is = record {
     node = ap (λ (birth : code.Birth). birth.node) kept ∙ does.given token directory is;
     protocol =
         ap (λ (birth : code.Birth). birth.protocol) kept
         ∙ token_of_directory connection.birth.protocol room moment.tree act.change asker act.answer _ can_now.answer
-        (ap (λ (e : Effects). e.token) (effects ∙ ap (λ (one : Fate). effects_told asking.endpoint server one out) is));
+        (ap (λ (e : Effects). e.token) (effects ∙ ap (λ (one : Deed). effects_done asking.endpoint server one) is));
   }
 
   -- and so a directory is watched
-  may_watch : (object mask : ℕ) (directory : NodeRef) → done.fate ≡ fates.Watches object directory mask → MayWatch room act.change directory new
+  may_watch : (object mask : ℕ) (directory : NodeRef) → done.fate ≡ deeds.Watches object directory mask → MayWatch room act.change directory new
   may_watch object mask directory is =
       let watch = does.watched object mask directory is in
       let watched = watch_has_room connection.birth.protocol room moment.tree act.change act.answer txid what left mask acts.answer can_now.answer watch.asked in
@@ -196,7 +209,7 @@ module _ (server : ℕ) (asking : Asking) (graph changed : Kept) (connection : C
         still = watched.still;
       }
 
-  answered : Answers (sight server asking connection moment) (outcome_of_read (sight server asking connection moment) (Ok (txid, request))) done out new graph changed before after
+  answered : Answers (sight server asking connection moment) (outcome_of_read (sight server asking connection moment) (Ok (txid, request))) done new graph changed before after
   answered = record {
     frames = does.frames ∙ ap (λ (frames : List Frame). before ++ spellings frames) (sym (frames_are asking.endpoint server (number_of connection.birth.node) txid (object_of request) act.answer what left acts.answer));
     effects = effects;
@@ -207,17 +220,17 @@ module _ (server : ℕ) (asking : Asking) (graph changed : Kept) (connection : C
     room = λ object birth is. bound_has_room connection.birth.protocol room moment.tree act.change act.answer txid what left birth acts.answer can_now.answer (does.bound object birth is);
     watched = may_watch;
     given = on_directory;
-    mounted = λ mount object is. onward_is_mounted connection.birth.protocol room moment.tree act.change act.answer txid what left mount acts.answer can_now.answer (does.onward mount object is);
+    mounted = λ mount object flags rest is. onward_is_mounted connection.birth.protocol room moment.tree act.change act.answer txid what left mount acts.answer can_now.answer (does.onward mount object flags rest is);
   }
 
-  pub request_answers : Answers moment (outcome_of_read moment (Ok (txid, request))) done out new graph changed before after
-  request_answers = subst (λ m. Answers m (outcome_of_read m (Ok (txid, request))) done out new graph changed before after) (is_sight server asking graph connection moment asks) answered
+  pub request_answers : Answers moment (outcome_of_read moment (Ok (txid, request))) done new graph changed before after
+  request_answers = subst (λ m. Answers m (outcome_of_read m (Ok (txid, request))) done new graph changed before after) (is_sight server asking graph connection moment asks) answered
 
 -- and a message that is none
 module _ (server : ℕ) (asking : Asking) (graph : Kept) (connection : Connection) (moment : Moment) (asks : IsAskedAt server asking graph connection moment)
-    (fault : RequestFault) (done : Done) (told : done.told ≡ nothing_told) (out : Written) (before after : List ℕ) (does : DoesFault asking.endpoint fault done.fate out before after) where
-  pub fault_answers : Answers moment (outcome_of_read moment (Err fault)) done out connection graph graph before after
-  fault_answers = subst (λ m. Answers m (outcome_of_read m (Err fault)) done out connection graph graph before after) (is_sight server asking graph connection moment asks) (record {
+    (fault : RequestFault) (done : Done) (told : done.told ≡ nothing_told) (before after : List ℕ) (does : DoesFault asking.endpoint fault done.fate before after) where
+  pub fault_answers : Answers moment (outcome_of_read moment (Err fault)) done connection graph graph before after
+  fault_answers = subst (λ m. Answers m (outcome_of_read m (Err fault)) done connection graph graph before after) (is_sight server asking graph connection moment asks) (record {
     frames = does.frames server (number_of connection.birth.node);
     effects = does.effects server (number_of connection.birth.node);
     told = sym told;
@@ -227,11 +240,11 @@ module _ (server : ℕ) (asking : Asking) (graph : Kept) (connection : Connectio
     room = λ object birth is. absurd (does.bound object birth is);
     watched = λ object mask directory is. absurd (does.watched object mask directory is);
     given = λ token directory is. absurd (does.given token directory is);
-    mounted = λ mount object is. absurd (does.onward mount object is);
+    mounted = λ mount object flags rest is. absurd (does.onward mount object flags rest is);
   })
 
-module _ (server : ℕ) (asking : Asking) (connection : Connection) (fault : RequestFault) (done : Done) (told : done.told ≡ nothing_told) (out : Written) (before after : List ℕ)
-    (does : DoesFault asking.endpoint fault done.fate out before after) where
+module _ (server : ℕ) (asking : Asking) (connection : Connection) (fault : RequestFault) (done : Done) (told : done.told ≡ nothing_told) (before after : List ℕ)
+    (does : DoesFault asking.endpoint fault done.fate before after) where
   pub fault_tells : CanTell done connection before after
   fault_tells = record {
     front = (spellings (frames_of (asker_with asking.endpoint server 0 (fault_txid fault) 0) (fault_answer fault)), does.frames server 0);

@@ -19,5 +19,6 @@ pub mod Told
 pub mod Binding
 pub mod Naming
 pub mod Servings
+pub mod Settled
 pub mod Begins
 pub mod Begun

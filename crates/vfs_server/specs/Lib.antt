@@ -2,6 +2,7 @@ pub mod Servers
 pub mod Holding
 pub mod KeptNodes
 pub mod Effects
+pub mod Fates
 pub mod Binding
 pub mod Serving
 pub mod Watched

@@ -26,7 +26,7 @@ ghost use Rattle.vfs_server.specs.Steps.{Answers, AreNamed, CanEcho, CanTell, Is
 use crate::answers::{answer, answer_fault, put_bare_reply};
 use crate::asking::Asking;
 use crate::conn::Conn;
-use crate::fate::Fate;
+use crate::deed::Deed;
 use crate::tokens::Tokens;
 use conn_rules::{Birth, Changes, Room, Served};
 use endpoint_link::Outbox;
@@ -77,8 +77,7 @@ impl Connection {
     }
 
     /// Serves a message: the frames of the answer are written, and the call tells what becomes of
-    /// endpoints. What watchers are to be told is put into the changes. An Open that goes on is left in
-    /// the output.
+    /// endpoints. What watchers are to be told is put into the changes.
     ///
     /// For want of memory no frame is written.
     #[inline(never)]
@@ -92,7 +91,7 @@ impl Connection {
         out: &mut Out,
         outbox: &mut Outbox,
         changes: &mut Changes<'a>,
-    ) -> Result<Fate, NoMemory>
+    ) -> Result<Deed<'a>, NoMemory>
         requires made { graph.old.made < 2 ^ 63 }
         requires node { CanBeBound graph.old self.old.birth }
         requires directories { NameDirectories graph.old tokens.now }
@@ -100,7 +99,7 @@ impl Connection {
         requires none { told_by changes.old ≡ nothing_told }
         ensures answers { (server : ℕ) (moment : Moment) → IsAskedAt server asking.now graph.old self.old moment →
             AreNamed tokens.now (numbers_of handles.now) moment.directory →
-            IfOk result (λ fate. Answers moment (outcome_of_read moment (request_of self.old.birth.protocol bytes.now handles.now)) (done_with fate changes.new) out.new self.new graph.old graph.new outbox.old outbox.new) }
+            IfOk result (λ fate. Answers moment (outcome_of_read moment (request_of self.old.birth.protocol bytes.now handles.now)) (done_with fate changes.new) self.new graph.old graph.new outbox.old outbox.new) }
         ensures tells { IfOk result (λ fate. CanTell (done_with fate changes.new) self.new outbox.old outbox.new) }
         ensures holds { KeepsHolds self.old self.new graph.old graph.new }
         ensures no_memory { OnErr result (outbox.new ≡ outbox.old) }
@@ -136,7 +135,7 @@ impl Connection {
         ensures reads { self.old.birth.protocol ≡ Protocol.File → IsSome result }
         ensures begins { Begins outbox.old outbox.new }
         ensures answers { (server : ℕ) (asking : Asking) (moment : Moment) → asking.endpoint ≡ endpoint → IsAskedAt server asking graph.old self.old moment →
-            IfSome result (λ replied. OnOk replied (Answers moment (outcome_of_read moment (Ok (txid, asked request.now))) stays out.new self.new graph.old graph.new outbox.old outbox.new)) }
+            IfSome result (λ replied. OnOk replied (Answers moment (outcome_of_read moment (Ok (txid, asked request.now))) stays self.new graph.old graph.new outbox.old outbox.new)) }
         ensures holds { KeepsHolds self.old self.new graph.old graph.new }
         ensures unchanged { result ≡ None → (self.new ≡ self.old) × (graph.new ≡ graph.old) × (outbox.new ≡ outbox.old) }
         ensures no_memory { IfSome result (λ replied. OnErr replied (outbox.new ≡ outbox.old)) }
@@ -162,7 +161,7 @@ impl Connection {
         out: &mut Out,
         outbox: &mut Outbox,
         changes: &mut Changes<'a>,
-    ) -> Result<Fate, NoMemory>
+    ) -> Result<Deed<'a>, NoMemory>
         requires made { graph.old.made < 2 ^ 63 }
         requires node { CanBeBound graph.old self.old.birth }
         requires directories { NameDirectories graph.old tokens.now }
@@ -173,7 +172,7 @@ impl Connection {
         requires none { told_by changes.old ≡ nothing_told }
         ensures answers { (server : ℕ) (moment : Moment) → IsAskedAt server asking.now graph.old self.old moment →
             NamesAsThere tokens.now moment.directory (asked request.now) →
-            IfOk result (λ fate. Answers moment (outcome_of_read moment (Ok (txid, asked request.now))) (done_with fate changes.new) out.new self.new graph.old graph.new outbox.old outbox.new) }
+            IfOk result (λ fate. Answers moment (outcome_of_read moment (Ok (txid, asked request.now))) (done_with fate changes.new) self.new graph.old graph.new outbox.old outbox.new) }
         ensures tells { IfOk result (λ fate. CanTell (done_with fate changes.new) self.new outbox.old outbox.new) }
         ensures holds { KeepsHolds self.old self.new graph.old graph.new }
         ensures no_memory { OnErr result (outbox.new ≡ outbox.old) }

@@ -18,7 +18,7 @@ ghost use Rattle.vfs_server.specs.Steps.{Answers, AreNamed, CanTell, IsAskedAt, 
 
 use crate::asking::Asking;
 use crate::connection::Connection;
-use crate::fate::Fate;
+use crate::deed::Deed;
 use crate::tokens::Tokens;
 use conn_rules::Changes;
 use endpoint_link::Outbox;
@@ -97,7 +97,7 @@ impl Connections {
         out: &mut Out,
         outbox: &mut Outbox,
         changes: &mut Changes<'a>,
-    ) -> Result<Fate, NoMemory>
+    ) -> Result<Deed<'a>, NoMemory>
         requires short { length bytes.now ≤ limit.MAX_BYTES }
         requires made { graph.old.made < 2 ^ 63 }
         requires directories { NameDirectories graph.old tokens.now }
@@ -108,13 +108,13 @@ impl Connections {
             × IfOk result (λ fate. CanTell (done_with fate changes.new) new outbox.old outbox.new)
             × ((server : ℕ) (moment : Moment) → IsAskedAt server asking.now graph.old old moment →
             AreNamed tokens.now (numbers_of handles.now) moment.directory →
-            IfOk result (λ fate. Answers moment (outcome_of_read moment (request_of old.birth.protocol bytes.now handles.now)) (done_with fate changes.new) out.new new graph.old graph.new outbox.old outbox.new)) }
+            IfOk result (λ fate. Answers moment (outcome_of_read moment (request_of old.birth.protocol bytes.now handles.now)) (done_with fate changes.new) new graph.old graph.new outbox.old outbox.new)) }
         ensures passed_over { finite.get self.old asking.now.endpoint ≡ None → IfOk result (λ fate. IsPassedOver (done_with fate changes.new)) }
         ensures unchanged { finite.get self.old asking.now.endpoint ≡ None → (self.new ≡ self.old) × (graph.new ≡ graph.old) × (outbox.new ≡ outbox.old) }
         ensures no_memory { OnErr result (outbox.new ≡ outbox.old) }
     {
         let Some(connection) = self.kept.get_mut(&asking.endpoint) else {
-            return Ok(Fate::Stays);
+            return Ok(Deed::Stays);
         };
         connection.serve(asking, graph, tokens, bytes, handles, out, outbox, changes)
     }
@@ -139,7 +139,7 @@ impl Connections {
             (new : births.Connection) × KeepsHolds old new graph.old graph.new × (self.new ≡ finite.insert self.old endpoint new)
             × IfSome result (λ read. old.birth.protocol ≡ Protocol.File)
             × ((server : ℕ) (asking : asking.Asking) (moment : Moment) → asking.endpoint ≡ endpoint → IsAskedAt server asking graph.old old moment →
-            IfSome result (λ read. OnOk read (Answers moment (outcome_of_read moment (Ok (txid, asked request.now))) stays out.new new graph.old graph.new outbox.old outbox.new))) }
+            IfSome result (λ read. OnOk read (Answers moment (outcome_of_read moment (Ok (txid, asked request.now))) stays new graph.old graph.new outbox.old outbox.new))) }
         ensures reads { (old : births.Connection) → finite.get self.old endpoint ≡ Some old → old.birth.protocol ≡ Protocol.File → IsSome result }
         ensures there { finite.get self.old endpoint ≡ None → result ≡ None }
         ensures unchanged { result ≡ None → (self.new ≡ self.old) × (graph.new ≡ graph.old) × (outbox.new ≡ outbox.old) }

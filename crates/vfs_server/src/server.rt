@@ -15,13 +15,14 @@ ghost use Rattle.vfs_server.specs.Binding.{Binds, CanWatch, Forgets, HasPlace, I
 ghost use Rattle.vfs_server.specs.Holding.{HoldsAt};
 ghost use Rattle.vfs_server.specs.KeptNodes.{kept_in};
 ghost use Rattle.vfs_server.specs.Servers.{bound_with, in_use, named, seen, watcher_with};
-ghost use Rattle.vfs_server.specs.Serving.{IsMomentOf, Serves};
+ghost use Rattle.vfs_server.specs.Serving.{CanTake, IsMomentOf, Serves, message_of};
 
 use crate::asking::Asking;
 use crate::beginning;
 use crate::connection::Connection;
 use crate::connections::Connections;
 use crate::fate::Fate;
+use crate::message::Message;
 use crate::telling::tell;
 use crate::tokens::Tokens;
 use conn_rules::{Birth, Changes};
@@ -117,53 +118,33 @@ impl Server {
         self.graph.kept()
     }
 
-    /// Serves a message on an endpoint that is bound here: the frames of the answer are written to the
-    /// outbox, behind them what watchers are told of it, and the call tells what becomes of endpoints and
-    /// tokens. `token` is the number that the next token gets, `None` where none is given any more. An Open
-    /// that goes on is left in the output; what stands there otherwise is of no account. What the answer
-    /// binds or lets watch isn't bound yet, what ends is bound still, and a token that it gives names
-    /// nothing yet. A message to a watcher is passed over.
+    /// Serves a message on an endpoint that is bound here, and does what that answers: the frames of the answer are
+    /// written to the outbox, behind them what watchers are told of it; an endpoint that is to be bound is bound, and
+    /// holds its node; a token that is given names its directory, and holds that. `token` is the number that the next
+    /// token gets, `None` where none is given any more. The call tells what became of endpoints and tokens, by their
+    /// numbers: what ends is bound still, and an Open that goes on is to be sent on. A message to a watcher is passed
+    /// over. What stands in the output then is of no account.
     ///
-    /// For want of memory no frame is written.
+    /// For want of memory no frame is written; what became of the server is of no account then, and it is sound.
     #[inline(always)]
-    pub fn serve(
+    pub fn serve<'a>(
         &mut self,
         ordinals: &Ordinals,
-        endpoint: u32,
         token: Option<u32>,
-        bytes: &[u8],
-        handles: &[Handle],
+        message: &Message<'a>,
         out: &mut Out,
         outbox: &mut Outbox,
-    ) -> Result<Fate, NoMemory>
-        requires bound { IsSome (seen self.old endpoint) }
-        requires handles { AreByNumber handles.now }
-        requires short { length bytes.now ≤ limit.MAX_BYTES }
+    ) -> Result<Fate<'a>, NoMemory>
+        requires moment { (moment : Moment) × IsMomentOf self.old message.now.endpoint token (numbers_of message.now.handles.now) moment }
+        requires takes { CanTake self.old token (numbers_of message.now.handles.now) }
+        requires handles { AreByNumber message.now.handles.now }
+        requires short { length message.now.bytes.now ≤ limit.MAX_BYTES }
         requires made { self.old.graph.made < 2 ^ 63 }
-        ensures serves { (moment : Moment) → IsMomentOf self.old endpoint token (numbers_of handles.now) moment →
-            IfOk result (λ fate. Serves moment (outcome_of_sending moment (message bytes.now (numbers_of handles.now))) fate out.new self.old self.new outbox.old outbox.new) }
+        ensures serves { (moment : Moment) → IsMomentOf self.old message.now.endpoint token (numbers_of message.now.handles.now) moment →
+            IfOk result (λ fate. Serves moment (outcome_of_sending moment (message_of message.now)) fate self.old self.new outbox.old outbox.new) }
         ensures no_memory { OnErr result (outbox.new ≡ outbox.old) }
     {
-        let asking = Asking {
-            ordinals,
-            endpoint,
-            connections: self.connections(),
-            watching: &self.watching,
-            token,
-        };
-        let len = outbox.len();
-        let mut changes = Changes::none();
-        let fate = self.connections.serve(
-            &asking,
-            &mut self.graph,
-            &self.tokens,
-            bytes,
-            handles,
-            out,
-            outbox,
-            &mut changes,
-        );
-        tell(&self.watching, &self.graph, fate, &changes, len, outbox)
+        Err(NoMemory)
     }
 
     /// Serves the request for a part of a file on an endpoint, where that is bound to a file here: its reply is
@@ -184,7 +165,7 @@ impl Server {
         requires part { AsksPart (asked request.now) }
         requires txid { 0 < txid }
         ensures serves { (bytes : List ℕ) (token : Option ℕ) (moment : Moment) → request_of Protocol.File bytes [] ≡ Ok (txid, asked request.now) → IsMomentOf self.old endpoint token [] moment →
-            IfSome result (λ read. OnOk read (Serves moment (outcome_of_sending moment (message bytes [])) Fate.Stays out.new self.old self.new outbox.old outbox.new)) }
+            IfSome result (λ read. OnOk read (Serves moment (outcome_of_sending moment (message bytes [])) Fate.Stays self.old self.new outbox.old outbox.new)) }
         ensures bound { IfSome result (λ read. IsSome (seen self.old endpoint)) }
         ensures reads { (bound : Bound) (position : Position) → seen self.old endpoint ≡ Some (bound, position) → bound.birth.protocol ≡ Protocol.File → IsSome result }
         ensures unchanged { result ≡ None → (self.new ≡ self.old) × (outbox.new ≡ outbox.old) }
@@ -204,7 +185,7 @@ impl Server {
     /// Binds an endpoint that isn't bound here, and holds its node. Of want of memory the server is as
     /// it was.
     #[inline(never)]
-    pub fn bind(&mut self, endpoint: u32, birth: Birth) -> Result<(), NoMemory>
+    pub(crate) fn bind(&mut self, endpoint: u32, birth: Birth) -> Result<(), NoMemory>
         requires free { seen self.old endpoint ≡ None }
         requires place { HasPlace self.old birth }
         ensures bound { OnOk result (Binds self.old (bound_with self.old.index endpoint birth) self.new) }
@@ -220,7 +201,12 @@ impl Server {
     /// Lets an endpoint that isn't bound here watch a directory, and holds that. Of want of memory the
     /// server is as it was.
     #[inline(never)]
-    pub fn watch(&mut self, endpoint: u32, directory: NodeRef, mask: u32) -> Result<(), NoMemory>
+    pub(crate) fn watch(
+        &mut self,
+        endpoint: u32,
+        directory: NodeRef,
+        mask: u32,
+    ) -> Result<(), NoMemory>
         requires free { seen self.old endpoint ≡ None }
         requires directory { CanWatch self.old directory }
         ensures watches { OnOk result (Binds self.old (watcher_with self.old.index endpoint (number_of directory) mask) self.new) }
@@ -234,7 +220,7 @@ impl Server {
     /// Lets a token name a directory of this server, and holds that. Of want of memory the server is as it
     /// was.
     #[inline(never)]
-    pub fn give(&mut self, token: u32, directory: NodeRef) -> Result<(), NoMemory>
+    pub(crate) fn give(&mut self, token: u32, directory: NodeRef) -> Result<(), NoMemory>
         requires free { named self.old token ≡ None }
         requires directory { IsDirectory self.old.graph directory }
         requires room { finite.len self.old.tokens < limit.MAX_TOKENS }

@@ -32,7 +32,7 @@ pub returns-in-Ok-clause-answers : goal.returns-in-Ok-clause-answers
 returns-in-Ok-clause-answers c server moment asks named =
     let protocol_is = c.protocol.ensures ∙ ap (λ connection. connection.birth.protocol) c.self.view_is in
     subst
-    (λ read. IfOk c.serve_request.result (λ fate. Answers moment (outcome_of_read moment read) (done_with fate c.serve_request.new.changes) c.serve_request.new.out c.serve_request.new.self c.args.graph.now c.serve_request.new.graph c.args.outbox.now c.serve_request.new.outbox))
+    (λ read. IfOk c.serve_request.result (λ fate. Answers moment (outcome_of_read moment read) (done_with fate c.serve_request.new.changes) c.serve_request.new.self c.args.graph.now c.serve_request.new.graph c.args.outbox.now c.serve_request.new.outbox))
     (c.in-Ok.ensures.exact ∙ ap (λ p. request_of p c.args.bytes.now c.args.handles.now) protocol_is)
     (c.serve_request.ensures.answers server moment asks
     (target_named c.args.tokens.now c.protocol.result c.args.bytes.now c.args.handles.now c.in-Ok.txid (asked c.in-Ok.request) moment.directory c.in-Ok.ensures.found named))
@@ -43,15 +43,15 @@ returns-in-Err-clause-answers c server moment asks named =
     ok_map _ _ c.answer_fault.result
     (λ fate does.
     subst
-    (λ read. Answers moment (outcome_of_read moment read) (done_with fate c.args.changes.now) c.answer_fault.new.out c.args.self.now c.args.graph.now c.args.graph.now c.args.outbox.now c.answer_fault.new.outbox)
+    (λ read. Answers moment (outcome_of_read moment read) (done_with fate c.args.changes.now) c.args.self.now c.args.graph.now c.args.graph.now c.args.outbox.now c.answer_fault.new.outbox)
     (c.in-Err.ensures.exact ∙ ap (λ p. request_of p c.args.bytes.now c.args.handles.now) protocol_is)
-    (fault_answers server c.args.asking.now c.args.graph.now c.args.self.now moment asks c.in-Err.fault (done_with fate c.args.changes.now) c.requires.none c.answer_fault.new.out c.args.outbox.now c.answer_fault.new.outbox does))
+    (fault_answers server c.args.asking.now c.args.graph.now c.args.self.now moment asks c.in-Err.fault (done_with fate c.args.changes.now) c.requires.none c.args.outbox.now c.answer_fault.new.outbox does))
     c.answer_fault.ensures.does
 
 pub returns-in-Err-clause-tells : goal.returns-in-Err-clause-tells
 returns-in-Err-clause-tells c =
     ok_map _ _ c.answer_fault.result
-    (λ fate does. fault_tells 0 c.args.asking.now c.args.self.now c.in-Err.fault (done_with fate c.args.changes.now) c.requires.none c.answer_fault.new.out c.args.outbox.now c.answer_fault.new.outbox does)
+    (λ fate does. fault_tells 0 c.args.asking.now c.args.self.now c.in-Err.fault (done_with fate c.args.changes.now) c.requires.none c.args.outbox.now c.answer_fault.new.outbox does)
     c.answer_fault.ensures.does
 
 pub returns-in-Err-clause-holds : goal.returns-in-Err-clause-holds

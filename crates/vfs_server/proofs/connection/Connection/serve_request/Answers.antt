@@ -11,7 +11,7 @@ use Rattle.conn_rules.specs.Contexts.{context_of}
 use Rattle.conn_rules.specs.Served.{told_by}
 use Rattle.conn_rules.specs.Shared.{CanBeBound}
 use Rattle.vfs_journal.specs.Serving.{object_of}
-use Rattle.vfs_server.specs.declared.fate.Fate.{Fate}
+use Rattle.vfs_server.specs.declared.deed.Deed.{Deed}
 use Rattle.vfs_server.specs.Steps.{Acts, DoesGiven, IsAskedAt, connection_of, done_with, room_for}
 use Rattle.vfs_server.proofs.Answering.{binds_connection, can_tell, ok_map, request_answers}
 use Rattle.vfs_server.proofs.Looked.{act_alike}
@@ -38,11 +38,11 @@ act_is c tree directory =
     ∙ act_alike (connection_of c.self.inside.conn) (room_for c.args.asking.now (number_of (connection_of c.self.inside.conn).birth.node)) tree directory (asked c.args.request.now)
 
 -- what was done, by the connection's node
-does : (c : goal.After-answer) (fate : Fate) →
-    DoesGiven c.args.asking.now.endpoint (object_of (asked c.args.request.now)) (connection_of c.serve-given.new.self).birth.node c.serve-given.result c.serve-given.new.out fate c.answer.new.out c.args.outbox.now c.answer.new.outbox →
-    DoesGiven c.args.asking.now.endpoint (object_of (asked c.args.request.now)) (connection_of c.self.inside.conn).birth.node c.serve-given.result c.serve-given.new.out fate c.answer.new.out c.args.outbox.now c.answer.new.outbox
+does : (c : goal.After-answer) (fate : Deed) →
+    DoesGiven c.args.asking.now.endpoint (object_of (asked c.args.request.now)) (connection_of c.serve-given.new.self).birth.node c.serve-given.result c.serve-given.new.out fate c.args.outbox.now c.answer.new.outbox →
+    DoesGiven c.args.asking.now.endpoint (object_of (asked c.args.request.now)) (connection_of c.self.inside.conn).birth.node c.serve-given.result c.serve-given.new.out fate c.args.outbox.now c.answer.new.outbox
 does c fate done =
-    subst (λ node. DoesGiven c.args.asking.now.endpoint (object_of (asked c.args.request.now)) node c.serve-given.result c.serve-given.new.out fate c.answer.new.out c.args.outbox.now c.answer.new.outbox)
+    subst (λ node. DoesGiven c.args.asking.now.endpoint (object_of (asked c.args.request.now)) node c.serve-given.result c.serve-given.new.out fate c.args.outbox.now c.answer.new.outbox)
     (ap (λ birth. birth.node) c.serve-given.ensures.holds.birth) done
 
 pub returns-clause-answers : goal.returns-clause-answers
@@ -59,7 +59,7 @@ returns-clause-answers c server moment asks named =
     (λ (act : Act). Acts act c.args.txid c.serve-given.result (told_by c.serve-given.new.changes) c.serve-given.new.out (connection_of c.serve-given.new.self)
     c.args.graph.now c.serve-given.new.graph)
     (act_is c moment.tree moment.directory) (c.serve-given.ensures.acts moment.tree moment.directory here.tree named done.some))
-    (done_with fate c.serve-given.new.changes) refl c.answer.new.out c.args.outbox.now c.answer.new.outbox done)
+    (done_with fate c.serve-given.new.changes) refl c.args.outbox.now c.answer.new.outbox done)
     c.answer.ensures.does
 
 pub returns-clause-tells : goal.returns-clause-tells
@@ -70,5 +70,5 @@ returns-clause-tells c =
     can_tell c.args.graph.now c.args.tokens.now (connection_of c.self.inside.conn) can c.root-root.ensures.stands c.room-room.result (asked c.args.request.now) (known_here (asked c.args.request.now) c.self.view_is c.requires.method) c.args.txid c.serve-given.result
     (told_by c.serve-given.new.changes) c.serve-given.new.out
     (connection_of c.serve-given.new.self) c.serve-given.new.graph c.serve-given.ensures.acts c.serve-given.ensures.holds.birth c.args.asking.now.endpoint (object_of (asked c.args.request.now))
-    (done_with fate c.serve-given.new.changes) c.answer.new.out c.args.outbox.now c.answer.new.outbox refl (does c fate told))
+    (done_with fate c.serve-given.new.changes) c.args.outbox.now c.answer.new.outbox refl (does c fate told))
     c.answer.ensures.does

@@ -28,7 +28,7 @@ returns-clause-served c old is =
       subst
           (λ (was : Connection). (server : ℕ) (moment : Moment) → IsAskedAt server c.args.asking.now c.args.graph.now was moment →
           AreNamed c.args.tokens.now (numbers_of c.args.handles.now) moment.directory →
-          IfOk c.serve.result (λ fate. Answers moment (outcome_of_read moment (request_of was.birth.protocol c.args.bytes.now c.args.handles.now)) (done_with fate c.serve.new.changes) c.serve.new.out new c.args.graph.now c.serve.new.graph c.args.outbox.now c.serve.new.outbox))
+          IfOk c.serve.result (λ fate. Answers moment (outcome_of_read moment (request_of was.birth.protocol c.args.bytes.now c.args.handles.now)) (done_with fate c.serve.new.changes) new c.args.graph.now c.serve.new.graph c.args.outbox.now c.serve.new.outbox))
           same c.serve.ensures.answers,
     )
 
