@@ -1,7 +1,6 @@
 -- A serving of which one endpoint dies while nothing waits: nobody dies with it, no token is spent, and nothing is sent on.
 use Rattle.std.proofs.Common.{◌≡◌, ℕ, ◌+◌, ◌++◌, Bool, not, cond, List, [], ◌∷◌, filter, map, fold, Option, Some, append-nil, refl, sym, ap, ◌∙◌, subst, arith}
 use Rattle.std.proofs.lemmas.Bool.{eq-eqb}
-use Rattle.fidl_wire.specs.Written.{Written}
 use Rattle.endpoint_link.specs.Frames.{spellings}
 use Rattle.endpoint_link.specs.Standings.{Known, ended, gone}
 use Rattle.vfs_journal.specs.Entries.{Sent}
@@ -26,9 +25,9 @@ none_closed one end bytes is =
     ∙ ap (λ (numbers : List ℕ). bytes ++ spellings (map close_frame numbers)) (sym none_rise ∙ ap rising (sym (none_left end)))
     ∙ ap (λ (o : Option ℕ). bytes ++ spellings (closed_for o (end ∷ []))) (sym is)
 
-pub settles_alone : (old new : World) (sent : Sent) (fate : Fate) (out : Written) (bytes : List ℕ) (end : ℕ) → IsLoneEnd sent fate end → DiesAlone old end new → count old.queues ≡ old.known.waiting →
-    SettlesHead old sent fate out (record new { places = new.places + 1 }) bytes bytes
-settles_alone old new sent fate out bytes end lone dies counted =
+pub settles_alone : (old new : World) (sent : Sent) (fate : Fate) (bytes : List ℕ) (end : ℕ) → IsLoneEnd sent fate end → DiesAlone old end new → count old.queues ≡ old.known.waiting →
+    SettlesHead old sent fate (record new { places = new.places + 1 }) bytes bytes
+settles_alone old new sent fate bytes end lone dies counted =
     let spent : spent_told sent old.queues (end ∷ []) ≡ [] =
     ap (λ (tokens : List ℕ). tokens ++ tokens_on old.queues (end ∷ [])) lone.tokens ∙ dies.tokens in
     record {
@@ -41,8 +40,8 @@ settles_alone old new sent fate out bytes end lone dies counted =
       forgets = subst (λ (tokens : List ℕ). ForgetsAll new.servers tokens new.servers) (sym spent) refl;
       closed = none_closed (end_told sent.endpoint fate) end bytes lone.told;
       sends =
-          subst (λ (n : ℕ). SendsOn (n + 1) sent.place fate out new.queues new.queues) dies.places
-          (none_sent fate lone.here (new.places + 1) sent.place out new.queues);
+          subst (λ (n : ℕ). SendsOn (n + 1) sent.place fate new.queues new.queues) dies.places
+          (none_sent fate lone.here (new.places + 1) sent.place new.queues);
       known =
           dies.known
           ∙ nothing_waits_less (ended old.known end) (count new.queues) (dies.count ∙ counted)

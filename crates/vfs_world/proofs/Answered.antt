@@ -1,5 +1,5 @@
 -- What the serving of an entry at its server says.
-use Rattle.std.proofs.Common.{◌≡◌, ℕ, zero, suc, List, [], ◌∷◌, ◌==◌, if◌then◌else◌, cond, find, Bool, true, false, Option, Some, None, IsSome, Result, Ok, Err, IfOk, set, append-nil, refl, sym, ap, ◌∙◌, subst}
+use Rattle.std.proofs.Common.{◌≡◌, ℕ, zero, suc, List, [], ◌∷◌, ◌==◌, if◌then◌else◌, cond, find, Bool, true, false, Option, Some, None, IsSome, Result, Ok, Err, IfOk, set, append-nil, refl, sym, ap, ◌∙◌, subst, arith}
 use Rattle.std.specs.FinMap as finite
 use Rattle.std.specs.Prelude.{slice_get}
 use Rattle.std.specs.Option.{option_map}
@@ -7,9 +7,8 @@ use Rattle.std.specs.Result.{OnErr, OnOk}
 use Rattle.std.proofs.lemmas.Bool.{eqb-true}
 use Rattle.std.proofs.lemmas.Option.{none-some, same_Some}
 use Rattle.fidl_names.specs.declared.memory.NoMemory.{NoMemory}
-use Rattle.fidl_wire.specs.Written.{Written}
 use Rattle.conn_rules.specs.Births.{Connection, Position, fresh}
-use Rattle.vfs_journal.specs.Entries.{Sending, Sent, handles_of, hang_up}
+use Rattle.vfs_journal.specs.Entries.{Sending, Sent, handles_of, hang_up, message}
 use Rattle.vfs_journal.specs.Outcomes.{Outcome}
 use Rattle.vfs_journal.specs.Output.{Begins}
 use Rattle.vfs_journal.specs.Serving.{Moment, outcome_of_sending}
@@ -19,7 +18,7 @@ use Rattle.vfs_server.specs.declared.fate.Fate.{Fate}
 use Rattle.vfs_server.specs.declared.fate.Fate.TheVariants as fates
 use Rattle.vfs_server.specs.Servers.{Server, connected, seen, seen_as}
 use Rattle.vfs_server.specs.Serving.{IsMomentOf, Serves}
-use Rattle.vfs_world.specs.ServingSteps.{Answers}
+use Rattle.vfs_world.specs.ServingSteps.{Answers, CanServe}
 
 pub set_same : {X : Type 0} (xs : List X) (i : ℕ) (x : X) → slice_get xs i ≡ Some x → xs ≡ set xs i x
 set_same [] i x e = absurd (cc)
@@ -36,23 +35,28 @@ if_ok (Err e) f h = h
 
 -- ---- a message
 
-pub served_answers : (servers : List Server) (at endpoint : ℕ) (token next : Option ℕ) (sent : Sent) (one now : Server) (out : Written) (before after : List ℕ) (r : Result Fate NoMemory) (sending : Sending) → slice_get servers at ≡ Some one →
+-- the next token as it is told, and the handles of the message
+pub can_serve : (one : Server) (endpoint : ℕ) (token next : Option ℕ) (sending : Sending) (bytes handles : List ℕ) → CanServe one endpoint next (handles_of sending) → token ≡ next → sending ≡ message bytes handles → CanServe one endpoint token handles
+can_serve one endpoint token next sending bytes handles can same is =
+    subst (λ (t : Option ℕ). CanServe one endpoint t handles) (sym same) (subst (λ (s : Sending). CanServe one endpoint next (handles_of s)) is can)
+
+pub served_answers : (servers : List Server) (at endpoint : ℕ) (token next : Option ℕ) (sent : Sent) (one now : Server) (before after : List ℕ) (r : Result Fate NoMemory) (sending : Sending) → slice_get servers at ≡ Some one →
     sent.sending ≡ sending → next ≡ token →
-    ((moment : Moment) → IsMomentOf one endpoint next (handles_of sending) moment → IfOk r (λ fate. Serves moment (outcome_of_sending moment sending) fate out one now before after)) →
-    IfOk r (λ fate. Answers servers at endpoint token sent fate out (set servers at now) before after)
-served_answers servers at endpoint token next sent one now out before after (Err fault) sending there is same serves = tt
-served_answers servers at endpoint token next sent one now out before after (Ok fate) sending there is same serves =
+    ((moment : Moment) → IsMomentOf one endpoint next (handles_of sending) moment → IfOk r (λ fate. Serves moment (outcome_of_sending moment sending) fate one now before after)) →
+    IfOk r (λ fate. Answers servers at endpoint token sent fate (set servers at now) before after)
+served_answers servers at endpoint token next sent one now before after (Err fault) sending there is same serves = tt
+served_answers servers at endpoint token next sent one now before after (Ok fate) sending there is same serves =
     λ other moment found moment_of. (
       now,
       refl,
-      subst (λ (x : Sending). Serves moment (outcome_of_sending moment x) fate out other now before after) (sym is)
-          (subst (λ (x : Server). IsMomentOf x endpoint token (handles_of sent.sending) moment → Serves moment (outcome_of_sending moment sending) fate out x now before after) (same_Some one other (sym there ∙ found))
+      subst (λ (x : Sending). Serves moment (outcome_of_sending moment x) fate other now before after) (sym is)
+          (subst (λ (x : Server). IsMomentOf x endpoint token (handles_of sent.sending) moment → Serves moment (outcome_of_sending moment sending) fate x now before after) (same_Some one other (sym there ∙ found))
           (λ m. serves moment (subst (λ (t : Option ℕ). IsMomentOf one endpoint t (handles_of sending) moment) (sym same) (subst (λ (x : Sending). IsMomentOf one endpoint token (handles_of x) moment) is m))) moment_of),
     )
 
-pub begins_by : (one now : Server) (moment : Moment) (o : Outcome) (out : Written) (before after : List ℕ) (r : Result Fate NoMemory) → IfOk r (λ fate. Serves moment o fate out one now before after) → OnErr r (after ≡ before) → Begins before after
-begins_by one now moment o out before after (Ok fate) serves same = (_, serves.frames)
-begins_by one now moment o out before after (Err fault) serves same = ([], same ∙ sym (append-nil before))
+pub begins_by : (one now : Server) (moment : Moment) (o : Outcome) (before after : List ℕ) (r : Result Fate NoMemory) → IfOk r (λ fate. Serves moment o fate one now before after) → OnErr r (after ≡ before) → Begins before after
+begins_by one now moment o before after (Ok fate) serves same = (_, serves.frames)
+begins_by one now moment o before after (Err fault) serves same = ([], same ∙ sym (append-nil before))
 
 -- ---- a hang-up
 
@@ -73,24 +77,22 @@ seen_name one n pair e = by_found (finite.get one.connections n) e where
   by_found (Some connection) h = ap (λ (p : Bound × Position). p.0.endpoint) (sym (same_Some (connected one.index n connection) pair h))
   by_found None h = watched_name n (find (λ bound. bound.endpoint == n) one.watchers) pair (watcher_name n one.watchers) h
 
-hangs_up : (one : Server) (endpoint : ℕ) (token : Option ℕ) (handles : List ℕ) (moment : Moment) (out : Written) (before : List ℕ) → IsMomentOf one endpoint token handles moment →
-    Serves moment (outcome_of_sending moment hang_up) fates.Ends out one one before before
+hangs_up : (one : Server) (endpoint : ℕ) (token : Option ℕ) (handles : List ℕ) (moment : Moment) (before : List ℕ) → IsMomentOf one endpoint token handles moment →
+    Serves moment (outcome_of_sending moment hang_up) fates.Ends one one before before
 unfolding outcome_of_sending
-hangs_up one endpoint token handles moment out before m = record {
+hangs_up one endpoint token handles moment before m = record {
   frames = sym (append-nil before);
-  effects = refl;
+  tells = refl;
   index = refl;
   bound = λ n. by_seen n (seen one n) refl;
-  count = refl;
+  count = omega arith;
   watchers = refl;
-  tokens = refl;
+  tokens = λ token. refl;
   tree = λ tree stands. stands;
-  holds = λ number. refl;
-  names = λ node named kept. (named, refl);
-  has_place = λ object birth e. absurd (cc);
-  watched = λ object mask directory e. absurd (cc);
-  given = λ token directory e. absurd (cc);
-  mounted = λ mount object e. absurd (cc);
+  holds = λ number. omega arith;
+  here = λ bound e. absurd (cc);
+  given = λ given e. absurd (cc);
+  mounted = λ mount object flags rest e. absurd (cc);
 } where
   same : moment.bound.endpoint ≡ endpoint
   same = seen_name one endpoint (moment.bound, moment.position) m.bound
@@ -105,10 +107,10 @@ hangs_up one endpoint token handles moment out before m = record {
         let also : pair ≡ (moment.bound, moment.position) = same_Some pair (moment.bound, moment.position) (sym e ∙ ap (seen one) here ∙ m.bound) in
         ap (λ (p : Bound × Position). let q : Bound × Position = (pair.0, p.1) in q) (sym also)
 
-pub hang_up_answers : (servers : List Server) (at endpoint : ℕ) (token : Option ℕ) (sent : Sent) (out : Written) (before : List ℕ) → sent.sending ≡ hang_up → Answers servers at endpoint token sent fates.Ends out servers before before
-hang_up_answers servers at endpoint token sent out before is =
+pub hang_up_answers : (servers : List Server) (at endpoint : ℕ) (token : Option ℕ) (sent : Sent) (before : List ℕ) → sent.sending ≡ hang_up → Answers servers at endpoint token sent fates.Ends servers before before
+hang_up_answers servers at endpoint token sent before is =
     λ one moment there m. (
       one,
       set_same servers at one there,
-      subst (λ (x : Sending). Serves moment (outcome_of_sending moment x) fates.Ends out one one before before) (sym is) (hangs_up one endpoint token (handles_of sent.sending) moment out before m),
+      subst (λ (x : Sending). Serves moment (outcome_of_sending moment x) fates.Ends one one before before) (sym is) (hangs_up one endpoint token (handles_of sent.sending) moment before m),
     )

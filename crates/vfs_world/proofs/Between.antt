@@ -1,13 +1,10 @@
--- The view between the steps of a serving, and the token that a fate gives.
-use Rattle.std.proofs.Common.{ℕ, ◌++◌, map, option_to_list, Option, Some, None}
-use Rattle.node_graph.specs.Graph.{number_of}
+-- The view between the steps of a serving.
+use Rattle.std.proofs.Common.{ℕ, ◌++◌, map, option_to_list, Option}
 use Rattle.conn_rules.specs.Births.{fresh}
 use Rattle.vfs_journal.specs.History.{changed}
 use Rattle.vfs_journal.specs.Outcomes.{Given, Outcome}
 use Rattle.vfs_journal.specs.Starts.{Bound}
 use Rattle.vfs_journal.specs.View.{View, moved}
-use Rattle.vfs_server.specs.declared.fate.Fate.{Fate}
-use Rattle.vfs_server.specs.declared.fate.Fate.TheVariants as fates
 
 -- the endpoint that was served has its new position, and the tree its change
 abbrev pub answered_in : View → ℕ → Outcome → View
@@ -21,9 +18,3 @@ bound_in view bound = record view { living = view.living ++ map (λ one. (one, f
 -- the clients hold the token that is given
 abbrev pub given_in : View → Option Given → View
 given_in view token = record view { given = view.given ++ option_to_list token; held = view.held ++ option_to_list token }
-
--- the token that a fate gives, on the endpoint that was served at this server
-abbrev pub given_told : ℕ → ℕ → Fate → Option Given
-given_told endpoint server (fates.Gives token directory) =
-    Some (record { token = token; endpoint = endpoint; server = server; node = number_of directory })
-given_told endpoint server _ = None

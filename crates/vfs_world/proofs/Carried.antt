@@ -6,8 +6,6 @@ use Rattle.std.proofs.lemmas.Bool.{eq-eqb}
 use Rattle.std.proofs.lemmas.List.{append-nil, map-append, take_more}
 use Rattle.std.proofs.lemmas.List.Elements.{filter-append}
 use Rattle.endpoint_link.specs.Numbering.{among}
-use Rattle.conn_rules.specs.declared.births.Birth as code
-use Rattle.node_graph.specs.declared.nodes.NodeRef as nodes
 use Rattle.vfs_journal.specs.Handles.{numbers_of}
 use Rattle.vfs_journal.specs.Entries.{Sent, handles_of, tokens_in}
 use Rattle.vfs_server.specs.declared.fate.Fate.TheVariants as fates
@@ -54,14 +52,11 @@ nothing_spent sent none = ap (λ (numbers : List ℕ). filter (λ number. not (i
 pub quiet_stays : (sent : Sent) → handles_of sent.sending ≡ [] → IsQuiet sent fates.Stays
 quiet_stays sent none = record { first = none_carried None sent none; tokens = nothing_spent sent none; here = refl }
 
-pub quiet_binds : (sent : Sent) (object : ℕ) (birth : code.Birth) → handles_of sent.sending ≡ object ∷ [] → is_client object ≡ true → IsQuiet sent (fates.Binds object birth)
-quiet_binds sent object birth is client = record { first = carried_alone object sent is client; tokens = no_tokens object sent is client; here = refl }
+pub quiet_binds : (sent : Sent) (object : ℕ) → handles_of sent.sending ≡ object ∷ [] → is_client object ≡ true → IsQuiet sent (fates.Binds object)
+quiet_binds sent object is client = record { first = carried_alone object sent is client; tokens = no_tokens object sent is client; here = refl }
 
-pub quiet_watches : (sent : Sent) (object mask : ℕ) (directory : nodes.NodeRef) → handles_of sent.sending ≡ object ∷ [] → is_client object ≡ true → IsQuiet sent (fates.Watches object directory mask)
-quiet_watches sent object mask directory is client = record { first = carried_alone object sent is client; tokens = no_tokens object sent is client; here = refl }
-
-pub lone_gives : (sent : Sent) (token : ℕ) (directory : nodes.NodeRef) → handles_of sent.sending ≡ [] → IsLoneGift sent (fates.Gives token directory)
-lone_gives sent token directory none = record { first = none_carried None sent none; tokens = nothing_spent sent none; sends = refl }
+pub lone_gives : (sent : Sent) (token : ℕ) → handles_of sent.sending ≡ [] → IsLoneGift sent (fates.Gives token)
+lone_gives sent token none = record { first = none_carried None sent none; tokens = nothing_spent sent none; sends = refl }
 
 -- a token is no endpoint
 pub lone_spends : (sent : Sent) (token : ℕ) → handles_of sent.sending ≡ token ∷ [] → is_client token ≡ false → IsLoneToken sent fates.Stays token

@@ -1,30 +1,27 @@
 -- What all servers hold behind each step of a serving.
-use Rattle.std.proofs.Common.{◌≡◌, ◌≢◌, ℕ, zero, suc, ◌<◌, ◌==◌, ◌⊎◌, ◌&&◌, ◌||◌, Bool, true, false, not, List, [], ◌∷◌, length, Contains, Some, None, set, append-nil, inl, inr, refl, sym, ap, ◌∙◌, subst, arith, length-set}
-use Rattle.std.specs.List.{list_any}
+use Rattle.std.proofs.Common.{◌≡◌, ◌≢◌, ℕ, zero, suc, ◌+◌, ◌<◌, ◌==◌, ◌⊎◌, ◌&&◌, ◌||◌, Bool, true, false, not, List, [], ◌∷◌, count_by, length, option_to_list, Contains, Option, Some, None, set, inl, inr, refl, sym, ap, ◌∙◌, subst, arith, length-set}
+use Rattle.std.specs.Option.{option_map_or}
 use Rattle.std.specs.Prelude.{slice_get}
+use Rattle.std.proofs.lemmas.Grind.{common_steps}
 use Rattle.std.proofs.lemmas.Option.{same_Some, slice_get_within}
-use Rattle.fidl_wire.specs.Written.{Written}
 use Rattle.endpoint_link.specs.Numbering.{among}
-use Rattle.node_graph.specs.declared.nodes.NodeRef.{NodeRef}
-use Rattle.node_graph.specs.Graph.{number_of}
 use Rattle.node_graph.specs.Tree.{after}
 use Rattle.conn_rules.specs.Births.{Position}
 use Rattle.vfs_journal.specs.History.{tree_at}
-use Rattle.vfs_journal.specs.Entries.{Sent, handles_of}
 use Rattle.vfs_journal.specs.Outcomes.{Given, Outcome}
 use Rattle.vfs_journal.specs.Serving.{Moment}
 use Rattle.vfs_journal.specs.Starts.{Bound}
 use Rattle.vfs_journal.specs.View.{View, at_in, is_out_in}
 use Rattle.journal_laws.proofs.Lists.{eqb_sym}
-use Rattle.vfs_server.specs.Binding.{Binds, NamesBy}
+use Rattle.vfs_server.specs.Binding.{watching_behind}
 use Rattle.vfs_server.specs.declared.fate.Fate.{Fate}
-use Rattle.vfs_server.specs.Servers.{Server}
-use Rattle.vfs_server.specs.Serving.{Serves}
+use Rattle.vfs_server.specs.Servers.{Server, in_use, named}
+use Rattle.vfs_server.specs.Serving.{Serves, newly_named, newly_seen}
 use Rattle.vfs_world.specs.Holding.{HoldsEach}
 use Rattle.vfs_world.specs.ServingSteps.{ForgetsAll, ForgetsEach}
 use Rattle.vfs_world.proofs.Between.{answered_in, bound_in, given_in}
-use Rattle.vfs_world.proofs.Outs.{HoldsOut, Rising, but, named_here, named_there, out_first, out_forgets, out_last}
-use Rattle.vfs_world.proofs.ServerSteps.{HoldsNumber, answered_here, answered_there, bound_here, bound_none, bound_there, by_index, by_number}
+use Rattle.vfs_world.proofs.Outs.{HoldsOut, Rising, but, looks_given, named_here, named_there, out_first, out_forgets, out_last}
+use Rattle.vfs_world.proofs.ServerSteps.{HoldsLooks, HoldsNumber, Looks, answered_here, answered_there, bound_here, bound_there, by_index, by_number, changed_here, counted_by, looked, looks_answered, looks_bound, looks_of, one_if}
 
 -- ---- by their numbers
 
@@ -76,41 +73,104 @@ each_set view later servers i one now h there at trees here others = record {
 
 -- ---- an endpoint was served
 
-pub each_answered : (view : View) (servers : List Server) (one now : Server) (pair : Bound × Position) (moment : Moment) (outcome : Outcome) (fate : Fate) (out : Written) (before after' : List ℕ) → AreNumbered view servers →
-    slice_get servers pair.0.server ≡ Some one → at_in view moment.bound.endpoint ≡ Some pair → outcome.server ≡ pair.0.server → Serves moment outcome fate out one now before after' →
-    AreNumbered (answered_in view moment.bound.endpoint outcome) (set servers pair.0.server now)
-each_answered view servers one now pair moment outcome fate out before after' h there found on s =
+-- what is held then: the endpoint is moved, the newest is bound, and the token is given
+abbrev pub served_in : View → ℕ → Outcome → View
+served_in view endpoint outcome = given_in (bound_in (answered_in view endpoint outcome) outcome.bound) outcome.token
+
+-- what is bound and given by it is at this server, and was not before
+pub record IsNewAt (view : View) (index endpoint : ℕ) (outcome : Outcome) : Type 0 where
+  pub server : outcome.server ≡ index
+  pub bound : (b : Bound) → outcome.bound ≡ Some b → b.server ≡ index
+  pub given : (one : Given) → outcome.token ≡ Some one → one.server ≡ index
+  pub free : (b : Bound) → outcome.bound ≡ Some b → at_in (answered_in view endpoint outcome) b.endpoint ≡ None
+  pub apart : (one other : Given) → outcome.token ≡ Some one → Contains view.given other → other.token ≢ one.token
+
+held_as_bound : (o : Option Bound) (looks : Looks) (number : ℕ) → (looks_bound o looks).holds number ≡ looks.holds number + count_by (λ bound. bound.birth.node == number) (option_to_list o)
+held_as_bound None looks number = let none : count_by (λ (bound : Bound). bound.birth.node == number) [] ≡ 0 = refl in omega (arith, none)
+held_as_bound (Some b) looks number = let one = counted_by (λ (bound : Bound). bound.birth.node == number) b (b.birth.node == number) refl in omega (arith, one)
+
+held_as_given : (o : Option Given) (looks : Looks) (number : ℕ) → (looks_given o looks).holds number ≡ looks.holds number + count_by (λ given. given.node == number) (option_to_list o)
+held_as_given None looks number = let none : count_by (λ (given : Given). given.node == number) [] ≡ 0 = refl in omega (arith, none)
+held_as_given (Some one) looks number = let c = given_counted one (one.node == number) refl in omega (arith, c) where
+  given_counted : (one : Given) (b : Bool) → (one.node == number) ≡ b → count_by (λ (given : Given). given.node == number) (one ∷ []) ≡ one_if b
+  given_counted one true e = ap (λ (n : ℕ). n) (grind (arith, common_steps))
+  given_counted one false e = ap (λ (n : ℕ). n) (grind (arith, common_steps))
+
+-- at the server at which it is bound
+module _ (view : View) (one now : Server) (index : ℕ) (moment : Moment) (outcome : Outcome) (fate : Fate) (before after' : List ℕ) (h : HoldsNumber view index one) (is : IsNewAt view index moment.bound.endpoint outcome)
+    (within : index < length view.trees) (s : Serves moment outcome fate one now before after') where
+  abbrev k : ℕ
+  k = moment.bound.endpoint
+
+  abbrev answered : Looks
+  answered = looks_answered k outcome.position (looks_of one)
+
+  abbrev and_bound : Looks
+  and_bound = looks_bound outcome.bound answered
+
+  abbrev then_looks : Looks
+  then_looks = looks_given outcome.token and_bound
+
+  held : HoldsLooks (served_in view k outcome) index then_looks
+  held =
+      named_here (bound_in (answered_in view k outcome) outcome.bound) and_bound index outcome.token
+      (bound_here (answered_in view k outcome) answered index outcome.bound (answered_here view (looks_of one) index k outcome (looked view index one h)) is.bound is.free)
+      is.given is.apart
+
+  found_then : (o : Option Bound) (t : Option Given) (n : ℕ) → newly_seen o n (answered.bound n) ≡ (looks_given t (looks_bound o answered)).bound n
+  found_then None None n = refl
+  found_then None (Some given) n = refl
+  found_then (Some b) None n = refl
+  found_then (Some b) (Some given) n = refl
+
+  count_then : (o : Option Bound) (t : Option Given) → in_use one + length (option_to_list o) ≡ (looks_given t (looks_bound o answered)).count
+  count_then None None = omega arith
+  count_then None (Some given) = omega arith
+  count_then (Some b) None = omega arith
+  count_then (Some b) (Some given) = omega arith
+
+  watchers_then : (o : Option Bound) (t : Option Given) → option_map_or (watching_behind one.watchers) o one.watchers ≡ (looks_given t (looks_bound o answered)).watchers
+  watchers_then None None = refl
+  watchers_then None (Some given) = refl
+  watchers_then (Some b) None = refl
+  watchers_then (Some b) (Some given) = refl
+
+  tokens_then : (o : Option Bound) (t : Option Given) (n : ℕ) → newly_named t n (named one n) ≡ (looks_given t (looks_bound o answered)).tokens n
+  tokens_then None None n = refl
+  tokens_then None (Some given) n = refl
+  tokens_then (Some b) None n = refl
+  tokens_then (Some b) (Some given) n = refl
+
+  pub served_here : HoldsNumber (served_in view moment.bound.endpoint outcome) index now
+  served_here = record {
+    bound = λ n. s.bound n ∙ found_then outcome.bound outcome.token n ∙ held.bound n;
+    count = s.count ∙ count_then outcome.bound outcome.token ∙ held.count;
+    watchers = s.watchers ∙ watchers_then outcome.bound outcome.token ∙ held.watchers;
+    tokens = λ token. s.tokens token ∙ tokens_then outcome.bound outcome.token token ∙ held.tokens token;
+    tree = changed_here view now.graph index outcome is.server within (s.tree (tree_at view.trees index) h.tree);
+    holds = λ number.
+        let a = s.holds number in
+        let b = held_as_bound outcome.bound answered number in
+        let c = held_as_given outcome.token and_bound number in
+        let d = held.holds number in
+        omega (arith, a, b, c, d);
+  }
+
+pub each_served : (view : View) (servers : List Server) (one now : Server) (pair : Bound × Position) (moment : Moment) (outcome : Outcome) (fate : Fate) (before after' : List ℕ) → AreNumbered view servers →
+    slice_get servers pair.0.server ≡ Some one → at_in view moment.bound.endpoint ≡ Some pair → IsNewAt view pair.0.server moment.bound.endpoint outcome → Serves moment outcome fate one now before after' →
+    AreNumbered (served_in view moment.bound.endpoint outcome) (set servers pair.0.server now)
+each_served view servers one now pair moment outcome fate before after' h there found is s =
     let i = pair.0.server in
+    let k = moment.bound.endpoint in
     let within = slice_get_within servers i one there in
     let many = h.many in
-    each_set view (answered_in view moment.bound.endpoint outcome) servers i one now h there s.index (length-set view.trees outcome.server (after (tree_at view.trees outcome.server) outcome.change))
-    (answered_here view one now i moment outcome fate out before after' (h.each i one there) on (omega arith) s)
-    (λ j server apart held. answered_there view server j moment.bound.endpoint pair outcome held found (λ e. apart (sym e)) (λ e. apart (sym e ∙ on)))
-
--- ---- an endpoint is bound
-
-pub each_bound : (view : View) (servers : List Server) (i : ℕ) (one now : Server) (b : Bound) → AreNumbered view servers → slice_get servers i ≡ Some one → b.server ≡ i → at_in view b.endpoint ≡ None → Binds one b now →
-    AreNumbered (bound_in view (Some b)) (set servers i now)
-each_bound view servers i one now b h there at free s =
-    each_set view (bound_in view (Some b)) servers i one now h there s.index refl
-    (bound_here view one now i b (h.each i one there) at free s)
-    (λ j server apart held. bound_there view server j b held (λ e. apart (sym e ∙ at)))
-
-pub each_unbound : (view : View) (servers : List Server) → AreNumbered view servers → AreNumbered (bound_in view None) servers
-each_unbound view servers h = record {
-  many = h.many;
-  index = h.index;
-  each = λ j server e. bound_none view server j (h.each j server e);
-}
-
--- ---- a token is given
-
-pub each_given : (view : View) (servers : List Server) (i : ℕ) (one now : Server) (new : Given) (directory : NodeRef) → AreNumbered view servers → slice_get servers i ≡ Some one →
-    ((other : Given) → Contains view.given other → other.token ≢ new.token) → new.server ≡ i → new.node ≡ number_of directory → NamesBy one new.token directory now → AreNumbered (given_in view (Some new)) (set servers i now)
-each_given view servers i one now new directory h there apart at node s =
-    each_set view (given_in view (Some new)) servers i one now h there s.index refl
-    (named_here view new i one now directory apart (h.each i one there) at node s)
-    (λ j server away held. named_there view new j server apart held (λ e. away (sym e ∙ at)))
+    each_set view (served_in view k outcome) servers i one now h there s.index (length-set view.trees outcome.server (after (tree_at view.trees outcome.server) outcome.change))
+    (served_here view one now i moment outcome fate before after' (h.each i one there) is (omega (arith, within, many)) s)
+    (λ j server apart held.
+    named_there (bound_in (answered_in view k outcome) outcome.bound) j server outcome.token
+    (bound_there (answered_in view k outcome) server j outcome.bound (answered_there view server j k pair outcome held found (λ e. apart (sym e)) (λ e. apart (sym e ∙ is.server)))
+    (λ b e f. apart (sym f ∙ is.bound b e)))
+    (λ new e f. apart (sym f ∙ is.given new e)) is.apart)
 
 -- ---- views that are looked up alike
 
@@ -121,11 +181,6 @@ each_same v w servers living trees given same h = record {
   index = h.index;
   each = λ j server e. out_last v w (is_out_in v) j server living trees given same (out_first v j server (h.each j server e));
 }
-
-pub each_ungiven : (view : View) (servers : List Server) → AreNumbered view servers → AreNumbered (given_in view None) servers
-each_ungiven view servers h =
-    each_same view (given_in view None) servers refl refl (append-nil view.given)
-    (λ one c. ap (λ (held : List Given). list_any (λ (x : Given). x.token == one.token) held || list_any (λ (sent : Sent). among one.token (handles_of sent.sending)) view.waiting) (sym (append-nil view.held))) h
 
 -- ---- tokens are forgotten
 

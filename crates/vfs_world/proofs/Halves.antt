@@ -2,7 +2,6 @@
 use Rattle.std.proofs.Common.{◌≡◌, ℕ, ◌+◌, ◌-◌, ◌≤◌, ◌<◌, ◌++◌, Bool, true, false, if◌then◌else◌, List, [], All, fold, append_assoc, refl, sym, ap, ◌∙◌, subst, arith}
 use Rattle.std.proofs.lemmas.List.Elements.{All-nil, All-weaker}
 use Rattle.fidl_names.specs.declared.limits.TheConstants as limit
-use Rattle.fidl_wire.specs.Written.{Written}
 use Rattle.endpoint_link.specs.Frames.{spellings}
 use Rattle.endpoint_link.specs.Numbering.{among}
 use Rattle.endpoint_link.specs.Standings.{Known, ended, gone}
@@ -56,20 +55,17 @@ known_then old mid new n m e f = f ∙ with_waiting mid (record old { waiting = 
 pub one_at_most : (fate : Fate) → is_sent_on fate ≤ 1
 one_at_most fates.Stays = omega arith
 one_at_most fates.Ends = omega arith
-one_at_most (fates.Binds object birth) = omega arith
-one_at_most (fates.Watches object directory mask) = omega arith
+one_at_most (fates.Binds object) = omega arith
 one_at_most (fates.Refuses object) = omega arith
-one_at_most (fates.Forwards mount object) = omega arith
-one_at_most (fates.Gives token directory) = omega arith
+one_at_most (fates.Forwards mount object flags rest) = omega arith
+one_at_most (fates.Gives token) = omega arith
 
-both_parts : (old mid new : World) (endpoint server : ℕ) (sent : Sent) (fate : Fate) (out : Written) (before between after : List ℕ) → sent.endpoint ≡ endpoint →
-    TakesHead old endpoint server sent fate out mid before between → SettlesHead mid sent fate out new between after → new.spent ≡ false → ServesHead old endpoint server sent new before after
-both_parts old mid new endpoint server sent fate out before between after on d e able = record {
+both_parts : (old mid new : World) (endpoint server : ℕ) (sent : Sent) (fate : Fate) (before between after : List ℕ) → sent.endpoint ≡ endpoint →
+    TakesHead old endpoint server sent fate mid before between → SettlesHead mid sent fate new between after → new.spent ≡ false → ServesHead old endpoint server sent new before after
+both_parts old mid new endpoint server sent fate before between after on d e able = record {
   fate = fate;
-  out = out;
-  s1 = d.answered;
-  s2 = mid.servers;
-  s3 = e.those;
+  answered = mid.servers;
+  left = e.those;
   q1 = d.left;
   q2 = mid.queues;
   q3 = e.left;
@@ -83,7 +79,7 @@ both_parts old mid new endpoint server sent fate out before between after on d e
   goes = e.goes;
   forgets = e.forgets;
   closed = subst (λ (n : ℕ). after ≡ between ++ spellings (closed_for (end_told n fate) e.dead)) on e.closed;
-  sends = subst (λ (n : ℕ). SendsOn (n + 1) sent.place fate out e.left new.queues) d.places e.sends;
+  sends = subst (λ (n : ℕ). SendsOn (n + 1) sent.place fate e.left new.queues) d.places e.sends;
   known =
       e.known
       ∙ with_waiting (known_told fate (fold gone (fold ended mid.known e.dead) spent)) (record (known_told fate (fold gone (fold ended old.known e.dead) spent)) { waiting = old.known.waiting - 1 }) (count new.queues) (count new.queues)
@@ -95,18 +91,18 @@ both_parts old mid new endpoint server sent fate out before between after on d e
   spent : List ℕ
   spent = spent_told sent mid.queues e.dead
 
-pub one_served : (old mid new last : World) (run : IsRunning limit.MAX_PLACES old) (endpoint server : ℕ) (sent : Sent) (fate : Fate) (out : Written) (before between after : List ℕ) →
-    TakesHead old endpoint server sent fate out mid before between → SettlesHead mid sent fate out new between after → last ≡ new → last.spent ≡ false → ServesOne (λ one. one ≡ endpoint) old last before after
-one_served old mid new last run endpoint server sent fate out before between after d e same able = record {
+pub one_served : (old mid new last : World) (run : IsRunning limit.MAX_PLACES old) (endpoint server : ℕ) (sent : Sent) (fate : Fate) (before between after : List ℕ) →
+    TakesHead old endpoint server sent fate mid before between → SettlesHead mid sent fate new between after → last ≡ new → last.spent ≡ false → ServesOne (λ one. one ≡ endpoint) old last before after
+one_served old mid new last run endpoint server sent fate before between after d e same able = record {
   endpoint = endpoint;
   server = server;
   sent = sent;
   one_of = refl;
   bound = d.bound;
   waits = d.first;
-  served = both_parts old mid last endpoint server sent fate out before between after
+  served = both_parts old mid last endpoint server sent fate before between after
       (ready_in (view_behind run.start run.journal) old.queues endpoint server sent run.stands.holds.queues d.bound d.first).on d
-      (subst (λ (w : World). SettlesHead mid sent fate out w between after) (sym same) e) able;
+      (subst (λ (w : World). SettlesHead mid sent fate w between after) (sym same) e) able;
 }
 
 -- behind them the world goes on, and its places with those that are left stay few

@@ -45,6 +45,13 @@ module _ (view : View) (sent : Sent) (fit : IsFit view) (first : head_in view se
   pub new_token : (new one : Given) → (outcome_in view sent).token ≡ Some new → Contains view.given one → one.token ≢ new.token
   new_token new one e c same = let low = was_below new one e c in omega (arith, low, same)
 
+  -- the next token was not given yet
+  pub next_is_new : (token : ℕ) (one : Given) → next_token_in view ≡ Some token → Contains view.given one → one.token ≢ token
+  next_is_new token one next c same =
+      let low = (All-contains (λ (given : Given). (limit.FIRST_TOKEN ≤ given.token) × (given.token < limit.FIRST_TOKEN + length view.given)) view.given one fit.numbered c).1 in
+      let at = next_number view token next in
+      omega (arith, low, at, same)
+
   rise_by : (o : Option Given) → (outcome_in view sent).token ≡ o → Rising (view.given ++ option_to_list o)
   rise_by None e = subst Rising (sym (append-nil view.given)) fit.tokens
   rise_by (Some new) e =

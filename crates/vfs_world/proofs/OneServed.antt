@@ -5,7 +5,6 @@ use Rattle.std.specs.Option.{option_map}
 use Rattle.std.proofs.lemmas.Bool.{eqb-true}
 use Rattle.std.proofs.lemmas.List.Elements.{All-contains, All-contains_itself, All-weaker}
 use Rattle.std.proofs.lemmas.Option.{none-some, same_Some}
-use Rattle.fidl_wire.specs.Written.{Written}
 use Rattle.endpoint_link.specs.Frames.{spellings}
 use Rattle.endpoint_link.specs.Numbering.{among}
 use Rattle.endpoint_link.specs.Standings.{next_token_of}
@@ -92,14 +91,13 @@ all_die view sent q dying dead same firsts died = record {
 
 -- ---- the steps
 
-onward_places : (view : View) (sent : Sent) (fate : Fate) (out : Written) (o : Option Forwarded) → o ≡ forward_told fate out → (onward_in view sent o).places ≡ view.places + is_sent_on fate
-onward_places view sent (fates.Forwards mount object) out o e = ap (λ (x : Option Forwarded). (onward_in view sent x).places) e
-onward_places view sent fates.Stays out o e = ap (λ (x : Option Forwarded). (onward_in view sent x).places) e ∙ sym (add-zero view.places)
-onward_places view sent fates.Ends out o e = ap (λ (x : Option Forwarded). (onward_in view sent x).places) e ∙ sym (add-zero view.places)
-onward_places view sent (fates.Binds object birth) out o e = ap (λ (x : Option Forwarded). (onward_in view sent x).places) e ∙ sym (add-zero view.places)
-onward_places view sent (fates.Watches object directory mask) out o e = ap (λ (x : Option Forwarded). (onward_in view sent x).places) e ∙ sym (add-zero view.places)
-onward_places view sent (fates.Refuses object) out o e = ap (λ (x : Option Forwarded). (onward_in view sent x).places) e ∙ sym (add-zero view.places)
-onward_places view sent (fates.Gives token directory) out o e = ap (λ (x : Option Forwarded). (onward_in view sent x).places) e ∙ sym (add-zero view.places)
+onward_places : (view : View) (sent : Sent) (fate : Fate) (o : Option Forwarded) → o ≡ forward_told fate → (onward_in view sent o).places ≡ view.places + is_sent_on fate
+onward_places view sent (fates.Forwards mount object flags rest) o e = ap (λ (x : Option Forwarded). (onward_in view sent x).places) e
+onward_places view sent fates.Stays o e = ap (λ (x : Option Forwarded). (onward_in view sent x).places) e ∙ sym (add-zero view.places)
+onward_places view sent fates.Ends o e = ap (λ (x : Option Forwarded). (onward_in view sent x).places) e ∙ sym (add-zero view.places)
+onward_places view sent (fates.Binds object) o e = ap (λ (x : Option Forwarded). (onward_in view sent x).places) e ∙ sym (add-zero view.places)
+onward_places view sent (fates.Refuses object) o e = ap (λ (x : Option Forwarded). (onward_in view sent x).places) e ∙ sym (add-zero view.places)
+onward_places view sent (fates.Gives token) o e = ap (λ (x : Option Forwarded). (onward_in view sent x).places) e ∙ sym (add-zero view.places)
 
 -- at the server and on the endpoint that are found
 module _ (ground : Below) (start : Start) (journal : Journal) (old new : World) (sent : Sent) (pair : Bound × Position) (one : Server) (before after : List ℕ) (s : StandsFor start old journal)
@@ -121,19 +119,22 @@ module _ (ground : Below) (start : Start) (journal : Journal) (old new : World) 
     next = s.knows.next ∙ token_is start (history_of start journal);
   }
 
-  answered : Told (view_behind start journal) sent pair old.servers one d.fate d.out d.s1 before d.between
-  answered = told (view_behind start journal) sent pair old.servers one (next_token_of old.known) d.fate d.out d.s1 before d.between begun d.answers
+  answered : Told (view_behind start journal) sent pair old.servers one d.fate d.answered before d.between
+  answered = told (view_behind start journal) sent pair old.servers one (next_token_of old.known) d.fate d.answered before d.between begun d.answers
+
+  binds : BindsOne d.q1 (outcome_in (view_behind start journal) sent).bound d.q2
+  binds = binds_one sent.endpoint pair.0.server (outcome_in (view_behind start journal) sent) d.fate d.q1 d.q2 answered.tells answered.here d.binds
 
   beside_is : (n : ℕ) → queue_of d.q2 n ≡ queue_beside (view_behind start journal) sent n
   beside_is n =
-      (binds_one pair.0.server d.fate d.s1 d.s2 d.q1 d.q2 d.binds).waiting n
+      binds.waiting n
       ∙ queue_taken (view_behind start journal) sent old.queues d.q1 s.holds.queues d.taken n
 
   same : (n : ℕ) → among n d.dead ≡ among n (deaths_in (view_behind start journal) sent)
   same =
       deaths_are_least (view_behind start journal) sent d.dead fit first
       (all_die (view_behind start journal) sent d.q2 (first_told sent d.fate) d.dead beside_is
-      (sym (first_are_told sent (outcome_in (view_behind start journal) sent) pair.0.server d.fate d.out answered.tells)) d.died)
+      (sym (first_are_told sent (outcome_in (view_behind start journal) sent) d.fate answered.tells)) d.died)
 
   spent : IsListOf (spent_in (view_behind start journal) sent) (spent_told sent d.q2 d.dead)
   spent = are_spent (view_behind start journal) sent d.q2 d.dead fit first beside_is same d.died.once
@@ -141,21 +142,21 @@ module _ (ground : Below) (start : Start) (journal : Journal) (old new : World) 
   queues_are : HoldsQueues (then_in (view_behind start journal) sent) new.queues
   queues_are =
       queues_then (view_behind start journal) sent d.dead old.queues d.q1 d.q2 d.q3 new.queues fit first s.holds.queues d.taken
-      (subst (λ (o : Option Bound). BindsOne d.q1 o d.q2) (sym answered.tells.bound) (binds_one pair.0.server d.fate d.s1 d.s2 d.q1 d.q2 d.binds))
+      binds
       d.buried
       (subst (λ (o : Option Forwarded). SendsOne (view_behind start journal) sent d.q3 o new.queues) (sym answered.tells.forward)
-      (sends_one (view_behind start journal) sent d.fate d.out d.q3 new.queues
-      (subst (λ (n : ℕ). SendsOn (n + 1) sent.place d.fate d.out d.q3 new.queues) s.holds.places d.sends)))
+      (sends_one (view_behind start journal) sent d.fate d.q3 new.queues
+      (subst (λ (n : ℕ). SendsOn (n + 1) sent.place d.fate d.q3 new.queues) s.holds.places d.sends)))
       same
 
   holds : Holds (then_in (view_behind start journal) sent) new
   holds = record {
-    servers = servers_then (view_behind start journal) sent pair old.servers d.s1 d.s2 d.s3 new.servers d.q1 d.q2 one (next_token_of old.known) d.fate d.out d.dead (spent_told sent d.q2 d.dead) before d.between begun answered d.binds d.goes d.forgets same spent.same;
+    servers = servers_then (view_behind start journal) sent pair old.servers d.answered d.left new.servers one (next_token_of old.known) d.fate d.dead (spent_told sent d.q2 d.dead) before d.between begun answered d.goes d.forgets same spent.same;
     queues = queues_are;
     places =
         let a = s.holds.places in
         let b = d.places in
-        let c = onward_places (serving_in (view_behind start journal) sent (event_in (view_behind start journal) sent)) sent d.fate d.out (outcome_in (view_behind start journal) sent).forward answered.tells.forward in
+        let c = onward_places (serving_in (view_behind start journal) sent (event_in (view_behind start journal) sent)) sent d.fate (outcome_in (view_behind start journal) sent).forward answered.tells.forward in
         omega (arith, a, b, c);
   }
 
@@ -169,12 +170,12 @@ module _ (ground : Below) (start : Start) (journal : Journal) (old new : World) 
           lawful = lawful.served journal sent s.lawful head_is;
           knows =
               subst (Knows start (history_of start (after_serving start journal sent)))
-              (sym (known_then old.known new.known d.dead (spent_told sent d.q2 d.dead) sent.endpoint pair.0.server d.fate (outcome_in (view_behind start journal) sent).token (count new.queues) (length (then_in (view_behind start journal) sent).waiting) answered.tells.token d.known
+              (sym (known_then old.known new.known d.dead (spent_told sent d.q2 d.dead) d.fate (outcome_in (view_behind start journal) sent).token (count new.queues) (length (then_in (view_behind start journal) sent).waiting) answered.tells.token d.known
               (counts_its_list new.queues (then_in (view_behind start journal) sent).waiting queues_are.queue)))
               (servings_keep ground start journal sent old.known d.dead (spent_told sent d.q2 d.dead) s.sound s.lawful head_is s.knows (record { same = same; once = d.died.once }) spent);
           holds = subst (λ (v : View). Holds v new) (sym (served_behind_viewed ground start journal sent s.sound s.lawful head_is)) holds;
         };
         part = spellings (frames_in (view_behind start journal) sent);
         more = serving_writes start journal sent;
-        written = frames_then (view_behind start journal) sent pair old.servers d.s1 one (next_token_of old.known) d.fate d.out d.dead before d.between after begun answered d.closed same;
+        written = frames_then (view_behind start journal) sent pair old.servers d.answered one (next_token_of old.known) d.fate d.dead before d.between after begun answered d.closed same;
       }

@@ -1,5 +1,5 @@
 -- What a server holds of the tokens that are out: when one is forgotten, and when one is given.
-use Rattle.std.proofs.Common.{◌≡◌, ◌≢◌, ℕ, ◌+◌, ◌-◌, ◌<◌, ◌==◌, ◌&&◌, ◌||◌, Bool, true, false, not, cond, if◌then◌else◌, List, [], ◌∷◌, ◌++◌, length, filter, find, count_by, AllPairs, Contains, Option, Some, None, refl, sym, ap, ◌∙◌, subst, arith}
+use Rattle.std.proofs.Common.{◌≡◌, ◌≢◌, ℕ, ◌+◌, ◌-◌, ◌<◌, ◌==◌, ◌&&◌, ◌||◌, Bool, true, false, not, cond, if◌then◌else◌, List, [], ◌∷◌, ◌++◌, length, filter, find, count_by, AllPairs, Contains, Option, Some, None, append-nil, refl, sym, ap, ◌∙◌, subst, arith}
 use Rattle.std.specs.List.{list_any}
 use Rattle.std.specs.Option.{option_map_or, option_or}
 use Rattle.std.proofs.lemmas.Bool.{eqb-true, eq-eqb, ne_eqb, true≢false}
@@ -7,8 +7,7 @@ use Rattle.std.proofs.lemmas.Grind.{common_steps}
 use Rattle.std.proofs.lemmas.List.Elements.{All-contains}
 use Rattle.std.proofs.lemmas.List.Folds.{find-append, list_any-append}
 use Rattle.endpoint_link.specs.Numbering.{among}
-use Rattle.node_graph.specs.declared.nodes.NodeRef.{NodeRef}
-use Rattle.node_graph.specs.Graph.{StandsFor, holds_at, number_of}
+use Rattle.node_graph.specs.Graph.{StandsFor, holds_at}
 use Rattle.node_graph.specs.Tree.{Tree}
 use Rattle.vfs_journal.specs.History.{is_watcher, tree_at}
 use Rattle.vfs_journal.specs.Entries.{Sent, handles_of}
@@ -18,11 +17,11 @@ use Rattle.vfs_journal.specs.Starts.{Bound}
 use Rattle.vfs_journal.specs.View.{View, at_in, is_out_in}
 use Rattle.journal_laws.proofs.Lists.{eqb_sym, pairs-head, pairs-tail}
 use Rattle.journal_laws.proofs.Members.{contains_here, contains_later, found}
-use Rattle.vfs_server.specs.Binding.{Forgets, NamesBy}
+use Rattle.vfs_server.specs.Binding.{Forgets}
 use Rattle.vfs_server.specs.Holding.{bound_to, if_at, living_at}
 use Rattle.vfs_server.specs.Servers.{Server, in_use, named, seen}
 use Rattle.vfs_world.proofs.Between.{given_in}
-use Rattle.vfs_world.proofs.ServerSteps.{HoldsNumber, Living, bounds, one_if}
+use Rattle.vfs_world.proofs.ServerSteps.{HoldsLooks, HoldsNumber, Living, Looks, bounds, one_if}
 
 -- ---- by a test of what is out
 
@@ -47,6 +46,14 @@ pub record HoldsOut (view : View) (out : ℕ → Bool) (index : ℕ) (server : S
 
 pub out_first : (view : View) (index : ℕ) (server : Server) → HoldsNumber view index server → HoldsOut view (is_out_in view) index server
 out_first view index server h = record { bound = h.bound; count = h.count; watchers = h.watchers; tokens = h.tokens; tree = h.tree; holds = h.holds }
+
+-- the same of what is looked up of a server, but for its tree
+pub record HoldsOutLooks (view : View) (out : ℕ → Bool) (index : ℕ) (looks : Looks) : Type 0 where
+  pub bound : (endpoint : ℕ) → looks.bound endpoint ≡ if_at index (at_in view endpoint)
+  pub count : looks.count ≡ length (living_at view index)
+  pub watchers : looks.watchers ≡ filter (λ bound. is_watcher bound.birth.protocol) (living_at view index)
+  pub tokens : (token : ℕ) → looks.tokens token ≡ names_out out view.given index token
+  pub holds : (number : ℕ) → looks.holds number ≡ bound_to view index number + count_out out view.given index number
 
 -- no token is given twice: they rise
 abbrev pub Rising : List Given → Type 0
@@ -212,6 +219,11 @@ out_forgets view out index token one now rises h s = record {
 
 -- ---- with one token more
 
+abbrev pub looks_given : Option Given → Looks → Looks
+looks_given None looks = looks
+looks_given (Some new) looks =
+    record looks { tokens = λ n. if n == new.token then Some new.node else looks.tokens n; holds = λ number. looks.holds number + one_if (new.node == number) }
+
 abbrev pub with_token : ℕ → (ℕ → Bool) → ℕ → Bool
 with_token token out n = (token == n) || out n
 
@@ -276,47 +288,21 @@ module _ (view : View) (out : ℕ → Bool) (new : Given) (apart : (one : Given)
       ∙ ap (λ (b : Bool). count_out out view.given index number + one_if ((b || out new.token) && ((new.server == index) && (new.node == number)))) (eq-eqb new.token new.token refl)
 
   -- at the server whose directory it names
-  pub out_names : (index : ℕ) (one now : Server) (directory : NodeRef) → HoldsOut view out index one → new.server ≡ index → new.node ≡ number_of directory → NamesBy one new.token directory now →
-      HoldsOut (given_in view (Some new)) (with_token new.token out) index now
-  out_names index one now directory h at node s = record {
-    bound = λ n. seen_same n ∙ h.bound n;
-    count = in_use_same ∙ h.count;
-    watchers = s.watchers ∙ h.watchers;
-    tokens = λ n. s.tokens n ∙ by_token n (n == new.token) refl;
-    tree = s.tree (tree_at view.trees index) h.tree;
-    holds = λ number. by_number number (number == number_of directory) refl;
+  pub out_names : (index : ℕ) (looks : Looks) → HoldsOutLooks view out index looks → new.server ≡ index → HoldsOutLooks (given_in view (Some new)) (with_token new.token out) index (looks_given (Some new) looks)
+  out_names index looks h at = record {
+    bound = h.bound;
+    count = h.count;
+    watchers = h.watchers;
+    tokens = λ n. by_token n (n == new.token) refl;
+    holds = λ number.
+        let c = h.holds number in
+        let m = counts_more index number in
+        let z : one_if (is_of index number new) ≡ one_if (new.node == number) = ap (λ (b : Bool). one_if (b && (new.node == number))) (eq-eqb new.server index at) in
+        omega (arith, c, m, z);
   } where
-    seen_same : (n : ℕ) → seen now n ≡ seen one n
-    seen_same n = λ i. seen (record one { index = s.index i; watchers = s.watchers i; connections = s.bound i }) n
-
-    in_use_same : in_use now ≡ in_use one
-    in_use_same = λ i. in_use (record one { watchers = s.watchers i; connections = s.bound i })
-
-    by_token : (n : ℕ) (b : Bool) → (n == new.token) ≡ b → (if b then Some (number_of directory) else named one n) ≡ names_out (with_token new.token out) (view.given ++ new ∷ []) index n
-    by_token n true e =
-        sym (names_new index n (eqb_sym new.token n ∙ e)
-        ∙ ap (λ (b : Bool). if b then Some new.node else None) (eq-eqb new.server index at)
-        ∙ ap (λ (m : ℕ). Some m) node)
+    by_token : (n : ℕ) (b : Bool) → (n == new.token) ≡ b → (if b then Some new.node else looks.tokens n) ≡ names_out (with_token new.token out) (view.given ++ new ∷ []) index n
+    by_token n true e = sym (names_new index n (eqb_sym new.token n ∙ e) ∙ ap (λ (b : Bool). if b then Some new.node else None) (eq-eqb new.server index at))
     by_token n false e = h.tokens n ∙ names_other index n (eqb_sym new.token n ∙ e)
-
-    here : (number : ℕ) → one_if (is_of index number new) ≡ one_if (number_of directory == number)
-    here number = ap (λ (b : Bool). one_if (b && (new.node == number))) (eq-eqb new.server index at) ∙ ap (λ (m : ℕ). one_if (m == number)) node
-
-    by_number : (number : ℕ) (b : Bool) → (number == number_of directory) ≡ b → holds_at now.graph number ≡ bound_to view index number + count_out (with_token new.token out) (view.given ++ new ∷ []) index number
-    by_number number true e =
-        let a = s.holds number ∙ ap (λ (b : Bool). if b then holds_at one.graph (number_of directory) + 1 else holds_at one.graph number) e in
-        let same = eqb-true number (number_of directory) e in
-        let is : holds_at one.graph (number_of directory) ≡ holds_at one.graph number = ap (holds_at one.graph) (sym same) in
-        let c = h.holds number in
-        let m = counts_more index number in
-        let z = here number ∙ ap one_if (eq-eqb (number_of directory) number (sym same)) in
-        omega (arith, a, is, c, m, z)
-    by_number number false e =
-        let a = s.holds number ∙ ap (λ (b : Bool). if b then holds_at one.graph (number_of directory) + 1 else holds_at one.graph number) e in
-        let c = h.holds number in
-        let m = counts_more index number in
-        let z = here number ∙ ap one_if (eqb_sym (number_of directory) number ∙ e) in
-        omega (arith, a, c, m, z)
 
   -- and at any other
   pub out_others : (index : ℕ) (one : Server) → HoldsOut view out index one → new.server ≢ index → HoldsOut (given_in view (Some new)) (with_token new.token out) index one
@@ -365,13 +351,37 @@ out_last view later out index server living trees given same h =
           ∙ ap (λ (gs : List Given). bound_to later index number + count_out (is_out_in later) gs index number) (sym given);
     }
 
-pub named_here : (view : View) (new : Given) (index : ℕ) (one now : Server) (directory : NodeRef) → ((other : Given) → Contains view.given other → other.token ≢ new.token) → HoldsNumber view index one → new.server ≡ index →
-    new.node ≡ number_of directory → NamesBy one new.token directory now → HoldsNumber (given_in view (Some new)) index now
-named_here view new index one now directory apart h at node s =
-    out_last (given_in view (Some new)) (given_in view (Some new)) (with_token new.token (is_out_in view)) index now refl refl refl (λ other c. held_more view new other.token)
-    (out_names view (is_out_in view) new apart index one now directory (out_first view index one h) at node s)
+-- the same of what is looked up
+looks_last : (view : View) (new : Given) (index : ℕ) (looks : Looks) → HoldsOutLooks (given_in view (Some new)) (with_token new.token (is_out_in view)) index looks → HoldsLooks (given_in view (Some new)) index looks
+looks_last view new index looks h =
+    let later = given_in view (Some new) in
+    let same : (one : Given) → Contains later.given one → with_token new.token (is_out_in view) one.token ≡ is_out_in later one.token = (λ one c. held_more view new one.token) in
+    record {
+      bound = h.bound;
+      count = h.count;
+      watchers = h.watchers;
+      tokens = λ token. h.tokens token ∙ names_agree (with_token new.token (is_out_in view)) (is_out_in later) later.given index token same;
+      holds = λ number. h.holds number ∙ ap (λ (n : ℕ). bound_to later index number + n) (counts_agree (with_token new.token (is_out_in view)) (is_out_in later) later.given index number same);
+    }
 
-pub named_there : (view : View) (new : Given) (index : ℕ) (one : Server) → ((other : Given) → Contains view.given other → other.token ≢ new.token) → HoldsNumber view index one → new.server ≢ index → HoldsNumber (given_in view (Some new)) index one
-named_there view new index one apart h away =
+-- where none is given
+given_none : (view : View) (n : ℕ) → is_out_in view n ≡ is_out_in (given_in view None) n
+given_none view n = ap (λ (held : List Given). list_any (λ (one : Given). one.token == n) held || list_any (λ (sent : Sent). among n (handles_of sent.sending)) view.waiting) (sym (append-nil view.held))
+
+pub named_here : (view : View) (looks : Looks) (index : ℕ) (o : Option Given) → HoldsLooks view index looks → ((new : Given) → o ≡ Some new → new.server ≡ index) →
+    ((new other : Given) → o ≡ Some new → Contains view.given other → other.token ≢ new.token) → HoldsLooks (given_in view o) index (looks_given o looks)
+named_here view looks index None h at apart =
+    subst (λ (held : List Given). HoldsLooks (record view { given = view.given ++ []; held = held }) index looks) (sym (append-nil view.held))
+    (subst (λ (given : List Given). HoldsLooks (record view { given = given }) index looks) (sym (append-nil view.given)) h)
+named_here view looks index (Some new) h at apart =
+    looks_last view new index (looks_given (Some new) looks)
+    (out_names view (is_out_in view) new (λ other c. apart new other refl c) index looks
+    (record { bound = h.bound; count = h.count; watchers = h.watchers; tokens = h.tokens; holds = h.holds }) (at new refl))
+
+pub named_there : (view : View) (index : ℕ) (one : Server) (o : Option Given) → HoldsNumber view index one → ((new : Given) → o ≡ Some new → new.server ≢ index) →
+    ((new other : Given) → o ≡ Some new → Contains view.given other → other.token ≢ new.token) → HoldsNumber (given_in view o) index one
+named_there view index one None h away apart =
+    out_last view (given_in view None) (is_out_in view) index one refl refl (append-nil view.given) (λ other c. given_none view other.token) (out_first view index one h)
+named_there view index one (Some new) h away apart =
     out_last (given_in view (Some new)) (given_in view (Some new)) (with_token new.token (is_out_in view)) index one refl refl refl (λ other c. held_more view new other.token)
-    (out_others view (is_out_in view) new apart index one (out_first view index one h) away)
+    (out_others view (is_out_in view) new (λ other c. apart new other refl c) index one (out_first view index one h) (away new refl))

@@ -10,22 +10,18 @@ use Rattle.std.proofs.lemmas.List.Folds.{find-append}
 use Rattle.std.proofs.lemmas.Grind.{common_steps}
 use Rattle.std.proofs.lemmas.List.Sums.{length-filter}
 use Rattle.std.proofs.lemmas.Option.{same_Some}
-use Rattle.fidl_wire.specs.Written.{Written}
 use Rattle.node_graph.specs.declared.nodes.NodeRef.{NodeRef}
-use Rattle.node_graph.specs.Graph.{StandsFor, holds_at, number_of}
+use Rattle.node_graph.specs.Graph.{Kept, StandsFor, holds_at, number_of}
 use Rattle.node_graph.specs.Tree.{after, bare_tree}
 use Rattle.conn_rules.specs.Births.{Position, fresh}
 use Rattle.vfs_journal.specs.History.{changed, is_watcher, tree_at}
 use Rattle.vfs_journal.specs.Outcomes.{Outcome}
-use Rattle.vfs_journal.specs.Serving.{Moment}
 use Rattle.vfs_journal.specs.Starts.{Bound}
 use Rattle.vfs_journal.specs.View.{View, at_in, moved}
 use Rattle.journal_laws.proofs.Lists.{pairs-head, pairs-tail, eqb_sym}
-use Rattle.vfs_server.specs.Binding.{Binds, watching_behind}
-use Rattle.vfs_server.specs.declared.fate.Fate.{Fate}
+use Rattle.vfs_server.specs.Binding.{watching_behind}
 use Rattle.vfs_server.specs.Holding.{HoldsAt, bound_to, if_at, living_at, named_by, named_in}
 use Rattle.vfs_server.specs.Servers.{Server, in_use, named, seen}
-use Rattle.vfs_server.specs.Serving.{Serves}
 use Rattle.vfs_world.proofs.Between.{answered_in, bound_in}
 
 abbrev pub Living : Type 0
@@ -38,7 +34,7 @@ abbrev pub one_if : Bool → ℕ
 one_if true = 1
 one_if false = 0
 
-counted_by : (p : Bound → Bool) (x : Bound) (b : Bool) → p x ≡ b → count_by p (x ∷ []) ≡ one_if b
+pub counted_by : (p : Bound → Bool) (x : Bound) (b : Bool) → p x ≡ b → count_by p (x ∷ []) ≡ one_if b
 counted_by p x true e = ap (λ (n : ℕ). n) (grind (arith, common_steps))
 counted_by p x false e = ap (λ (n : ℕ). n) (grind (arith, common_steps))
 
@@ -72,6 +68,29 @@ pub by_index : (view : View) (server : Server) (index : ℕ) → server.index �
 by_index view server index e h =
     let same : HoldsNumber view server.index server = subst (λ (n : ℕ). HoldsNumber view n server) (sym e) h in
     record { bound = same.bound; count = same.count; watchers = same.watchers; tokens = same.tokens; tree = same.tree; holds = same.holds }
+
+-- ---- what is looked up of a server, but for its tree
+
+pub record Looks : Type 0 where
+  pub bound : ℕ → Option (Bound × Position)
+  pub count : ℕ
+  pub watchers : List Bound
+  pub tokens : ℕ → Option ℕ
+  pub holds : ℕ → ℕ
+
+abbrev pub looks_of : Server → Looks
+looks_of server = record { bound = seen server; count = in_use server; watchers = server.watchers; tokens = named server; holds = holds_at server.graph }
+
+-- it is what a view says
+pub record HoldsLooks (view : View) (index : ℕ) (looks : Looks) : Type 0 where
+  pub bound : (endpoint : ℕ) → looks.bound endpoint ≡ if_at index (at_in view endpoint)
+  pub count : looks.count ≡ length (living_at view index)
+  pub watchers : looks.watchers ≡ filter (λ bound. is_watcher bound.birth.protocol) (living_at view index)
+  pub tokens : (token : ℕ) → looks.tokens token ≡ named_in view index token
+  pub holds : (number : ℕ) → looks.holds number ≡ bound_to view index number + named_by view index number
+
+pub looked : (view : View) (index : ℕ) (server : Server) → HoldsNumber view index server → HoldsLooks view index (looks_of server)
+looked view index server h = record { bound = h.bound; count = h.count; watchers = h.watchers; tokens = h.tokens; holds = h.holds }
 
 -- the same tokens name the same directories
 pub same_named : (one now : Server) → now.tokens ≡ one.tokens → (token : ℕ) → named now token ≡ named one token
@@ -122,22 +141,26 @@ found_name n (one ∷ living) pair h = by_test (one.0.endpoint == n) refl h (fou
 -- ---- an endpoint was served
 
 -- at the server at which it is bound
-pub answered_here : (view : View) (one now : Server) (index : ℕ) (moment : Moment) (outcome : Outcome) (fate : Fate) (out : Written) (before after' : List ℕ) → HoldsNumber view index one →
-    outcome.server ≡ index → index < length view.trees → Serves moment outcome fate out one now before after' → HoldsNumber (answered_in view moment.bound.endpoint outcome) index now
-answered_here view one now index moment outcome fate out before after' h at within s =
-    let k = moment.bound.endpoint in
+abbrev pub looks_answered : ℕ → Position → Looks → Looks
+looks_answered k at looks = record looks { bound = λ n. option_map (moved k at) (looks.bound n) }
+
+pub answered_here : (view : View) (looks : Looks) (index k : ℕ) (outcome : Outcome) → HoldsLooks view index looks → HoldsLooks (answered_in view k outcome) index (looks_answered k outcome.position looks)
+answered_here view looks index k outcome h =
     let same = moved_bounds k outcome.position view.living in
     record {
-      bound = λ n. s.bound n ∙ ap (option_map (moved k outcome.position)) (h.bound n) ∙ sym (if_at_moved k outcome.position index (at_in view n)) ∙ ap (if_at index) (sym (moved_found k outcome.position n view.living));
-      count = s.count ∙ h.count ∙ ap (λ (bs : List Bound). length (filter (λ b. b.server == index) bs)) (sym same);
-      watchers = s.watchers ∙ h.watchers ∙ ap (λ (bs : List Bound). filter (λ b. is_watcher b.birth.protocol) (filter (λ b. b.server == index) bs)) (sym same);
-      tokens = λ token. same_named one now s.tokens token ∙ h.tokens token;
-      tree =
-          let grown : StandsFor now.graph (after (tree_at view.trees index) outcome.change) = s.tree (tree_at view.trees index) h.tree in
-          subst (StandsFor now.graph)
-          (sym (ap (λ (n : ℕ). tree_at (changed view.trees n outcome.change) index) at ∙ get_or-set_same view.trees index (after (tree_at view.trees index) outcome.change) bare_tree within)) grown;
-      holds = λ number. s.holds number ∙ h.holds number ∙ ap (λ (bs : List Bound). count_by (λ b. b.birth.node == number) (filter (λ b. b.server == index) bs) + named_by view index number) (sym same);
+      bound = λ n. ap (option_map (moved k outcome.position)) (h.bound n) ∙ sym (if_at_moved k outcome.position index (at_in view n)) ∙ ap (if_at index) (sym (moved_found k outcome.position n view.living));
+      count = h.count ∙ ap (λ (bs : List Bound). length (filter (λ b. b.server == index) bs)) (sym same);
+      watchers = h.watchers ∙ ap (λ (bs : List Bound). filter (λ b. is_watcher b.birth.protocol) (filter (λ b. b.server == index) bs)) (sym same);
+      tokens = h.tokens;
+      holds = λ number. h.holds number ∙ ap (λ (bs : List Bound). count_by (λ b. b.birth.node == number) (filter (λ b. b.server == index) bs) + named_by view index number) (sym same);
     }
+
+-- its tree has the change
+pub changed_here : (view : View) (graph : Kept) (index : ℕ) (outcome : Outcome) → outcome.server ≡ index → index < length view.trees → StandsFor graph (after (tree_at view.trees index) outcome.change) →
+    StandsFor graph (tree_at (changed view.trees outcome.server outcome.change) index)
+changed_here view graph index outcome at within grown =
+    subst (StandsFor graph)
+    (sym (ap (λ (n : ℕ). tree_at (changed view.trees n outcome.change) index) at ∙ get_or-set_same view.trees index (after (tree_at view.trees index) outcome.change) bare_tree within)) grown
 
 -- and at any other
 pub answered_there : (view : View) (one : Server) (index : ℕ) (k : ℕ) (pair : Bound × Position) (outcome : Outcome) → HoldsNumber view index one → at_in view k ≡ Some pair → pair.0.server ≢ index → outcome.server ≢ index →
@@ -180,30 +203,36 @@ or_none : (o : Option (Bound × Position)) → option_or o None ≡ o
 or_none None = refl
 or_none (Some x) = refl
 
-pub bound_here : (view : View) (one now : Server) (index : ℕ) (b : Bound) → HoldsNumber view index one → b.server ≡ index → at_in view b.endpoint ≡ None → Binds one b now →
-    HoldsNumber (bound_in view (Some b)) index now
-bound_here view one now index b h at free s =
+abbrev pub looks_bound : Option Bound → Looks → Looks
+looks_bound None looks = looks
+looks_bound (Some b) looks =
+    record looks {
+      bound = λ n. if n == b.endpoint then Some (b, fresh) else looks.bound n;
+      count = looks.count + 1;
+      watchers = watching_behind looks.watchers b;
+      holds = λ number. looks.holds number + one_if (b.birth.node == number);
+    }
+
+one_bound : (view : View) (looks : Looks) (index : ℕ) (b : Bound) → HoldsLooks view index looks → b.server ≡ index → at_in view b.endpoint ≡ None → HoldsLooks (bound_in view (Some b)) index (looks_bound (Some b) looks)
+one_bound view looks index b h at free =
     let here : (b.server == index) ≡ true = eq-eqb b.server index at in
     let one_more : living_at (bound_in view (Some b)) index ≡ living_at view index ++ b ∷ [] = living_more view b index ∙ ap (λ (t : Bool). living_at view index ++ (if t then b ∷ [] else [])) here in
     record {
-      bound = λ n. s.bound n ∙ by_test n (n == b.endpoint) refl ∙ sym (ap (if_at index) (at_more view b n));
-      count = let a = s.count in let c = h.count in let l = ap length one_more in let m = length-append (living_at view index) (b ∷ []) in omega arith;
+      bound = λ n. by_test n (n == b.endpoint) refl ∙ sym (ap (if_at index) (at_more view b n));
+      count = let c = h.count in let l = ap length one_more in let m = length-append (living_at view index) (b ∷ []) in omega (arith, c, l, m);
       -- a watcher is the newest of those who live
       watchers =
-          s.watchers
-          ∙ ap (λ (ws : List Bound). watching_behind ws b) h.watchers
+          ap (λ (ws : List Bound). watching_behind ws b) h.watchers
           ∙ sym (ap (filter (λ (x : Bound). is_watcher x.birth.protocol)) one_more
           ∙ filter-append (λ (x : Bound). is_watcher x.birth.protocol) (living_at view index) (b ∷ []));
-      tokens = λ token. same_named one now s.tokens token ∙ h.tokens token;
-      tree = s.tree (tree_at view.trees index) h.tree;
+      tokens = h.tokens;
       holds = λ number.
-          let a = s.holds number in
           let c = h.holds number in
           let l : bound_to (bound_in view (Some b)) index number ≡ bound_to view index number + one_if (b.birth.node == number) =
           ap (count_by (λ (x : Bound). x.birth.node == number)) one_more ∙ counted (λ (x : Bound). x.birth.node == number) (living_at view index) b in
-          a ∙ by_number_test number (number == b.birth.node) refl c ∙ sym (ap (λ (m : ℕ). m + named_by view index number) l);
+          omega (arith, c, l);
     } where
-      by_test : (n : ℕ) (t : Bool) → (n == b.endpoint) ≡ t → (if t then Some (b, fresh) else seen one n) ≡ if_at index (option_or (at_in view n) (cond (b.endpoint == n) (Some (b, fresh)) None))
+      by_test : (n : ℕ) (t : Bool) → (n == b.endpoint) ≡ t → (if t then Some (b, fresh) else looks.bound n) ≡ if_at index (option_or (at_in view n) (cond (b.endpoint == n) (Some (b, fresh)) None))
       by_test n true e =
           let same : n ≡ b.endpoint = eqb-true n b.endpoint e in
           let none : at_in view n ≡ None = ap (at_in view) same ∙ free in
@@ -215,20 +244,14 @@ bound_here view one now index b h at free s =
           ∙ sym (ap (λ (t : Bool). if_at index (option_or (at_in view n) (cond t (Some (b, fresh)) None))) (eqb_sym b.endpoint n ∙ e)
           ∙ ap (if_at index) (or_none (at_in view n)))
 
-      by_number_test : (number : ℕ) (t : Bool) → (number == b.birth.node) ≡ t → holds_at one.graph number ≡ bound_to view index number + named_by view index number →
-          (if t then holds_at one.graph b.birth.node + 1 else holds_at one.graph number) ≡ bound_to view index number + one_if (b.birth.node == number) + named_by view index number
-      by_number_test number true e c =
-          let same : number ≡ b.birth.node = eqb-true number b.birth.node e in
-          let at_node : holds_at one.graph b.birth.node ≡ holds_at one.graph number = ap (holds_at one.graph) (sym same) in
-          let test : one_if (b.birth.node == number) ≡ 1 = ap one_if (eq-eqb b.birth.node number (sym same)) in
-          omega (arith, at_node, test, c)
-      by_number_test number false e c =
-          let test : one_if (b.birth.node == number) ≡ 0 = ap one_if (eqb_sym b.birth.node number ∙ e) in
-          omega (arith, test, c)
+pub bound_here : (view : View) (looks : Looks) (index : ℕ) (o : Option Bound) → HoldsLooks view index looks → ((b : Bound) → o ≡ Some b → b.server ≡ index) → ((b : Bound) → o ≡ Some b → at_in view b.endpoint ≡ None) →
+    HoldsLooks (bound_in view o) index (looks_bound o looks)
+bound_here view looks index None h at free = subst (λ (l : Living). HoldsLooks (record view { living = l }) index looks) (sym (append-nil view.living)) h
+bound_here view looks index (Some b) h at free = one_bound view looks index b h (at b refl) (free b refl)
 
 -- and at any other server
-pub bound_there : (view : View) (one : Server) (index : ℕ) (b : Bound) → HoldsNumber view index one → b.server ≢ index → HoldsNumber (bound_in view (Some b)) index one
-bound_there view one index b h apart =
+some_there : (view : View) (one : Server) (index : ℕ) (b : Bound) → HoldsNumber view index one → b.server ≢ index → HoldsNumber (bound_in view (Some b)) index one
+some_there view one index b h apart =
     let away : (b.server == index) ≡ false = ne_eqb b.server index apart in
     let none_more : living_at (bound_in view (Some b)) index ≡ living_at view index =
     living_more view b index ∙ ap (λ (t : Bool). living_at view index ++ (if t then b ∷ [] else [])) away ∙ append-nil (living_at view index) in
@@ -245,9 +268,9 @@ bound_there view one index b h apart =
       by_found n None false = refl
       by_found n None true = sym (ap (λ (t : Bool). if t then (let o : Option (Bound × Position) = Some (b, fresh) in o) else None) (ne_eqb b.server index apart))
 
--- where nothing is bound
-pub bound_none : (view : View) (one : Server) (index : ℕ) → HoldsNumber view index one → HoldsNumber (bound_in view None) index one
-bound_none view one index h = subst (λ (l : Living). HoldsNumber (record view { living = l }) index one) (sym (append-nil view.living)) h
+pub bound_there : (view : View) (one : Server) (index : ℕ) (o : Option Bound) → HoldsNumber view index one → ((b : Bound) → o ≡ Some b → b.server ≢ index) → HoldsNumber (bound_in view o) index one
+bound_there view one index None h apart = subst (λ (l : Living). HoldsNumber (record view { living = l }) index one) (sym (append-nil view.living)) h
+bound_there view one index (Some b) h apart = some_there view one index b h (apart b refl)
 
 -- ---- an endpoint is let go
 

@@ -2,6 +2,7 @@
 use Rattle.std.proofs.Common.{◌≡◌, ◌≢◌, ℕ, ◌<◌, ◌==◌, ◌⊎◌, Bool, true, false, cond, not, is_some, if◌then◌else◌, List, [], ◌∷◌, ◌++◌, filter, flat_map, fold, AllPairs, Contains, Option, Some, None, inl, inr, refl, sym, ap, ◌∙◌, subst, arith}
 use Rattle.std.specs.FinMap as finite
 use Rattle.std.specs.FinMap.{get-remove}
+use Rattle.std.specs.Option.{option_map}
 use Rattle.std.specs.Ordering.{nat_cmp, eq_by_cmp}
 use Rattle.std.proofs.lemmas.Bool.{eqb-true, eq-eqb, false_from_ne_true, ne_eqb, true≢false}
 use Rattle.std.proofs.lemmas.Bool.Decides.{nat_tests}
@@ -30,7 +31,7 @@ use Rattle.message_queues.specs.Queues.{Queues, queue_of}
 use Rattle.vfs_server.specs.declared.fate.Fate.{Fate}
 use Rattle.vfs_server.specs.declared.fate.Fate.TheVariants as fates
 use Rattle.vfs_world.specs.ServingSteps.{CanGo, known_told, spent_told}
-use Rattle.vfs_world.proofs.Between.{given_told}
+use Rattle.vfs_world.proofs.Telling.{token_told}
 
 -- ---- lists of lists
 
@@ -210,26 +211,29 @@ gone_with (token ∷ spent) known n = gone_with spent (gone known token) n
 pub told_with : (fate : Fate) (known : Known) (n : ℕ) → ◌≡◌ {A = Known} (known_told fate (record known { waiting = n })) (record (known_told fate known) { waiting = n })
 told_with fates.Stays known n = refl
 told_with fates.Ends known n = refl
-told_with (fates.Binds object birth) known n = refl
-told_with (fates.Watches object directory mask) known n = refl
+told_with (fates.Binds object) known n = refl
 told_with (fates.Refuses object) known n = refl
-told_with (fates.Forwards mount object) known n = refl
-told_with (fates.Gives token directory) known n = refl
+told_with (fates.Forwards mount object flags rest) known n = refl
+told_with (fates.Gives token) known n = refl
 
 -- what the fate tells is what is known when the token of the outcome is given
-pub told_served : (endpoint server : ℕ) (fate : Fate) (left : Known) → known_told fate left ≡ (if is_some (given_told endpoint server fate) then given left else left)
-told_served endpoint server fates.Stays left = refl
-told_served endpoint server fates.Ends left = refl
-told_served endpoint server (fates.Binds object birth) left = refl
-told_served endpoint server (fates.Watches object directory mask) left = refl
-told_served endpoint server (fates.Refuses object) left = refl
-told_served endpoint server (fates.Forwards mount object) left = refl
-told_served endpoint server (fates.Gives token directory) left = refl
+told_served : (fate : Fate) (left : Known) → known_told fate left ≡ (if is_some (token_told fate) then given left else left)
+told_served fates.Stays left = refl
+told_served fates.Ends left = refl
+told_served (fates.Binds object) left = refl
+told_served (fates.Refuses object) left = refl
+told_served (fates.Forwards mount object flags rest) left = refl
+told_served (fates.Gives token) left = refl
 
-pub known_then : (known new : Known) (dead spent : List ℕ) (endpoint server : ℕ) (fate : Fate) (token : Option Given) (n m : ℕ) → token ≡ given_told endpoint server fate →
+as_many : (token : Option Given) → is_some (option_map (λ (given : Given). given.token) token) ≡ is_some token
+as_many None = refl
+as_many (Some given) = refl
+
+pub known_then : (known new : Known) (dead spent : List ℕ) (fate : Fate) (token : Option Given) (n m : ℕ) → option_map (λ given. given.token) token ≡ token_told fate →
     new ≡ record (known_told fate (fold gone (fold ended known dead) spent)) { waiting = n } → n ≡ m → new ≡ known_served known dead spent token m
-known_then known new dead spent endpoint server fate token n m is e same =
+known_then known new dead spent fate token n m is e same =
+    let left = fold gone (fold ended known dead) spent in
     e
-    ∙ ap (λ (k : ℕ). let x : Known = record (known_told fate (fold gone (fold ended known dead) spent)) { waiting = k } in x) same
-    ∙ ap (λ (k : Known). let x : Known = record k { waiting = m } in x) (told_served endpoint server fate (fold gone (fold ended known dead) spent))
-    ∙ ap (λ (t : Option Given). known_served known dead spent t m) (sym is)
+    ∙ ap (λ (k : ℕ). let x : Known = record (known_told fate left) { waiting = k } in x) same
+    ∙ ap (λ (k : Known). let x : Known = record k { waiting = m } in x) (told_served fate left)
+    ∙ ap (λ (b : Bool). let x : Known = record (if b then given left else left) { waiting = m } in x) (sym (ap is_some is) ∙ as_many token)

@@ -1,102 +1,103 @@
 -- What a fate tells is what the outcome says.
 use Rattle.std.proofs.Common.{◌≡◌, ℕ, ◌==◌, ◌||◌, Bool, true, false, not, List, [], ◌∷◌, ◌++◌, filter, Option, Some, None, option_to_list, refl, ap, ◌∙◌}
-use Rattle.std.specs.Option.{option_map_or}
+use Rattle.std.specs.Option.{option_map, option_map_or}
 use Rattle.std.proofs.lemmas.List.Elements.{filter_agree}
-use Rattle.fidl_wire.specs.Written.{Written}
 use Rattle.endpoint_link.specs.Numbering.{among}
-use Rattle.node_graph.specs.Graph.{number_of}
 use Rattle.fidl_names.specs.HandleNumber.{end_of_mount}
+use Rattle.remote_forward.specs.Onward.{onward_bytes}
 use Rattle.vfs_journal.specs.Deaths.{first_deaths, is_settled}
 use Rattle.vfs_journal.specs.Entries.{Sent, endpoints_in}
 use Rattle.vfs_journal.specs.Outcomes.{Forwarded, Outcome}
 use Rattle.vfs_journal.specs.Starts.{Bound}
-use Rattle.vfs_server.specs.Effects.{effects_of, effects_told}
+use Rattle.vfs_server.specs.Fates.{numbers_in, numbers_told}
 use Rattle.vfs_server.specs.declared.fate.Fate.{Fate}
 use Rattle.vfs_server.specs.declared.fate.Fate.TheVariants as fates
-use Rattle.vfs_server.specs.Servers.{bound_with, watcher_with}
-use Rattle.vfs_world.specs.ServingSteps.{end_told, first_told, is_it, settled_told}
-use Rattle.vfs_world.proofs.Between.{given_told}
+use Rattle.vfs_world.specs.ServingSteps.{bound_told, end_told, first_told, is_it, settled_told}
 
--- what is bound at a server, and what goes on
-abbrev pub bound_told : ℕ → Fate → Option Bound
-bound_told server (fates.Binds object birth) = Some (bound_with server object birth)
-bound_told server (fates.Watches object directory mask) = Some (watcher_with server object (number_of directory) mask)
-bound_told server _ = None
+-- what goes on, and the token that is given
+abbrev pub forward_told : Fate → Option Forwarded
+forward_told (fates.Forwards mount object flags rest) = Some (record { endpoint = end_of_mount mount; bytes = onward_bytes flags rest object; object = object })
+forward_told _ = None
 
-abbrev pub forward_told : Fate → Written → Option Forwarded
-forward_told (fates.Forwards mount object) out = Some (record { endpoint = end_of_mount mount; bytes = out.bytes; object = object })
-forward_told _ out = None
+abbrev pub token_told : Fate → Option ℕ
+token_told (fates.Gives token) = Some token
+token_told _ = None
 
--- the outcome of a serving on this endpoint at this server has the parts that the fate tells
-pub record Tells (outcome : Outcome) (endpoint server : ℕ) (fate : Fate) (out : Written) : Type 0 where
+-- the outcome of a serving on this endpoint has the parts that the fate tells
+pub record Tells (outcome : Outcome) (endpoint : ℕ) (fate : Fate) : Type 0 where
   pub ends : outcome.ends ≡ option_to_list (end_told endpoint fate)
   pub settled : (n : ℕ) → is_settled outcome n ≡ is_it (settled_told endpoint fate) n
-  pub bound : outcome.bound ≡ bound_told server fate
-  pub forward : outcome.forward ≡ forward_told fate out
-  pub token : outcome.token ≡ given_told endpoint server fate
+  pub bound : option_map (λ bound. bound.endpoint) outcome.bound ≡ bound_told fate
+  pub forward : outcome.forward ≡ forward_told fate
+  pub token : option_map (λ given. given.token) outcome.token ≡ token_told fate
 
 or_none : (b : Bool) → (b || false) ≡ b
 or_none true = refl
 or_none false = refl
 
-by_parts : (outcome : Outcome) (bound : Option Bound) (ends : List ℕ) (forward : Option Forwarded) → outcome.bound ≡ bound → outcome.ends ≡ ends → outcome.forward ≡ forward → (n : ℕ) →
-    is_settled outcome n ≡ (option_map_or (λ b. b.endpoint == n) bound false || (among n ends || option_map_or (λ f. f.object == n) forward false))
-by_parts outcome bound ends forward p q r n = λ i. option_map_or (λ b. b.endpoint == n) (p i) false || (among n (q i) || option_map_or (λ f. f.object == n) (r i) false)
+-- whether it is the one that is bound is told by its number
+bound_is : (o : Option Bound) (n : ℕ) → option_map_or (λ bound. bound.endpoint == n) o false ≡ is_it (option_map (λ bound. bound.endpoint) o) n
+bound_is None n = refl
+bound_is (Some bound) n = refl
 
-pub tells : (outcome : Outcome) (endpoint server : ℕ) (fate : Fate) (out : Written) → effects_of outcome ≡ effects_told endpoint server fate out → Tells outcome endpoint server fate out
-tells outcome endpoint server fates.Stays out e = record {
-  ends = ap (λ f. f.ends) e;
-  settled = by_parts outcome None [] None (ap (λ f. f.bound) e) (ap (λ f. f.ends) e) (ap (λ f. f.forward) e);
-  bound = ap (λ f. f.bound) e;
-  forward = ap (λ f. f.forward) e;
-  token = ap (λ f. f.token) e;
-}
-tells outcome endpoint server fates.Ends out e = record {
-  ends = ap (λ f. f.ends) e;
-  settled = λ n. by_parts outcome None (endpoint ∷ []) None (ap (λ f. f.bound) e) (ap (λ f. f.ends) e) (ap (λ f. f.forward) e) n ∙ or_none ((endpoint == n) || false) ∙ or_none (endpoint == n);
-  bound = ap (λ f. f.bound) e;
-  forward = ap (λ f. f.forward) e;
-  token = ap (λ f. f.token) e;
-}
-tells outcome endpoint server (fates.Binds object birth) out e = record {
-  ends = ap (λ f. f.ends) e;
-  settled = λ n. by_parts outcome (Some (bound_with server object birth)) [] None (ap (λ f. f.bound) e) (ap (λ f. f.ends) e) (ap (λ f. f.forward) e) n ∙ or_none (object == n);
-  bound = ap (λ f. f.bound) e;
-  forward = ap (λ f. f.forward) e;
-  token = ap (λ f. f.token) e;
-}
-tells outcome endpoint server (fates.Watches object directory mask) out e = record {
-  ends = ap (λ f. f.ends) e;
-  settled = λ n. by_parts outcome (Some (watcher_with server object (number_of directory) mask)) [] None (ap (λ f. f.bound) e) (ap (λ f. f.ends) e) (ap (λ f. f.forward) e) n ∙ or_none (object == n);
-  bound = ap (λ f. f.bound) e;
-  forward = ap (λ f. f.forward) e;
-  token = ap (λ f. f.token) e;
-}
-tells outcome endpoint server (fates.Refuses object) out e = record {
-  ends = ap (λ f. f.ends) e;
-  settled = λ n. by_parts outcome None (object ∷ []) None (ap (λ f. f.bound) e) (ap (λ f. f.ends) e) (ap (λ f. f.forward) e) n ∙ or_none ((object == n) || false) ∙ or_none (object == n);
-  bound = ap (λ f. f.bound) e;
-  forward = ap (λ f. f.forward) e;
-  token = ap (λ f. f.token) e;
-}
-tells outcome endpoint server (fates.Forwards mount object) out e = record {
-  ends = ap (λ f. f.ends) e;
-  settled = by_parts outcome None [] (Some (record { endpoint = end_of_mount mount; bytes = out.bytes; object = object })) (ap (λ f. f.bound) e) (ap (λ f. f.ends) e) (ap (λ f. f.forward) e);
-  bound = ap (λ f. f.bound) e;
-  forward = ap (λ f. f.forward) e;
-  token = ap (λ f. f.token) e;
-}
-tells outcome endpoint server (fates.Gives token directory) out e = record {
-  ends = ap (λ f. f.ends) e;
-  settled = by_parts outcome None [] None (ap (λ f. f.bound) e) (ap (λ f. f.ends) e) (ap (λ f. f.forward) e);
-  bound = ap (λ f. f.bound) e;
-  forward = ap (λ f. f.forward) e;
-  token = ap (λ f. f.token) e;
-}
+by_parts : (outcome : Outcome) (bound : Option ℕ) (ends : List ℕ) (forward : Option Forwarded) → option_map (λ bound. bound.endpoint) outcome.bound ≡ bound → outcome.ends ≡ ends → outcome.forward ≡ forward → (n : ℕ) →
+    is_settled outcome n ≡ (is_it bound n || (among n ends || option_map_or (λ f. f.object == n) forward false))
+by_parts outcome bound ends forward p q r n =
+    ap (λ (b : Bool). b || (among n outcome.ends || option_map_or (λ f. f.object == n) outcome.forward false)) (bound_is outcome.bound n)
+    ∙ (λ i. is_it (p i) n || (among n (q i) || option_map_or (λ f. f.object == n) (r i) false))
+
+pub tells : (outcome : Outcome) (endpoint : ℕ) (fate : Fate) → numbers_in outcome ≡ numbers_told endpoint fate → Tells outcome endpoint fate
+tells outcome endpoint fate e = record {
+  ends = ap (λ f. f.ends) e ∙ ends_told fate;
+  settled = λ n. by_parts outcome (numbers_told endpoint fate).bound (numbers_told endpoint fate).ends (numbers_told endpoint fate).forward (ap (λ f. f.bound) e) (ap (λ f. f.ends) e) (ap (λ f. f.forward) e) n ∙ is_told fate n;
+  bound = ap (λ f. f.bound) e ∙ is_bound fate;
+  forward = ap (λ f. f.forward) e ∙ goes_on fate;
+  token = ap (λ f. f.token) e ∙ is_given fate;
+} where
+  ends_told : (fate : Fate) → (numbers_told endpoint fate).ends ≡ option_to_list (end_told endpoint fate)
+  ends_told fates.Stays = refl
+  ends_told fates.Ends = refl
+  ends_told (fates.Binds object) = refl
+  ends_told (fates.Refuses object) = refl
+  ends_told (fates.Forwards mount object flags rest) = refl
+  ends_told (fates.Gives token) = refl
+
+  is_told : (fate : Fate) (n : ℕ) →
+      (is_it (numbers_told endpoint fate).bound n || (among n (numbers_told endpoint fate).ends || option_map_or (λ f. f.object == n) (numbers_told endpoint fate).forward false)) ≡ is_it (settled_told endpoint fate) n
+  is_told fates.Stays n = refl
+  is_told fates.Ends n = or_none ((endpoint == n) || false) ∙ or_none (endpoint == n)
+  is_told (fates.Binds object) n = or_none (object == n)
+  is_told (fates.Refuses object) n = or_none ((object == n) || false) ∙ or_none (object == n)
+  is_told (fates.Forwards mount object flags rest) n = refl
+  is_told (fates.Gives token) n = refl
+
+  is_bound : (fate : Fate) → (numbers_told endpoint fate).bound ≡ bound_told fate
+  is_bound fates.Stays = refl
+  is_bound fates.Ends = refl
+  is_bound (fates.Binds object) = refl
+  is_bound (fates.Refuses object) = refl
+  is_bound (fates.Forwards mount object flags rest) = refl
+  is_bound (fates.Gives token) = refl
+
+  goes_on : (fate : Fate) → (numbers_told endpoint fate).forward ≡ forward_told fate
+  goes_on fates.Stays = refl
+  goes_on fates.Ends = refl
+  goes_on (fates.Binds object) = refl
+  goes_on (fates.Refuses object) = refl
+  goes_on (fates.Forwards mount object flags rest) = refl
+  goes_on (fates.Gives token) = refl
+
+  is_given : (fate : Fate) → (numbers_told endpoint fate).token ≡ token_told fate
+  is_given fates.Stays = refl
+  is_given fates.Ends = refl
+  is_given (fates.Binds object) = refl
+  is_given (fates.Refuses object) = refl
+  is_given (fates.Forwards mount object flags rest) = refl
+  is_given (fates.Gives token) = refl
 
 -- the first deaths are those that are told
-pub first_are_told : (sent : Sent) (outcome : Outcome) (server : ℕ) (fate : Fate) (out : Written) → Tells outcome sent.endpoint server fate out → first_deaths sent outcome ≡ first_told sent fate
-first_are_told sent outcome server fate out told =
+pub first_are_told : (sent : Sent) (outcome : Outcome) (fate : Fate) → Tells outcome sent.endpoint fate → first_deaths sent outcome ≡ first_told sent fate
+first_are_told sent outcome fate told =
     ap (λ (ends : List ℕ). ends ++ filter (λ n. not (is_settled outcome n)) (endpoints_in sent)) told.ends
     ∙ ap (λ (left : List ℕ). option_to_list (end_told sent.endpoint fate) ++ left)
     (filter_agree (λ n. not (is_settled outcome n)) (λ n. not (is_it (settled_told sent.endpoint fate) n)) (λ n. ap not (told.settled n)) (endpoints_in sent))
@@ -106,8 +107,8 @@ among_one None n = refl
 among_one (Some it) n = or_none (it == n)
 
 -- what the answer didn't end is what was not told to end
-pub others_are_told : (outcome : Outcome) (endpoint server : ℕ) (fate : Fate) (out : Written) (deaths : List ℕ) → Tells outcome endpoint server fate out →
+pub others_are_told : (outcome : Outcome) (endpoint : ℕ) (fate : Fate) (deaths : List ℕ) → Tells outcome endpoint fate →
     filter (λ n. not (among n outcome.ends)) deaths ≡ filter (λ n. not (is_it (end_told endpoint fate) n)) deaths
-others_are_told outcome endpoint server fate out deaths told =
+others_are_told outcome endpoint fate deaths told =
     filter_agree (λ n. not (among n outcome.ends)) (λ n. not (is_it (end_told endpoint fate) n))
     (λ n. ap (λ (ends : List ℕ). not (among n ends)) told.ends ∙ ap not (among_one (end_told endpoint fate) n)) deaths

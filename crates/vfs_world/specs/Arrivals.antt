@@ -13,7 +13,6 @@ use Rattle.message_queues.specs.Queues.{IsAbove, Requeues, count, queue_of, serv
 use Rattle.vfs_server.specs.declared.fate.Fate.TheVariants as fates
 use Rattle.vfs_server.specs.Servers.{Server, seen}
 use Rattle.vfs_server.specs.Serving.{IsMomentOf, Serves}
-use Rattle.fidl_wire.specs.Written.{Written}
 use Rattle.io_messages.specs.declared.protocols.Protocol.TheVariants as protocol
 use Rattle.io_messages.specs.Asked.{Asked}
 use Rattle.io_messages.specs.Requests.{request_of}
@@ -69,12 +68,12 @@ pub record CanBeServed (frame : Frame) (world : World) : Type 0 where
   pub plain : IsPlain frame
 
 -- the request for a part of a file is served at a server, where the endpoint is bound, and no other server does anything
-pub record AnswersPart (old : List Server) (at endpoint txid : ℕ) (a : Asked) (out : Written) (new : List Server) (before after : List ℕ) : Type 0 where
+pub record AnswersPart (old : List Server) (at endpoint txid : ℕ) (a : Asked) (new : List Server) (before after : List ℕ) : Type 0 where
   pub one : Server
   pub there : slice_get old at ≡ Some one
   pub bound : IsSome (seen one endpoint)
   pub answers : (bytes : List ℕ) (token : Option ℕ) (moment : Moment) → request_of protocol.File bytes [] ≡ Ok (txid, a) → IsMomentOf one endpoint token [] moment →
-      (now : Server) × (new ≡ slice_set old at now) × Serves moment (outcome_of_sending moment (message bytes [])) fates.Stays out one now before after
+      (now : Server) × (new ≡ slice_set old at now) × Serves moment (outcome_of_sending moment (message bytes [])) fates.Stays one now before after
 
 -- what a call leads to on its way to a drain behind a journal: a world that stands for the journal, and from there servings of the oldest
 -- entries of all

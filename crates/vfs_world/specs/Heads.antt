@@ -1,7 +1,6 @@
 -- The two parts of a serving: what comes before the deaths, and what comes with them. Of these a public clause needs WasTaken and ServesTaken.
 use Rattle.std.specs.Prelude.{◌≡◌, ◌≤◌, ◌<◌, ◌+◌, ◌-◌, ◌^◌, ◌++◌, ◌∷◌, [], ℕ, All, List, drop, fold, None, Ok, slice_get, Some, true}
 use Rattle.fidl_names.specs.declared.limits.TheConstants as limit
-use Rattle.fidl_wire.specs.Written.{Written}
 use Rattle.endpoint_link.specs.Frames.{spellings}
 use Rattle.endpoint_link.specs.Numbering.{among}
 use Rattle.endpoint_link.specs.Standings.{ended, gone, is_live, next_token_of, standing_of}
@@ -18,7 +17,7 @@ use Rattle.vfs_server.specs.Servers.{Server, seen}
 use Rattle.vfs_world.specs.Holding.{HoldsEach}
 use Rattle.vfs_world.specs.Running.{IsRunning}
 use Rattle.vfs_world.specs.Servings.{ServesOne}
-use Rattle.vfs_world.specs.ServingSteps.{Answers, AreApart, BindsTold, CanGo, ForgetsAll, SendsOn, closed_for, end_told, first_told, is_sent_on, known_told, spent_told, without_in}
+use Rattle.vfs_world.specs.ServingSteps.{Answers, AreApart, BindsThere, CanGo, ForgetsAll, SendsOn, bound_told, closed_for, end_told, first_told, is_sent_on, known_told, spent_told, without_in}
 use Rattle.vfs_world.specs.World.{World}
 
 -- the first entry of an endpoint that is bound at a server is taken from what waits, and nothing else happens
@@ -44,15 +43,14 @@ pub record ServesTaken (endpoint server : ℕ) (sent : Sent) (old new : World) (
   pub served : (from : World) → IsRunning limit.MAX_PLACES from → Takes from endpoint server sent old → ServesOne (λ one. one ≡ endpoint) from new before after
   pub running : (most : ℕ) (from : World) → IsRunning limit.MAX_PLACES from → IsRunning most from → Takes from endpoint server sent old → IsRunning most new
 
--- the first entry of an endpoint is answered at its server and taken, and what its fate binds is bound
-pub record TakesHead (old : World) (endpoint server : ℕ) (sent : Sent) (fate : Fate) (out : Written) (new : World) (before after : List ℕ) : Type 0 where
-  pub answered : List Server
+-- the first entry of an endpoint is answered at its server and taken, and what is bound by it is bound for what waits
+pub record TakesHead (old : World) (endpoint server : ℕ) (sent : Sent) (fate : Fate) (new : World) (before after : List ℕ) : Type 0 where
   pub left : Queues
   pub bound : server_of old.queues endpoint ≡ Some server
   pub first : head_of old.queues endpoint ≡ Some sent
-  pub answers : Answers old.servers server endpoint (next_token_of old.known) sent fate out answered before after
+  pub answers : Answers old.servers server endpoint (next_token_of old.known) sent fate new.servers before after
   pub taken : Requeues old.queues endpoint (drop 1 (queue_of old.queues endpoint)) left
-  pub binds : BindsTold server fate answered left new.servers new.queues
+  pub binds : BindsThere server (bound_told fate) left new.queues
   pub count : count new.queues + 1 ≡ count old.queues
   pub known : new.known ≡ record old.known { waiting = old.known.waiting - 1 }
   pub places : new.places ≡ old.places
@@ -69,7 +67,7 @@ pub record CanSettle (world : World) (sent : Sent) (fate : Fate) : Type 0 where
   pub unbound : (object : ℕ) → fate ≡ fates.Refuses object → among object (endpoints_in sent) ≡ true → IsUnbound world object
   pub out : (dead : List ℕ) → AreDeaths world.queues (first_told sent fate) dead → CanGo world.known (spent_told sent world.queues dead)
   pub counted : count world.queues ≡ world.known.waiting
-  pub low : (mount object : ℕ) → fate ≡ fates.Forwards mount object → mount < 2 ^ 30
+  pub low : (mount object flags : ℕ) (rest : List (List ℕ)) → fate ≡ fates.Forwards mount object flags rest → mount < 2 ^ 30
   pub newest : IsAbove world.queues world.places
   pub few : count world.queues < limit.MAX_WAITING
   pub places : world.places < 2 ^ 62
@@ -98,7 +96,7 @@ pub record DiesAlone (old : World) (end : ℕ) (new : World) : Type 0 where
 
 -- whoever dies is buried and closed, the tokens that are spent are forgotten, what goes on is sent, and what is known and how many places
 -- are taken follows
-pub record SettlesHead (old : World) (sent : Sent) (fate : Fate) (out : Written) (new : World) (before after : List ℕ) : Type 0 where
+pub record SettlesHead (old : World) (sent : Sent) (fate : Fate) (new : World) (before after : List ℕ) : Type 0 where
   pub dead : List ℕ
   pub left : Queues
   pub those : List Server
@@ -107,11 +105,11 @@ pub record SettlesHead (old : World) (sent : Sent) (fate : Fate) (out : Written)
   pub goes : (view : View) → AreApart view.living → HoldsEach view old.servers → HoldsEach (without_in view dead) those
   pub forgets : ForgetsAll those (spent_told sent old.queues dead) new.servers
   pub closed : after ≡ before ++ spellings (closed_for (end_told sent.endpoint fate) dead)
-  pub sends : SendsOn (old.places + 1) sent.place fate out left new.queues
+  pub sends : SendsOn (old.places + 1) sent.place fate left new.queues
   pub known : new.known ≡ record (known_told fate (fold gone (fold ended old.known dead) (spent_told sent old.queues dead))) { waiting = count new.queues }
   pub places : new.places ≡ old.places + 1 + is_sent_on fate
 
 -- all that settling does, but that the place of the serving isn't taken yet, and nothing is written
-abbrev pub SettlesButPlace : World → Sent → Fate → Written → World → Type 0
-SettlesButPlace old sent fate out new =
-    (new.places ≡ old.places) × ((bytes : List ℕ) → SettlesHead old sent fate out (record new { places = new.places + 1 }) bytes bytes)
+abbrev pub SettlesButPlace : World → Sent → Fate → World → Type 0
+SettlesButPlace old sent fate new =
+    (new.places ≡ old.places) × ((bytes : List ℕ) → SettlesHead old sent fate (record new { places = new.places + 1 }) bytes bytes)

@@ -1,18 +1,14 @@
 -- Words of the steps of a world, which its private functions are told by. Public clauses that tell a serving by its steps (Servings) need them;
 -- none that tells it by a journal does.
-use Rattle.std.specs.Prelude.{◌≡◌, ◌≢◌, AllPairs, ℕ, ◌<◌, ◌==◌, Bool, true, false, not, List, [], ◌∷◌, ◌++◌, length, map, filter, option_to_list, Option, Some, None, slice_get, slice_set}
+use Rattle.std.specs.Prelude.{◌≡◌, ◌≢◌, AllPairs, ℕ, ◌<◌, ◌^◌, ◌==◌, Bool, true, false, not, List, [], ◌∷◌, ◌++◌, length, map, filter, option_to_list, Option, Some, None, slice_get, slice_set}
 use Rattle.std.specs.FinMap as finite
 use Rattle.std.specs.Option.{option_map_or}
-use Rattle.fidl_names.specs.declared.limits.TheConstants as limit
-use Rattle.fidl_wire.specs.Written.{Written}
 use Rattle.endpoint_link.specs.Frames.{Frame}
 use Rattle.endpoint_link.specs.Numbering.{among}
 use Rattle.endpoint_link.specs.Standings.{Known, given, gone}
 use Rattle.fidl_names.specs.HandleNumber.{end_of_mount}
 use Rattle.conn_rules.specs.Births.{Position}
-use Rattle.conn_rules.specs.declared.births.Birth.{Birth}
-use Rattle.node_graph.specs.declared.nodes.NodeRef.{NodeRef}
-use Rattle.node_graph.specs.Graph.{number_of}
+use Rattle.remote_forward.specs.Onward.{onward_bytes}
 use Rattle.vfs_journal.specs.Entries.{Sent, endpoints_in, handles_of, message, tokens_in}
 use Rattle.vfs_journal.specs.Outcomes.{close_frame}
 use Rattle.vfs_journal.specs.Output.{rising}
@@ -20,13 +16,12 @@ use Rattle.vfs_journal.specs.Serving.{Moment, outcome_of_sending}
 use Rattle.vfs_journal.specs.Starts.{Bound}
 use Rattle.vfs_journal.specs.View.{View}
 use Rattle.message_queues.specs.Dying.{tokens_on}
-use Rattle.message_queues.specs.Queues.{Queues, Requeues, queue_of, server_of}
-use Rattle.message_queues.specs.Queues.{Binds as QueuesBind}
-use Rattle.vfs_server.specs.Binding.{Binds as ServerBinds, CanWatch, Forgets, HasPlace, IsDirectory, NamesBy}
+use Rattle.message_queues.specs.Queues.{Binds, Queues, Requeues, queue_of}
+use Rattle.vfs_server.specs.Binding.{Forgets}
 use Rattle.vfs_server.specs.declared.fate.Fate.{Fate}
 use Rattle.vfs_server.specs.declared.fate.Fate.TheVariants as fates
-use Rattle.vfs_server.specs.Servers.{Server, bound_with, named, seen, watcher_with}
-use Rattle.vfs_server.specs.Serving.{IsMomentOf, Serves}
+use Rattle.vfs_server.specs.Servers.{Server}
+use Rattle.vfs_server.specs.Serving.{CanTake, IsMomentOf, Serves}
 
 -- these live no more
 abbrev pub without_in : View → List ℕ → View
@@ -38,59 +33,44 @@ without_in view dead = record view { living = filter (λ pair. not (among pair.0
 abbrev pub AreApart : List (Bound × Position) → Type 0
 AreApart living = AllPairs (λ one other. one.0.endpoint ≢ other.0.endpoint) living
 
--- a token that names nothing at a server can name a directory there
-pub record CanName (server : Server) (token : ℕ) (node : NodeRef) : Type 0 where
-  pub free : named server token ≡ None
-  pub directory : IsDirectory server.graph node
-  pub room : finite.len server.tokens < limit.MAX_TOKENS
-
--- what a fate binds can be bound, at this one of the servers behind an answer: nothing is bound there yet, neither at the server nor for what
--- waits, and the server has a place for it; and the token that it gives can name its directory there
-pub record CanBind (server : ℕ) (fate : Fate) (servers : List Server) (queues : Queues) : Type 0 where
-  pub within : server < length servers
-  pub one_of : server < queues.servers
-  pub free : (object : ℕ) (birth : Birth) (one : Server) → fate ≡ fates.Binds object birth → slice_get servers server ≡ Some one → seen one object ≡ None
-  pub place : (object : ℕ) (birth : Birth) (one : Server) → fate ≡ fates.Binds object birth → slice_get servers server ≡ Some one → HasPlace one birth
-  pub unbound : (object : ℕ) (birth : Birth) → fate ≡ fates.Binds object birth → server_of queues object ≡ None
-  pub unwatched : (object mask : ℕ) (directory : NodeRef) (one : Server) → fate ≡ fates.Watches object directory mask → slice_get servers server ≡ Some one → seen one object ≡ None
-  pub watches : (object mask : ℕ) (directory : NodeRef) (one : Server) → fate ≡ fates.Watches object directory mask → slice_get servers server ≡ Some one → CanWatch one directory
-  pub silent : (object mask : ℕ) (directory : NodeRef) → fate ≡ fates.Watches object directory mask → server_of queues object ≡ None
-  pub names : (token : ℕ) (directory : NodeRef) (one : Server) → fate ≡ fates.Gives token directory → slice_get servers server ≡ Some one → CanName one token directory
+-- a server can serve what has these handles on an endpoint that is bound there, where this is the next token
+pub record CanServe (server : Server) (endpoint : ℕ) (token : Option ℕ) (handles : List ℕ) : Type 0 where
+  pub moment : Moment
+  pub is : IsMomentOf server endpoint token handles moment
+  pub takes : CanTake server token handles
+  pub made : server.graph.made < 2 ^ 63
 
 -- ---- what each step of a serving says, of the server at which the endpoint is bound
 
 -- the server does what the outcome of the entry says, and no other does anything
-abbrev pub Answers : List Server → ℕ → ℕ → Option ℕ → Sent → Fate → Written → List Server → List ℕ → List ℕ → Type 0
-Answers old at endpoint token sent fate out new before after =
+abbrev pub Answers : List Server → ℕ → ℕ → Option ℕ → Sent → Fate → List Server → List ℕ → List ℕ → Type 0
+Answers old at endpoint token sent fate new before after =
     (one : Server) (moment : Moment) → slice_get old at ≡ Some one → IsMomentOf one endpoint token (handles_of sent.sending) moment →
-    (now : Server) × (new ≡ slice_set old at now) × Serves moment (outcome_of_sending moment sent.sending) fate out one now before after
+    (now : Server) × (new ≡ slice_set old at now) × Serves moment (outcome_of_sending moment sent.sending) fate one now before after
 
--- what the fate binds is bound, at the server and for what waits, and the token that it gives names its directory at the server
-abbrev pub BindsTold : ℕ → Fate → List Server → Queues → List Server → Queues → Type 0
-BindsTold at (fates.Binds object birth) old waiting new waits =
-    ((one : Server) → slice_get old at ≡ Some one → (now : Server) × (new ≡ slice_set old at now) × ServerBinds one (bound_with one.index object birth) now) ×
-    QueuesBind waiting object at waits
-BindsTold at (fates.Watches object directory mask) old waiting new waits =
-    ((one : Server) → slice_get old at ≡ Some one →
-    (now : Server) × (new ≡ slice_set old at now) × ServerBinds one (watcher_with one.index object (number_of directory) mask) now) ×
-    QueuesBind waiting object at waits
-BindsTold at (fates.Gives token directory) old waiting new waits =
-    ((one : Server) → slice_get old at ≡ Some one → (now : Server) × (new ≡ slice_set old at now) × NamesBy one token directory now) × (waits ≡ waiting)
-BindsTold at _ old waiting new waits = (new ≡ old) × (waits ≡ waiting)
+-- the endpoint that a fate binds
+abbrev pub bound_told : Fate → Option ℕ
+bound_told (fates.Binds object) = Some object
+bound_told _ = None
+
+-- what is bound at a server is bound there for what waits as well
+abbrev pub BindsThere : ℕ → Option ℕ → Queues → Queues → Type 0
+BindsThere server (Some object) old new = Binds old object server new
+BindsThere server None old new = new ≡ old
 
 -- an Open that goes on, at a place, from the one at another
-abbrev pub onward_told : ℕ → ℕ → ℕ → ℕ → Written → Sent
-onward_told place origin mount object out =
-    record { place = place; endpoint = end_of_mount mount; sending = message out.bytes (object ∷ []); origin = Some origin }
+abbrev pub onward_told : ℕ → ℕ → ℕ → ℕ → List ℕ → Sent
+onward_told place origin mount object bytes =
+    record { place = place; endpoint = end_of_mount mount; sending = message bytes (object ∷ []); origin = Some origin }
 
--- what the fate sends on waits last on its mount's end, and takes a place
-abbrev pub SendsOn : ℕ → ℕ → Fate → Written → Queues → Queues → Type 0
-SendsOn place origin (fates.Forwards mount object) out old new =
-    Requeues old (end_of_mount mount) (queue_of old (end_of_mount mount) ++ onward_told place origin mount object out ∷ []) new
-SendsOn place origin _ out old new = new ≡ old
+-- what a fate sends on waits last on its mount's end, and takes a place
+abbrev pub SendsOn : ℕ → ℕ → Fate → Queues → Queues → Type 0
+SendsOn place origin (fates.Forwards mount object flags rest) old new =
+    Requeues old (end_of_mount mount) (queue_of old (end_of_mount mount) ++ onward_told place origin mount object (onward_bytes flags rest object) ∷ []) new
+SendsOn place origin _ old new = new ≡ old
 
 abbrev pub is_sent_on : Fate → ℕ
-is_sent_on (fates.Forwards mount object) = 1
+is_sent_on (fates.Forwards mount object flags rest) = 1
 is_sent_on _ = 0
 
 -- ---- deaths, as a fate tells them
@@ -99,21 +79,19 @@ is_sent_on _ = 0
 abbrev pub end_told : ℕ → Fate → Option ℕ
 end_told endpoint fates.Stays = None
 end_told endpoint fates.Ends = Some endpoint
-end_told endpoint (fates.Binds object birth) = None
-end_told endpoint (fates.Watches object directory mask) = None
+end_told endpoint (fates.Binds object) = None
 end_told endpoint (fates.Refuses object) = Some object
-end_told endpoint (fates.Forwards mount object) = None
-end_told endpoint (fates.Gives token directory) = None
+end_told endpoint (fates.Forwards mount object flags rest) = None
+end_told endpoint (fates.Gives token) = None
 
 -- the endpoint with which something was done
 abbrev pub settled_told : ℕ → Fate → Option ℕ
 settled_told endpoint fates.Stays = None
 settled_told endpoint fates.Ends = Some endpoint
-settled_told endpoint (fates.Binds object birth) = Some object
-settled_told endpoint (fates.Watches object directory mask) = Some object
+settled_told endpoint (fates.Binds object) = Some object
 settled_told endpoint (fates.Refuses object) = Some object
-settled_told endpoint (fates.Forwards mount object) = Some object
-settled_told endpoint (fates.Gives token directory) = None
+settled_told endpoint (fates.Forwards mount object flags rest) = Some object
+settled_told endpoint (fates.Gives token) = None
 
 abbrev pub is_it : Option ℕ → ℕ → Bool
 is_it one number = option_map_or (λ it. it == number) one false
@@ -130,11 +108,10 @@ first_told sent fate = option_to_list (end_told sent.endpoint fate) ++ carried_b
 abbrev pub ends_here : Fate → Bool
 ends_here fates.Stays = true
 ends_here fates.Ends = true
-ends_here (fates.Binds object birth) = true
-ends_here (fates.Watches object directory mask) = true
+ends_here (fates.Binds object) = true
 ends_here (fates.Refuses object) = true
-ends_here (fates.Forwards mount object) = false
-ends_here (fates.Gives token directory) = false
+ends_here (fates.Forwards mount object flags rest) = false
+ends_here (fates.Gives token) = false
 
 -- a serving that leaves all others as they are: nobody dies of it, and the entry carries no token
 pub record IsQuiet (sent : Sent) (fate : Fate) : Type 0 where
@@ -194,5 +171,5 @@ CanGo known (token ∷ tokens) = (finite.get known.tokens token ≡ Some false) 
 
 -- what is known when the clients have the token that a fate gives
 abbrev pub known_told : Fate → Known → Known
-known_told (fates.Gives token directory) known = given known
+known_told (fates.Gives token) known = given known
 known_told _ known = known

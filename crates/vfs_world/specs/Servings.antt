@@ -1,6 +1,5 @@
 -- Servings by their steps: what the steps of one say together, and servings one after another, as a Turn, a Pick and a drain make them.
 use Rattle.std.specs.Prelude.{◌≡◌, ◌≤◌, ◌<◌, ◌+◌, ◌++◌, ℕ, zero, suc, false, is_some, List, drop, filter, fold, length, Some}
-use Rattle.fidl_wire.specs.Written.{Written}
 use Rattle.endpoint_link.specs.Frames.{spellings}
 use Rattle.endpoint_link.specs.Standings.{ended, gone, next_token_of}
 use Rattle.vfs_journal.specs.Entries.{Journal, Sent}
@@ -12,33 +11,31 @@ use Rattle.message_queues.specs.Queues.{Queues, IsReady, Requeues, count, head_o
 use Rattle.vfs_server.specs.declared.fate.Fate.{Fate}
 use Rattle.vfs_server.specs.Servers.{Server}
 use Rattle.vfs_world.specs.Holding.{HoldsEach}
-use Rattle.vfs_world.specs.ServingSteps.{Answers, AreApart, BindsTold, ForgetsAll, SendsOn, closed_for, end_told, first_told, is_sent_on, known_told, spent_told, without_in}
+use Rattle.vfs_world.specs.ServingSteps.{Answers, AreApart, BindsThere, ForgetsAll, SendsOn, bound_told, closed_for, end_told, first_told, is_sent_on, known_told, spent_told, without_in}
 use Rattle.vfs_world.specs.World.{World}
 
 -- ---- one serving
 
--- the first entry of an endpoint is answered at its server and taken, what its fate binds is bound, whoever dies is buried and closed, the
+-- the first entry of an endpoint is answered at its server and taken, what is bound by it is bound for what waits, whoever dies is buried and closed, the
 -- tokens that are spent are forgotten, what goes on is sent, and what is known and how many places are taken follows
 pub record ServesHead (old : World) (endpoint server : ℕ) (sent : Sent) (new : World) (before after : List ℕ) : Type 0 where
   pub fate : Fate
-  pub out : Written
-  pub s1 : List Server
-  pub s2 : List Server
-  pub s3 : List Server
+  pub answered : List Server
+  pub left : List Server
   pub q1 : Queues
   pub q2 : Queues
   pub q3 : Queues
   pub dead : List ℕ
   pub between : List ℕ
-  pub answers : Answers old.servers server endpoint (next_token_of old.known) sent fate out s1 before between
+  pub answers : Answers old.servers server endpoint (next_token_of old.known) sent fate answered before between
   pub taken : Requeues old.queues endpoint (drop 1 (queue_of old.queues endpoint)) q1
-  pub binds : BindsTold server fate s1 q1 s2 q2
+  pub binds : BindsThere server (bound_told fate) q1 q2
   pub died : AreDeaths q2 (first_told sent fate) dead
   pub buried : Buries q2 dead q3
-  pub goes : (view : View) → AreApart view.living → HoldsEach view s2 → HoldsEach (without_in view dead) s3
-  pub forgets : ForgetsAll s3 (spent_told sent q2 dead) new.servers
+  pub goes : (view : View) → AreApart view.living → HoldsEach view answered → HoldsEach (without_in view dead) left
+  pub forgets : ForgetsAll left (spent_told sent q2 dead) new.servers
   pub closed : after ≡ between ++ spellings (closed_for (end_told endpoint fate) dead)
-  pub sends : SendsOn (old.places + 1) sent.place fate out q3 new.queues
+  pub sends : SendsOn (old.places + 1) sent.place fate q3 new.queues
   pub known : new.known ≡ record (known_told fate (fold gone (fold ended old.known dead) (spent_told sent q2 dead))) { waiting = count new.queues }
   pub places : new.places ≡ old.places + 1 + is_sent_on fate
   pub able : new.spent ≡ false

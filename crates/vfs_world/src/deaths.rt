@@ -10,31 +10,26 @@ use message_queues::Lent;
 use vfs_server::Fate;
 
 /// The endpoint that ends.
-pub(crate) fn end_told(endpoint: u32, fate: &Fate) -> Option<u32>
+pub(crate) fn end_told(endpoint: u32, fate: &Fate<'_>) -> Option<u32>
     ensures { result ≡ end_told endpoint fate.now }
 {
     match fate {
         Fate::Ends => Some(endpoint),
         Fate::Refuses { object } => Some(*object),
-        Fate::Stays
-        | Fate::Binds { .. }
-        | Fate::Watches { .. }
-        | Fate::Forwards { .. }
-        | Fate::Gives { .. } => None,
+        Fate::Stays | Fate::Binds { .. } | Fate::Forwards { .. } | Fate::Gives { .. } => None,
     }
 }
 
 /// The endpoint with which something was done.
-fn settled_told(endpoint: u32, fate: &Fate) -> Option<u32>
+fn settled_told(endpoint: u32, fate: &Fate<'_>) -> Option<u32>
     ensures { result ≡ settled_told endpoint fate.now }
 {
     match fate {
         Fate::Stays | Fate::Gives { .. } => None,
         Fate::Ends => Some(endpoint),
-        Fate::Binds { object, .. }
-        | Fate::Watches { object, .. }
-        | Fate::Refuses { object }
-        | Fate::Forwards { object, .. } => Some(*object),
+        Fate::Binds { object } | Fate::Refuses { object } | Fate::Forwards { object, .. } => {
+            Some(*object)
+        }
     }
 }
 
@@ -64,7 +59,7 @@ fn add_carried(sent: &Lent<'_>, but: Option<u32>, dying: &mut Vec<u32>) -> Resul
 /// Lists the endpoint that ends, and those that the entry carries and nothing is done with.
 pub(crate) fn list_first_deaths(
     sent: &Lent<'_>,
-    fate: &Fate,
+    fate: &Fate<'_>,
     dying: &mut Vec<u32>,
 ) -> Result<(), NoMemory>
     ensures { OnOk result (dying.new.items ≡ first_told sent.now fate.now) }
@@ -85,21 +80,21 @@ fn are_it(handles: &[Handle], object: u32) -> bool
 
 /// Whether a serving leaves all others as they are: the endpoint stays, and the entry carries nothing, or one
 /// endpoint that is bound.
-#[tactic(auto, using(crate::proofs::Carried::quiet_stays, crate::proofs::Carried::quiet_binds, crate::proofs::Carried::quiet_watches))]
-pub(crate) fn is_quiet(sent: &Lent<'_>, fate: &Fate) -> bool
+#[tactic(auto, using(crate::proofs::Carried::quiet_stays, crate::proofs::Carried::quiet_binds))]
+pub(crate) fn is_quiet(sent: &Lent<'_>, fate: &Fate<'_>) -> bool
     ensures { result ≡ true → IsQuiet sent.now fate.now }
 {
     let handles = sent.handles();
     match fate {
         Fate::Stays => handles.is_empty(),
-        Fate::Binds { object, .. } | Fate::Watches { object, .. } => are_it(handles, *object),
+        Fate::Binds { object } => are_it(handles, *object),
         _ => false,
     }
 }
 
 /// Whether a serving leaves all others as they are but for the token that it gives: the entry carries nothing.
 #[tactic(auto, using(crate::proofs::Carried::lone_gives))]
-pub(crate) fn is_lone_gift(sent: &Lent<'_>, fate: &Fate) -> bool
+pub(crate) fn is_lone_gift(sent: &Lent<'_>, fate: &Fate<'_>) -> bool
     ensures { result ≡ true → IsLoneGift sent.now fate.now }
 {
     match fate {
@@ -126,7 +121,7 @@ fn one_token(handles: &[Handle]) -> Option<u32>
 /// The token that a serving spends, where it leaves all others as they are: the endpoint stays, and the entry
 /// carries that token alone.
 #[tactic(auto, using(crate::proofs::Carried::lone_spends))]
-pub(crate) fn lone_token(sent: &Lent<'_>, fate: &Fate) -> Option<u32>
+pub(crate) fn lone_token(sent: &Lent<'_>, fate: &Fate<'_>) -> Option<u32>
     ensures { IfSome result (IsLoneToken sent.now fate.now) }
 {
     match fate {
@@ -137,7 +132,7 @@ pub(crate) fn lone_token(sent: &Lent<'_>, fate: &Fate) -> Option<u32>
 
 /// The endpoint that alone dies first of a serving that ends it, where the entry carries nothing.
 #[tactic(auto, using(crate::proofs::Carried::lone_ends))]
-pub(crate) fn lone_end(sent: &Lent<'_>, fate: &Fate) -> Option<u32>
+pub(crate) fn lone_end(sent: &Lent<'_>, fate: &Fate<'_>) -> Option<u32>
     ensures { IfSome result (IsLoneEnd sent.now fate.now) }
 {
     match fate {
@@ -148,7 +143,7 @@ pub(crate) fn lone_end(sent: &Lent<'_>, fate: &Fate) -> Option<u32>
 
 /// The endpoint that alone dies first of a serving that refuses it, where the entry carries nothing else.
 #[tactic(auto, using(crate::proofs::Carried::lone_refuses))]
-pub(crate) fn lone_refusal(sent: &Lent<'_>, fate: &Fate) -> Option<u32>
+pub(crate) fn lone_refusal(sent: &Lent<'_>, fate: &Fate<'_>) -> Option<u32>
     ensures { IfSome result (IsLoneRefusal sent.now fate.now) }
 {
     match fate {

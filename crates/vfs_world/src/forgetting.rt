@@ -75,7 +75,7 @@ pub(crate) fn spend(
 /// Lets the clients hold the token that a fate gives. That is the next one, so that only memory can be
 /// wanting for it.
 #[inline(always)]
-pub(crate) fn give(endpoints: &mut Endpoints, fate: &Fate) -> Result<(), NoMemory>
+pub(crate) fn give(endpoints: &mut Endpoints, fate: &Fate<'_>) -> Result<(), NoMemory>
     ensures { OnOk result (endpoints.new ≡ known_told fate.now endpoints.old) }
 {
     let Fate::Gives { .. } = fate else {

@@ -1,7 +1,6 @@
 //! A session over all servers of a start: frames are accepted and served, and what is written is what the session's journal stands for.
 #![tactic(auto)]
 
-mod answering;
 mod arriving;
 mod beginning;
 mod closing;

@@ -30,7 +30,7 @@ pub(crate) struct Session {
     queues: Queues,
     endpoints: Endpoints,
     places: u64,
-    /// Where an answer is put together, and an Open that goes on.
+    /// Where an answer is put together, or an Open that goes on.
     out: Out,
     /// Where the bytes of messages were that had waited and were served. Those of the next ones that wait go
     /// there.

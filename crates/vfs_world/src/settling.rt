@@ -1,55 +1,31 @@
-//! What becomes of endpoints: they are bound, sent on with an Open, or die.
+//! What becomes of endpoints: they are bound for what waits on them, or die.
 
-ghost use Rattle.std.specs.Prelude.{◌≡◌, ◌≢◌, ◌≤◌, ◌<◌, ◌+◌, ◌-◌, ◌^◌, ℕ, true, All, AllPairs, List, OnOk, Some, fold, IfOk};
-ghost use Rattle.fidl_names.specs.declared.limits.TheConstants as limit;
+ghost use Rattle.std.specs.Prelude.{◌≡◌, ◌≢◌, ◌≤◌, ◌<◌, ℕ, true, All, AllPairs, List, None, OnOk, Some, fold, IfOk};
 ghost use Rattle.endpoint_link.specs.Standings.{ended, is_live, standing_of};
 ghost use Rattle.vfs_journal.specs.View.{View};
 ghost use Rattle.message_queues.specs.Dying.{AreDeaths, Buries, tokens_on};
-ghost use Rattle.message_queues.specs.Queues.{IsAbove, count};
+ghost use Rattle.message_queues.specs.Queues.{count, server_of};
 ghost use Rattle.vfs_server.specs.Holding.{HoldsAt};
 ghost use Rattle.vfs_world.specs.Holding.{HoldsEach};
-ghost use Rattle.vfs_world.specs.ServingSteps.{AreApart, BindsTold, CanBind, SendsOn, is_sent_on, without_in};
+ghost use Rattle.vfs_world.specs.ServingSteps.{AreApart, BindsThere, bound_told, without_in};
 
 use endpoint_link::Endpoints;
-use fidl_names::{MAX_WAITING, NoMemory, end_of_mount};
-use fidl_wire::Out;
-use message_queues::{Buried, Parcel, Queues, Sent};
+use fidl_names::NoMemory;
+use message_queues::{Buried, Queues};
 use std::alloc::Global;
 use vfs_server::{Fate, Server};
 
-/// Binds what a fate binds, a watcher or another, at a server and for what waits on it, or lets the token
-/// that it gives name its directory there.
+/// Binds the endpoint that a fate binds, which is bound at this server, there for what waits on it.
 #[inline(always)]
-pub(crate) fn bind(
-    servers: &mut Vec<Server>,
-    queues: &mut Queues,
-    server: u32,
-    fate: &Fate,
-) -> Result<(), NoMemory>
-    requires can { CanBind server fate.now servers.old.items queues.old }
-    ensures bound { OnOk result (BindsTold server fate.now servers.old.items queues.old servers.new.items queues.new) }
+pub(crate) fn bind(queues: &mut Queues, server: u32, fate: &Fate<'_>) -> Result<(), NoMemory>
+    requires unbound { (object : ℕ) → bound_told fate.now ≡ Some object → server_of queues.old object ≡ None }
+    requires one_of { server < queues.old.servers }
+    ensures bound { OnOk result (BindsThere server (bound_told fate.now) queues.old queues.new) }
     ensures count { OnOk result (count queues.new ≡ count queues.old) }
 {
     match fate {
-        Fate::Binds { object, birth } => {
-            let one = &mut servers[server as usize];
-            one.bind(*object, *birth)?;
-            queues.bind(*object, server)
-        }
-        Fate::Watches {
-            object,
-            directory,
-            mask,
-        } => {
-            let one = &mut servers[server as usize];
-            one.watch(*object, *directory, *mask)?;
-            queues.bind(*object, server)
-        }
-        Fate::Gives { token, directory } => {
-            let one = &mut servers[server as usize];
-            one.give(*token, *directory)
-        }
-        Fate::Stays | Fate::Ends | Fate::Refuses { .. } | Fate::Forwards { .. } => Ok(()),
+        Fate::Binds { object } => queues.bind(*object, server),
+        _ => Ok(()),
     }
 }
 
@@ -109,36 +85,4 @@ pub(crate) fn bury(
     end_all(endpoints, &buried.dead);
     let_all_go(servers, &buried.dead);
     Ok(buried)
-}
-
-/// Sends an Open that goes on to its mount's end, at a place, and tells how many places that takes.
-pub(crate) fn send_on(
-    alloc: Global,
-    queues: &mut Queues,
-    endpoints: &mut Endpoints,
-    out: &Out,
-    place: u64,
-    origin: u64,
-    fate: &Fate,
-) -> Result<u64, NoMemory>
-    requires low { (mount object : ℕ) → fate.now ≡ Fate.Forwards mount object → mount < 2 ^ 30 }
-    requires newest { IsAbove queues.old place }
-    requires few { count queues.old < MAX_WAITING }
-    requires counted { count queues.old ≡ endpoints.old.waiting }
-    ensures sent { OnOk result (SendsOn place origin fate.now out.now queues.old queues.new) }
-    ensures count { IfOk result (λ places. places ≡ is_sent_on fate.now) }
-    ensures known { OnOk result (endpoints.new ≡ record endpoints.old { waiting = count queues.new }) }
-{
-    let Fate::Forwards { mount, object } = fate else {
-        return Ok(0);
-    };
-    let parcel = Parcel::carrying(alloc, out.as_bytes(), *object)?;
-    queues.push(Sent {
-        place,
-        endpoint: end_of_mount(*mount),
-        parcel,
-        origin: Some(origin),
-    })?;
-    endpoints.forwarded_one();
-    Ok(1)
 }

@@ -1,35 +1,37 @@
 //! The serving of the first entry of an endpoint.
 
-ghost use Rattle.std.specs.Prelude.{◌≡◌, ◌<◌, ◌∷◌, [], ℕ, true, false, All, IfOk, IfSome, List, None, Ok, OnOk};
+ghost use Rattle.std.specs.Prelude.{◌≡◌, ◌<◌, ◌^◌, ◌∷◌, [], ℕ, true, false, All, IfOk, IfSome, List, None, Ok, OnOk, Some, length, slice_get};
 ghost use Rattle.fidl_names.specs.declared.limits.TheConstants as limit;
-ghost use Rattle.endpoint_link.specs.Standings.{is_live, standing_of};
+ghost use Rattle.endpoint_link.specs.Standings.{is_live, next_token_of, standing_of};
 ghost use Rattle.io_messages.specs.Asked.{asked};
 ghost use Rattle.request_reader.specs.Parts.{AsksPart};
 ghost use Rattle.message_queues.specs.Dying.{AreDeaths};
-ghost use Rattle.message_queues.specs.Queues.{IsReady, count};
+ghost use Rattle.message_queues.specs.Queues.{IsAbove, IsReady, count};
+ghost use Rattle.vfs_journal.specs.Entries.{handles_of};
 ghost use Rattle.vfs_journal.specs.Output.{Begins};
+ghost use Rattle.vfs_server.specs.Servers.{Server};
 ghost use Rattle.vfs_world.specs.Heads.{AsksFile, CanSettle, DiesAlone, IsUnbound, LetsDie, ServesTaken, SettlesButPlace, SettlesHead, Takes, TakesHead, WasTaken};
 ghost use Rattle.vfs_world.specs.Running.{IsRunning, RunsOn, whole};
 ghost use Rattle.vfs_world.specs.Servings.{ServesOne};
-ghost use Rattle.vfs_world.specs.ServingSteps.{first_told};
+ghost use Rattle.vfs_world.specs.ServingSteps.{Answers, CanServe, SendsOn, first_told, is_sent_on};
 ghost use Rattle.vfs_world.specs.World.{World};
 
-use crate::answering::answer;
 use crate::closing::close_others;
 use crate::deaths::{
     end_told, is_lone_gift, is_quiet, list_first_deaths, lone_end, lone_refusal, lone_token,
 };
 use crate::forgetting::{forget, give, spend};
 use crate::session::Session;
-use crate::settling::{bind, bury, let_all_go, send_on};
+use crate::settling::{bind, bury, let_all_go};
 use endpoint_link::Outbox;
-use fidl_names::{MAX_WAITING, NoMemory};
+use fidl_names::{MAX_WAITING, NoMemory, end_of_mount};
 use fidl_wire::Ordinals;
 use io_messages::Request;
-use message_queues::{Lent, Sent};
+use message_queues::{Lent, Parcel, Sent};
+use remote_forward::forward;
 use request_reader::read_part;
 use std::mem;
-use vfs_server::Fate;
+use vfs_server::{Fate, Message};
 
 /// The most bytes of a small room, as most messages need.
 const SMALL_ROOM: usize = 256;
@@ -114,70 +116,87 @@ impl Session {
         ensures begins { Begins outbox.old outbox.new }
     {
         let fate = self.answer_taken(endpoint, server, sent, outbox)?;
-        self.settle_head(sent, &fate, outbox)?;
+        self.settle_head(sent, fate, outbox)?;
         Ok(())
     }
 
-    /// Answers what was taken from an endpoint at its server, and binds what its fate binds.
+    /// Answers what was taken from an endpoint at its server, and binds for what waits what is bound there.
     #[inline(always)]
-    fn answer_taken(
+    fn answer_taken<'a>(
         &mut self,
         endpoint: u32,
         server: u32,
-        sent: &Lent<'_>,
+        sent: &Lent<'a>,
         outbox: &mut Outbox,
-    ) -> Result<Fate, NoMemory>
+    ) -> Result<Fate<'a>, NoMemory>
         requires taken { WasTaken endpoint server sent.now (whole self.old) }
         ensures taken { (before : World) → Takes before endpoint server sent.now (whole self.old) →
-            IfOk result (λ fate. TakesHead before endpoint server sent.now fate self.new.out (whole self.new) outbox.old outbox.new) }
+            IfOk result (λ fate. TakesHead before endpoint server sent.now fate (whole self.new) outbox.old outbox.new) }
         ensures begins { Begins outbox.old outbox.new }
     {
-        let token = self.endpoints.next_token();
-        let fate = answer(
-            &mut self.servers,
-            &self.ordinals,
-            server,
-            endpoint,
-            token,
-            sent,
-            &mut self.out,
-            outbox,
-        )?;
+        let fate = self.answer(endpoint, server, sent, outbox)?;
         self.endpoints.served();
-        bind(&mut self.servers, &mut self.queues, server, &fate)?;
+        bind(&mut self.queues, server, &fate)?;
         Ok(fate)
     }
 
-    /// Settles a serving. Most change at most one thing beside the endpoint served. Copies are lent otherwise, so that
-    /// the entry and the fate of such a serving need not lie in memory.
+    /// Has the server at which an endpoint is bound serve what was sent there. Where its client hung up the endpoint
+    /// ends.
+    #[inline(always)]
+    fn answer<'a>(
+        &mut self,
+        endpoint: u32,
+        server: u32,
+        sent: &Lent<'a>,
+        outbox: &mut Outbox,
+    ) -> Result<Fate<'a>, NoMemory>
+        requires within { server < length self.old.servers.items }
+        requires can { (one : Server) → slice_get self.old.servers.items server ≡ Some one → CanServe one endpoint (next_token_of self.old.endpoints) (handles_of sent.now.sending) }
+        ensures answers { IfOk result (λ fate. Answers self.old.servers.items server endpoint (next_token_of self.old.endpoints) sent.now fate self.new.servers.items outbox.old outbox.new) }
+        ensures others { whole self.new ≡ record (whole self.old) { servers = self.new.servers.items } }
+        ensures begins { Begins outbox.old outbox.new }
+    {
+        let Some((bytes, handles)) = sent.message() else {
+            return Ok(Fate::Ends);
+        };
+        let message = Message {
+            endpoint,
+            bytes,
+            handles,
+        };
+        let token = self.endpoints.next_token();
+        let one = &mut self.servers[server as usize];
+        one.serve(&self.ordinals, token, &message, &mut self.out, outbox)
+    }
+
+    /// Settles a serving. Most change at most one thing beside the endpoint served. A copy is lent otherwise, so that the
+    /// entry of such a serving need not lie in memory.
     #[inline(always)]
     fn settle_head(
         &mut self,
         sent: &Lent<'_>,
-        fate: &Fate,
+        fate: Fate<'_>,
         outbox: &mut Outbox,
     ) -> Result<(), NoMemory>
-        requires can { CanSettle (whole self.old) sent.now fate.now }
-        ensures settled { OnOk result (SettlesHead (whole self.old) sent.now fate.now self.old.out (whole self.new) outbox.old outbox.new) }
+        requires can { CanSettle (whole self.old) sent.now fate }
+        ensures settled { OnOk result (SettlesHead (whole self.old) sent.now fate.entry (whole self.new) outbox.old outbox.new) }
         ensures begins { Begins outbox.old outbox.new }
     {
-        if self.settle_one(sent, fate)? {
+        if self.settle_one(sent, &fate)? {
             self.places += 1;
             return Ok(());
         }
         let sent = sent.lend();
-        let fate = *fate;
-        self.settle_all(&sent, &fate, outbox)
+        self.settle_all(&sent, fate, outbox)
     }
 
     /// Settles a serving that changes at most one thing beside the endpoint served, but for the place that it takes: a
     /// token is given or spent, or an endpoint dies alone. Tells whether it is such a one; else all is as it was.
     #[inline(always)]
-    fn settle_one(&mut self, sent: &Lent<'_>, fate: &Fate) -> Result<bool, NoMemory>
+    fn settle_one(&mut self, sent: &Lent<'_>, fate: &Fate<'_>) -> Result<bool, NoMemory>
         requires can { CanSettle (whole self.old) sent.now fate.now }
-        ensures settled { result ≡ Ok true → SettlesButPlace (whole self.old) sent.now fate.now self.old.out (whole self.new) }
+        ensures settled { result ≡ Ok true → SettlesButPlace (whole self.old) sent.now fate.now (whole self.new) }
         ensures unchanged { result ≡ Ok false → whole self.new ≡ whole self.old }
-        ensures out { self.new.out ≡ self.old.out }
     {
         if is_quiet(sent, fate) {
             return Ok(true);
@@ -206,7 +225,6 @@ impl Session {
         requires live { (dead : List ℕ) → AreDeaths self.old.queues (end ∷ []) dead → All (λ endpoint. is_live (standing_of self.old.endpoints endpoint) ≡ true) dead }
         ensures alone { result ≡ true → DiesAlone (whole self.old) end (whole self.new) }
         ensures unchanged { result ≡ false → whole self.new ≡ whole self.old }
-        ensures out { self.new.out ≡ self.old.out }
     {
         if !self.queues.bury_alone(end) {
             return false;
@@ -223,7 +241,6 @@ impl Session {
         requires unbound { IsUnbound (whole self.old) object }
         ensures alone { result ≡ true → DiesAlone (whole self.old) object (whole self.new) }
         ensures unchanged { result ≡ false → whole self.new ≡ whole self.old }
-        ensures out { self.new.out ≡ self.old.out }
     {
         if self.queues.len() != 0 {
             return false;
@@ -238,41 +255,66 @@ impl Session {
     fn settle_all(
         &mut self,
         sent: &Lent<'_>,
-        fate: &Fate,
+        fate: Fate<'_>,
         outbox: &mut Outbox,
     ) -> Result<(), NoMemory>
-        requires can { CanSettle (whole self.old) sent.now fate.now }
-        ensures settled { OnOk result (SettlesHead (whole self.old) sent.now fate.now self.old.out (whole self.new) outbox.old outbox.new) }
+        requires can { CanSettle (whole self.old) sent.now fate }
+        ensures settled { OnOk result (SettlesHead (whole self.old) sent.now fate.entry (whole self.new) outbox.old outbox.new) }
         ensures begins { Begins outbox.old outbox.new }
     {
-        let dropped = self.let_die(sent, fate, outbox)?;
+        let dropped = self.let_die(sent, &fate, outbox)?;
         spend(&mut self.servers, &mut self.endpoints, sent, &dropped);
-        give(&mut self.endpoints, fate)?;
+        give(&mut self.endpoints, &fate)?;
         let place = self.places + 1;
-        let more = send_on(
-            self.alloc,
-            &mut self.queues,
-            &mut self.endpoints,
-            &self.out,
-            place,
-            sent.place,
-            fate,
-        )?;
+        let more = self.send_on(place, sent.place, fate)?;
         self.places = place + more;
         Ok(())
+    }
+
+    /// Sends an Open that goes on to its mount's end, at a place, and tells how many places that takes. It is written
+    /// anew for what is left of its path.
+    fn send_on(&mut self, place: u64, origin: u64, fate: Fate<'_>) -> Result<u64, NoMemory>
+        requires low { (mount object flags : ℕ) (rest : List (List ℕ)) → fate ≡ Fate.Forwards mount object flags rest → mount < 2 ^ 30 }
+        requires newest { IsAbove self.old.queues place }
+        requires few { count self.old.queues < limit.MAX_WAITING }
+        requires counted { count self.old.queues ≡ self.old.endpoints.waiting }
+        ensures sent { OnOk result (SendsOn place origin fate.entry self.old.queues self.new.queues) }
+        ensures count { IfOk result (λ places. places ≡ is_sent_on fate.entry) }
+        ensures known { OnOk result (self.new.endpoints ≡ record self.old.endpoints { waiting = count self.new.queues }) }
+        ensures servers { self.new.servers.items ≡ self.old.servers.items }
+    {
+        let Fate::Forwards {
+            mount,
+            object,
+            flags,
+            rest,
+        } = fate
+        else {
+            return Ok(0);
+        };
+        self.out.clear();
+        forward(&self.ordinals, flags, rest, object, &mut self.out);
+        let parcel = Parcel::carrying(self.alloc, self.out.as_bytes(), object)?;
+        self.queues.push(Sent {
+            place,
+            endpoint: end_of_mount(mount),
+            parcel,
+            origin: Some(origin),
+        })?;
+        self.endpoints.forwarded_one();
+        Ok(1)
     }
 
     /// Buries whoever dies of a serving, and closes them. Tells the tokens that what waited on them carried.
     fn let_die(
         &mut self,
         sent: &Lent<'_>,
-        fate: &Fate,
+        fate: &Fate<'_>,
         outbox: &mut Outbox,
     ) -> Result<Vec<u32>, NoMemory>
         requires live { (dead : List ℕ) → AreDeaths self.old.queues (first_told sent.now fate.now) dead → All (λ endpoint. is_live (standing_of self.old.endpoints endpoint) ≡ true) dead }
         requires counted { count self.old.queues ≡ self.old.endpoints.waiting }
         ensures dead { IfOk result (λ dropped. LetsDie (whole self.old) sent.now fate.now dropped.items (whole self.new) outbox.old outbox.new) }
-        ensures out { self.new.out ≡ self.old.out }
         ensures begins { Begins outbox.old outbox.new }
     {
         list_first_deaths(sent, fate, &mut self.dying)?;

@@ -100,7 +100,7 @@ fn read_at(
 ) -> Option<Result<(), NoMemory>>
     requires part { AsksPart (asked request.now) }
     requires txid { 0 < txid }
-    ensures answers { IfSome result (λ read. OnOk read (AnswersPart servers.old.items at endpoint txid (asked request.now) out.new servers.new.items outbox.old outbox.new)) }
+    ensures answers { IfSome result (λ read. OnOk read (AnswersPart servers.old.items at endpoint txid (asked request.now) servers.new.items outbox.old outbox.new)) }
     ensures unchanged { result ≡ None → (servers.new.items ≡ servers.old.items) × (outbox.new ≡ outbox.old) }
     ensures no_memory { IfSome result (λ read. OnErr read (outbox.new ≡ outbox.old)) }
 {

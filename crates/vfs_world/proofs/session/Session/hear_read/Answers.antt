@@ -17,21 +17,21 @@ pub returns-clause-heard : goal.returns-clause-heard
 returns-clause-heard c =
     λ start journal stands.
     on_ok c.in_ok-read.read
-    (λ answers. (read_leads (whole c.args.self.now) c.requires.running (frame_of c.args.frame) c.requires.frame (c.can_be_served.ensures c.if-not-can_be_served.false) c.in_ok-at.at c.in_ok-txid.txid (asked c.in_ok-txid.request) _ _ c.args.outbox.now c.read_at.new.outbox c.in_ok-txid.ensures.read answers start journal stands).0)
+    (λ answers. (read_leads (whole c.args.self.now) c.requires.running (frame_of c.args.frame) c.requires.frame (c.can_be_served.ensures c.if-not-can_be_served.false) c.in_ok-at.at c.in_ok-txid.txid (asked c.in_ok-txid.request) _ c.args.outbox.now c.read_at.new.outbox c.in_ok-txid.ensures.read answers start journal stands).0)
     c.in_ok-read.ensures.answers
 
 pub returns-clause-none : goal.returns-clause-none
 returns-clause-none c =
     λ start journal stands.
     on_ok c.in_ok-read.read
-    (λ answers. (read_leads (whole c.args.self.now) c.requires.running (frame_of c.args.frame) c.requires.frame (c.can_be_served.ensures c.if-not-can_be_served.false) c.in_ok-at.at c.in_ok-txid.txid (asked c.in_ok-txid.request) _ _ c.args.outbox.now c.read_at.new.outbox c.in_ok-txid.ensures.read answers start journal stands).1)
+    (λ answers. (read_leads (whole c.args.self.now) c.requires.running (frame_of c.args.frame) c.requires.frame (c.can_be_served.ensures c.if-not-can_be_served.false) c.in_ok-at.at c.in_ok-txid.txid (asked c.in_ok-txid.request) _ c.args.outbox.now c.read_at.new.outbox c.in_ok-txid.ensures.read answers start journal stands).1)
     c.in_ok-read.ensures.answers
 
 pub returns-clause-running : goal.returns-clause-running
 returns-clause-running c =
     λ most running.
     on_ok c.in_ok-read.read
-    (λ answers. read_lasts (whole c.args.self.now) c.requires.running (frame_of c.args.frame) c.requires.frame (c.can_be_served.ensures c.if-not-can_be_served.false) c.in_ok-at.at c.in_ok-txid.txid (asked c.in_ok-txid.request) _ _ c.args.outbox.now c.read_at.new.outbox c.in_ok-txid.ensures.read answers most running)
+    (λ answers. read_lasts (whole c.args.self.now) c.requires.running (frame_of c.args.frame) c.requires.frame (c.can_be_served.ensures c.if-not-can_be_served.false) c.in_ok-at.at c.in_ok-txid.txid (asked c.in_ok-txid.request) _ c.args.outbox.now c.read_at.new.outbox c.in_ok-txid.ensures.read answers most running)
     c.in_ok-read.ensures.answers
 
 pub returns-clause-begins : goal.returns-clause-begins
@@ -39,7 +39,7 @@ returns-clause-begins c =
     begins_by c.in_ok-read.read c.args.outbox.now c.read_at.new.outbox
     (on_ok c.in_ok-read.read
     (λ answers.
-    let leads = (read_leads (whole c.args.self.now) c.requires.running (frame_of c.args.frame) c.requires.frame (c.can_be_served.ensures c.if-not-can_be_served.false) c.in_ok-at.at c.in_ok-txid.txid (asked c.in_ok-txid.request) _ _ c.args.outbox.now c.read_at.new.outbox c.in_ok-txid.ensures.read answers c.requires.running.start c.requires.running.journal c.requires.running.stands).0 in
+    let leads = (read_leads (whole c.args.self.now) c.requires.running (frame_of c.args.frame) c.requires.frame (c.can_be_served.ensures c.if-not-can_be_served.false) c.in_ok-at.at c.in_ok-txid.txid (asked c.in_ok-txid.request) _ c.args.outbox.now c.read_at.new.outbox c.in_ok-txid.ensures.read answers c.requires.running.start c.requires.running.journal c.requires.running.stands).0 in
     (leads.part, leads.written))
     c.in_ok-read.ensures.answers)
     c.in_ok-read.ensures.no_memory

@@ -36,32 +36,17 @@ returns-clause-dead c =
 pub bury-requires-clause-counted : goal.bury-requires-clause-counted
 bury-requires-clause-counted c = c.requires.counted
 
-pub returns-in_err-list_first_deaths-clause-out : goal.returns-in_err-list_first_deaths-clause-out
-returns-in_err-list_first_deaths-clause-out c = refl
-
 pub returns-in_err-list_first_deaths-clause-begins : goal.returns-in_err-list_first_deaths-clause-begins
 returns-in_err-list_first_deaths-clause-begins c = ([], sym (append-nil c.args.outbox.now))
-
-pub returns-then-is_empty-clause-out : goal.returns-then-is_empty-clause-out
-returns-then-is_empty-clause-out c = refl
 
 pub returns-then-is_empty-clause-begins : goal.returns-then-is_empty-clause-begins
 returns-then-is_empty-clause-begins c = ([], sym (append-nil c.args.outbox.now))
 
-pub returns-in_err-buried-clause-out : goal.returns-in_err-buried-clause-out
-returns-in_err-buried-clause-out c = refl
-
 pub returns-in_err-buried-clause-begins : goal.returns-in_err-buried-clause-begins
 returns-in_err-buried-clause-begins c = ([], sym (append-nil c.args.outbox.now))
 
-pub returns-in_err-close_others-clause-out : goal.returns-in_err-close_others-clause-out
-returns-in_err-close_others-clause-out c = refl
-
 pub returns-in_err-close_others-clause-begins : goal.returns-in_err-close_others-clause-begins
 returns-in_err-close_others-clause-begins c = c.close_others.ensures.begins
-
-pub returns-clause-out : goal.returns-clause-out
-returns-clause-out c = refl
 
 pub returns-clause-begins : goal.returns-clause-begins
 returns-clause-begins c = c.close_others.ensures.begins

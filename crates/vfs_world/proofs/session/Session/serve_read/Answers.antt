@@ -28,8 +28,7 @@ returns-clause-served c =
     let within = slice_get_within c.args.self.now.servers.items c.args.server can.one can.there in
     let there = slice_get_read c.args.self.now.servers.items _ c.args.server c.index_mut-one.result.now refl within c.index_mut-one.ensures.value in
     subst (λ (k : Known). OnOk c.in_ok-read.read (ServesTaken c.args.endpoint c.args.server c.args.sent.now old (record (behind old c.args.server c.read.new.self) { known = k }) c.args.outbox.now c.read.new.outbox)) (sym c.served.ensures)
-    (read_taken old c.args.endpoint c.args.server c.args.sent.now asks.bytes asks.sending c.in_ok-txid.txid (asked c.in_ok-txid.request) asks.asks c.index_mut-one.result.now c.read.new.self there c.read.new.out
-    c.args.outbox.now c.read.new.outbox c.in_ok-read.read c.in_ok-read.ensures.serves refl)
+    (read_taken old c.args.endpoint c.args.server c.args.sent.now asks.bytes asks.sending c.in_ok-txid.txid (asked c.in_ok-txid.request) asks.asks c.index_mut-one.result.now c.read.new.self there c.args.outbox.now c.read.new.outbox c.in_ok-read.read c.in_ok-read.ensures.serves refl)
 
 pub returns-clause-begins : goal.returns-clause-begins
 returns-clause-begins c =
@@ -39,8 +38,7 @@ returns-clause-begins c =
     let can = can_answer taken.0 old c.args.endpoint c.args.server c.args.sent.now taken.1.0 taken.1.1 in
     let within = slice_get_within c.args.self.now.servers.items c.args.server can.one can.there in
     let there = slice_get_read c.args.self.now.servers.items _ c.args.server c.index_mut-one.result.now refl within c.index_mut-one.ensures.value in
-    read_begins taken.0 old taken.1.0 c.args.endpoint c.args.server c.args.sent.now taken.1.1 asks.bytes asks.sending c.in_ok-txid.txid (asked c.in_ok-txid.request) asks.asks c.index_mut-one.result.now c.read.new.self there c.read.new.out
-    c.args.outbox.now c.read.new.outbox c.in_ok-read.read c.in_ok-read.ensures.serves c.in_ok-read.ensures.no_memory
+    read_begins taken.0 old taken.1.0 c.args.endpoint c.args.server c.args.sent.now taken.1.1 asks.bytes asks.sending c.in_ok-txid.txid (asked c.in_ok-txid.request) asks.asks c.index_mut-one.result.now c.read.new.self there c.args.outbox.now c.read.new.outbox c.in_ok-read.read c.in_ok-read.ensures.serves c.in_ok-read.ensures.no_memory
 
 -- where nothing was read, the server is as it was
 pub returns-in_err-read-clause-unchanged : goal.returns-in_err-read-clause-unchanged

@@ -1,8 +1,8 @@
 use Rattle.std.proofs.Common.{◌≡◌, ◌∙◌, ◌+◌, ◌++◌, ℕ, List, fold, sym, ap, subst, arith}
-use Rattle.fidl_wire.specs.Written.{Written}
 use Rattle.endpoint_link.specs.Standings.{Known, ended, gone}
 use Rattle.vfs_journal.specs.Entries.{Sent, tokens_in}
 use Rattle.message_queues.specs.Queues.{IsAbove, count}
+use Rattle.vfs_server.specs.Servers.{Server}
 use Rattle.vfs_world.specs.ServingSteps.{CanGo, ForgetsAll, SendsOn, known_told, spent_told}
 use Rattle.vfs_world.proofs.Halves.{above_left, known_then, one_at_most, settled_known}
 use Rattle.vfs_world.proofs.Spending.{can_go_alike, ended_tokens}
@@ -27,11 +27,11 @@ pub send_on-requires-clause-counted : goal.send_on-requires-clause-counted
 send_on-requires-clause-counted c =
     let died = c.in_ok-dropped.ensures.dead in
     sym (ap (λ (k : Known). k.waiting)
-    (settled_known c.args.self.now.endpoints c.let_die.new.self.endpoints c.spend.new.endpoints c.give.new.endpoints c.args.fate.now died.dead (tokens_in c.args.sent.now ++ c.deref.result.now) (spent_told c.args.sent.now c.args.self.now.queues died.dead)
+    (settled_known c.args.self.now.endpoints c.let_die.new.self.endpoints c.spend.new.endpoints c.give.new.endpoints c.args.fate died.dead (tokens_in c.args.sent.now ++ c.deref.result.now) (spent_told c.args.sent.now c.args.self.now.queues died.dead)
     (count c.let_die.new.self.queues) died.known (ap (λ (tokens : List ℕ). tokens_in c.args.sent.now ++ tokens) (c.deref.ensures.value ∙ died.tokens)) c.spend.ensures.known c.in_ok-give.ensures))
 
 pub overflow_add-self : goal.overflow_add-self
-overflow_add-self c = let few = c.requires.can.places in let p = c.in_ok-dropped.ensures.dead.places in let a = c.in_ok-more.ensures.count in let b = one_at_most c.args.fate.now in omega (arith, few, p, a, b)
+overflow_add-self c = let few = c.requires.can.places in let p = c.in_ok-dropped.ensures.dead.places in let a = c.in_ok-more.ensures.count in let b = one_at_most c.args.fate in omega (arith, few, p, a, b)
 
 pub returns-clause-settled : goal.returns-clause-settled
 returns-clause-settled c =
@@ -44,16 +44,17 @@ returns-clause-settled c =
       died = died.died;
       buried = died.buried;
       goes = died.goes;
-      forgets = subst (λ (tokens : List ℕ). ForgetsAll c.let_die.new.self.servers.items tokens c.spend.new.servers.items) spent c.spend.ensures.forgets;
+      forgets =
+          subst (λ (servers : List Server). ForgetsAll c.let_die.new.self.servers.items (spent_told c.args.sent.now c.args.self.now.queues died.dead) servers) (sym c.send_on.ensures.servers)
+          (subst (λ (tokens : List ℕ). ForgetsAll c.let_die.new.self.servers.items tokens c.spend.new.servers.items) spent c.spend.ensures.forgets);
       closed = died.closed;
       sends =
-          subst (λ (origin : ℕ). SendsOn (c.args.self.now.places + 1) origin c.args.fate.now c.args.self.now.out c.let_die.new.self.queues c.send_on.new.queues) (ap (λ (sent : Sent). sent.place) c.sent.view_is)
-          (subst (λ (n : ℕ). SendsOn (n + 1) c.sent.inside.place c.args.fate.now c.args.self.now.out c.let_die.new.self.queues c.send_on.new.queues) died.places
-          (subst (λ (out : Written). SendsOn (c.let_die.new.self.places + 1) c.sent.inside.place c.args.fate.now out c.let_die.new.self.queues c.send_on.new.queues) c.let_die.ensures.out c.in_ok-more.ensures.sent));
+          subst (λ (origin : ℕ). SendsOn (c.args.self.now.places + 1) origin c.args.fate c.let_die.new.self.queues c.send_on.new.self.queues) (ap (λ (sent : Sent). sent.place) c.sent.view_is)
+          (subst (λ (n : ℕ). SendsOn (n + 1) c.sent.inside.place c.args.fate c.let_die.new.self.queues c.send_on.new.self.queues) died.places c.in_ok-more.ensures.sent);
       known =
-          known_then (known_told c.args.fate.now (fold gone (fold ended c.args.self.now.endpoints died.dead) (spent_told c.args.sent.now c.args.self.now.queues died.dead))) c.give.new.endpoints c.send_on.new.endpoints (count c.let_die.new.self.queues)
-          (count c.send_on.new.queues)
-          (settled_known c.args.self.now.endpoints c.let_die.new.self.endpoints c.spend.new.endpoints c.give.new.endpoints c.args.fate.now died.dead (tokens_in c.args.sent.now ++ c.deref.result.now)
+          known_then (known_told c.args.fate (fold gone (fold ended c.args.self.now.endpoints died.dead) (spent_told c.args.sent.now c.args.self.now.queues died.dead))) c.give.new.endpoints c.send_on.new.self.endpoints (count c.let_die.new.self.queues)
+          (count c.send_on.new.self.queues)
+          (settled_known c.args.self.now.endpoints c.let_die.new.self.endpoints c.spend.new.endpoints c.give.new.endpoints c.args.fate died.dead (tokens_in c.args.sent.now ++ c.deref.result.now)
           (spent_told c.args.sent.now c.args.self.now.queues died.dead) (count c.let_die.new.self.queues) died.known spent c.spend.ensures.known c.in_ok-give.ensures)
           c.in_ok-more.ensures.known;
       places = let p = died.places in let a = c.in_ok-more.ensures.count in omega (arith, p, a);

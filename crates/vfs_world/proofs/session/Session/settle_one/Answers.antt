@@ -10,12 +10,12 @@ use Rattle.vfs_world.proofs.session.Session.settle_one.Goals as goal
 pub returns-then-is_quiet-clause-settled : goal.returns-then-is_quiet-clause-settled
 returns-then-is_quiet-clause-settled c =
     λ is.
-    (refl, λ bytes. settles_quietly (whole c.args.self.now) c.args.sent.now c.args.fate.now c.args.self.now.out bytes (c.is_quiet.ensures c.if-is_quiet.true) c.requires.can.counted)
+    (refl, λ bytes. settles_quietly (whole c.args.self.now) c.args.sent.now c.args.fate.now bytes (c.is_quiet.ensures c.if-is_quiet.true) c.requires.can.counted)
 
 pub returns-then-is_lone_gift-clause-settled : goal.returns-then-is_lone_gift-clause-settled
 returns-then-is_lone_gift-clause-settled c =
     λ is.
-    settles_giving (whole c.args.self.now) c.give.new.endpoints c.args.sent.now c.args.fate.now c.args.self.now.out (c.is_lone_gift.ensures c.if-is_lone_gift.true) c.requires.can.counted c.in_ok-give.ensures
+    settles_giving (whole c.args.self.now) c.give.new.endpoints c.args.sent.now c.args.fate.now (c.is_lone_gift.ensures c.if-is_lone_gift.true) c.requires.can.counted c.in_ok-give.ensures
 
 pub forget-requires : goal.forget-requires
 forget-requires c = record { out = token_out (whole c.args.self.now) c.args.sent.now c.args.fate.now c.in-Some.token c.in-Some.ensures c.requires.can }
@@ -23,7 +23,7 @@ forget-requires c = record { out = token_out (whole c.args.self.now) c.args.sent
 pub returns-in-Some-clause-settled : goal.returns-in-Some-clause-settled
 returns-in-Some-clause-settled c =
     λ is.
-    settles_spending (whole c.args.self.now) c.forget.new.servers.items c.forget.new.endpoints c.args.sent.now c.args.fate.now c.args.self.now.out c.in-Some.token c.in-Some.ensures c.requires.can.counted
+    settles_spending (whole c.args.self.now) c.forget.new.servers.items c.forget.new.endpoints c.args.sent.now c.args.fate.now c.in-Some.token c.in-Some.ensures c.requires.can.counted
     c.forget.ensures.forgets c.forget.ensures.known
 
 was_true : (b : Bool) → ◌≡◌ {A = Result Bool NoMemory} (Ok b) (Ok true) → b ≡ true
@@ -43,7 +43,7 @@ returns-in-Some-lone_refusal-clause-settled c =
     let dies = c.bury_unbound.ensures.alone (was_true c.bury_unbound.result is) in (
       dies.places,
       λ bytes.
-          settles_alone (whole c.args.self.now) (whole c.bury_unbound.new.self) c.args.sent.now c.args.fate.now c.args.self.now.out bytes c.in-Some-lone_refusal.object c.in-Some-lone_refusal.ensures.lone dies
+          settles_alone (whole c.args.self.now) (whole c.bury_unbound.new.self) c.args.sent.now c.args.fate.now bytes c.in-Some-lone_refusal.object c.in-Some-lone_refusal.ensures.lone dies
           c.requires.can.counted,
     )
 
@@ -53,5 +53,5 @@ returns-in-Some-lone_end-clause-settled c =
     let dies = c.bury_alone.ensures.alone (was_true c.bury_alone.result is) in (
       dies.places,
       λ bytes.
-          settles_alone (whole c.args.self.now) (whole c.bury_alone.new.self) c.args.sent.now c.args.fate.now c.args.self.now.out bytes c.in-Some-lone_end.end c.in-Some-lone_end.ensures dies c.requires.can.counted,
+          settles_alone (whole c.args.self.now) (whole c.bury_alone.new.self) c.args.sent.now c.args.fate.now bytes c.in-Some-lone_end.end c.in-Some-lone_end.ensures dies c.requires.can.counted,
     )

@@ -7,7 +7,7 @@ use Rattle.vfs_world.proofs.session.reading.read_at.Goals as goal
 
 pub returns-clause-answers : goal.returns-clause-answers
 returns-clause-answers c =
-    reads_there c.args.servers.now.items c.args.at c.args.endpoint c.args.txid (asked c.args.request.now) c.index_mut-one.result.now c.read.new.self c.read.new.out c.args.outbox.now c.read.new.outbox c.read.result
+    reads_there c.args.servers.now.items c.args.at c.args.endpoint c.args.txid (asked c.args.request.now) c.index_mut-one.result.now c.read.new.self c.args.outbox.now c.read.new.outbox c.read.result
     (slice_get_read c.args.servers.now.items _ c.args.at c.index_mut-one.result.now refl (omega arith) c.index_mut-one.ensures.value)
     c.read.ensures.bound c.read.ensures.serves
 
