@@ -19,7 +19,7 @@ use Rattle.watch_laws.proofs.Knowing.{know_their_names}
 use Rattle.watch_laws.proofs.Seen.{die_of_no_change, told_their_sight}
 use Rattle.watch_laws.proofs.Starting.{starts_have_names}
 use Rattle.frame_laws.proofs.Readings.{output_is_read_back}
-use Rattle.session_laws.specs.Laws.{IsLawfulOver, LawfulJournalsKeepLaws, WorldsKeepLaws}
+use Rattle.session_laws.specs.Laws.{IsLawfulOver, LawfulJournalsKeepLaws}
 
 pub lawful_keep : AreDistinct → LawfulJournalsKeepLaws
 lawful_keep apart start journal s h =
@@ -44,9 +44,6 @@ lawful_keep apart start journal s h =
     } where
       lawful : (later past : Journal) → journal ≡ later ++ past → Lawful start (later ++ past)
       lawful later past e = subst (Lawful start) e h
-
-pub worlds_keep : AreDistinct → WorldsKeepLaws
-worlds_keep apart start world journal h = lawful_keep apart start journal h.sound h.lawful
 
 -- over the start of an accepted tree
 pub lawful_over : AreDistinct → (lists : Lists) (journal : Journal) → AreAccepted lists → Lawful (start_of lists) journal → IsLawfulOver lists journal

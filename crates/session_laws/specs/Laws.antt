@@ -1,4 +1,4 @@
--- Which journals keep the laws: each lawful one, so that for which a world stands, and that behind what a run writes.
+-- Which journals keep the laws: each lawful one, so that behind what a run writes.
 use Rattle.std.specs.Prelude.{◌≡◌, ℕ, All, List, ◌++◌}
 use Rattle.session_start.specs.Accepted.{AreAccepted}
 use Rattle.session_start.specs.Items.{Lists}
@@ -8,15 +8,10 @@ use Rattle.vfs_journal.specs.Output.{output_of}
 use Rattle.vfs_journal.specs.Starts.{Start, start_of}
 use Rattle.journal_laws.specs.Soundness.{IsStart}
 use Rattle.watch_laws.specs.Laws.{HasNames}
-use Rattle.vfs_session.specs.World.{StandsFor, World}
 use Rattle.session_laws.specs.Keeping.{KeepsLaws}
 
 abbrev pub LawfulJournalsKeepLaws : Type 0
 LawfulJournalsKeepLaws = (start : Start) (journal : Journal) → IsStart start → Lawful start journal → KeepsLaws start journal
-
--- a world that isn't spent lends them of the journal that it stands for
-abbrev pub WorldsKeepLaws : Type 0
-WorldsKeepLaws = (start : Start) (world : World) (journal : Journal) → StandsFor start world journal → KeepsLaws start journal
 
 -- a journal over the start of an accepted tree, whose names are names, that is lawful and keeps the laws
 pub record IsLawfulOver (lists : Lists) (journal : Journal) : Type 0 where
