@@ -14,7 +14,7 @@ ghost use Rattle.message_queues.specs.Queues.{count};
 ghost use Rattle.vfs_server.specs.KeptNodes.{kept_in};
 ghost use Rattle.vfs_world.specs.Servings.{served_in};
 ghost use Rattle.vfs_world.specs.World.{LeadsTo, StandsFor};
-ghost use Rattle.vfs_world.specs.Conduct.{Conducts};
+ghost use Rattle.vfs_world.specs.Conduct.{Conducts, KeepsOn, StandsForOne};
 
 use crate::arriving::hear;
 use crate::beginning::begin;
@@ -97,6 +97,7 @@ impl World {
         requires few { self.old.frames < limit.MAX_FRAMES }
         ensures arrived { (start : Start) (journal : Journal) → StandsFor start self.old journal →
             OnOk result (LeadsTo start (arrives start journal (frame_of frame.entry)) self.new journal outbox.old outbox.new) }
+        ensures keeps { KeepsOn result self.old (λ start journal. arrives start journal (frame_of frame.entry)) }
         ensures frames { self.new.frames ≡ (if is_ok result then self.old.frames + 1 else self.old.frames) }
         ensures conduct { Conducts result self.old self.new outbox.old outbox.new }
     {
@@ -117,6 +118,7 @@ impl World {
             OnOk result (LeadsTo start (steps start mode journal (frame_of frame.entry)) self.new journal outbox.old outbox.new) }
         ensures none { mode ≡ Mode.Auto → (start : Start) (journal : Journal) → StandsFor start self.old journal →
             OnOk result (waiting (history_of start (steps start mode journal (frame_of frame.entry))) ≡ []) }
+        ensures keeps { KeepsOn result self.old (λ start journal. steps start mode journal (frame_of frame.entry)) }
         ensures frames { self.new.frames ≡ (if is_ok result then self.old.frames + 1 else self.old.frames) }
         ensures conduct { Conducts result self.old self.new outbox.old outbox.new }
     {
@@ -141,6 +143,7 @@ impl World {
             IfOk result (λ done. served_in journal + done ≡ served_in (turned start server n journal)) }
         ensures fewer { (start : Start) (journal : Journal) → StandsFor start self.old journal →
             IfOk result (λ done. done < n → oldest start (history_of start (turned start server n journal)) server ≡ None) }
+        ensures keeps { KeepsOn result self.old (λ start. turned start server n) }
         ensures idle { (start : Start) (journal : Journal) → StandsFor start self.old journal → oldest start (history_of start journal) server ≡ None → result ≡ Ok 0 }
         ensures frames { self.new.frames ≡ self.old.frames }
         ensures conduct { Conducts result self.old self.new outbox.old outbox.new }
@@ -160,6 +163,7 @@ impl World {
     pub fn pick(&mut self, endpoint: u32, outbox: &mut Outbox) -> Result<Picked, WorldFault>
         ensures picked { (start : Start) (journal : Journal) → StandsFor start self.old journal →
             OnOk result (LeadsTo start (picked start endpoint journal) self.new journal outbox.old outbox.new) }
+        ensures keeps { KeepsOn result self.old (λ start. picked start endpoint) }
         ensures idle { (start : Start) (journal : Journal) → StandsFor start self.old journal → head start (history_of start journal) endpoint ≡ None → result ≡ Ok Picked.Idle }
         ensures only_idle { (start : Start) (journal : Journal) → StandsFor start self.old journal → result ≡ Ok Picked.Idle → head start (history_of start journal) endpoint ≡ None }
         ensures frames { self.new.frames ≡ self.old.frames }
@@ -181,6 +185,7 @@ impl World {
             OnOk result (LeadsTo start (drained start journal) self.new journal outbox.old outbox.new) }
         ensures none { (start : Start) (journal : Journal) → StandsFor start self.old journal →
             OnOk result (waiting (history_of start (drained start journal)) ≡ []) }
+        ensures keeps { KeepsOn result self.old drained }
         ensures idle { (start : Start) (journal : Journal) → StandsFor start self.old journal → waiting (history_of start journal) ≡ [] → result ≡ Ok tt }
         ensures frames { self.new.frames ≡ self.old.frames }
         ensures conduct { Conducts result self.old self.new outbox.old outbox.new }
@@ -223,9 +228,10 @@ impl World {
         self.session.waiting()
     }
 
-    /// How many frames were accepted.
+    /// How many frames were accepted. A world that isn't spent stands for a journal, wherever it comes from.
     pub fn frames(&self) -> u64
-        ensures { result ≡ self.now.frames }
+        ensures frames { result ≡ self.now.frames }
+        ensures stands { StandsForOne self.now }
     {
         self.frames
     }
