@@ -1,9 +1,14 @@
 -- What a server is behind the serving of its connections, where its watchers are told: what is left of it to settle can be settled.
-use Rattle.std.proofs.Common.{◌≡◌, ◌∙◌, ℕ, ◌+◌, ◌++◌, List, length, Contains, Option, Some, None, refl, sym, ap, subst, append_assoc, append-nil, arith}
-use Rattle.std.specs.Prelude.{IsSome}
+use Rattle.std.proofs.Common.{◌≡◌, ◌∙◌, ◌==◌, ◌<◌, ℕ, zero, suc, ◌+◌, ◌++◌, ◌||◌, Bool, true, false, List, [], ◌∷◌, length, Contains, Option, Some, None, nat_le, refl, sym, ap, subst, append_assoc, append-nil, arith, rules}
+use Rattle.std.specs.Prelude.{IsSome, if◌then◌else◌}
+use Rattle.std.proofs.lemmas.Bool.{eq-eqb}
 use Rattle.std.specs.FinMap as finite
 use Rattle.std.specs.Option.{option_map}
-use Rattle.fidl_names.specs.declared.methods.Handle.TheVariants.{Endpoint}
+use Rattle.fidl_names.specs.HandleNumber.{handle_with, number_of_handle}
+use Rattle.fidl_names.specs.declared.limits.TheConstants as limit
+use Rattle.fidl_names.specs.declared.methods.Handle.{Handle}
+use Rattle.fidl_names.specs.declared.methods.Handle.TheVariants.{Endpoint, Token}
+use Rattle.endpoint_link.specs.Numbering.{among}
 use Rattle.endpoint_link.specs.Frames.{spellings}
 use Rattle.io_messages.specs.Requests.{request_of}
 use Rattle.node_graph.specs.declared.nodes.NodeRef.{NodeRef}
@@ -13,7 +18,7 @@ use Rattle.conn_rules.specs.declared.changes.Changes.{Changes}
 use Rattle.conn_rules.specs.Births.{Connection, Position}
 use Rattle.conn_rules.specs.Served.{KeepsHolds, told_by}
 use Rattle.vfs_journal.specs.Entries.{message}
-use Rattle.vfs_journal.specs.Handles.{numbers_of}
+use Rattle.vfs_journal.specs.Handles.{AreByNumber, numbers_of}
 use Rattle.vfs_journal.specs.Outcomes.{Outcome}
 use Rattle.vfs_journal.specs.Output.{Begins}
 use Rattle.vfs_journal.specs.Serving.{Moment, outcome_of_read, outcome_of_sending}
@@ -33,7 +38,7 @@ use Rattle.watch_seats.specs.Telling.{told_of}
 use Rattle.vfs_server.specs.Watched.{first_of}
 use Rattle.vfs_server.proofs.Binding.{either_way, server_of, watches_there}
 use Rattle.vfs_server.proofs.Maps.{get_put}
-use Rattle.vfs_server.proofs.Servings.{at_server, can_be_told, is_asked, named_is, nothing_told_of, passes_over, serves_message, watched_at}
+use Rattle.vfs_server.proofs.Servings.{at_server, below, can_be_told, is_asked, named_is, nothing_told_of, passes_over, serves_message, watched_at}
 use Rattle.vfs_server.proofs.Settled.{settled}
 use Rattle.vfs_server.proofs.Sound.{sound_served}
 
@@ -41,13 +46,36 @@ pub begins_on : (before between after : List ℕ) → Begins before between → 
 begins_on before between after (one, is) (other, then_is) =
     (one ++ other, then_is ∙ ap (λ (bytes : List ℕ). bytes ++ other) is ∙ append_assoc before one other)
 
+-- an endpoint that comes with others is among their numbers, and no token
+came_low : (handles : List Handle) (n : ℕ) → AreByNumber handles → Contains handles (Endpoint n) → (among n (numbers_of handles) ≡ true) × (n < limit.FIRST_TOKEN)
+came_low [] n numbered (i, low, is) = absurd (omega (arith, low))
+came_low (h ∷ hs) n numbered (zero, low, is) =
+    let here : h ≡ Endpoint n = cc in
+    let number : number_of_handle h ≡ n = ap number_of_handle here in
+    let by_number : handle_with (number_of_handle h) ≡ h = cc in
+    let same : handle_with n ≡ Endpoint n = ap handle_with (sym number) ∙ by_number ∙ here in
+    (ap (λ b. b || among n (numbers_of hs)) (eq-eqb (number_of_handle h) n number), not_token (nat_le limit.FIRST_TOKEN n) refl same) where
+      not_token : (b : Bool) → nat_le limit.FIRST_TOKEN n ≡ b → (if b then Token n else Endpoint n) ≡ Endpoint n → n < limit.FIRST_TOKEN
+      not_token true is same = absurd (let wrong : Token n ≡ Endpoint n = same in search rules)
+      not_token false is same = below limit.FIRST_TOKEN n is
+came_low (h ∷ hs) n numbered (suc i, low, is) =
+    let rest : AreByNumber hs = cc in
+    let later = came_low hs n rest (i, omega (arith, low), is) in
+    (or_behind (number_of_handle h == n) (among n (numbers_of hs)) later.0, later.1) where
+      or_behind : (a b : Bool) → b ≡ true → (a || b) ≡ true
+      or_behind true b is = refl
+      or_behind false b is = is
+
 -- ---- what is left to settle
 
-module _ (old mid : Server) (moment : Moment) (outcome : Outcome) (before after : List ℕ) (token : Option ℕ) (sent : Message) (takes : CanTake old token sent) where
-  unseen : (deed : Deed) → HasAnswered moment outcome deed old mid before after → (endpoint : ℕ) → Contains sent.handles.now (Endpoint endpoint) → seen mid endpoint ≡ None
-  unseen deed answered endpoint came = answered.bound endpoint ∙ ap (option_map (moved moment.bound.endpoint outcome.position)) (takes.unbound endpoint came)
+module _ (old mid : Server) (moment : Moment) (outcome : Outcome) (before after : List ℕ) (endpoint : ℕ) (token : Option ℕ) (handles : List Handle) (numbered : AreByNumber handles)
+    (takes : CanTake old endpoint token (numbers_of handles)) where
+  unseen : (deed : Deed) → HasAnswered moment outcome deed old mid before after → (number : ℕ) → Contains handles (Endpoint number) → seen mid number ≡ None
+  unseen deed answered number came =
+      let low = came_low handles number numbered came in
+      answered.bound number ∙ ap (option_map (moved moment.bound.endpoint outcome.position)) (takes.unbound number low.0 low.1)
 
-  pub can_settle : (deed : Deed) → HasAnswered moment outcome deed old mid before after → ((endpoint : ℕ) → Takes deed endpoint → Contains sent.handles.now (Endpoint endpoint)) →
+  pub can_settle : (deed : Deed) → HasAnswered moment outcome deed old mid before after → ((number : ℕ) → Takes deed number → Contains handles (Endpoint number)) →
       ((next : ℕ) (directory : NodeRef) → deed ≡ deeds.Gives next directory → token ≡ Some next) → CanSettle mid deed
   can_settle deeds.Stays answered came next_is = tt
   can_settle deeds.Ends answered came next_is = tt
@@ -70,7 +98,7 @@ module _ (old mid : Server) (moment : Moment) (outcome : Outcome) (before after 
 
 module _ (index : ℕ) (graph changed : Kept) (connections now : Connections) (seats : Seats) (tokens : Tokens) (sound : IsSound graph connections seats tokens)
     (asking : Asking) (used : asking.connections ≡ finite.len connections + length seats) (who : asking.watching.now ≡ seats) (whose : asking.tokens.now ≡ tokens)
-    (sent : Message) (on : asking.endpoint ≡ sent.endpoint) (takes : CanTake (server_of index graph connections seats tokens) asking.token sent)
+    (sent : Message) (numbered : AreByNumber sent.handles.now) (takes : CanTake (server_of index graph connections seats tokens) asking.endpoint asking.token (numbers_of sent.handles.now))
     (deed : Deed) (changes : Changes) (before between : List ℕ)
     (served : (old : Connection) → finite.get connections asking.endpoint ≡ Some old →
     (new : Connection) × KeepsHolds old new graph changed × (now ≡ finite.insert connections asking.endpoint new) × CanTell asking sent.handles.now (done_with deed changes) new before between
@@ -117,7 +145,7 @@ module _ (index : ℕ) (graph changed : Kept) (connections now : Connections) (s
         subst (λ (then_ones : Connections). HasAnswered moment (outcome_of_sending moment (message_of sent)) deed old_one (server_of index changed then_ones seats tokens) before behind) (sym one.2)
         (serves_message index graph connections seats tokens asking (numbers_of sent.handles.now) moment old there used who here
         changed one.0 sent.bytes.now sent.handles.now done before between behind
-        refl takes.handles (sound.each asking.endpoint old there) one.1 ((sound_then old there).each asking.endpoint one.0 (get_put connections asking.endpoint one.0))
+        refl numbered (sound.each asking.endpoint old there) one.1 ((sound_then old there).each asking.endpoint one.0 (get_put connections asking.endpoint one.0))
         answers telling)
 
     on_watcher : (moment : Moment) → IsMomentOf old_one asking.endpoint asking.token (numbers_of sent.handles.now) moment → finite.get connections asking.endpoint ≡ None →
@@ -131,18 +159,14 @@ module _ (index : ℕ) (graph changed : Kept) (connections now : Connections) (s
         sent.bytes.now done before between behind (passed_over none) same.2
         (subst (λ (then_graph : Kept). behind ≡ between ++ spellings (first_of then_graph.edges deed ++ told_of seats (told_by changes))) same.1 telling)))
 
-    moment_here : (moment : Moment) → IsMomentOf old_one sent.endpoint asking.token (numbers_of sent.handles.now) moment → IsMomentOf old_one asking.endpoint asking.token (numbers_of sent.handles.now) moment
-    moment_here moment asked = subst (λ (endpoint : ℕ). IsMomentOf old_one endpoint asking.token (numbers_of sent.handles.now) moment) (sym on) asked
-
-    answered : (moment : Moment) → IsMomentOf old_one sent.endpoint asking.token (numbers_of sent.handles.now) moment →
+    answered : (moment : Moment) → IsMomentOf old_one asking.endpoint asking.token (numbers_of sent.handles.now) moment →
         HasAnswered moment (outcome_of_sending moment (message_of sent)) deed old_one mid_one before behind
     answered moment asked =
-        either_way _ (finite.get connections asking.endpoint) (on_connection moment (moment_here moment asked)) (on_watcher moment (moment_here moment asked))
+        either_way _ (finite.get connections asking.endpoint) (on_connection moment asked) (on_watcher moment asked)
 
     -- the moment speaks of this server
-    at_here : (moment : Moment) → IsMomentOf old_one sent.endpoint asking.token (numbers_of sent.handles.now) moment → index ≡ moment.bound.server
-    at_here moment asked =
-        let here = moment_here moment asked in
+    at_here : (moment : Moment) → IsMomentOf old_one asking.endpoint asking.token (numbers_of sent.handles.now) moment → index ≡ moment.bound.server
+    at_here moment here =
         either_way _ (finite.get connections asking.endpoint)
         (λ old there. at_server index graph connections seats tokens asking (numbers_of sent.handles.now) moment old there used who here)
         (λ none.
@@ -156,10 +180,10 @@ module _ (index : ℕ) (graph changed : Kept) (connections now : Connections) (s
         either_way _ (finite.get connections asking.endpoint)
         (λ old there.
         let one = served old there in
-        can_settle old_one mid_one moment _ before behind asking.token sent takes deed did one.3.taken one.3.next)
+        can_settle old_one mid_one moment _ before behind asking.endpoint asking.token sent.handles.now numbered takes deed did one.3.taken one.3.next)
         (λ none. subst (CanSettle mid_one) (sym (passed_over none).fate) tt)
 
-    pub serves_now : (new : Server) (fate : Fate) → Settles mid_one deed fate new → (moment : Moment) → IsMomentOf old_one sent.endpoint asking.token (numbers_of sent.handles.now) moment →
+    pub serves_now : (new : Server) (fate : Fate) → Settles mid_one deed fate new → (moment : Moment) → IsMomentOf old_one asking.endpoint asking.token (numbers_of sent.handles.now) moment →
         Serves moment (outcome_of_sending moment (message_of sent)) fate old_one new before behind
     serves_now new fate settles moment asked =
         settled moment _ deed fate old_one mid_one new before behind (answered moment asked) (at_here moment asked) settles

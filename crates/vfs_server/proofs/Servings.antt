@@ -92,7 +92,7 @@ of_watcher moment bytes numbers is = ap (λ p. outcome_of_message moment p bytes
 
 -- ---- room
 
-below : (limit_is n : ℕ) → nat_le limit_is n ≡ false → n < limit_is
+pub below : (limit_is n : ℕ) → nat_le limit_is n ≡ false → n < limit_is
 below limit_is n free =
     let least : limit_is ≤ n → ⊥ = λ over. grind (arith, nat_tests) in
     omega (arith, least)

@@ -1,8 +1,7 @@
 -- The serving of a message on an endpoint that is bound at a server.
-use Rattle.std.specs.Prelude.{◌≡◌, ℕ, ◌==◌, ◌+◌, ◌<◌, ◌≤◌, ◌^◌, ◌++◌, true, if◌then◌else◌, List, [], length, filter, count_by, option_to_list, Contains, Option, Some, None}
+use Rattle.std.specs.Prelude.{◌≡◌, ℕ, ◌==◌, ◌+◌, ◌<◌, ◌≤◌, ◌^◌, ◌++◌, true, if◌then◌else◌, List, [], length, filter, count_by, option_to_list, Option, Some, None}
 use Rattle.std.specs.FinMap as finite
 use Rattle.std.specs.Option.{option_map, option_map_or}
-use Rattle.fidl_names.specs.declared.methods.Handle.TheVariants.{Endpoint}
 use Rattle.fidl_names.specs.declared.limits.TheConstants as limit
 use Rattle.endpoint_link.specs.Frames.{Frame, spellings}
 use Rattle.endpoint_link.specs.Numbering.{among}
@@ -13,7 +12,7 @@ use Rattle.conn_rules.specs.declared.births.Room.{Room}
 use Rattle.conn_rules.specs.Births.{Position, fresh}
 use Rattle.conn_rules.specs.Nodes.{kind_here}
 use Rattle.vfs_journal.specs.Entries.{Sending, message}
-use Rattle.vfs_journal.specs.Handles.{AreByNumber, numbers_of}
+use Rattle.vfs_journal.specs.Handles.{numbers_of}
 use Rattle.vfs_journal.specs.Outcomes.{Given, Outcome}
 use Rattle.vfs_journal.specs.Serving.{Moment}
 use Rattle.vfs_journal.specs.Starts.{Bound}
@@ -49,14 +48,12 @@ pub record IsMomentOf (server : Server) (endpoint : ℕ) (token : Option ℕ) (h
 abbrev pub message_of : Message → Sending
 message_of sent = message sent.bytes.now (numbers_of sent.handles.now)
 
--- a server can take a message on an endpoint that is bound there, where this is the next token: no endpoint that comes with it is bound there,
--- and the token names nothing there and has room
-pub record CanTake (server : Server) (token : Option ℕ) (sent : Message) : Type 0 where
-  pub moment : (moment : Moment) × IsMomentOf server sent.endpoint token (numbers_of sent.handles.now) moment
-  pub handles : AreByNumber sent.handles.now
-  pub short : length sent.bytes.now ≤ limit.MAX_BYTES
+-- a server can take what has these handles on an endpoint that is bound there, where this is the next token: no endpoint that comes with it
+-- is bound there, and the token names nothing there and has room
+pub record CanTake (server : Server) (endpoint : ℕ) (token : Option ℕ) (handles : List ℕ) : Type 0 where
+  pub moment : (moment : Moment) × IsMomentOf server endpoint token handles moment
   pub made : server.graph.made < 2 ^ 63
-  pub unbound : (endpoint : ℕ) → Contains sent.handles.now (Endpoint endpoint) → seen server endpoint ≡ None
+  pub unbound : (number : ℕ) → among number handles ≡ true → number < limit.FIRST_TOKEN → seen server number ≡ None
   pub unnamed : (next : ℕ) → token ≡ Some next → named server next ≡ None
   pub room : (next : ℕ) → token ≡ Some next → finite.len server.tokens < limit.MAX_TOKENS
 

@@ -138,7 +138,9 @@ impl Server {
         out: &mut Out,
         outbox: &mut Outbox,
     ) -> Result<Fate<'a>, NoMemory>
-        requires can { CanTake self.old token message.now }
+        requires can { CanTake self.old message.now.endpoint token (numbers_of message.now.handles.now) }
+        requires handles { AreByNumber message.now.handles.now }
+        requires short { length message.now.bytes.now ≤ limit.MAX_BYTES }
         ensures serves { (moment : Moment) → IsMomentOf self.old message.now.endpoint token (numbers_of message.now.handles.now) moment →
             IfOk result (λ fate. Serves moment (outcome_of_sending moment (message_of message.now)) fate self.old self.new outbox.old outbox.new) }
         ensures no_memory { OnErr result (outbox.new ≡ outbox.old) }
@@ -163,7 +165,9 @@ impl Server {
         out: &mut Out,
         outbox: &mut Outbox,
     ) -> Result<Fate<'a>, NoMemory>
-        requires can { CanTake self.old token message.now }
+        requires can { CanTake self.old message.now.endpoint token (numbers_of message.now.handles.now) }
+        requires handles { AreByNumber message.now.handles.now }
+        requires short { length message.now.bytes.now ≤ limit.MAX_BYTES }
         ensures serves { (moment : Moment) → IsMomentOf self.old message.now.endpoint token (numbers_of message.now.handles.now) moment →
             IfOk result (λ fate. Serves moment (outcome_of_sending moment (message_of message.now)) fate self.old self.new outbox.old outbox.new) }
         ensures front { OnErr result (Begins outbox.old outbox.new) }

@@ -14,7 +14,7 @@ use Rattle.vfs_server.proofs.server.Server.act.Goals as goal
 
 pub serve-requires-clause-can : goal.serve-requires-clause-can
 serve-requires-clause-can c connection there =
-    let takes = subst (λ (server : Server). CanTake server c.args.token c.args.message.now) (sym c.self.view_is) c.requires.can in
+    let takes = subst (λ (server : Server). CanTake server c.args.message.now.endpoint c.args.token (numbers_of c.args.message.now.handles.now)) (sym c.self.view_is) c.requires.can in
     record {
       tree = (takes.moment.0.tree, takes.moment.1.tree);
       made = takes.made;
@@ -43,12 +43,12 @@ invariant_of-self-2 c =
 
 pub tell-requires : goal.tell-requires
 tell-requires c =
-    let takes = subst (λ (server : Server). CanTake server c.args.token c.args.message.now) (sym c.self.view_is) c.requires.can in
+    let takes = subst (λ (server : Server). CanTake server c.args.message.now.endpoint c.args.token (numbers_of c.args.message.now.handles.now)) (sym c.self.view_is) c.requires.can in
     let used = c.connections.ensures ∙ ap in_use (sym c.self.view_is) ∙ in_use_is c.self.inside.index c.self.inside.graph c.self.inside.connections c.self.inside.watching c.self.inside.tokens in
     record {
       can =
           can_tell_now c.self.inside.index c.self.inside.graph c.serve.new.graph c.self.inside.connections c.serve.new.self c.self.inside.watching c.self.inside.tokens c.self.invariant
-          _ used refl refl c.args.message.now refl takes c.in_ok-deed.deed c.serve.new.changes c.args.outbox.now c.serve.new.outbox
+          _ used refl refl c.args.message.now c.requires.handles takes c.in_ok-deed.deed c.serve.new.changes c.args.outbox.now c.serve.new.outbox
           c.in_ok-deed.ensures.served c.in_ok-deed.ensures.passed_over c.in_ok-deed.ensures.unchanged;
     }
 
@@ -57,47 +57,47 @@ returns-in_err-deed-clause-front c = for_want c.from_residual.result ([], c.in_e
 
 pub returns-in_err-tell-clause-front : goal.returns-in_err-tell-clause-front
 returns-in_err-tell-clause-front c =
-    let takes = subst (λ (server : Server). CanTake server c.args.token c.args.message.now) (sym c.self.view_is) c.requires.can in
+    let takes = subst (λ (server : Server). CanTake server c.args.message.now.endpoint c.args.token (numbers_of c.args.message.now.handles.now)) (sym c.self.view_is) c.requires.can in
     let used = c.connections.ensures ∙ ap in_use (sym c.self.view_is) ∙ in_use_is c.self.inside.index c.self.inside.graph c.self.inside.connections c.self.inside.watching c.self.inside.tokens in
     for_want c.from_residual-in_err-tell.result
     (begins_on c.args.outbox.now c.serve.new.outbox c.tell.new.outbox
     (begins_now c.self.inside.index c.self.inside.graph c.serve.new.graph c.self.inside.connections c.serve.new.self c.self.inside.watching c.self.inside.tokens c.self.invariant
-    _ used refl refl c.args.message.now refl takes c.in_ok-deed.deed c.serve.new.changes c.args.outbox.now c.serve.new.outbox
+    _ used refl refl c.args.message.now c.requires.handles takes c.in_ok-deed.deed c.serve.new.changes c.args.outbox.now c.serve.new.outbox
     c.in_ok-deed.ensures.served c.in_ok-deed.ensures.passed_over c.in_ok-deed.ensures.unchanged)
     c.in_err-tell.ensures.front)
 
 pub settle-requires : goal.settle-requires
 settle-requires c =
-    let takes = subst (λ (server : Server). CanTake server c.args.token c.args.message.now) (sym c.self.view_is) c.requires.can in
+    let takes = subst (λ (server : Server). CanTake server c.args.message.now.endpoint c.args.token (numbers_of c.args.message.now.handles.now)) (sym c.self.view_is) c.requires.can in
     let used = c.connections.ensures ∙ ap in_use (sym c.self.view_is) ∙ in_use_is c.self.inside.index c.self.inside.graph c.self.inside.connections c.self.inside.watching c.self.inside.tokens in
     record {
       can =
           can_settle_now c.self.inside.index c.self.inside.graph c.serve.new.graph c.self.inside.connections c.serve.new.self c.self.inside.watching c.self.inside.tokens c.self.invariant
-          _ used refl refl c.args.message.now refl takes c.in_ok-deed.deed c.serve.new.changes c.args.outbox.now c.serve.new.outbox
+          _ used refl refl c.args.message.now c.requires.handles takes c.in_ok-deed.deed c.serve.new.changes c.args.outbox.now c.serve.new.outbox
           c.in_ok-deed.ensures.served c.in_ok-deed.ensures.passed_over c.in_ok-deed.ensures.unchanged c.tell.new.outbox c.in_ok-tell.ensures.told;
     }
 
 pub returns-clause-serves : goal.returns-clause-serves
 returns-clause-serves c moment asked =
-    let takes = subst (λ (server : Server). CanTake server c.args.token c.args.message.now) (sym c.self.view_is) c.requires.can in
+    let takes = subst (λ (server : Server). CanTake server c.args.message.now.endpoint c.args.token (numbers_of c.args.message.now.handles.now)) (sym c.self.view_is) c.requires.can in
     let used = c.connections.ensures ∙ ap in_use (sym c.self.view_is) ∙ in_use_is c.self.inside.index c.self.inside.graph c.self.inside.connections c.self.inside.watching c.self.inside.tokens in
     let here = subst (λ (server : Server). IsMomentOf server c.args.message.now.endpoint c.args.token (numbers_of c.args.message.now.handles.now) moment) (sym c.self.view_is) asked in
     ok_map _ _ c.settle.result
     (λ fate settles.
     subst (λ (server : Server). Serves moment (outcome_of_sending moment (message_of c.args.message.now)) fate server c.settle.new.self c.args.outbox.now c.tell.new.outbox) c.self.view_is
     (serves_now c.self.inside.index c.self.inside.graph c.serve.new.graph c.self.inside.connections c.serve.new.self c.self.inside.watching c.self.inside.tokens c.self.invariant
-    _ used refl refl c.args.message.now refl takes c.in_ok-deed.deed c.serve.new.changes c.args.outbox.now c.serve.new.outbox
+    _ used refl refl c.args.message.now c.requires.handles takes c.in_ok-deed.deed c.serve.new.changes c.args.outbox.now c.serve.new.outbox
     c.in_ok-deed.ensures.served c.in_ok-deed.ensures.passed_over c.in_ok-deed.ensures.unchanged c.tell.new.outbox c.in_ok-tell.ensures.told
     c.settle.new.self fate settles moment here))
     c.settle.ensures
 
 pub returns-clause-front : goal.returns-clause-front
 returns-clause-front c =
-    let takes = subst (λ (server : Server). CanTake server c.args.token c.args.message.now) (sym c.self.view_is) c.requires.can in
+    let takes = subst (λ (server : Server). CanTake server c.args.message.now.endpoint c.args.token (numbers_of c.args.message.now.handles.now)) (sym c.self.view_is) c.requires.can in
     let used = c.connections.ensures ∙ ap in_use (sym c.self.view_is) ∙ in_use_is c.self.inside.index c.self.inside.graph c.self.inside.connections c.self.inside.watching c.self.inside.tokens in
     for_want c.settle.result
     (begins_on c.args.outbox.now c.serve.new.outbox c.tell.new.outbox
     (begins_now c.self.inside.index c.self.inside.graph c.serve.new.graph c.self.inside.connections c.serve.new.self c.self.inside.watching c.self.inside.tokens c.self.invariant
-    _ used refl refl c.args.message.now refl takes c.in_ok-deed.deed c.serve.new.changes c.args.outbox.now c.serve.new.outbox
+    _ used refl refl c.args.message.now c.requires.handles takes c.in_ok-deed.deed c.serve.new.changes c.args.outbox.now c.serve.new.outbox
     c.in_ok-deed.ensures.served c.in_ok-deed.ensures.passed_over c.in_ok-deed.ensures.unchanged)
     (_, c.in_ok-tell.ensures.told))
