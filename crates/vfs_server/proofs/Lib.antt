@@ -8,6 +8,7 @@ pub mod Walking
 pub mod Acting
 pub mod Looked
 pub mod Allowed
+pub mod Taken
 pub mod Carried
 pub mod Handed
 pub mod Giving
@@ -20,5 +21,6 @@ pub mod Binding
 pub mod Naming
 pub mod Servings
 pub mod Settled
+pub mod Acted
 pub mod Begins
 pub mod Begun

@@ -92,7 +92,7 @@ of_watcher moment bytes numbers is = ap (λ p. outcome_of_message moment p bytes
 
 -- ---- room
 
-below : (limit_is n : ℕ) → nat_le limit_is n ≡ false → n < limit_is
+pub below : (limit_is n : ℕ) → nat_le limit_is n ≡ false → n < limit_is
 below limit_is n free =
     let least : limit_is ≤ n → ⊥ = λ over. grind (arith, nat_tests) in
     omega (arith, least)
@@ -315,8 +315,8 @@ module _ (index : ℕ) (graph : Kept) (connections : Connections) (seats : Seats
 
 -- ---- what can be told
 
-pub can_be_told : (changed : Kept) (new : Connection) (done : Done) (before after : List ℕ) → CanBeBound changed new.birth → CanTell done new before after → CanBeTold changed done
-can_be_told changed new done before after can tells = record {
+pub can_be_told : (asking : Asking) (sent : List Handle) (changed : Kept) (new : Connection) (done : Done) (before after : List ℕ) → CanBeBound changed new.birth → CanTell asking sent done new before after → CanBeTold changed done
+can_be_told asking sent changed new done before after can tells = record {
   directory = λ object mask directory is.
       let on = tells.directory object mask directory is in
       subst (IsDirectory changed) on.node (is_directory changed new.birth can on.protocol);
@@ -328,22 +328,6 @@ nothing_told_of graph done passed = record {
   directory = λ object mask directory is. absurd (let wrong : deeds.Stays ≡ deeds.Watches object directory mask = sym passed.fate ∙ is in search rules);
   short = subst (All IsShort) (sym passed.told) (All-nil IsShort);
 }
-
--- what was written stands in front, or nothing was written
-pub front_of : {E : Type 0} (result : Result Done E) (new : Connection) (before after : List ℕ) → IfOk result (λ done. CanTell done new before after) → OnErr result (after ≡ before) → Begins before after
-front_of (Ok done) new before after tells none = tells.front
-front_of (Err e) new before after tells none = ([], none ∙ sym (append-nil before))
-
--- on a connection that is sound behind its serving
-pub can_of : {E : Type 0} (graph changed : Kept) (connections : Connections) (seats : Seats) (tokens : Tokens) (endpoint : ℕ) → IsSound graph connections seats tokens → (old new : Connection) →
-    finite.get connections endpoint ≡ Some old → KeepsHolds old new graph changed → (done_of : Deed → Done) (result : Result Deed E) (before after : List ℕ) → IfOk result (λ fate. CanTell (done_of fate) new before after) →
-    IfOk result (λ fate. CanBeTold changed (done_of fate))
-can_of graph changed connections seats tokens endpoint sound old new there keeps done_of result before after tells =
-    let behind = sound_served graph changed connections seats tokens endpoint old new sound there keeps in
-    ok_map _ _ result (λ fate told. can_be_told changed new (done_of fate) before after (behind.each endpoint new (get_put connections endpoint new)) told) tells
-
-pub none_of : {E : Type 0} (changed : Kept) (done_of : Deed → Done) (result : Result Deed E) → IfOk result (λ fate. IsPassedOver (done_of fate)) → IfOk result (λ fate. CanBeTold changed (done_of fate))
-none_of changed done_of result passed = ok_map _ _ result (λ fate over. nothing_told_of changed (done_of fate) over) passed
 
 pub ok_at : {X E : Type 0} (P : X → Type 0) (r : Result X E) (x : X) → r ≡ Ok x → IfOk r P → P x
 ok_at P r x is holds = subst (λ one. IfOk one P) is holds

@@ -1,8 +1,7 @@
 -- The serving of a message on an endpoint that is bound at a server.
-use Rattle.std.specs.Prelude.{◌≡◌, ℕ, ◌==◌, ◌+◌, ◌<◌, ◌++◌, true, if◌then◌else◌, List, [], length, filter, count_by, option_to_list, Option, Some, None}
+use Rattle.std.specs.Prelude.{◌≡◌, ℕ, ◌==◌, ◌+◌, ◌<◌, ◌≤◌, ◌^◌, ◌++◌, true, if◌then◌else◌, List, [], length, filter, count_by, option_to_list, Option, Some, None}
 use Rattle.std.specs.FinMap as finite
 use Rattle.std.specs.Option.{option_map, option_map_or}
-use Rattle.fidl_names.specs.HandleNumber.{is_client}
 use Rattle.fidl_names.specs.declared.limits.TheConstants as limit
 use Rattle.endpoint_link.specs.Frames.{Frame, spellings}
 use Rattle.endpoint_link.specs.Numbering.{among}
@@ -49,9 +48,12 @@ pub record IsMomentOf (server : Server) (endpoint : ℕ) (token : Option ℕ) (h
 abbrev pub message_of : Message → Sending
 message_of sent = message sent.bytes.now (numbers_of sent.handles.now)
 
--- what a server takes: no endpoint that comes with it is bound here, and the next token, if there is one, names nothing here and has room
-pub record CanTake (server : Server) (token : Option ℕ) (handles : List ℕ) : Type 0 where
-  pub unbound : (endpoint : ℕ) → among endpoint (filter is_client handles) ≡ true → seen server endpoint ≡ None
+-- a server can take what has these handles on an endpoint that is bound there, where this is the next token: no endpoint that comes with it
+-- is bound there, and the token names nothing there and has room
+pub record CanTake (server : Server) (endpoint : ℕ) (token : Option ℕ) (handles : List ℕ) : Type 0 where
+  pub moment : (moment : Moment) × IsMomentOf server endpoint token handles moment
+  pub made : server.graph.made < 2 ^ 63
+  pub unbound : (number : ℕ) → among number handles ≡ true → number < limit.FIRST_TOKEN → seen server number ≡ None
   pub unnamed : (next : ℕ) → token ≡ Some next → named server next ≡ None
   pub room : (next : ℕ) → token ≡ Some next → finite.len server.tokens < limit.MAX_TOKENS
 

@@ -1,12 +1,12 @@
 -- Words of the steps of a serving: who asks, what a connection gives, and what is done with it. No public clause needs these.
-use Rattle.std.specs.Prelude.{◌≡◌, ◌≢◌, ◌<◌, ℕ, true, false, nat_le, All, List, [], ◌∷◌, ◌++◌, length, filter, Option, Some, None, option_and_then}
+use Rattle.std.specs.Prelude.{◌≡◌, ◌≢◌, ◌<◌, ◌^◌, ℕ, true, false, nat_le, All, Contains, List, [], ◌∷◌, ◌++◌, length, filter, Option, Some, None, option_and_then}
 use Rattle.std.specs.FinMap as finite
 use Rattle.std.specs.Option.{option_map}
 use Rattle.std.specs.Str.{IsUtf8}
 use Rattle.fidl_names.specs.HandleNumber.{end_of_mount}
 use Rattle.fidl_names.specs.declared.limits.TheConstants as limit
 use Rattle.fidl_names.specs.declared.methods.Handle.{Handle}
-use Rattle.fidl_names.specs.declared.methods.Handle.TheVariants.{Token}
+use Rattle.fidl_names.specs.declared.methods.Handle.TheVariants.{Endpoint, Token}
 use Rattle.fidl_names.specs.declared.methods.Method.TheVariants as method
 use Rattle.fidl_wire.specs.Written.{Written}
 use Rattle.endpoint_link.specs.Frames.{Frame, frame_with, spellings}
@@ -15,7 +15,10 @@ use Rattle.endpoint_link.specs.declared.kinds.FrameKind.TheVariants as kind
 use Rattle.io_messages.specs.declared.protocols.Protocol.TheVariants as protocol
 use Rattle.io_messages.specs.declared.requests.RequestFault.{RequestFault}
 use Rattle.io_messages.specs.declared.requests.RequestFault.TheVariants.{UnknownTwoWay}
-use Rattle.io_messages.specs.Asked.{Asked}
+use Rattle.io_messages.specs.Asked.{Asked, method_of}
+use Rattle.io_messages.specs.Protocols.{has_method}
+use Rattle.io_messages.specs.Requests.{has_txid}
+use Rattle.io_messages.specs.Shapes.{is_one_way}
 use Rattle.io_messages.specs.Asked as asks
 use Rattle.io_messages.specs.declared.protocols.Protocol.{Protocol}
 use Rattle.io_messages.specs.Replies.{done, payload, settled}
@@ -23,7 +26,9 @@ use Rattle.io_messages.specs.ReplyWriting.{PayloadFits}
 use Rattle.io_messages.specs.Tokens.{token_of}
 use Rattle.node_graph.specs.declared.nodes.NodeRef.{NodeRef}
 use Rattle.node_graph.specs.Graph.{Kept, Leads, SameHolds, StandsFor, number_of}
-use Rattle.node_graph.specs.Tree.{Change, stay}
+use Rattle.node_graph.specs.Tree.{Change, Tree, stay}
+use Rattle.conn_rules.specs.Acts.{act_of}
+use Rattle.conn_rules.specs.Contexts.{context_of}
 use Rattle.conn_rules.specs.Answers.{Act, Answer, Happening, nothing_told, replies, closes, binds, watches, forwards, refuses, ends}
 use Rattle.conn_rules.specs.Births.{Connection, born, connection_with, fresh}
 use Rattle.conn_rules.specs.declared.births.Birth as code
@@ -56,7 +61,7 @@ use Rattle.vfs_server.specs.declared.given.Given.{Given}
 use Rattle.vfs_server.specs.declared.given.Given.TheVariants as given
 use Rattle.vfs_server.specs.Binding.{Binds, CanName, CanWatch, HasPlace, IsDirectory, NamesBy}
 use Rattle.vfs_server.specs.Effects.{Effects, effects_of, effects_done, no_effects}
-use Rattle.vfs_server.specs.Kept.{Tokens}
+use Rattle.vfs_server.specs.Kept.{NameDirectories, Tokens}
 use Rattle.vfs_server.specs.Servers.{Server, bound_with, in_use, seen, watcher_with}
 use Rattle.vfs_server.specs.Serving.{HasMount, frames_here}
 use Rattle.watch_seats.specs.Seats.{Seats, is_at}
@@ -257,6 +262,26 @@ abbrev pub looked_at : Asked → Room → Room
 looked_at (asks.watch mask options watcher) room = room
 looked_at _ room = record room { watchers = 0 }
 
+-- what a request on a connection does, with what is in use
+abbrev pub act_asked : Asking → Connection → Tree → (ℕ → Option ℕ) → Asked → Act
+act_asked asking connection tree directory request =
+    act_of (context_of connection (room_for asking (number_of connection.birth.node)) tree directory) request
+
+-- what each step of a serving on a connection stands on: the graph stands for a tree, has the connection's node, and can make more; tokens
+-- name directories of it; and nothing is to be told yet
+pub record CanServe (asking : Asking) (graph : Kept) (changes : Changes) (connection : Connection) : Type 0 where
+  pub tree : (tree : Tree) × StandsFor graph tree
+  pub made : graph.made < 2 ^ 63
+  pub node : CanBeBound graph connection.birth
+  pub directories : NameDirectories graph asking.tokens.now
+  pub none : told_by changes ≡ nothing_told
+
+-- a request of this protocol
+pub record IsRequestTo (p : Protocol) (id : ℕ) (request : Asked) : Type 0 where
+  pub method : has_method p (method_of request) ≡ true
+  pub txid : has_txid (is_one_way (method_of request)) id ≡ true
+  pub echo : CanEcho p request
+
 -- a moment of the serving on a connection at this server, over this graph
 pub record IsAskedAt (server : ℕ) (asking : Asking) (graph : Kept) (connection : Connection) (moment : Moment) : Type 0 where
   pub bound : moment.bound ≡ bound_with server asking.endpoint connection.birth
@@ -296,11 +321,20 @@ pub record Answers (moment : Moment) (outcome : Outcome) (done : Done) (new : Co
   pub given : (token : ℕ) (directory : NodeRef) → done.fate ≡ deeds.Gives token directory → IsOnDirectory directory new
   pub mounted : (mount object flags : ℕ) (rest : List (List ℕ)) → done.fate ≡ deeds.Forwards mount object flags rest → HasMount moment.tree mount
 
--- watchers can be told of what was done on a connection, behind what was written of it
-pub record CanTell (done : Done) (connection : Connection) (before after : List ℕ) : Type 0 where
+-- the endpoint that a deed binds, as a watcher or another
+abbrev pub Takes : Deed → ℕ → Type 0
+Takes (deeds.Binds object birth) endpoint = object ≡ endpoint
+Takes (deeds.Watches object directory mask) endpoint = object ≡ endpoint
+Takes _ endpoint = ⊥
+
+-- watchers can be told of what was done on a connection, behind what was written of it; who is to be bound came with the message, and the token
+-- that is given is the next one
+pub record CanTell (asking : Asking) (handles : List Handle) (done : Done) (connection : Connection) (before after : List ℕ) : Type 0 where
   pub front : Begins before after
   pub directory : (object mask : ℕ) (directory : NodeRef) → done.fate ≡ deeds.Watches object directory mask → IsOnDirectory directory connection
   pub short : All IsShort done.told
+  pub taken : (endpoint : ℕ) → Takes done.fate endpoint → Contains handles (Endpoint endpoint)
+  pub next : (token : ℕ) (directory : NodeRef) → done.fate ≡ deeds.Gives token directory → asking.token ≡ Some token
 
 -- nothing was done
 pub record IsPassedOver (done : Done) : Type 0 where

@@ -16,11 +16,14 @@ ghost use Rattle.vfs_server.specs.Holding.{HoldsAt};
 ghost use Rattle.vfs_server.specs.KeptNodes.{kept_in};
 ghost use Rattle.vfs_server.specs.Servers.{bound_with, in_use, named, seen, watcher_with};
 ghost use Rattle.vfs_server.specs.Serving.{CanTake, IsMomentOf, Serves, message_of};
+ghost use Rattle.vfs_server.specs.Steps.{CanSettle, Settles};
+ghost use Rattle.vfs_journal.specs.Output.{Begins};
 
 use crate::asking::Asking;
 use crate::beginning;
 use crate::connection::Connection;
 use crate::connections::Connections;
+use crate::deed::Deed;
 use crate::fate::Fate;
 use crate::message::Message;
 use crate::telling::tell;
@@ -135,16 +138,101 @@ impl Server {
         out: &mut Out,
         outbox: &mut Outbox,
     ) -> Result<Fate<'a>, NoMemory>
-        requires moment { (moment : Moment) × IsMomentOf self.old message.now.endpoint token (numbers_of message.now.handles.now) moment }
-        requires takes { CanTake self.old token (numbers_of message.now.handles.now) }
+        requires can { CanTake self.old message.now.endpoint token (numbers_of message.now.handles.now) }
         requires handles { AreByNumber message.now.handles.now }
         requires short { length message.now.bytes.now ≤ limit.MAX_BYTES }
-        requires made { self.old.graph.made < 2 ^ 63 }
         ensures serves { (moment : Moment) → IsMomentOf self.old message.now.endpoint token (numbers_of message.now.handles.now) moment →
             IfOk result (λ fate. Serves moment (outcome_of_sending moment (message_of message.now)) fate self.old self.new outbox.old outbox.new) }
         ensures no_memory { OnErr result (outbox.new ≡ outbox.old) }
     {
-        Err(NoMemory)
+        let len = outbox.len();
+        match self.act(ordinals, token, message, out, outbox) {
+            Ok(fate) => Ok(fate),
+            Err(_) => {
+                outbox.truncate(len);
+                Err(NoMemory)
+            }
+        }
+    }
+
+    /// Serves a message, as `serve` does. For want of memory a front of the frames is written.
+    #[inline(always)]
+    fn act<'a>(
+        &mut self,
+        ordinals: &Ordinals,
+        token: Option<u32>,
+        message: &Message<'a>,
+        out: &mut Out,
+        outbox: &mut Outbox,
+    ) -> Result<Fate<'a>, NoMemory>
+        requires can { CanTake self.old message.now.endpoint token (numbers_of message.now.handles.now) }
+        requires handles { AreByNumber message.now.handles.now }
+        requires short { length message.now.bytes.now ≤ limit.MAX_BYTES }
+        ensures serves { (moment : Moment) → IsMomentOf self.old message.now.endpoint token (numbers_of message.now.handles.now) moment →
+            IfOk result (λ fate. Serves moment (outcome_of_sending moment (message_of message.now)) fate self.old self.new outbox.old outbox.new) }
+        ensures front { OnErr result (Begins outbox.old outbox.new) }
+    {
+        let asking = Asking {
+            ordinals,
+            endpoint: message.endpoint,
+            connections: self.connections(),
+            watching: &self.watching,
+            tokens: &self.tokens,
+            token,
+        };
+        let mut changes = Changes::none();
+        let deed = self.connections.serve(
+            &asking,
+            message,
+            &mut self.graph,
+            out,
+            outbox,
+            &mut changes,
+        )?;
+        tell(&self.watching, &self.graph, &deed, &changes, outbox)?;
+        self.settle(deed)
+    }
+
+    /// Does what a deed leaves to do with endpoints and tokens, and tells it. A birth that comes with a hold of its
+    /// own, as that of a file without a name will, is to be bound here: nothing looks at who holds what between the
+    /// change of the tree and this.
+    #[inline(always)]
+    fn settle<'a>(&mut self, deed: Deed<'a>) -> Result<Fate<'a>, NoMemory>
+        requires can { CanSettle self.old deed }
+        ensures { IfOk result (λ fate. Settles self.old deed.entry fate self.new) }
+    {
+        match deed {
+            Deed::Stays => Ok(Fate::Stays),
+            Deed::Ends => Ok(Fate::Ends),
+            Deed::Binds { object, birth } => {
+                self.bind(object, birth)?;
+                Ok(Fate::Binds { object })
+            }
+            Deed::Watches {
+                object,
+                directory,
+                mask,
+            } => {
+                self.watch(object, directory, mask)?;
+                Ok(Fate::Binds { object })
+            }
+            Deed::Refuses { object } => Ok(Fate::Refuses { object }),
+            Deed::Forwards {
+                mount,
+                object,
+                flags,
+                rest,
+            } => Ok(Fate::Forwards {
+                mount,
+                object,
+                flags,
+                rest,
+            }),
+            Deed::Gives { token, directory } => {
+                self.give(token, directory)?;
+                Ok(Fate::Gives { token })
+            }
+        }
     }
 
     /// Serves the request for a part of a file on an endpoint, where that is bound to a file here: its reply is

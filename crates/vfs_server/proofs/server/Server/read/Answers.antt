@@ -62,6 +62,7 @@ asking c token = record {
   endpoint = c.args.endpoint;
   connections = finite.len c.self.inside.connections + length c.self.inside.watching;
   watching = record { ref_ptr = c.args.self.ref_ptr; now = c.self.inside.watching };
+  tokens = record { ref_ptr = c.args.self.ref_ptr; now = c.self.inside.tokens };
   token = token;
 }
 
