@@ -17,8 +17,8 @@ use Rattle.vfs_journal.specs.View.{moved}
 use Rattle.vfs_server.specs.declared.fate.Fate.{Fate}
 use Rattle.vfs_server.specs.declared.fate.Fate.TheVariants as fates
 use Rattle.vfs_server.specs.Servers.{Server, connected, seen, seen_as}
-use Rattle.vfs_server.specs.Serving.{IsMomentOf, Serves}
-use Rattle.vfs_world.specs.ServingSteps.{Answers, CanServe}
+use Rattle.vfs_server.specs.Serving.{CanTake, IsMomentOf, Serves}
+use Rattle.vfs_world.specs.ServingSteps.{Answers}
 
 pub set_same : {X : Type 0} (xs : List X) (i : ℕ) (x : X) → slice_get xs i ≡ Some x → xs ≡ set xs i x
 set_same [] i x e = absurd (cc)
@@ -36,9 +36,9 @@ if_ok (Err e) f h = h
 -- ---- a message
 
 -- the next token as it is told, and the handles of the message
-pub can_serve : (one : Server) (endpoint : ℕ) (token next : Option ℕ) (sending : Sending) (bytes handles : List ℕ) → CanServe one endpoint next (handles_of sending) → token ≡ next → sending ≡ message bytes handles → CanServe one endpoint token handles
-can_serve one endpoint token next sending bytes handles can same is =
-    subst (λ (t : Option ℕ). CanServe one endpoint t handles) (sym same) (subst (λ (s : Sending). CanServe one endpoint next (handles_of s)) is can)
+pub can_take : (one : Server) (endpoint : ℕ) (token next : Option ℕ) (sending : Sending) (bytes handles : List ℕ) → CanTake one endpoint next (handles_of sending) → token ≡ next → sending ≡ message bytes handles → CanTake one endpoint token handles
+can_take one endpoint token next sending bytes handles can same is =
+    subst (λ (t : Option ℕ). CanTake one endpoint t handles) (sym same) (subst (λ (s : Sending). CanTake one endpoint next (handles_of s)) is can)
 
 pub served_answers : (servers : List Server) (at endpoint : ℕ) (token next : Option ℕ) (sent : Sent) (one now : Server) (before after : List ℕ) (r : Result Fate NoMemory) (sending : Sending) → slice_get servers at ≡ Some one →
     sent.sending ≡ sending → next ≡ token →

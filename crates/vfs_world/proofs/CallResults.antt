@@ -1,5 +1,5 @@
 -- What a call's result tells.
-use Rattle.std.proofs.Common.{◌≡◌, ◌∙◌, ◌⊎◌, ℕ, List, [], append-nil, Option, Some, None, Result, Ok, Err, MatchOption, inl, inr, ap, refl, sym}
+use Rattle.std.proofs.Common.{◌≡◌, ◌∙◌, ℕ, List, [], append-nil, Result, Ok, Err, ap, sym}
 use Rattle.std.specs.Result.{OnErr, OnOk}
 use Rattle.fidl_names.specs.declared.memory.NoMemory.{NoMemory}
 use Rattle.vfs_journal.specs.Output.{Begins}

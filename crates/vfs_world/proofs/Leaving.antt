@@ -21,6 +21,15 @@ use Rattle.journal_laws.proofs.Spent.{IsSpentBy, carry, left_in, spent_by, waits
 use Rattle.journal_laws.proofs.Spreading.{among_back, among_front}
 use Rattle.vfs_world.proofs.Outs.{Rising}
 
+-- ---- what is carried by one of many
+
+pub many_carry : (n : ℕ) (x : Sent) (ones : List Sent) → Contains ones x → among n (handles_of x.sending) ≡ true → among n (flat_map (λ sent. handles_of sent.sending) ones) ≡ true
+many_carry n x [] p h = absurd (contains_none x p)
+many_carry n x (one ∷ ones) p h = by_place (λ q. many_carry n x ones q h) (contains_cases x one ones p) where
+  by_place : (Contains ones x → among n (flat_map (λ sent. handles_of sent.sending) ones) ≡ true) → (one ≡ x) ⊎ Contains ones x → among n (handles_of one.sending ++ flat_map (λ sent. handles_of sent.sending) ones) ≡ true
+  by_place rest (inl e) = among_front n (handles_of one.sending) (flat_map (λ sent. handles_of sent.sending) ones) (ap (λ (s : Sent). among n (handles_of s.sending)) e ∙ h)
+  by_place rest (inr q) = among_back n (handles_of one.sending) (flat_map (λ sent. handles_of sent.sending) ones) (rest q)
+
 -- ---- the next token
 
 next_by : (out given : ℕ) (n : ℕ) (b : Bool) → (if b then None else Some (limit.FIRST_TOKEN + given)) ≡ Some n → n ≡ limit.FIRST_TOKEN + given
@@ -95,13 +104,6 @@ module _ (view : View) (sent : Sent) (fit : IsFit view) (first : head_in view se
   held_then = view.held ++ option_to_list (outcome_in view sent).token
 
   -- what is spent was held no more
-  many_carry : (n : ℕ) (x : Sent) (ones : List Sent) → Contains ones x → among n (handles_of x.sending) ≡ true → among n (flat_map (λ sent. handles_of sent.sending) ones) ≡ true
-  many_carry n x [] p h = absurd (contains_none x p)
-  many_carry n x (one ∷ ones) p h = by_place (λ q. many_carry n x ones q h) (contains_cases x one ones p) where
-    by_place : (Contains ones x → among n (flat_map (λ sent. handles_of sent.sending) ones) ≡ true) → (one ≡ x) ⊎ Contains ones x → among n (handles_of one.sending ++ flat_map (λ sent. handles_of sent.sending) ones) ≡ true
-    by_place rest (inl e) = among_front n (handles_of one.sending) (flat_map (λ sent. handles_of sent.sending) ones) (ap (λ (s : Sent). among n (handles_of s.sending)) e ∙ h)
-    by_place rest (inr q) = among_back n (handles_of one.sending) (flat_map (λ sent. handles_of sent.sending) ones) (rest q)
-
   carried_by : (n : ℕ) → IsSpentBy view sent n → (list_any (λ given. given.token == n) view.given ≡ true) × (is_held_in view n ≡ false)
   carried_by n by = by_kind (fit.carried n (many_carry n by.one view.waiting by.waits by.carries)) where
     by_kind : (is_client n ≡ true) ⊎ ((list_any (λ given. given.token == n) view.given ≡ true) × (is_held_in view n ≡ false)) → (list_any (λ given. given.token == n) view.given ≡ true) × (is_held_in view n ≡ false)

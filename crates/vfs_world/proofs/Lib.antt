@@ -1,48 +1,48 @@
-pub mod Between
-pub mod PlacesLeft
-pub mod ServerSteps
-pub mod Outs
-pub mod LettingGo
-pub mod Moments
-pub mod EachServer
-pub mod Leaving
-pub mod Telling
-pub mod QueueSteps
-pub mod Spending
-pub mod Then
-pub mod AllGone
-pub mod Forgotten
-pub mod OneServed
-pub mod HeadServed
-pub mod Heard
-pub mod Lasting
-pub mod Chosen
-pub mod Times
-pub mod Counted
-pub mod Answered
-pub mod Ending
-pub mod Sorted
-pub mod Carried
-pub mod Serves
-pub mod Mounts
-pub mod Room
-pub mod Ready
-pub mod NoneDie
-pub mod Quiet
-pub mod Alone
-pub mod Taken
-pub mod Halves
-pub mod OneMore
-pub mod ReadTaken
-pub mod Spared
-pub mod Unbound
-pub mod CallResults
-pub mod Conduct
-pub mod Hearing
-pub mod Worlds
-pub mod KeptNodes
-pub mod AtOnce
-pub mod Admitting
-pub mod ReadAtOnce
-pub mod Begun
+mod Between
+mod PlacesLeft
+mod ServerSteps
+mod Outs
+mod LettingGo
+mod Moments
+mod EachServer
+mod Leaving
+mod Telling
+mod QueueSteps
+mod Spending
+mod Then
+mod AllGone
+mod Forgotten
+mod OneServed
+mod HeadServed
+mod Heard
+mod Lasting
+mod Chosen
+mod Times
+mod Counted
+mod Answered
+mod Ending
+mod Sorted
+mod Carried
+mod Serves
+mod Mounts
+mod Room
+mod Ready
+mod NoneDie
+mod Quiet
+mod Alone
+mod Taken
+mod Halves
+mod OneMore
+mod ReadTaken
+mod Spared
+mod Unbound
+mod CallResults
+mod Conduct
+mod Hearing
+mod Worlds
+mod KeptNodes
+mod AtOnce
+mod Admitting
+mod ReadAtOnce
+mod Begun
 pub mod Growth

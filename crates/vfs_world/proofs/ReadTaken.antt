@@ -85,9 +85,9 @@ pub read_begins : (first old : World) (run : IsRunning limit.MAX_PLACES first) (
 read_begins first old run endpoint server sent takes bytes sending txid a asks one now there before after (Ok x) serves same =
     let can = can_answer first old endpoint server sent run takes in
     let asked =
-    subst (λ (x : Server). IsMomentOf x endpoint (next_token_of old.known) [] can.can.moment) (same_Some can.one one (sym can.there ∙ there))
-    (subst (λ (handles : List ℕ). IsMomentOf can.one endpoint (next_token_of old.known) handles can.can.moment) (ap handles_of sending) can.can.is) in
-    (_, (serves bytes (next_token_of old.known) can.can.moment asks asked).frames)
+    subst (λ (x : Server). IsMomentOf x endpoint (next_token_of old.known) [] can.can.moment.0) (same_Some can.one one (sym can.there ∙ there))
+    (subst (λ (handles : List ℕ). IsMomentOf can.one endpoint (next_token_of old.known) handles can.can.moment.0) (ap handles_of sending) can.can.moment.1) in
+    (_, (serves bytes (next_token_of old.known) can.can.moment.0 asks asked).frames)
 read_begins first old run endpoint server sent takes bytes sending txid a asks one now there before after (Err e) serves same = ([], same ∙ sym (append-nil before))
 
 -- a list of no length is empty

@@ -1,48 +1,52 @@
 -- What the parts of a serving count on, in a world that stands for a journal and where something waits on a bound endpoint.
-use Rattle.std.proofs.Common.{◌≡◌, ℕ, ◌-◌, ◌^◌, ◌<◌, ◌==◌, Bool, true, false, if◌then◌else◌, List, [], ◌∷◌, ◌++◌, length, map, find, option_to_list, All, Contains, Option, Some, None, append-nil, drop, refl, sym, ap, ◌∙◌, subst, arith}
+use Rattle.std.proofs.Common.{◌≡◌, ℕ, ◌+◌, ◌-◌, ◌^◌, ◌<◌, ◌≤◌, ◌==◌, ◌⊎◌, Bool, true, false, if◌then◌else◌, List, [], ◌∷◌, ◌++◌, length, map, find, option_to_list, All, Contains, Option, Some, None, inl, inr, append-nil, drop, refl, sym, ap, ◌∙◌, subst, arith}
 use Rattle.std.specs.Prelude.{slice_get}
+use Rattle.std.specs.List.{list_any}
 use Rattle.std.specs.Option.{option_map}
-use Rattle.std.proofs.lemmas.List.Elements.{All-contains_itself, All-filter, All-tail, All-weaker}
+use Rattle.std.proofs.lemmas.Bool.{eqb-true}
+use Rattle.std.proofs.lemmas.List.Elements.{All-contains, All-contains_itself, All-filter, All-tail, All-weaker}
 use Rattle.std.proofs.lemmas.Option.{none-some, same_Some}
 use Rattle.fidl_names.specs.declared.limits.TheConstants as limit
 use Rattle.endpoint_link.specs.Numbering.{among}
 use Rattle.endpoint_link.specs.Standings.{Known, is_live, next_token_of, standing_of}
-use Rattle.fidl_names.specs.HandleNumber.{end_of_mount}
+use Rattle.fidl_names.specs.HandleNumber.{end_of_mount, is_client}
 use Rattle.conn_rules.specs.Births.{Position, fresh}
 use Rattle.remote_forward.specs.Onward.{onward_bytes}
 use Rattle.vfs_journal.specs.Entries.{Sent, endpoints_in, handles_of}
 use Rattle.vfs_journal.specs.Fit.{IsFit}
 use Rattle.vfs_journal.specs.History.{tree_at}
+use Rattle.vfs_journal.specs.Outcomes.{Given}
 use Rattle.vfs_journal.specs.Past.{history_of}
 use Rattle.vfs_journal.specs.Starts.{Bound}
-use Rattle.vfs_journal.specs.View.{View, at_in, deaths_in, head_in, moment_in, moved, outcome_in, queue_in}
+use Rattle.vfs_journal.specs.View.{View, at_in, deaths_in, head_in, is_held_in, moment_in, moved, outcome_in, queue_in}
 use Rattle.journal_laws.specs.Choosing.{queue_beside}
 use Rattle.journal_laws.specs.Viewing.{view_behind}
-use Rattle.journal_laws.proofs.Among.{among_of}
+use Rattle.journal_laws.proofs.Among.{among_of, carried_from, one_passes}
 use Rattle.journal_laws.proofs.Below.{below}
 use Rattle.journal_laws.proofs.Dying.{deaths_are_least}
 use Rattle.journal_laws.proofs.Fits.{views_fit}
 use Rattle.journal_laws.proofs.Growing.{trees_grow}
 use Rattle.journal_laws.proofs.KnowingBehind.{spent_known}
 use Rattle.journal_laws.proofs.KnowingServes.{servings_end}
+use Rattle.journal_laws.proofs.LookedUp.{is_first}
 use Rattle.journal_laws.proofs.ViewLaws.{same_length}
 use Rattle.journal_laws.proofs.ViewParts.{deaths_are, head_is_in, token_is}
 use Rattle.journal_laws.proofs.Waits.{lawful_wait}
 use Rattle.message_queues.specs.Dying.{AreDeaths}
-use Rattle.message_queues.specs.Queues.{Queues, Requeues, count, head_of, queue_of, server_of}
+use Rattle.message_queues.specs.Queues.{Queues, count, head_of, queue_of, server_of}
 use Rattle.message_queues.proofs.Counting.{counts_its_list}
 use Rattle.vfs_server.specs.Holding.{if_at}
 use Rattle.vfs_server.specs.declared.fate.Fate.{Fate}
 use Rattle.vfs_server.specs.declared.fate.Fate.TheVariants as fates
 use Rattle.vfs_server.specs.Servers.{Server}
-use Rattle.vfs_server.specs.Serving.{CanTake as ServerTakes}
+use Rattle.vfs_server.specs.Serving.{CanTake}
 use Rattle.vfs_world.specs.Heads.{CanSettle, IsUnbound, TakesHead}
 use Rattle.vfs_world.specs.Running.{IsRunning}
-use Rattle.vfs_world.specs.ServingSteps.{Answers, BindsThere, CanGo, CanServe, bound_told, first_told, spent_told}
+use Rattle.vfs_world.specs.ServingSteps.{Answers, BindsThere, CanGo, bound_told, first_told, spent_told}
 use Rattle.vfs_world.specs.World.{World}
 use Rattle.vfs_world.proofs.EachServer.{by_length, numbered}
 use Rattle.vfs_world.proofs.HeadServed.{server_low}
-use Rattle.vfs_world.proofs.Leaving.{next_is_new}
+use Rattle.vfs_world.proofs.Leaving.{many_carry, next_is_new}
 use Rattle.vfs_world.proofs.Moments.{is_moment}
 use Rattle.vfs_world.proofs.Mounts.{mount_low}
 use Rattle.vfs_world.proofs.OneServed.{IsReadyIn, all_die, ready_in}
@@ -54,10 +58,10 @@ use Rattle.vfs_world.proofs.Telling.{first_are_told, forward_told}
 use Rattle.vfs_world.proofs.Then.{Begun, Told, binds_one, carried_free, handles_are_out, new_free, told}
 
 -- what the answer, the taking and the binding count on
-pub record CanTake (world : World) (endpoint server : ℕ) (sent : Sent) : Type 0 where
+pub record CanAnswerHead (world : World) (endpoint server : ℕ) (sent : Sent) : Type 0 where
   pub one : Server
   pub there : slice_get world.servers server ≡ Some one
-  pub can : CanServe one endpoint (next_token_of world.known) (handles_of sent.sending)
+  pub can : CanTake one endpoint (next_token_of world.known) (handles_of sent.sending)
   pub counted : count world.queues ≡ world.known.waiting
   pub one_of : server < world.queues.servers
   pub free : (fate : Fate) (new : List Server) (before after : List ℕ) → Answers world.servers server endpoint (next_token_of world.known) sent fate new before after →
@@ -128,27 +132,42 @@ module _ (old : World) (run : IsRunning limit.MAX_PLACES old) (sent : Sent) (pai
         ∙ run.stands.holds.queues.bound b.endpoint
         ∙ ap (option_map (λ (p : Bound × Position). p.0.server)) (new_free (view_behind run.start run.journal) sent fit first b is)
 
-  -- the next token was given nowhere, and there is room for it; what comes along isn't bound
-  takes : ServerTakes there.0 (next_token_of old.known) (handles_of sent.sending)
+  -- what comes along and is no token isn't bound
+  unbound : (number : ℕ) → among number (handles_of sent.sending) ≡ true → number < limit.FIRST_TOKEN → at_in (view_behind run.start run.journal) number ≡ None
+  unbound number carried low' =
+      let view = view_behind run.start run.journal in
+      by_kind (fit.carried number (many_carry number sent view.waiting (is_first view sent first).waits carried)) where
+        by_kind : (is_client number ≡ true) ⊎ ((list_any (λ given. given.token == number) (view_behind run.start run.journal).given ≡ true) × (is_held_in (view_behind run.start run.journal) number ≡ false)) →
+            at_in (view_behind run.start run.journal) number ≡ None
+        by_kind (inl client) = carried_free (view_behind run.start run.journal) sent fit first number (carried_from sent number client carried)
+        by_kind (inr given) =
+            let view = view_behind run.start run.journal in
+            let one = one_passes (λ (given : Given). given.token == number) view.given given.0 in
+            let high = (All-contains (λ (given : Given). (limit.FIRST_TOKEN ≤ given.token) × (given.token < limit.FIRST_TOKEN + length view.given)) view.given one.0 fit.numbered one.1).0 in
+            let same = eqb-true one.0.token number one.2 in
+            absurd (omega (arith, high, same, low'))
+
+  -- the next token was given nowhere, and there is room for it
+  takes : CanTake there.0 sent.endpoint (next_token_of old.known) (handles_of sent.sending)
   takes =
       let view = view_behind run.start run.journal in
       let held = begun.held.each pair.0.server there.0 there.1 in
       record {
-        unbound = λ endpoint carried. held.bound endpoint ∙ ap (if_at pair.0.server) (carried_free view sent fit first endpoint carried);
+        moment = (
+          moment_in view pair,
+          is_moment view there.0 sent.endpoint pair (next_token_of old.known) (handles_of sent.sending) held found begun.next (handles_are_out view sent first),
+        );
+        made = made_few;
+        unbound = λ number carried low'. held.bound number ∙ ap (if_at pair.0.server) (unbound number carried low');
         unnamed = λ next e. named_new view pair.0.server next there.0 held (λ other c. next_is_new view sent fit first next other (sym begun.next ∙ e) c);
         room = λ next e. room_for view pair.0.server next there.0 held fit.tokens (sym begun.next ∙ e);
       }
 
-  pub can_take_there : CanTake old sent.endpoint pair.0.server sent
-  can_take_there = record {
+  pub can_answer_there : CanAnswerHead old sent.endpoint pair.0.server sent
+  can_answer_there = record {
     one = there.0;
     there = there.1;
-    can = record {
-      moment = moment_in (view_behind run.start run.journal) pair;
-      is = is_moment (view_behind run.start run.journal) there.0 sent.endpoint pair (next_token_of old.known) (handles_of sent.sending) (begun.held.each pair.0.server there.0 there.1) found begun.next (handles_are_out (view_behind run.start run.journal) sent first);
-      takes = takes;
-      made = made_few;
-    };
+    can = takes;
     counted = counts;
     one_of = let those = run.stands.holds.queues.those in let l = low in omega (arith, those, l);
     free = λ fate new before after answers. no_server fate new before after (answered fate new before after answers);
@@ -242,11 +261,11 @@ found_in : (old : World) (run : IsRunning limit.MAX_PLACES old) (endpoint server
     IsReadyIn (view_behind run.start run.journal) endpoint server sent
 found_in old run endpoint server sent bound waits = ready_in (view_behind run.start run.journal) old.queues endpoint server sent run.stands.holds.queues bound waits
 
-pub can_take : (old : World) (run : IsRunning limit.MAX_PLACES old) (endpoint server : ℕ) (sent : Sent) → server_of old.queues endpoint ≡ Some server → head_of old.queues endpoint ≡ Some sent → CanTake old endpoint server sent
-can_take old run endpoint server sent bound waits =
+pub can_answer_head : (old : World) (run : IsRunning limit.MAX_PLACES old) (endpoint server : ℕ) (sent : Sent) → server_of old.queues endpoint ≡ Some server → head_of old.queues endpoint ≡ Some sent → CanAnswerHead old endpoint server sent
+can_answer_head old run endpoint server sent bound waits =
     let r = found_in old run endpoint server sent bound waits in
-    subst (λ (n : ℕ). CanTake old n server sent) r.on
-    (subst (λ (n : ℕ). CanTake old sent.endpoint n sent) r.at (can_take_there old run sent r.pair r.found r.first))
+    subst (λ (n : ℕ). CanAnswerHead old n server sent) r.on
+    (subst (λ (n : ℕ). CanAnswerHead old sent.endpoint n sent) r.at (can_answer_there old run sent r.pair r.found r.first))
 
 pub can_settle : (old mid : World) (run : IsRunning limit.MAX_PLACES old) (endpoint server : ℕ) (sent : Sent) (fate : Fate) (before after : List ℕ) → TakesHead old endpoint server sent fate mid before after → CanSettle mid sent fate
 can_settle old mid run endpoint server sent fate before after d =

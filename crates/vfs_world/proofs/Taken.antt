@@ -7,17 +7,18 @@ use Rattle.vfs_journal.specs.Entries.{Sent, handles_of}
 use Rattle.message_queues.specs.Queues.{count, server_of}
 use Rattle.vfs_server.specs.declared.fate.Fate.{Fate}
 use Rattle.vfs_server.specs.Servers.{Server}
+use Rattle.vfs_server.specs.Serving.{CanTake}
 use Rattle.vfs_world.specs.Heads.{Takes, TakesHead}
 use Rattle.vfs_world.specs.Running.{IsRunning}
-use Rattle.vfs_world.specs.ServingSteps.{Answers, BindsThere, CanServe, bound_told}
+use Rattle.vfs_world.specs.ServingSteps.{Answers, BindsThere, bound_told}
 use Rattle.vfs_world.specs.World.{World}
-use Rattle.vfs_world.proofs.Ready.{can_take}
+use Rattle.vfs_world.proofs.Ready.{can_answer_head}
 
 -- what the answer and the binding count on, where the entry was taken
 pub record CanAnswer (world : World) (endpoint server : ℕ) (sent : Sent) : Type 0 where
   pub one : Server
   pub there : slice_get world.servers server ≡ Some one
-  pub can : CanServe one endpoint (next_token_of world.known) (handles_of sent.sending)
+  pub can : CanTake one endpoint (next_token_of world.known) (handles_of sent.sending)
   pub counted : count world.queues + 1 ≡ world.known.waiting
   pub one_of : server < world.queues.servers
   pub free : (fate : Fate) (new : List Server) (before after : List ℕ) → Answers world.servers server endpoint (next_token_of world.known) sent fate new before after →
@@ -25,7 +26,7 @@ pub record CanAnswer (world : World) (endpoint server : ℕ) (sent : Sent) : Typ
 
 pub can_answer : (old now : World) (endpoint server : ℕ) (sent : Sent) → IsRunning limit.MAX_PLACES old → Takes old endpoint server sent now → CanAnswer now endpoint server sent
 can_answer old now endpoint server sent run t =
-    let can = can_take old run endpoint server sent t.bound t.first in
+    let can = can_answer_head old run endpoint server sent t.bound t.first in
     subst (λ (w : World). CanAnswer w endpoint server sent) (sym t.same)
     (record {
       one = can.one;

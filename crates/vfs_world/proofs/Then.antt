@@ -15,7 +15,7 @@ use Rattle.conn_rules.specs.Births.{Position, fresh}
 use Rattle.vfs_journal.specs.Entries.{Sent, endpoints_in, handles_of, serves}
 use Rattle.vfs_journal.specs.Fit.{IsFit}
 use Rattle.vfs_journal.specs.History.{Event}
-use Rattle.vfs_journal.specs.Outcomes.{Forwarded, Given, Outcome, close_frame, no_outcome}
+use Rattle.vfs_journal.specs.Outcomes.{Forwarded, Outcome, close_frame, no_outcome}
 use Rattle.vfs_journal.specs.Output.{close_frames, rising}
 use Rattle.vfs_journal.specs.Serving.{outcome_of_sending}
 use Rattle.vfs_journal.specs.Starts.{Bound}

@@ -1,6 +1,6 @@
 -- Words of the steps of a world, which its private functions are told by. Public clauses that tell a serving by its steps (Servings) need them;
 -- none that tells it by a journal does.
-use Rattle.std.specs.Prelude.{◌≡◌, ◌≢◌, AllPairs, ℕ, ◌<◌, ◌^◌, ◌==◌, Bool, true, false, not, List, [], ◌∷◌, ◌++◌, length, map, filter, option_to_list, Option, Some, None, slice_get, slice_set}
+use Rattle.std.specs.Prelude.{◌≡◌, ◌≢◌, AllPairs, ℕ, ◌==◌, Bool, true, false, not, List, [], ◌∷◌, ◌++◌, length, map, filter, option_to_list, Option, Some, None, slice_get, slice_set}
 use Rattle.std.specs.FinMap as finite
 use Rattle.std.specs.Option.{option_map_or}
 use Rattle.endpoint_link.specs.Frames.{Frame}
@@ -21,7 +21,7 @@ use Rattle.vfs_server.specs.Binding.{Forgets}
 use Rattle.vfs_server.specs.declared.fate.Fate.{Fate}
 use Rattle.vfs_server.specs.declared.fate.Fate.TheVariants as fates
 use Rattle.vfs_server.specs.Servers.{Server}
-use Rattle.vfs_server.specs.Serving.{CanTake, IsMomentOf, Serves}
+use Rattle.vfs_server.specs.Serving.{IsMomentOf, Serves}
 
 -- these live no more
 abbrev pub without_in : View → List ℕ → View
@@ -32,13 +32,6 @@ without_in view dead = record view { living = filter (λ pair. not (among pair.0
 -- no endpoint is bound twice
 abbrev pub AreApart : List (Bound × Position) → Type 0
 AreApart living = AllPairs (λ one other. one.0.endpoint ≢ other.0.endpoint) living
-
--- a server can serve what has these handles on an endpoint that is bound there, where this is the next token
-pub record CanServe (server : Server) (endpoint : ℕ) (token : Option ℕ) (handles : List ℕ) : Type 0 where
-  pub moment : Moment
-  pub is : IsMomentOf server endpoint token handles moment
-  pub takes : CanTake server token handles
-  pub made : server.graph.made < 2 ^ 63
 
 -- ---- what each step of a serving says, of the server at which the endpoint is bound
 

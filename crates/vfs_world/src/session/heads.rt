@@ -10,10 +10,11 @@ ghost use Rattle.message_queues.specs.Queues.{IsAbove, IsReady, count};
 ghost use Rattle.vfs_journal.specs.Entries.{handles_of};
 ghost use Rattle.vfs_journal.specs.Output.{Begins};
 ghost use Rattle.vfs_server.specs.Servers.{Server};
+ghost use Rattle.vfs_server.specs.Serving.{CanTake};
 ghost use Rattle.vfs_world.specs.Heads.{AsksFile, CanSettle, DiesAlone, IsUnbound, LetsDie, ServesTaken, SettlesButPlace, SettlesHead, Takes, TakesHead, WasTaken};
 ghost use Rattle.vfs_world.specs.Running.{IsRunning, RunsOn, whole};
 ghost use Rattle.vfs_world.specs.Servings.{ServesOne};
-ghost use Rattle.vfs_world.specs.ServingSteps.{Answers, CanServe, SendsOn, first_told, is_sent_on};
+ghost use Rattle.vfs_world.specs.ServingSteps.{Answers, SendsOn, first_told, is_sent_on};
 ghost use Rattle.vfs_world.specs.World.{World};
 
 use crate::closing::close_others;
@@ -151,7 +152,7 @@ impl Session {
         outbox: &mut Outbox,
     ) -> Result<Fate<'a>, NoMemory>
         requires within { server < length self.old.servers.items }
-        requires can { (one : Server) → slice_get self.old.servers.items server ≡ Some one → CanServe one endpoint (next_token_of self.old.endpoints) (handles_of sent.now.sending) }
+        requires can { (one : Server) → slice_get self.old.servers.items server ≡ Some one → CanTake one endpoint (next_token_of self.old.endpoints) (handles_of sent.now.sending) }
         ensures answers { IfOk result (λ fate. Answers self.old.servers.items server endpoint (next_token_of self.old.endpoints) sent.now fate self.new.servers.items outbox.old outbox.new) }
         ensures others { whole self.new ≡ record (whole self.old) { servers = self.new.servers.items } }
         ensures begins { Begins outbox.old outbox.new }

@@ -1,4 +1,4 @@
-use Rattle.std.proofs.Common.{◌+◌, ◌-◌, ◌∙◌, Err, ap, arith}
+use Rattle.std.proofs.Common.{◌-◌, ◌∙◌, Err, ap, arith}
 use Rattle.fidl_names.specs.declared.limits.TheConstants as limit
 use Rattle.endpoint_link.specs.Views.{frame_of}
 use Rattle.vfs_journal.specs.Session.{arrives}

@@ -4,9 +4,10 @@ use Rattle.endpoint_link.specs.Standings.{Known, next_token_of}
 use Rattle.vfs_journal.specs.Entries.{Sent, handles_of}
 use Rattle.message_queues.specs.Queues.{Queues, count, server_of}
 use Rattle.vfs_server.specs.Servers.{Server}
+use Rattle.vfs_server.specs.Serving.{CanTake}
 use Rattle.vfs_world.specs.Heads.{WasTaken}
 use Rattle.vfs_world.specs.Running.{whole}
-use Rattle.vfs_world.specs.ServingSteps.{BindsThere, CanServe, bound_told}
+use Rattle.vfs_world.specs.ServingSteps.{BindsThere, bound_told}
 use Rattle.vfs_world.specs.World.{World}
 use Rattle.vfs_world.proofs.Taken.{CanAnswer, can_answer, takes_head}
 use Rattle.vfs_world.proofs.session.Session.answer_taken.Goals as goal
@@ -23,7 +24,7 @@ answer-requires-clause-within c =
 pub answer-requires-clause-can : goal.answer-requires-clause-can
 answer-requires-clause-can c =
     let can = can_in (whole c.args.self.now) c.args.endpoint c.args.server c.args.sent.now c.requires.taken in
-    λ one there. subst (λ (s : Server). CanServe s c.args.endpoint (next_token_of c.args.self.now.endpoints) (handles_of c.args.sent.now.sending)) (same_Some can.one one (sym can.there ∙ there)) can.can
+    λ one there. subst (λ (s : Server). CanTake s c.args.endpoint (next_token_of c.args.self.now.endpoints) (handles_of c.args.sent.now.sending)) (same_Some can.one one (sym can.there ∙ there)) can.can
 
 pub served-requires : goal.served-requires
 served-requires c =
