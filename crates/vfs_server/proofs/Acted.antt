@@ -33,8 +33,8 @@ use Rattle.vfs_server.specs.Kept.{Connections, IsSound, Tokens}
 use Rattle.vfs_server.specs.Servers.{Server, named, seen}
 use Rattle.vfs_server.specs.Serving.{CanTake, IsMomentOf, Serves, message_of}
 use Rattle.vfs_server.specs.Steps.{Answers, AreNamed, CanBeTold, CanSettle, CanTell, Done, HasAnswered, IsAskedAt, IsPassedOver, IsTold, Settles, Takes, done_with}
-use Rattle.watch_seats.specs.Seats.{Seats}
-use Rattle.watch_seats.specs.Telling.{told_of}
+use Rattle.vfs_server.specs.Seats.{Seats}
+use Rattle.vfs_server.specs.Telling.{told_of}
 use Rattle.vfs_server.specs.Watched.{first_of}
 use Rattle.vfs_server.proofs.Binding.{either_way, server_of, watches_there}
 use Rattle.vfs_server.proofs.Maps.{get_put}

@@ -50,7 +50,7 @@ use Rattle.conn_rules.specs.Shared.{CanBeBound, is_spoken_at}
 use Rattle.conn_rules.specs.Walks.{Walk, arrives, missing, crosses, stops, walk, limit_of}
 use Rattle.vfs_server.specs.Serving.{HasMount}
 use Rattle.node_graph.specs.Tree.{HasNameLength}
-use Rattle.watch_seats.specs.Telling.{IsShort}
+use Rattle.vfs_server.specs.Telling.{IsShort}
 use Rattle.vfs_server.proofs.Walking.{IsNoMount, LeadsWell, walk_none}
 
 -- ---- acts

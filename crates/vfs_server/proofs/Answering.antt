@@ -38,7 +38,7 @@ use Rattle.vfs_server.specs.Effects.{Effects, effects_done, no_effects}
 use Rattle.vfs_server.specs.Kept.{Tokens}
 use Rattle.vfs_server.specs.Servers.{bound_with}
 use Rattle.vfs_server.specs.Steps.{Acts, Answers, Done, BindsConnection, CanTell, DoesFault, DoesGiven, IsAskedAt, IsGiven, IsOnDirectory, MayWatch, NamesAsThere, Takes, act_asked, asker_with, effects_by, effects_given, frames_given, names_in, room_for, token_given}
-use Rattle.watch_seats.specs.Telling.{IsShort}
+use Rattle.vfs_server.specs.Telling.{IsShort}
 use Rattle.start_graph.proofs.NamedNodes.{named_kind}
 use Rattle.vfs_server.proofs.Carried.{looked_up}
 use Rattle.vfs_server.proofs.Taken.{is_taken, taken_came, taking_alike}

@@ -3,6 +3,7 @@ pub mod Maps
 pub mod Counts
 mod FileReads
 mod Found
+pub mod SeatLists
 pub mod Seats
 pub mod Walking
 pub mod Acting

@@ -33,15 +33,15 @@ use Rattle.vfs_journal.specs.Watching.{first_frames, told_frames}
 use Rattle.vfs_server.specs.declared.asking.Asking.{Asking}
 use Rattle.vfs_server.specs.declared.deed.Deed.{Deed}
 use Rattle.vfs_server.specs.declared.deed.Deed.TheVariants as deeds
-use Rattle.watch_seats.specs.declared.watching.Seat.{Seat}
+use Rattle.vfs_server.specs.declared.watching.Seat.{Seat}
 use Rattle.vfs_server.specs.Binding.{IsDirectory}
 use Rattle.vfs_server.specs.Effects.{effects_done}
 use Rattle.vfs_server.specs.Kept.{Connections, IsSound, Tokens}
 use Rattle.vfs_server.specs.Servers.{bound_with, connected, in_use, seen_as}
 use Rattle.vfs_server.specs.Serving.{IsMomentOf, frames_here, room_at}
 use Rattle.vfs_server.specs.Steps.{Answers, AreNamed, CanBeTold, CanTell, Done, HasAnswered, IsAskedAt, IsPassedOver, room_for}
-use Rattle.watch_seats.specs.Seats.{Seats, is_at, seat_at}
-use Rattle.watch_seats.specs.Telling.{IsShort, told_of}
+use Rattle.vfs_server.specs.Seats.{Seats, is_at, seat_at}
+use Rattle.vfs_server.specs.Telling.{IsShort, told_of}
 use Rattle.vfs_server.specs.Watched.{bound_at, bounds_at, first_of}
 use Rattle.vfs_server.proofs.Answering.{no_watcher, ok_map}
 use Rattle.vfs_server.proofs.Binding.{in_use_is, seen_watching, server_of}

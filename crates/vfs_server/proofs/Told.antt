@@ -21,8 +21,8 @@ use Rattle.vfs_journal.specs.Watching as journal
 use Rattle.vfs_server.specs.declared.deed.Deed.{Deed}
 use Rattle.vfs_server.specs.declared.deed.Deed.TheVariants as deeds
 use Rattle.vfs_server.specs.Effects.{effects_done}
-use Rattle.watch_seats.specs.Seats.{Seats, is_at, watcher_of, watchers_at}
-use Rattle.watch_seats.specs.Telling.{told_of, told_to}
+use Rattle.vfs_server.specs.Seats.{Seats, is_at, watcher_of, watchers_at}
+use Rattle.vfs_server.specs.Telling.{told_of, told_to}
 use Rattle.vfs_server.specs.Watched.{bound_at, bounds_at, first_of}
 
 -- ---- changes

@@ -5,6 +5,8 @@ pub mod Effects
 pub mod Fates
 pub mod Binding
 pub mod Serving
+pub mod Seats
+pub mod Telling
 pub mod Watched
 pub mod Codes
 pub mod Kept

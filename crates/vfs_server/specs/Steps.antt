@@ -64,8 +64,8 @@ use Rattle.vfs_server.specs.Effects.{Effects, effects_of, effects_done, no_effec
 use Rattle.vfs_server.specs.Kept.{NameDirectories, Tokens}
 use Rattle.vfs_server.specs.Servers.{Server, bound_with, in_use, seen, watcher_with}
 use Rattle.vfs_server.specs.Serving.{HasMount, frames_here}
-use Rattle.watch_seats.specs.Seats.{Seats, is_at}
-use Rattle.watch_seats.specs.Telling.{IsShort, told_of}
+use Rattle.vfs_server.specs.Seats.{Seats, is_at}
+use Rattle.vfs_server.specs.Telling.{IsShort, told_of}
 use Rattle.vfs_server.specs.Watched.{first_of}
 
 -- ---- connections

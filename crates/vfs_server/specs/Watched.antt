@@ -5,8 +5,8 @@ use Rattle.node_graph.specs.Graph.{number_of}
 use Rattle.node_graph.specs.Tree.{Edges, names_in}
 use Rattle.watch_events.specs.Messages.{first_frames}
 use Rattle.vfs_journal.specs.Starts.{Bound}
-use Rattle.watch_seats.specs.declared.watching.Seat.{Seat}
-use Rattle.watch_seats.specs.Seats.{Seats}
+use Rattle.vfs_server.specs.declared.watching.Seat.{Seat}
+use Rattle.vfs_server.specs.Seats.{Seats}
 use Rattle.vfs_server.specs.declared.deed.Deed.{Deed}
 use Rattle.vfs_server.specs.declared.deed.Deed.TheVariants as deeds
 use Rattle.vfs_server.specs.Servers.{watcher_with}

@@ -5,11 +5,11 @@ ghost use Rattle.vfs_server.specs.Steps.{connection_of, looked_at, room_for};
 
 use crate::conn::Conn;
 use crate::tokens::Tokens;
+use crate::watching::Watching;
 use conn_rules::Room;
 use fidl_wire::Ordinals;
 use io_messages::Request;
 use node_graph::Graph;
-use watch_seats::Watching;
 
 /// What every step of a serving reads: the names' ordinals, the endpoint that is served, how many
 /// connections are in use, who watches, which directories tokens name, and the next token.

@@ -16,6 +16,7 @@ mod message;
 mod server;
 mod telling;
 mod tokens;
+mod watching;
 
 pub use fate::Fate;
 pub use message::Message;

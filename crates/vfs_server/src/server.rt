@@ -28,6 +28,7 @@ use crate::fate::Fate;
 use crate::message::Message;
 use crate::telling::tell;
 use crate::tokens::Tokens;
+use crate::watching::Watching;
 use conn_rules::{Birth, Changes};
 use endpoint_link::Outbox;
 use fidl_names::{Handle, NoMemory};
@@ -37,7 +38,6 @@ use node_graph::{Graph, NodeRef};
 use session_start::Start;
 use std::alloc::Global;
 use std::marker::Model;
-use watch_seats::Watching;
 
 /// One server: its tree, what is connected to it, who watches, and the tokens that name directories of it.
 /// Each connection holds its node, and each watcher and each token its directory.

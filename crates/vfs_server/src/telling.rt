@@ -12,12 +12,12 @@ ghost use Rattle.vfs_server.specs.Watched.{first_of};
 ghost use Rattle.vfs_journal.specs.Output.{Begins};
 
 use crate::deed::Deed;
+use crate::watching::Watching;
 use conn_rules::Changes;
 use endpoint_link::Outbox;
 use fidl_names::NoMemory;
 use node_graph::{Graph, NodeRef};
 use watch_events::snapshot;
-use watch_seats::Watching;
 
 /// Tells watchers of a deed and of changes: a new one of the names that are there, and those of a directory of its
 /// changes. Most requests tell nothing. For want of memory a part of that is written.

@@ -15,12 +15,12 @@ use Rattle.vfs_server.specs.declared.asking.Asking.{Asking}
 use Rattle.vfs_server.specs.declared.deed.Deed.TheVariants as deeds
 use Rattle.vfs_server.specs.declared.fate.Fate.TheVariants as fates
 use Rattle.vfs_server.specs.Kept.{Connections, IsSound}
-use Rattle.watch_seats.specs.declared.watching.Seat.{Seat}
+use Rattle.vfs_server.specs.declared.watching.Seat.{Seat}
 use Rattle.io_messages.specs.Asked.{asked}
 use Rattle.vfs_server.specs.Servers.{Server, connected, seen, seen_as}
 use Rattle.vfs_server.specs.Serving.{IsMomentOf, Serves}
 use Rattle.vfs_server.specs.Steps.{Answers, stays}
-use Rattle.watch_seats.specs.Seats.{Seats, seat_at}
+use Rattle.vfs_server.specs.Seats.{Seats, seat_at}
 use Rattle.vfs_server.specs.Watched.{bounds_at}
 use Rattle.vfs_server.proofs.Answering.{on_ok, some_both, some_none}
 use Rattle.vfs_server.proofs.Binding.{either_way, seen_watching, server_of}

@@ -4,7 +4,7 @@ use Rattle.std.specs.Map.{lookup, remove_entry}
 use Rattle.node_graph.specs.Graph.{number_of}
 use Rattle.watch_events.specs.Messages.{Watcher}
 use Rattle.watch_events.specs.Watching.{Watching, watchers_of}
-use Rattle.watch_seats.specs.declared.watching.Seat.{Seat}
+use Rattle.vfs_server.specs.declared.watching.Seat.{Seat}
 
 abbrev pub Seats : Type 0
 Seats = List (ℕ × Seat)

@@ -4,9 +4,9 @@ use Rattle.std.specs.Result.{is_err}
 use Rattle.indexmap.proofs.CallerLemmas.{insert_entry-new}
 use Rattle.watch_events.specs.Watching.{Adds}
 use Rattle.node_graph.specs.Graph.{number_of}
-use Rattle.watch_seats.specs.Seats.{AreByDirectory, Seats, is_at, seat_at, watcher_of}
-use Rattle.watch_seats.proofs.Seats.{by_directory_more, new_there}
-use Rattle.watch_seats.proofs.watching.Watching.add.Goals as goal
+use Rattle.vfs_server.specs.Seats.{AreByDirectory, Seats, is_at, seat_at, watcher_of}
+use Rattle.vfs_server.proofs.SeatLists.{by_directory_more, new_there}
+use Rattle.vfs_server.proofs.watching.Watching.add.Goals as goal
 
 pub add-requires : goal.add-requires
 add-requires c =

@@ -9,8 +9,8 @@ use Rattle.std.proofs.lemmas.List.Sums.{sum_by-append, sum_by-cons}
 use Rattle.node_graph.specs.Graph.{number_of}
 use Rattle.watch_events.specs.Messages.{Watcher}
 use Rattle.watch_events.specs.Watching.{Adds, Removes, Watching, is_among, watchers_of}
-use Rattle.watch_seats.specs.declared.watching.Seat.{Seat}
-use Rattle.watch_seats.specs.Seats.{AreByDirectory, Seats, is_at, seat_at, watched_by, watcher_of, watchers_at, without}
+use Rattle.vfs_server.specs.declared.watching.Seat.{Seat}
+use Rattle.vfs_server.specs.Seats.{AreByDirectory, Seats, is_at, seat_at, watched_by, watcher_of, watchers_at, without}
 
 abbrev pub one_if : Bool → ℕ
 one_if b = cond b 1 0

@@ -3,8 +3,8 @@ use Rattle.std.specs.FinMap as finite
 use Rattle.std.specs.Option.{option_map_or}
 use Rattle.std.specs.Ordering.{nat_cmp}
 use Rattle.watch_events.specs.Watching.{Watching, watchers_of}
-use Rattle.watch_seats.specs.Seats.{watchers_at}
-use Rattle.watch_seats.proofs.watching.Watching.new.Goals as goal
+use Rattle.vfs_server.specs.Seats.{watchers_at}
+use Rattle.vfs_server.proofs.watching.Watching.new.Goals as goal
 
 pub invariant_of-result : goal.invariant_of-result
 invariant_of-result c directory =

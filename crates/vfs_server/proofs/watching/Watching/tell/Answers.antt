@@ -14,9 +14,9 @@ use Rattle.endpoint_link.proofs.Runs.{spellings-append}
 use Rattle.watch_events.specs.Messages.{WritesFront}
 use Rattle.watch_events.specs.Messages as messages
 use Rattle.watch_events.proofs.Told.{for_want, front_behind, front_first, on_want}
-use Rattle.watch_seats.specs.Seats.{Seats}
-use Rattle.watch_seats.specs.Telling.{IsShort, gone_told, name_told, told_of, told_to}
-use Rattle.watch_seats.proofs.watching.Watching.tell.Goals as goal
+use Rattle.vfs_server.specs.Seats.{Seats}
+use Rattle.vfs_server.specs.Telling.{IsShort, gone_told, name_told, told_of, told_to}
+use Rattle.vfs_server.proofs.watching.Watching.tell.Goals as goal
 
 -- where all that is told is short, the name that is new is
 new_short : (taken new : Option At) (deleted : Option ℕ) → All IsShort (told_by (record { removed = taken; added = new; deleted = deleted })) → (one : At) → new ≡ Some one → HasNameLength one.name.now

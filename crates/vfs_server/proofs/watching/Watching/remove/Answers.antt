@@ -1,8 +1,8 @@
 use Rattle.std.proofs.Common.{◌≡◌, ◌∙◌, None, ap, subst, sym}
 use Rattle.watch_events.specs.Watching.{Removes}
-use Rattle.watch_seats.specs.Seats.{AreByDirectory, Seats, seat_at, without}
-use Rattle.watch_seats.proofs.Seats.{by_directory_less}
-use Rattle.watch_seats.proofs.watching.Watching.remove.Goals as goal
+use Rattle.vfs_server.specs.Seats.{AreByDirectory, Seats, seat_at, without}
+use Rattle.vfs_server.proofs.SeatLists.{by_directory_less}
+use Rattle.vfs_server.proofs.watching.Watching.remove.Goals as goal
 
 pub number-requires : goal.number-requires
 number-requires c = c.requires.kept c.in_ok-seat.seat (ap (λ (seats : Seats). seat_at seats c.args.endpoint) (sym c.self.view_is) ∙ sym c.shift_remove.ensures.value ∙ c.in_ok-seat.was)

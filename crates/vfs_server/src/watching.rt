@@ -9,9 +9,9 @@ ghost use Rattle.conn_rules.specs.Served.{told_by};
 ghost use Rattle.watch_events.specs.Messages.{WritesFront};
 ghost use Rattle.watch_events.specs.Messages as messages;
 ghost use Rattle.node_graph.specs.Tree.{HasNameLength};
-ghost use Rattle.watch_seats.specs.declared.watching.Seat.{Seat};
-ghost use Rattle.watch_seats.specs.Seats.{is_at, seat_at, without};
-ghost use Rattle.watch_seats.specs.Telling.{IsShort, gone_told, name_told, told_of};
+ghost use Rattle.vfs_server.specs.declared.watching.Seat.{Seat};
+ghost use Rattle.vfs_server.specs.Seats.{is_at, seat_at, without};
+ghost use Rattle.vfs_server.specs.Telling.{IsShort, gone_told, name_told, told_of};
 
 use conn_rules::{At, Changes};
 use endpoint_link::Outbox;
@@ -24,14 +24,14 @@ use watch_events::{WatchEvent, Watchers};
 
 /// What an endpoint watches, and the bits of the events that it asks for.
 #[derive(Clone, Copy)]
-pub struct Seat {
+pub(crate) struct Seat {
     pub directory: NodeRef,
     pub mask: u32,
 }
 
 /// The endpoints that watch, in order of their births. They stand a second time by their directories, where
 /// they are told of changes.
-pub struct Watching {
+pub(crate) struct Watching {
     seats: IndexMap<u32, Seat>,
     watchers: Watchers,
 }
@@ -47,8 +47,8 @@ impl Drop for Watching {
 }
 
 impl Model for Watching {
-    ghost use Rattle.watch_seats.specs.Codes.{seats_code};
-    ghost use Rattle.watch_seats.specs.Seats.{AreByDirectory, Seats};
+    ghost use Rattle.vfs_server.specs.Codes.{seats_code};
+    ghost use Rattle.vfs_server.specs.Seats.{AreByDirectory, Seats};
 
     ghost Value = { Seats };
 
@@ -60,7 +60,7 @@ impl Model for Watching {
 }
 
 impl Watching {
-    /// Nobody.
+    /// Those who watch at a server to which nobody is bound yet.
     pub fn new(alloc: Global) -> Watching
         ensures { result ≡ [] }
     {

@@ -8,7 +8,7 @@ use Rattle.conn_rules.specs.declared.changes.At.{At}
 use Rattle.conn_rules.specs.Answers.{Happening}
 use Rattle.conn_rules.specs.Answers as news
 use Rattle.watch_events.specs.Messages.{added, deleted, removed, told}
-use Rattle.watch_seats.specs.Seats.{Seats, watchers_at}
+use Rattle.vfs_server.specs.Seats.{Seats, watchers_at}
 
 -- a name that is told is as long as a name may be
 abbrev pub IsShort : Happening → Type 0
