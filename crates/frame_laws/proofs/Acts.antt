@@ -43,11 +43,11 @@ use Rattle.journal_laws.proofs.Acts.{none_there, not_refused, path_passes, unles
 use Rattle.frame_laws.proofs.Fields.{AsksInBytes}
 use Rattle.frame_laws.proofs.Listings.{listing_written}
 use Rattle.frame_laws.proofs.Replies.{HasFrame, replies_within}
-use Rattle.frame_laws.proofs.Texts.{IsShortName, names_in_bytes, short_name}
+use Rattle.journal_laws.proofs.Texts.{IsShortName, both_written, names_in_bytes, none_written, short_name}
 use Rattle.frame_laws.proofs.Trees.{BringsBytes, file_in_bytes}
 use Rattle.frame_laws.proofs.Watching.{TellsName}
-use Rattle.frame_laws.proofs.Written.{both_written, none_written, zeros_written}
-use Rattle.frame_laws.specs.Bytes.{HasBytes}
+use Rattle.frame_laws.proofs.Written.{zeros_written}
+use Rattle.journal_laws.specs.Contents.{HasBytes}
 
 -- ---- acts
 

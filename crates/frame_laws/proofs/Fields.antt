@@ -20,7 +20,8 @@ use Rattle.io_messages.specs.ReplyWriting.{content_of, reply_body, reply_bytes, 
 use Rattle.io_messages.specs.Requests.{Reads, asked_from, request_cells, seq_in, seq_of}
 use Rattle.io_messages.specs.declared.protocols.Protocol.{Protocol}
 use Rattle.frame_laws.proofs.Replies.{HasFrame, IsMessage, message_frame}
-use Rattle.frame_laws.proofs.Written.{body_is, both_written, header_written, length-count, length-header, none_written}
+use Rattle.journal_laws.proofs.Texts.{both_written, none_written}
+use Rattle.frame_laws.proofs.Written.{body_is, header_written, length-count, length-header}
 
 -- ---- parts of lists
 

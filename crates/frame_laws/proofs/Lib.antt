@@ -2,7 +2,6 @@ pub mod Written
 pub mod Sizes
 pub mod Replies
 pub mod Fields
-pub mod Texts
 pub mod Trees
 pub mod Watching
 pub mod Listings
@@ -11,5 +10,4 @@ pub mod Outcomes
 pub mod Sent
 pub mod Endpoints
 pub mod Output
-pub mod Begun
 pub mod Readings

@@ -11,10 +11,10 @@ use Rattle.node_graph.specs.declared.nodes.NodeKind.{NodeKind}
 use Rattle.node_graph.specs.declared.nodes.NodeKind.TheVariants.{Directory, File, Service, Mount}
 use Rattle.node_graph.specs.Graph.{listed_after}
 use Rattle.node_graph.specs.Tree.{IsSound, Tree}
-use Rattle.frame_laws.proofs.Texts.{IsShortName}
+use Rattle.journal_laws.proofs.Texts.{IsShortName, both_written, first_written, none_written}
 use Rattle.frame_laws.proofs.Trees.{short_listed}
-use Rattle.frame_laws.proofs.Written.{both_written, first_written, length-number, none_written, number_written}
-use Rattle.frame_laws.specs.Bytes.{HasBytes}
+use Rattle.frame_laws.proofs.Written.{length-number, number_written}
+use Rattle.journal_laws.specs.Contents.{HasBytes}
 
 -- the name and the type of an entry can be written
 record IsListed (entry : Dirent) : Type 0 where

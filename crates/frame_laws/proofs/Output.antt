@@ -38,7 +38,7 @@ use Rattle.frame_laws.proofs.Replies.{FitsWord}
 use Rattle.frame_laws.proofs.Sent.{sent_messages}
 use Rattle.frame_laws.proofs.Trees.{short_names, tree_bytes, trees_bytes}
 use Rattle.frame_laws.proofs.Watching.{all_told, first_told}
-use Rattle.frame_laws.specs.Bytes.{BeginsWithBytes, HasBytes}
+use Rattle.journal_laws.specs.Contents.{HasBytes}
 
 -- ---- what a serving is ready with
 
@@ -156,10 +156,10 @@ onward_holds start journal origin None h = h
 onward_holds start journal origin (Some f) h =
     sent_holds start (history_of start journal) (sent_behind journal f.endpoint (message f.bytes (f.object ∷ [])) (Some origin)) h
 
-module _ (below : Below) (start : Start) (s : IsStart start) (bytes : BeginsWithBytes start) where
+module _ (below : Below) (start : Start) (s : IsStart start) where
   lawful_holds : (journal : Journal) → Lawful start journal → Holds start (history_of start journal)
   unfolding history_of
-  lawful_holds journal lawful.begun = record { trees = bytes; frames = All-nil (IsFrame Any) }
+  lawful_holds journal lawful.begun = record { trees = s.bytes; frames = All-nil (IsFrame Any) }
   lawful_holds journal (lawful.refused earlier frame' why h is admits) = refused_holds start (history_of start earlier) frame'.endpoint why is.endpoint (lawful_holds earlier h)
   lawful_holds journal (lawful.sent earlier frame' h is kind admits) =
       sent_holds start (history_of start earlier) (sent_behind earlier frame'.endpoint (message frame'.bytes frame'.handles) None) (lawful_holds earlier h)

@@ -6,17 +6,18 @@ use Rattle.endpoint_link.specs.declared.kinds.Side.TheVariants.{Any}
 use Rattle.endpoint_link.proofs.Runs.{spellings-append}
 use Rattle.endpoint_link.proofs.Streams.{frames_stay, not_both, one_list}
 use Rattle.vfs_journal.specs.Entries.{Journal}
+use Rattle.vfs_journal.specs.Lawful.{Lawful}
 use Rattle.vfs_journal.specs.Output.{frames_behind, frames_of_event}
 use Rattle.vfs_journal.specs.Past.{event_of, history_of}
 use Rattle.vfs_journal.specs.Session.{ended, session}
 use Rattle.vfs_journal.specs.Starts.{Start, start_of}
+use Rattle.journal_laws.specs.Soundness.{IsStart}
 use Rattle.journal_laws.proofs.Below.{Below}
 use Rattle.journal_laws.proofs.Draining.{sessions_are_lawful}
 use Rattle.journal_laws.proofs.Starting.{accepted_starts_are_starts}
 use Rattle.frame_laws.proofs.Fields.{All-left, All-right}
 use Rattle.frame_laws.proofs.Output.{frames_written}
-use Rattle.frame_laws.proofs.Begun.{starts_have_bytes}
-use Rattle.frame_laws.specs.Laws.{IsReadAs, OutputIsReadBack, PartsAreReadBack, SessionsAreReadBack}
+use Rattle.frame_laws.specs.Laws.{IsReadAs, IsReadBack, PartsAreReadBack, SessionsAreReadBack}
 
 -- ---- frames one after another
 
@@ -43,10 +44,11 @@ grown start (entry ∷ newer) journal =
     let new = frames_of_event start past (event_of start past entry) in
     (rest.0 ++ new, ap (λ (frames : List Frame). frames ++ new) rest.1 ∙ append_assoc (frames_behind start journal) rest.0 new)
 
-pub output_is_read_back : Below → OutputIsReadBack
-output_is_read_back below start newer journal s bytes h =
+-- the output is read as the frames that the journal stands for, behind each entry of a lawful journal
+pub output_is_read_back : Below → (start : Start) (newer journal : Journal) → IsStart start → Lawful start (newer ++ journal) → IsReadBack start journal
+output_is_read_back below start newer journal s h =
     let more = grown start newer journal in
-    let all = frames_written below start s bytes (newer ++ journal) h in
+    let all = frames_written below start s (newer ++ journal) h in
     read_as (frames_behind start journal) (All-left (IsFrame Any) (frames_behind start journal) more.0 (subst (All (IsFrame Any)) more.1 all))
 
 -- ---- parts of an output
@@ -59,9 +61,9 @@ part_read earlier later part before after' e =
     (on.0, on.1, subst (λ (b : List ℕ). IsReadAs b on.0) (sym same) (read_as on.0 (All-right (IsFrame Any) earlier on.0 (subst (All (IsFrame Any)) on.1 after'))))
 
 pub parts_are_read_back : Below → PartsAreReadBack
-parts_are_read_back below start earlier later part s bytes h g e =
-    let before = frames_written below start s bytes earlier h in
-    let after' = frames_written below start s bytes later g in
+parts_are_read_back below start earlier later part s h g e =
+    let before = frames_written below start s earlier h in
+    let after' = frames_written below start s later g in
     let read = part_read (frames_behind start earlier) (frames_behind start later) part before after' e in
     record { more = read.0; grown = read.1; read = read.2 }
 
@@ -70,9 +72,8 @@ parts_are_read_back below start earlier later part s bytes h g e =
 pub sessions_are_read_back : Below → SessionsAreReadBack
 sessions_are_read_back below lists by frames accepted files each =
     let start = start_of lists in
-    let sound = accepted_starts_are_starts lists accepted in
-    let bytes = starts_have_bytes lists accepted files in
+    let sound = accepted_starts_are_starts lists accepted files in
     let lawful' = sessions_are_lawful start by frames each in (
-      output_is_read_back below start [] (session start by frames) sound bytes lawful'.0,
-      output_is_read_back below start [] (ended start by frames) sound bytes lawful'.1,
+      output_is_read_back below start [] (session start by frames) sound lawful'.0,
+      output_is_read_back below start [] (ended start by frames) sound lawful'.1,
     )

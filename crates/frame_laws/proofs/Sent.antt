@@ -29,8 +29,8 @@ use Rattle.std.proofs.lemmas.List.Elements.{Contains-append_right}
 use Rattle.frame_laws.proofs.Outcomes.{IsSendable}
 use Rattle.frame_laws.proofs.Replies.{FitsWord, IsMessage}
 use Rattle.frame_laws.proofs.Sizes.{body_size}
-use Rattle.frame_laws.proofs.Texts.{text_in_bytes}
-use Rattle.frame_laws.proofs.Written.{body_is, both_written, header_written, length-header}
+use Rattle.journal_laws.proofs.Texts.{both_written, text_in_bytes}
+use Rattle.frame_laws.proofs.Written.{body_is, header_written, length-header}
 
 -- ---- an Open that goes on
 

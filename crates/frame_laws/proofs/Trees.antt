@@ -17,14 +17,11 @@ use Rattle.node_graph.specs.Tree.{Change, EdgeKey, EdgeTo, Edges, IsSound, NodeR
 use Rattle.session_start.proofs.Trees.{edges_total, equal_of, exact_edges}
 use Rattle.conn_rules.specs.Nodes.{bytes_of}
 use Rattle.vfs_journal.specs.History.{changed, tree_at}
-use Rattle.frame_laws.proofs.Texts.{IsShortName}
-use Rattle.frame_laws.proofs.Written.{none_written}
-use Rattle.frame_laws.specs.Bytes.{HasBytes}
+use Rattle.journal_laws.proofs.Lists.{both_hold}
+use Rattle.journal_laws.proofs.Texts.{IsShortName, none_written}
+use Rattle.journal_laws.specs.Contents.{HasBytes}
 
 -- ---- entries are found
-
-pub both_hold : {X : Type 0} (P Q : X → Type 0) (xs : List X) → All P xs → All Q xs → All (λ x. P x × Q x) xs
-both_hold P Q xs h g k d l = (h k d l, g k d l)
 
 not_tied : {K : Type 0} {R : K → K → Ordering} (o : IsTotalOrder R) (one other : K) → is_lt (R one other) ≡ true → eq_by_cmp R other one ≡ false
 not_tied {K} {R} o one other less = (eq_by_cmp_equiv o).symm other one ∙ by_order (R one other) less where

@@ -16,8 +16,7 @@ use Rattle.vfs_journal.specs.History.{watches_node}
 use Rattle.vfs_journal.specs.Starts.{Bound}
 use Rattle.vfs_journal.specs.Watching.{told_by, told_frames, told_of, watcher_of}
 use Rattle.frame_laws.proofs.Replies.{FitsWord, plain_frame}
-use Rattle.frame_laws.proofs.Texts.{IsShortName}
-use Rattle.frame_laws.proofs.Written.{both_written, first_written, none_written}
+use Rattle.journal_laws.proofs.Texts.{IsShortName, both_written, first_written, none_written}
 
 -- bytes that one message to a watcher can have
 record IsPiece (piece : List ℕ) : Type 0 where

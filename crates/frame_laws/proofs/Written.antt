@@ -15,6 +15,7 @@ use Rattle.fidl_wire.specs.Numbers.{padding_after}
 use Rattle.fidl_wire.specs.Reading.{present_list, present_word}
 use Rattle.fidl_wire.specs.Spelling.{body_bytes, body_handles, count_bytes, envelope_bytes, given, handle_part, inline_part, list_part_of, member_part, members_part, object_bytes, option_bytes, option_handles, spelling_of, spelling_of_all, table_part, variant_bytes, variant_handles}
 use Rattle.fidl_wire.specs.Written.{padded_bytes}
+use Rattle.journal_laws.proofs.Texts.{both_written, first_written, none_written}
 
 -- ---- numbers
 
@@ -36,15 +37,6 @@ unfolding number_bytes
 length-number size x = length-bytes_low_first 0 size x
 
 -- ---- lists of bytes
-
-pub none_written : AreBytes []
-none_written = All-nil (λ b. b < 256)
-
-pub first_written : (b : ℕ) (bytes : List ℕ) → b < 256 → AreBytes bytes → AreBytes (b ∷ bytes)
-first_written b bytes = All-cons (λ x. x < 256) b bytes
-
-pub both_written : (xs ys : List ℕ) → AreBytes xs → AreBytes ys → AreBytes (xs ++ ys)
-both_written = All-append (λ x. x < 256)
 
 pub zeros_written : (n : ℕ) → AreBytes (replicate n 0)
 zeros_written n = All-replicate (λ x. x < 256) n 0 (lit< tt)

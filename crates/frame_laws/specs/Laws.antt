@@ -12,7 +12,6 @@ use Rattle.vfs_journal.specs.Output.{frames_behind, output_of}
 use Rattle.vfs_journal.specs.Session.{ended, session}
 use Rattle.vfs_journal.specs.Starts.{Start, start_of}
 use Rattle.journal_laws.specs.Soundness.{IsStart}
-use Rattle.frame_laws.specs.Bytes.{BeginsWithBytes}
 
 -- each is a frame of the link; the bytes are these frames, with nothing behind them; whoever reads frames in them finds these, and no bad one
 pub record IsReadAs (bytes : List ℕ) (frames : List Frame) : Type 0 where
@@ -25,11 +24,6 @@ pub record IsReadAs (bytes : List ℕ) (frames : List Frame) : Type 0 where
 abbrev pub IsReadBack : Start → Journal → Type 0
 IsReadBack start journal = IsReadAs (output_of start journal) (frames_behind start journal)
 
--- so it is behind each entry of a lawful journal
-abbrev pub OutputIsReadBack : Type 0
-OutputIsReadBack =
-    (start : Start) (newer journal : Journal) → IsStart start → BeginsWithBytes start → Lawful start (newer ++ journal) → IsReadBack start journal
-
 -- what one journal writes behind another's output is read as the frames that it has more
 pub record AreMore (start : Start) (earlier later : Journal) (part : List ℕ) : Type 0 where
   pub more : List Frame
@@ -38,14 +32,10 @@ pub record AreMore (start : Start) (earlier later : Journal) (part : List ℕ) :
 
 abbrev pub PartsAreReadBack : Type 0
 PartsAreReadBack =
-    (start : Start) (earlier later : Journal) (part : List ℕ) → IsStart start → BeginsWithBytes start → Lawful start earlier → Lawful start later →
+    (start : Start) (earlier later : Journal) (part : List ℕ) → IsStart start → Lawful start earlier → Lawful start later →
     output_of start later ≡ output_of start earlier ++ part → AreMore start earlier later part
 
 -- ---- accepted trees
-
--- the names of an accepted tree are bytes
-abbrev pub StartsHaveBytes : Type 0
-StartsHaveBytes = (lists : Lists) → AreAccepted lists → HasFilesOfBytes lists → BeginsWithBytes (start_of lists)
 
 -- a session over an accepted tree, in either mode, before its last drain and behind it
 abbrev pub SessionsAreReadBack : Type 0

@@ -1,3 +1,2 @@
--- That what a session writes is frames. A reader of the laws believes Bytes; Laws has the laws, each proved.
-pub mod Bytes
+-- That what a session writes is frames. A reader of the laws believes the words of Laws; the rest of it is laws, each proved.
 pub mod Laws

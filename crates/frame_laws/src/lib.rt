@@ -4,6 +4,4 @@
 
 mod frames;
 
-pub use frames::{
-    output_is_read_back, parts_are_read_back, sessions_are_read_back, starts_have_bytes,
-};
+pub use frames::{parts_are_read_back, sessions_are_read_back};

@@ -11,7 +11,6 @@ use Rattle.endpoint_link.specs.declared.kinds.Refusal.{Refusal}
 use Rattle.endpoint_link.specs.declared.kinds.Side.TheVariants.{ToServers}
 use Rattle.endpoint_link.specs.Admission.{admission}
 use Rattle.endpoint_link.specs.Frames.{Frame, IsFrame}
-use Rattle.fidl_names.specs.HandleNumber.{is_client}
 use Rattle.endpoint_link.specs.Numbering.{among}
 use Rattle.endpoint_link.specs.Numbers.{word_in}
 use Rattle.vfs_journal.specs.Entries.{Sent, Journal}
@@ -29,7 +28,7 @@ use Rattle.journal_laws.proofs.Lists.{pairs-head}
 use Rattle.journal_laws.proofs.Members.{contains_here, contains_cases, found, none_found, kept}
 use Rattle.journal_laws.proofs.Places.{waiting_rises}
 use Rattle.journal_laws.proofs.Stepping.{stepped}
-use Rattle.journal_laws.proofs.TransitLaws.{in_transit}
+use Rattle.journal_laws.proofs.TransitLaws.{in_transit, no_origin}
 use Rattle.journal_laws.proofs.Weights.{serving_weighs, something_weighs}
 
 -- ---- what is chosen is a head
@@ -163,29 +162,29 @@ travels start history h transit one p = by_side (transit.reached one p) where
   by_side (inl bound) = absurd (true≢false (sym bound ∙ unbound start history h one p))
   by_side (inr t) = t
 
--- the first that waits can't be carried: its carrier would stand before it, or on an endpoint that nothing carries
-first_waits : (start : Start) (history : History) → next start history ≡ None → AreInTransit start history → (one : Sent) → Contains (waiting history) one → ((other : Sent) → Contains (waiting history) other → one.place ≤ other.place) → ⊥
-first_waits start history h transit one p least =
+-- the first that waits can't be carried: its carrier is carried too, so that it has no origin and stands before it
+first_waits : (start : Start) (history : History) → IsStart start → next start history ≡ None → AreInTransit start history → (one : Sent) → Contains (waiting history) one → ((other : Sent) → Contains (waiting history) other → one.place ≤ other.place) → ⊥
+first_waits start history s h transit one p least =
     let u = carrier_of one.endpoint (waiting history) (travels start history h transit one p) in
-    by_side u.0 u.1 (transit.before u.0 one (u.1, u.2) p) where
-      by_side : (u : Sent) → Contains (waiting history) u → (u.place < one.place) ⊎ (is_client u.endpoint ≡ false) → ⊥
-      by_side u q (inl before) = let low = least u q in omega arith
-      by_side u q (inr other) =
-          let w = carrier_of u.endpoint (waiting history) (travels start history h transit u q) in
-          true≢false (sym (carried_is w.0 u.endpoint w.2).0 ∙ other)
+    let w = carrier_of u.0.endpoint (waiting history) (travels start history h transit u.0 u.1) in
+    let plain = no_origin start u.0 s (carried_is w.0 u.0.endpoint w.2).0 (λ from e. transit.onward u.0 from u.1 e) in
+    let before = transit.before u.0 one (u.1, u.2) p plain in
+    let low = least u.0 u.1 in
+    absurd (omega (arith, before, low))
 
 least_by : (one other : Sent) (ones : List Sent) → All (λ x. one.place < x.place) ones → (one ≡ other) ⊎ Contains ones other → one.place ≤ other.place
 least_by one other ones behind (inl e) = let same = ap (λ (x : Sent). x.place) e in omega arith
 least_by one other ones behind (inr h) = let after = All-contains (λ (x : Sent). one.place < x.place) ones other behind h in omega arith
 
-none_by : (start : Start) (history : History) → next start history ≡ None → AreInTransit start history → (ones : List Sent) → waiting history ≡ ones → AllPairs (λ x y. x.place < y.place) ones → ones ≡ []
-none_by start history h transit [] e rises = refl
-none_by start history h transit (one ∷ ones) e rises =
+none_by : (start : Start) (history : History) → IsStart start → next start history ≡ None → AreInTransit start history → (ones : List Sent) → waiting history ≡ ones → AllPairs (λ x y. x.place < y.place) ones → ones ≡ []
+none_by start history s h transit [] e rises = refl
+none_by start history s h transit (one ∷ ones) e rises =
     absurd
-    (first_waits start history h transit one (subst (λ xs. Contains xs one) (sym e) (contains_here one ones))
+    (first_waits start history s h transit one (subst (λ xs. Contains xs one) (sym e) (contains_here one ones))
     (λ other q. least_by one other ones (pairs-head (λ x y. x.place < y.place) one ones rises) (contains_cases other one ones (subst (λ xs. Contains xs other) e q))))
 
-served_or_dead : (history : History) → waiting history ≡ [] → (one : Sent) → Contains (all_sent history) one → (was_served history one ≡ true) ⊎ (is_dead history one.endpoint ≡ true)
+-- where nothing waits each thing that was sent was served, or its endpoint is dead
+pub served_or_dead : (history : History) → waiting history ≡ [] → (one : Sent) → Contains (all_sent history) one → (was_served history one ≡ true) ⊎ (is_dead history one.endpoint ≡ true)
 served_or_dead history none one p = by_tests (was_served history one) (is_dead history one.endpoint) refl refl where
   by_tests : (a b : Bool) → was_served history one ≡ a → is_dead history one.endpoint ≡ b → (was_served history one ≡ true) ⊎ (is_dead history one.endpoint ≡ true)
   by_tests true b e f = inl e
@@ -201,7 +200,7 @@ drains_serve_all below start journal s h =
     let all = drained_lawful start journal h in
     let history = history_of start (drained start journal) in
     let over = emptied below (weight (history_of start journal)) start journal s h (same_le (weight (history_of start journal))) in
-    let none = none_by start history over (in_transit below start (drained start journal) s all) (waiting history) refl (waiting_rises start (drained start journal) (stepped start (drained start journal) all)) in
+    let none = none_by start history s over (in_transit below start (drained start journal) s all) (waiting history) refl (waiting_rises start (drained start journal) (stepped start (drained start journal) all)) in
     (all, record { none = none; each = λ sent p. served_or_dead history none sent p }) where
       same_le : (n : ℕ) → n ≤ n
       same_le n = omega arith

@@ -28,6 +28,9 @@ pub mod KnowingAdmits
 pub mod KnowingSent
 pub mod KnowingServes
 pub mod KnowingStarts
+pub mod Texts
+pub mod StartNames
+pub mod StartBytes
 pub mod Starting
 pub mod Carrying
 pub mod ViewParts

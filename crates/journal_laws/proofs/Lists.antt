@@ -1,5 +1,6 @@
 -- Lists in order, and what is kept of them.
-use Rattle.std.proofs.Common.{◌≡◌, ℕ, suc, All, AllPairs, map, arith, ◌==◌, ◌&&◌, Bool, true, false, cond, List, [], ◌∷◌, ◌++◌, reverse, Option, Some, None, filter, filter_map, option_to_list, refl, sym, ap, ◌∙◌}
+use Rattle.std.proofs.Common.{◌≡◌, ℕ, suc, ◌+◌, All, AllPairs, map, arith, ◌==◌, ◌&&◌, Bool, true, false, cond, List, [], ◌∷◌, ◌++◌, reverse, Option, Some, None, filter, filter_map, option_to_list, refl, sym, ap, ◌∙◌}
+use Rattle.std.specs.List.{enumerate_from}
 use Rattle.std.proofs.lemmas.Bool.{eqb-true, eqb-false}
 use Rattle.std.proofs.lemmas.List.{reverse-append}
 use Rattle.std.proofs.lemmas.List.Elements.{All-append, All-cons, All-head, All-nil, All-tail, All-map, filter_map-append}
@@ -39,6 +40,15 @@ eqb-swapped a b false true e f = absurd (eqb-false a b e (sym (eqb-true b a f)))
 
 pub eqb_sym : (a b : ℕ) → (a == b) ≡ (b == a)
 eqb_sym a b = eqb-swapped a b (a == b) (b == a) refl refl
+
+-- ---- what holds of each
+
+pub both_hold : {X : Type 0} (P Q : X → Type 0) (xs : List X) → All P xs → All Q xs → All (λ x. P x × Q x) xs
+both_hold P Q xs a b k d within = (a k d within, b k d within)
+
+pub all_numbered : {X : Type 0} (P : X → Type 0) (first : ℕ) (xs : List X) → All P xs → All (λ (one : ℕ × X). P one.1) (enumerate_from first xs)
+all_numbered P first [] h = All-nil (λ one. P one.1)
+all_numbered P first (x ∷ xs) h = All-cons (λ one. P one.1) (first, x) (enumerate_from (first + 1) xs) (All-head P x xs h) (all_numbered P (first + 1) xs (All-tail P x xs h))
 
 -- ---- pairs
 

@@ -1,12 +1,11 @@
--- Who lives stands on a node of its tree in every lawful journal.
-use Rattle.std.proofs.Common.{◌≡◌, ℕ, zero, suc, ◌<◌, ◌==◌, ◌⊎◌, Bool, not, List, [], ◌∷◌, ◌++◌, length, filter, option_to_list, Option, Some, None, All, refl, sym, ap, ◌∙◌, subst, inl, inr, append-nil, arith}
+-- Whoever is or was bound stands on a node of its tree at each time of a lawful journal.
+use Rattle.std.proofs.Common.{◌≡◌, ℕ, zero, suc, ◌<◌, ◌==◌, ◌⊎◌, not, List, [], ◌∷◌, ◌++◌, length, option_to_list, Option, Some, None, All, refl, sym, ap, ◌∙◌, subst, inl, inr, append-nil, arith}
 use Rattle.std.specs.Prelude.{IsSome}
 use Rattle.std.specs.FinMap.{get-empty}
 use Rattle.std.specs.Option.{option_map}
 use Rattle.std.proofs.lemmas.Bool.{cases_order}
 use Rattle.std.proofs.lemmas.List.{get_or-set_same, get_or-set_other, length-set}
 use Rattle.std.proofs.lemmas.List.Elements.{All-nil, All-cons, All-head, All-tail, All-append, All-contains, All-filter, All-weaker}
-use Rattle.endpoint_link.specs.Numbering.{among}
 use Rattle.io_messages.specs.declared.protocols.Protocol.{Protocol}
 use Rattle.io_rights.specs.Operations.{OperationSet}
 use Rattle.node_graph.specs.Tree.{IsSound, NodeRow, Tree, Change, after, bare_tree, edge_cmp, kind_of, row_of}
@@ -14,7 +13,7 @@ use Rattle.node_graph.specs.declared.nodes.NodeKind.{NodeKind}
 use Rattle.node_graph.specs.declared.nodes.NodeKind.TheVariants.{Directory, Mount}
 use Rattle.session_start.specs.Sound.{HasOneEdge}
 use Rattle.vfs_journal.specs.Entries.{Journal, Sent, serves}
-use Rattle.vfs_journal.specs.History.{History, changed, is_dead, living, tree_at, trees_of}
+use Rattle.vfs_journal.specs.History.{History, births, changed, is_dead, living, tree_at, trees_of}
 use Rattle.vfs_journal.specs.Lawful.{Lawful}
 use Rattle.vfs_journal.specs.Outcomes.{Given, Outcome}
 use Rattle.vfs_journal.specs.Past.{behind, event_of, history_of}
@@ -22,27 +21,27 @@ use Rattle.vfs_journal.specs.Serving.{moment_of, outcome_at, outcome_of}
 use Rattle.vfs_journal.specs.Session.{head}
 use Rattle.vfs_journal.specs.Starts.{Bound, Start}
 use Rattle.vfs_journal.specs.Tokens.{all_given}
-use Rattle.journal_laws.specs.Laws.{HasSameEndpoints, but_for, newly_living}
+use Rattle.journal_laws.specs.Laws.{HasSameEndpoints}
 use Rattle.journal_laws.specs.Soundness.{AreMountedOnce, IsOnDirectory, IsStart}
 use Rattle.journal_laws.specs.Trees.{IsOnNode, NamesDirectory, StandOnTrees, suits}
 use Rattle.journal_laws.proofs.Below.{Below}
 use Rattle.journal_laws.proofs.Kept.{is_serving, lawful_kept}
-use Rattle.journal_laws.proofs.Members.{found}
+use Rattle.journal_laws.proofs.Members.{found, kept_of}
 use Rattle.journal_laws.proofs.Orderly.{HasChildren, IsOrderly, children_stay, edge_stays, kind_stays, mount_back}
 use Rattle.journal_laws.proofs.Placed.{IsPlacedOutcome, sending_placed}
 use Rattle.journal_laws.proofs.Stepping.{GoesOn, Stepped, at_each, onward_of, stepped}
 use Rattle.journal_laws.proofs.Steps.{refusals_change_nothing, sendings_wait_last, servings_take_effect}
 
 -- names lead to nodes beside that
-pub record Stand (start : Start) (trees : List Tree) (lives : List Bound) (tokens : List Given) : Type 0 where
+pub record Stand (start : Start) (trees : List Tree) (born : List Bound) (tokens : List Given) : Type 0 where
   pub many : length trees ≡ length start.trees
   pub children : (server : ℕ) → HasChildren (tree_at trees server)
   pub mounts : AreMountedOnce start trees
-  pub placed : All (IsOnNode trees) lives
+  pub placed : All (IsOnNode trees) born
   pub given : All (NamesDirectory trees) tokens
 
 abbrev pub StandAt : Start → History → Type 0
-StandAt start history = Stand start (trees_of start history) (living start history) (all_given history)
+StandAt start history = Stand start (trees_of start history) (births start history) (all_given history)
 
 -- ---- the trees with a change of one
 
@@ -146,19 +145,18 @@ new_names trees bound outcome change within h g e =
       node = ap (λ (s : ℕ). kind_of (tree_at trees s) g.node) token.0 ∙ token.1;
     })
 
-served_by : (start : Start) (trees : List Tree) (lives : List Bound) (tokens : List Given) (bound : Bound) (outcome : Outcome) (p q : Bound → Bool) → Stand start trees lives tokens → bound.server < length trees → IsPlacedOutcome (tree_at trees bound.server) bound outcome →
+served_by : (start : Start) (trees : List Tree) (born : List Bound) (tokens : List Given) (bound : Bound) (outcome : Outcome) → Stand start trees born tokens → bound.server < length trees → IsPlacedOutcome (tree_at trees bound.server) bound outcome →
     (server : ℕ) → outcome.server ≡ server → server ≡ bound.server →
-    Stand start (changed trees server outcome.change) (filter p lives ++ filter q (option_to_list outcome.bound)) (tokens ++ option_to_list outcome.token)
-served_by start trees lives tokens bound outcome p q stand within h server is at =
-    subst (λ (s : ℕ). Stand start (changed trees s outcome.change) (filter p lives ++ filter q (option_to_list outcome.bound)) (tokens ++ option_to_list outcome.token)) (sym at)
+    Stand start (changed trees server outcome.change) (born ++ option_to_list outcome.bound) (tokens ++ option_to_list outcome.token)
+served_by start trees born tokens bound outcome stand within h server is at =
+    subst (λ (s : ℕ). Stand start (changed trees s outcome.change) (born ++ option_to_list outcome.bound) (tokens ++ option_to_list outcome.token)) (sym at)
     (record {
       many = many_then trees bound.server outcome.change within ∙ stand.many;
       children = children_then trees bound.server outcome.change within h.orderly stand.children;
       mounts = mounts_then trees bound.server outcome.change within start h.orderly stand.mounts;
-      placed = All-append (IsOnNode (changed trees bound.server outcome.change)) (filter p lives) (filter q (option_to_list outcome.bound))
-          (All-filter p (IsOnNode (changed trees bound.server outcome.change)) lives (All-weaker (IsOnNode trees) (IsOnNode (changed trees bound.server outcome.change)) (node_then trees bound.server outcome.change within) lives stand.placed))
-          (All-filter q (IsOnNode (changed trees bound.server outcome.change)) (option_to_list outcome.bound)
-          (from_option (IsOnNode (changed trees bound.server outcome.change)) outcome.bound (new_stands trees bound outcome outcome.change refl within h)));
+      placed = All-append (IsOnNode (changed trees bound.server outcome.change)) born (option_to_list outcome.bound)
+          (All-weaker (IsOnNode trees) (IsOnNode (changed trees bound.server outcome.change)) (node_then trees bound.server outcome.change within) born stand.placed)
+          (from_option (IsOnNode (changed trees bound.server outcome.change)) outcome.bound (new_stands trees bound outcome outcome.change refl within h));
       given = All-append (NamesDirectory (changed trees bound.server outcome.change)) tokens (option_to_list outcome.token)
           (All-weaker (NamesDirectory trees) (NamesDirectory (changed trees bound.server outcome.change)) (given_then trees bound.server outcome.change within) tokens stand.given)
           (from_option (NamesDirectory (changed trees bound.server outcome.change)) outcome.token (new_names trees bound outcome outcome.change within h));
@@ -168,9 +166,9 @@ served_by start trees lives tokens bound outcome p q stand within h server is at
 
 same_stand : (start : Start) (now past : History) → HasSameEndpoints start now past → StandAt start past → StandAt start now
 same_stand start now past same h =
-    subst (λ (tokens : List Given). Stand start (trees_of start now) (living start now) tokens) (sym same.tokens)
-    (subst (λ (lives : List Bound). Stand start (trees_of start now) lives (all_given past)) (sym same.alive)
-    (subst (λ (trees : List Tree). Stand start trees (living start past) (all_given past)) (sym same.trees) h))
+    subst (λ (tokens : List Given). Stand start (trees_of start now) (births start now) tokens) (sym same.tokens)
+    (subst (λ (born : List Bound). Stand start (trees_of start now) born (all_given past)) (sym same.born)
+    (subst (λ (trees : List Tree). Stand start trees (births start past) (all_given past)) (sym same.trees) h))
 
 served_stand : Below → (start : Start) (journal : Journal) (sent : Sent) → IsStart start → Lawful start journal → head start (history_of start journal) sent.endpoint ≡ Some sent → StandAt start (history_of start journal) →
     StandAt start (behind start (serves sent) (history_of start journal))
@@ -183,14 +181,15 @@ served_stand below start journal sent s lawful' first h =
     let serving' = is_serving below start journal sent s (stepped start journal lawful') (lawful_kept below start s journal lawful').sound first in
     let bound = serving'.at in
     let lives = (found (λ (b : Bound). b.endpoint == sent.endpoint) (living start past) bound serving'.bound).0 in
-    let on = All-contains (IsOnNode (trees_of start past)) (living start past) bound h.placed lives in
+    let born = (kept_of (λ (b : Bound). not (is_dead past b.endpoint)) (births start past) bound lives).0 in
+    let on = All-contains (IsOnNode (trees_of start past)) (births start past) bound h.placed born in
     let whole : outcome_of start past sent ≡ outcome_at start past sent (Some bound) = ap (outcome_at start past sent) serving'.bound in
     let placed' = subst (IsPlacedOutcome (tree_at (trees_of start past) bound.server) bound) (sym whole)
     (sending_placed below.spelled (moment_of start past bound) sent.sending (record { children = h.children bound.server; kind = on.kind; node = on.node; suited = on.suited })) in
-    subst (λ (tokens : List Given). Stand start (trees_of start now) (living start now) tokens) (sym effect.tokens)
-    (subst (λ (lives : List Bound). Stand start (trees_of start now) lives (all_given past ++ option_to_list event.outcome.token)) (sym effect.alive)
-    (subst (λ (trees : List Tree). Stand start trees (but_for event.deaths (living start past) ++ newly_living now event.outcome.bound) (all_given past ++ option_to_list event.outcome.token)) (sym effect.trees)
-    (served_by start (trees_of start past) (living start past) (all_given past) bound event.outcome (λ b. not (among b.endpoint event.deaths)) (λ b. not (is_dead now b.endpoint)) h on.server placed' event.outcome.server refl placed'.server)))
+    subst (λ (tokens : List Given). Stand start (trees_of start now) (births start now) tokens) (sym effect.tokens)
+    (subst (λ (born : List Bound). Stand start (trees_of start now) born (all_given past ++ option_to_list event.outcome.token)) (sym effect.born)
+    (subst (λ (trees : List Tree). Stand start trees (births start past ++ option_to_list event.outcome.bound) (all_given past ++ option_to_list event.outcome.token)) (sym effect.trees)
+    (served_by start (trees_of start past) (births start past) (all_given past) bound event.outcome h on.server placed' event.outcome.server refl placed'.server)))
 
 -- ---- the start
 
@@ -226,9 +225,8 @@ first_stand start s = record {
   many = refl;
   children = at_start start s;
   mounts = s.edges;
-  placed = All-filter (λ bound. not (is_dead [] bound.endpoint)) (IsOnNode start.trees) ((start.firsts ++ start.mounts) ++ [])
-      (subst (All (IsOnNode start.trees)) (sym (append-nil (start.firsts ++ start.mounts)))
-      (All-weaker (IsOnDirectory start.trees) (IsOnNode start.trees) (on_directory start.trees) (start.firsts ++ start.mounts) s.placed));
+  placed = subst (All (IsOnNode start.trees)) (sym (append-nil (start.firsts ++ start.mounts)))
+      (All-weaker (IsOnDirectory start.trees) (IsOnNode start.trees) (on_directory start.trees) (start.firsts ++ start.mounts) s.placed);
   given = All-nil (NamesDirectory start.trees);
 }
 
@@ -250,7 +248,25 @@ stand_at below start past s h = at_each start (λ journal. StandAt start (histor
 pub lawful_stand : Below → (start : Start) (journal : Journal) → IsStart start → Lawful start journal → StandAt start (history_of start journal)
 lawful_stand below start journal s h = stand_at below start journal s (stepped start journal h)
 
-pub stand_on_trees : Below → (start : Start) (journal : Journal) → IsStart start → Lawful start journal → StandOnTrees start (history_of start journal)
-stand_on_trees below start journal s h =
-    let stand = lawful_stand below start journal s h in
+pub stand_at_time : Below → (start : Start) (past : Journal) → IsStart start → Stepped start past → StandOnTrees start (history_of start past)
+stand_at_time below start past s h =
+    let stand = stand_at below start past s h in
     record { many = stand.many; mounts = stand.mounts; placed = stand.placed; tokens = stand.given }
+
+-- and so who lives
+pub record LiveOnTrees (start : Start) (history : History) : Type 0 where
+  pub many : length (trees_of start history) ≡ length start.trees
+  pub mounts : AreMountedOnce start (trees_of start history)
+  pub placed : All (IsOnNode (trees_of start history)) (living start history)
+  pub tokens : All (NamesDirectory (trees_of start history)) (all_given history)
+
+pub stand_on_trees : Below → (start : Start) (journal : Journal) → IsStart start → Lawful start journal → LiveOnTrees start (history_of start journal)
+stand_on_trees below start journal s h =
+    let past = history_of start journal in
+    let stand = lawful_stand below start journal s h in
+    record {
+      many = stand.many;
+      mounts = stand.mounts;
+      placed = All-filter (λ bound. not (is_dead past bound.endpoint)) (IsOnNode (trees_of start past)) (births start past) stand.placed;
+      tokens = stand.given;
+    }

@@ -39,7 +39,7 @@ use Rattle.conn_rules.specs.Opens.{arrival, arrival_refusals, by_walk, entry_ref
 use Rattle.conn_rules.proofs.EveryWalk.{HoldsAlong, every_walk}
 use Rattle.conn_rules.specs.Walks.{Walk, arrives, missing, crosses, stops, behind, walk, limit_of}
 use Rattle.vfs_journal.specs.Entries.{Journal, Sending, Sent, message, hang_up, serves}
-use Rattle.vfs_journal.specs.History.{living, tree_at, trees_of}
+use Rattle.vfs_journal.specs.History.{births, is_dead, living, tree_at, trees_of}
 use Rattle.vfs_journal.specs.Lawful.{Lawful}
 use Rattle.vfs_journal.specs.Outcomes.{Outcome, Given}
 use Rattle.vfs_journal.specs.Past.{behind as behind_entry, event_of, history_of}
@@ -51,7 +51,7 @@ use Rattle.journal_laws.specs.Trees.{IsOnNode, NamesDirectory, suits}
 use Rattle.journal_laws.proofs.Acts.{first_none, graph_allows, head_none, not_refused, only_none, path_passes, unless_holds, none_there}
 use Rattle.journal_laws.proofs.Below.{Below}
 use Rattle.journal_laws.proofs.Kept.{is_serving, lawful_kept}
-use Rattle.journal_laws.proofs.Members.{found}
+use Rattle.journal_laws.proofs.Members.{found, kept_of}
 use Rattle.journal_laws.proofs.OnTrees.{lawful_stand, sound_children}
 use Rattle.journal_laws.proofs.Orderly.{HasChildren}
 use Rattle.journal_laws.proofs.Placed.{LeadsToNode, has_read, kind_there, leads_to_node, on_directory}
@@ -309,7 +309,8 @@ served_sound below start journal sent s h first sound =
     let bound = serving'.at in
     let stand = lawful_stand below start journal s h in
     let lives = (found (λ (b : Bound). b.endpoint == sent.endpoint) (living start past) bound serving'.bound).0 in
-    let on = All-contains (IsOnNode trees) (living start past) bound stand.placed lives in
+    let born = (kept_of (λ (b : Bound). not (is_dead past b.endpoint)) (births start past) bound lives).0 in
+    let on = All-contains (IsOnNode trees) (births start past) bound stand.placed born in
     let whole : outcome ≡ outcome_at start past sent (Some bound) = ap (outcome_at start past sent) serving'.bound in
     let one = sending_sound below (moment_of start past bound) sent.sending on.kind (tree_sound trees bound.server sound) on.node on.suited (λ token d e. named_directory trees (all_given past) bound.server token d stand.given e) in
     let left : IsSound (after (tree_at trees outcome.server) outcome.change) = subst (λ (o : Outcome). IsSound (after (tree_at trees o.server) o.change)) (sym whole) (same_server (moment_of start past bound) sent.sending trees one) in

@@ -6,7 +6,7 @@ use Rattle.std.proofs.lemmas.List.FromFn.{get_or-map-range_with_len, length-map-
 use Rattle.std.proofs.lemmas.List.{length-map}
 use Rattle.std.proofs.lemmas.List.Sums.{sum_by-append, sum_by-cons}
 use Rattle.std.proofs.lemmas.List.Kept.{AllPairs-cons}
-use Rattle.journal_laws.proofs.Lists.{pairs-append, pairs-map}
+use Rattle.journal_laws.proofs.Lists.{all_numbered, both_hold, pairs-append, pairs-map}
 use Rattle.std.proofs.lemmas.List.Elements.{All-nil, All-cons, All-head, All-tail, All-append, All-map, All-filter, All-weaker, All-contains_itself}
 use Rattle.fidl_names.specs.HandleNumber.{is_client, end_of_mount}
 use Rattle.fidl_names.specs.declared.limits.TheConstants as limit
@@ -14,17 +14,20 @@ use Rattle.io_rights.specs.Operations.{OperationSet}
 use Rattle.node_graph.specs.Tree.{IsSound, Tree, bare_tree, kind_of}
 use Rattle.node_graph.specs.declared.nodes.NodeKind.{NodeKind}
 use Rattle.node_graph.specs.declared.nodes.NodeKind.TheVariants.{Directory, File, Service, Mount}
-use Rattle.session_start.specs.Accepted.{AreAccepted, IsClient, IsNode, IsPlain}
+use Rattle.session_start.specs.Accepted.{AreAccepted, HasFilesOfBytes, IsClient, IsNode, IsPlain}
 use Rattle.session_start.specs.Items.{NodeItem, MountItem, ClientItem, Lists}
 use Rattle.session_start.specs.Numbering.{Named, node_named, mount_named, named_of, number_in, row_of_named, tree_of}
 use Rattle.session_start.specs.Sound.{AreSound, HasOneEdge, IsDirectoryAt}
 use Rattle.session_start.proofs.Soundness.{named_count, start_sound}
+use Rattle.journal_laws.specs.Contents.{HasBytes, HasNames}
 use Rattle.journal_laws.specs.Soundness.{IsStart, OtherEndpoint, HasEnd, HasRoom, AreMounted, AreMountedOnce, IsOnDirectory, mount_ends}
 use Rattle.vfs_journal.specs.History.{tree_at}
 use Rattle.vfs_journal.specs.Starts.{Bound, Start, start_of, directory_birth, first_of_client, end_of}
 use Rattle.journal_laws.proofs.Acts.{IsMade}
 use Rattle.journal_laws.proofs.KnowingStarts.{mounts_in_order}
 use Rattle.journal_laws.proofs.Members.{contains_map}
+use Rattle.journal_laws.proofs.StartBytes.{starts_have_bytes}
+use Rattle.journal_laws.proofs.StartNames.{starts_have_names}
 
 -- ---- the lists of an accepted tree
 
@@ -169,25 +172,18 @@ on_directory lists server path endpoint rights within at = record {
   mask = refl;
 }
 
-both : {X : Type 0} (P Q : X → Type 0) (xs : List X) → All P xs → All Q xs → All (λ x. P x × Q x) xs
-both P Q xs a b k d within = (a k d within, b k d within)
-
-enumerated : (P : MountItem → Type 0) (n : ℕ) (mounts : List MountItem) → All P mounts → All (λ mount. P mount.1) (enumerate_from n mounts)
-enumerated P n [] h = All-nil (λ (mount : ℕ × MountItem). P mount.1)
-enumerated P n (mount ∷ mounts) h = All-cons (λ (m : ℕ × MountItem). P m.1) (n, mount) (enumerate_from (n + 1) mounts) (All-head P mount mounts h) (enumerated P (n + 1) mounts (All-tail P mount mounts h))
-
 all_placed : (lists : Lists) → AreSound lists → All (IsOnDirectory (trees_in lists)) ((start_of lists).firsts ++ (start_of lists).mounts)
 all_placed lists sound =
     All-append (IsOnDirectory (trees_in lists)) (map (first_of_client lists) lists.clients) (map (end_of lists) (mounts_of lists))
     (All-map (IsOnDirectory (trees_in lists)) (first_of_client lists) lists.clients
     (All-weaker (λ (client : ClientItem). (client.server < length lists.servers) × IsDirectoryAt lists client.server client.path) (λ client. IsOnDirectory (trees_in lists) (first_of_client lists client))
     (λ client h. on_directory lists client.server client.path client.endpoint client.rights h.0 h.1) lists.clients
-    (both (λ (client : ClientItem). client.server < length lists.servers) (λ client. IsDirectoryAt lists client.server client.path) lists.clients sound.servers.clients sound.clients)))
+    (both_hold (λ (client : ClientItem). client.server < length lists.servers) (λ client. IsDirectoryAt lists client.server client.path) lists.clients sound.servers.clients sound.clients)))
     (All-map (IsOnDirectory (trees_in lists)) (end_of lists) (mounts_of lists)
     (All-weaker (λ (mount : ℕ × MountItem). (mount.1.target < length lists.servers) × IsDirectoryAt lists mount.1.target mount.1.at) (λ mount. IsOnDirectory (trees_in lists) (end_of lists mount))
     (λ mount h. on_directory lists mount.1.target mount.1.at (end_of_mount mount.0) mount.1.rights h.0 h.1) (mounts_of lists)
-    (enumerated (λ (mount : MountItem). (mount.target < length lists.servers) × IsDirectoryAt lists mount.target mount.at) 0 lists.mounts
-    (both (λ (mount : MountItem). mount.target < length lists.servers) (λ mount. IsDirectoryAt lists mount.target mount.at) lists.mounts sound.servers.targets sound.targets))))
+    (all_numbered (λ (mount : MountItem). (mount.target < length lists.servers) × IsDirectoryAt lists mount.target mount.at) 0 lists.mounts
+    (both_hold (λ (mount : MountItem). mount.target < length lists.servers) (λ mount. IsDirectoryAt lists mount.target mount.at) lists.mounts sound.servers.targets sound.targets))))
 
 -- ---- mounts
 
@@ -284,8 +280,10 @@ has_room lists sound server = by_range (cases_below server (length lists.servers
       (All-weaker (IsOnDirectory (trees_in lists)) (λ (bound : Bound). bound.server < length (trees_in lists)) (λ bound h. h.server) ((start_of lists).firsts ++ (start_of lists).mounts) (all_placed lists sound)) in
       omega (arith, none)
 
-start_apart : (lists : Lists) → AreApart lists → AreSound lists → IsStart (start_of lists)
-start_apart lists apart sound = record {
+start_apart : (lists : Lists) → AreApart lists → AreSound lists → All HasNames (start_of lists).trees → All HasBytes (start_of lists).trees → IsStart (start_of lists)
+start_apart lists apart sound names bytes = record {
+  names = names;
+  bytes = bytes;
   few = let many = many_trees lists in let few' = sound.servers.few in omega (arith, many, few');
   trees = trees_sound lists sound;
   small = trees_small lists sound;
@@ -302,5 +300,6 @@ start_apart lists apart sound = record {
   mounted = All-map (AreMounted (start_of lists)) (tree_of lists) (range_with_len 0 (length lists.servers)) (always (λ server. AreMounted (start_of lists) (tree_of lists server)) (λ server. tree_rows lists server apart) (range_with_len 0 (length lists.servers)));
 }
 
-pub accepted_starts_are_starts : (lists : Lists) → AreAccepted lists → IsStart (start_of lists)
-accepted_starts_are_starts lists accepted = start_apart lists (lists_apart lists accepted) (start_sound lists accepted)
+pub accepted_starts_are_starts : (lists : Lists) → AreAccepted lists → HasFilesOfBytes lists → IsStart (start_of lists)
+accepted_starts_are_starts lists accepted files =
+    start_apart lists (lists_apart lists accepted) (start_sound lists accepted) (starts_have_names lists accepted) (starts_have_bytes lists accepted files)

@@ -1,31 +1,87 @@
 -- The laws of endpoints in transit, and of deaths.
-use Rattle.std.proofs.Common.{◌≡◌, ℕ, ◌<◌, ◌==◌, ◌⊎◌, true, false, List, [], ◌∷◌, Option, Some, None, Contains, map, refl, sym, ap, ◌∙◌, subst, inl, inr}
-use Rattle.std.proofs.lemmas.Bool.{eqb-true}
+use Rattle.std.proofs.Common.{◌≡◌, ℕ, ◌<◌, ◌≤◌, ◌==◌, ◌⊎◌, true, List, [], ◌∷◌, Option, Some, None, Contains, map, refl, sym, ap, ◌∙◌, subst, inl, inr, arith}
+use Rattle.std.proofs.lemmas.Bool.{eqb-true, true≢false}
 use Rattle.fidl_names.specs.HandleNumber.{is_client}
-use Rattle.endpoint_link.specs.Numbering.{among}
 use Rattle.vfs_journal.specs.Deaths.{deaths_of}
-use Rattle.vfs_journal.specs.Entries.{Sent, Journal, endpoints_in}
-use Rattle.vfs_journal.specs.History.{History, all_sent, living, is_used}
+use Rattle.vfs_journal.specs.Entries.{Sent, Journal}
+use Rattle.vfs_journal.specs.History.{History, all_sent, living, is_used, waiting}
 use Rattle.vfs_journal.specs.Lawful.{Lawful}
 use Rattle.vfs_journal.specs.Past.{history_of}
 use Rattle.vfs_journal.specs.Serving.{outcome_of}
 use Rattle.vfs_journal.specs.Session.{head}
-use Rattle.journal_laws.specs.Soundness.{IsStart, mount_ends, AreInTransit, AreKnown, DieTogether}
+use Rattle.journal_laws.specs.Soundness.{IsStart, mount_ends, AreInTransit, AreKnown, Carries, DieTogether, TravelsBehind, carried, deeper}
 use Rattle.vfs_journal.specs.Starts.{Bound, Start}
-use Rattle.journal_laws.proofs.Among.{some_found}
+use Rattle.journal_laws.proofs.Among.{carried_is, some_found}
 use Rattle.journal_laws.proofs.Apart.{births_apart, travelling_apart}
 use Rattle.journal_laws.proofs.Below.{Below}
 use Rattle.journal_laws.proofs.Kept.{lawful_kept, is_serving, end_lives, mounts_born}
 use Rattle.journal_laws.proofs.Members.{contains_here, contains_later, contains_cases, contains_none}
 use Rattle.journal_laws.proofs.Served.{deaths_closed}
-use Rattle.journal_laws.proofs.Sound.{Sound, ByOrigin, IsKnown, end_apart, nothing_left, view}
+use Rattle.journal_laws.proofs.Sound.{Sound, ByOrigin, IsKnown, IsView, end_apart, nothing_left, view}
 use Rattle.journal_laws.proofs.Stepping.{stepped}
 use Rattle.journal_laws.proofs.Views.{is_view}
 
-before_by : (start : Start) (history : History) (one other : Sent) → IsStart start → Sound start (view start history) → Contains (all_sent history) one → Contains (all_sent history) other →
-    among other.endpoint (endpoints_in one) ≡ true → (o : Option ℕ) → one.origin ≡ o → ByOrigin start (all_sent history) one o → (one.place < other.place) ⊎ (is_client one.endpoint ≡ false)
-before_by start history one other s past p q h None e origin = inl (past.order one other p q e h)
-before_by start history one other s past p q h (Some from) e origin = inr (end_apart start one.endpoint s origin.end)
+-- what has an origin is on the end of a mount, so that what is on a client's endpoint has none
+onward_end : (start : Start) (sent : List Sent) (one : Sent) (from : ℕ) (o : Option ℕ) → ByOrigin start sent one o → o ≡ Some from → Contains (mount_ends start) one.endpoint
+onward_end start sent one from None h e = absurd (cc)
+onward_end start sent one from (Some origin) h e = h.end
+
+pub no_origin : (start : Start) (one : Sent) → IsStart start → is_client one.endpoint ≡ true → ((from : ℕ) → one.origin ≡ Some from → Contains (mount_ends start) one.endpoint) → one.origin ≡ None
+no_origin start one s client end = by_origin one.origin refl where
+  by_origin : (o : Option ℕ) → one.origin ≡ o → one.origin ≡ None
+  by_origin None e = e
+  by_origin (Some from) e = absurd (true≢false (sym client ∙ end_apart start one.endpoint s (end from e)))
+
+-- ---- without a cycle
+
+module _ (start : Start) (history : History) (s : IsStart start) (sound : Sound start (view start history)) (is : IsView (view start history)) where
+  on_end : (one : Sent) (from : ℕ) → Contains (waiting history) one → one.origin ≡ Some from → Contains (mount_ends start) one.endpoint
+  on_end one from p e = onward_end start (all_sent history) one from one.origin (sound.right one (is.waits one p)).by_origin e
+
+  plain : (one : Sent) → Contains (waiting history) one → is_client one.endpoint ≡ true → one.origin ≡ None
+  plain one p client = no_origin start one s client (λ from e. on_end one from p e)
+
+  before_by : (one other : Sent) → Carries history one other.endpoint → Contains (waiting history) other → one.origin ≡ None → one.place < other.place
+  before_by one other c q none = sound.order one other (is.waits one c.0) (is.waits other q) none c.1
+
+  -- what carries an endpoint that travels behind a client's was sent on a client's, and behind what waits on that, or is it
+  record IsBehind (endpoint other : ℕ) : Type 0 where
+    top : Sent
+    bottom : Sent
+    carries : Carries history top endpoint
+    client : is_client top.endpoint ≡ true
+    waits : Contains (waiting history) bottom
+    on : bottom.endpoint ≡ other
+    order : bottom.place ≤ top.place
+
+  behind_it : (endpoint other : ℕ) → is_client other ≡ true → TravelsBehind history endpoint other → IsBehind endpoint other
+  behind_it endpoint other client (carried one _ c) =
+      record { top = one; bottom = one; carries = c; client = client; waits = c.0; on = refl; order = omega arith }
+  behind_it endpoint other client (deeper one _ _ c rest) =
+      let next = behind_it one.endpoint other client rest in
+      let less = before_by next.top one next.carries c.0 (plain next.top next.carries.0 next.client) in
+      let low = next.order in
+      record {
+        top = one;
+        bottom = next.bottom;
+        carries = c;
+        client = (carried_is next.top one.endpoint next.carries.1).0;
+        waits = next.waits;
+        on = next.on;
+        order = omega (arith, less, low);
+      }
+
+  carried_client : (endpoint other : ℕ) → TravelsBehind history endpoint other → is_client endpoint ≡ true
+  carried_client endpoint other (carried one _ c) = (carried_is one endpoint c.1).0
+  carried_client endpoint other (deeper one _ _ c rest) = (carried_is one endpoint c.1).0
+
+  no_cycle : (endpoint : ℕ) → TravelsBehind history endpoint endpoint → ⊥
+  no_cycle endpoint round =
+      let cycle = behind_it endpoint endpoint (carried_client endpoint endpoint round) round in
+      let there : Carries history cycle.top cycle.bottom.endpoint = subst (Carries history cycle.top) (sym cycle.on) cycle.carries in
+      let less = before_by cycle.top cycle.bottom there cycle.waits (plain cycle.top cycle.carries.0 cycle.client) in
+      let low = cycle.order in
+      absurd (omega (arith, less, low))
 
 reached_by : {A : Type 0} (n : ℕ) → A ⊎ nothing_left n → A
 reached_by n (inl h) = h
@@ -42,7 +98,9 @@ in_transit below start journal s h =
       alive = λ one n c. kept.transit.alive one n c.0 c.1;
       reached = λ one p. reached_by one.endpoint (kept.transit.reached one p);
       apart = travelling_apart start journal h is kept.transit;
-      before = λ one other c q. before_by start history one other s kept.sound (is.waits one c.0) (is.waits other q) c.1 one.origin refl (kept.sound.right one (is.waits one c.0)).by_origin;
+      acyclic = no_cycle start history s kept.sound is;
+      onward = on_end start history s kept.sound is;
+      before = before_by start history s kept.sound is;
     }
 
 end_among : (b : Bound) (bounds : List Bound) → Contains bounds b → Contains (map (λ bound. bound.endpoint) bounds) b.endpoint

@@ -14,7 +14,7 @@ use Rattle.vfs_journal.specs.Outcomes.{Forwarded, Given, Outcome}
 use Rattle.vfs_journal.specs.Output.{frames_of, frames_of_serving, output_of}
 use Rattle.vfs_journal.specs.Past.{event_of, history_of}
 use Rattle.vfs_journal.specs.Serving.{outcome_of}
-use Rattle.vfs_journal.specs.Session.{after_serving, head, look_ups, sent_behind, serving, with_forward}
+use Rattle.vfs_journal.specs.Session.{after_serving, head, look_ups, sent_behind, with_forward}
 use Rattle.vfs_journal.specs.Starts.{Start}
 use Rattle.vfs_journal.specs.Tokens.{all_given}
 use Rattle.vfs_journal.specs.View.{View, event_in, frames_in, onward_in, sending_in, serving_in, then_in}

@@ -1,12 +1,11 @@
 -- What is looked up in the view behind a serving: each endpoint by itself, whatever else there is.
-use Rattle.std.specs.Prelude.{◌≡◌, ◌+◌, ◌==◌, ℕ, false, if◌then◌else◌, List, [], ◌∷◌, ◌++◌, drop, Option, Some, None}
+use Rattle.std.specs.Prelude.{◌≡◌, ◌+◌, ◌==◌, ℕ, false, if◌then◌else◌, List, [], ◌∷◌, ◌++◌, drop, Option, None}
 use Rattle.std.specs.Option.{option_map, option_map_or}
 use Rattle.endpoint_link.specs.Numbering.{among}
 use Rattle.conn_rules.specs.Births.{Position, fresh}
 use Rattle.vfs_journal.specs.Entries.{Sent}
-use Rattle.vfs_journal.specs.Fit.{IsFit}
 use Rattle.vfs_journal.specs.Starts.{Bound}
-use Rattle.vfs_journal.specs.View.{View, at_in, deaths_in, head_in, moved, onward_sent, outcome_in, queue_in, sending_in, then_in}
+use Rattle.vfs_journal.specs.View.{View, at_in, deaths_in, moved, onward_sent, outcome_in, queue_in, then_in}
 
 -- a dead endpoint isn't bound; what the outcome binds is at its beginning, and the served endpoint where the outcome leaves it
 abbrev pub at_behind : View → Sent → ℕ → Option (Bound × Position)
@@ -35,13 +34,3 @@ onward_to view sent endpoint =
 pub record IsBehind (view : View) (sent : Sent) : Type 0 where
   pub at : (endpoint : ℕ) → at_in (then_in view sent) endpoint ≡ at_behind view sent endpoint
   pub queue : (endpoint : ℕ) → queue_in (then_in view sent) endpoint ≡ queue_behind view sent endpoint ++ onward_to view sent endpoint
-
-abbrev pub ServingsAreLookedUp : Type 0
-ServingsAreLookedUp = (view : View) (sent : Sent) → IsFit view → head_in view sent.endpoint ≡ Some sent → IsBehind view sent
-
--- behind a sending its endpoint's queue alone is longer, and the same endpoints are bound
-abbrev pub SendingsAreLookedUp : Type 0
-SendingsAreLookedUp =
-    (view : View) (sent : Sent) (endpoint : ℕ) →
-    (at_in (sending_in view sent) endpoint ≡ at_in view endpoint)
-    × (queue_in (sending_in view sent) endpoint ≡ queue_in view endpoint ++ (if sent.endpoint == endpoint then sent ∷ [] else []))

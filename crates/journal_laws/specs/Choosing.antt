@@ -1,17 +1,13 @@
 -- What the queues of endpoints tell of which entry is served next, and of who dies.
-use Rattle.std.specs.Prelude.{◌≡◌, ◌≢◌, ◌≤◌, ◌==◌, ℕ, Bool, true, false, if◌then◌else◌, List, [], AllPairs, Contains, drop, filter, length, slice_get, Option, Some, None}
-use Rattle.std.specs.List.Sorted.{IsStrictlySortedBy}
+use Rattle.std.specs.Prelude.{◌≡◌, ◌≢◌, ◌≤◌, ◌==◌, ℕ, Bool, true, false, if◌then◌else◌, List, [], AllPairs, Contains, drop, slice_get, Option, Some, None}
 use Rattle.std.specs.Option.{option_map_or}
-use Rattle.std.specs.Ordering.{nat_cmp}
 use Rattle.endpoint_link.specs.Numbering.{among}
 use Rattle.node_graph.specs.Tree.{Tree}
-use Rattle.vfs_journal.specs.Deaths.{first_deaths}
 use Rattle.vfs_journal.specs.Entries.{Sent, endpoints_in}
-use Rattle.vfs_journal.specs.Fit.{IsFit}
 use Rattle.vfs_journal.specs.History.{Event}
-use Rattle.vfs_journal.specs.Output.{frames_of_serving, rising}
+use Rattle.vfs_journal.specs.Output.{frames_of_serving}
 use Rattle.vfs_journal.specs.Starts.{Bound}
-use Rattle.vfs_journal.specs.View.{View, at_in, deaths_in, head_in, is_bound_in, next_in, oldest_in, outcome_in, queue_in, serving_in}
+use Rattle.vfs_journal.specs.View.{View, at_in, head_in, is_bound_in, next_in, oldest_in, queue_in, serving_in}
 
 -- ---- what is served next
 
@@ -41,14 +37,6 @@ pub record IsChosenByPlace (view : View) : Type 0 where
   pub oldest : (server : ℕ) → ChoosesLeast view (is_bound_at_in view server) (oldest_in view server)
   pub head : (endpoint : ℕ) → head_in view endpoint ≡ (if is_bound_in view endpoint then first_on view endpoint else None)
 
-abbrev pub LeastPlacesAreServed : Type 0
-LeastPlacesAreServed = (view : View) → IsFit view → IsChosenByPlace view
-
--- as many wait as the queues have
-abbrev pub QueuesCountWhatWaits : Type 0
-QueuesCountWhatWaits =
-    (one other : List Sent) → ((endpoint : ℕ) → filter (λ sent. sent.endpoint == endpoint) one ≡ filter (λ sent. sent.endpoint == endpoint) other) → length one ≡ length other
-
 -- ---- deaths
 
 -- what waits on an endpoint beside an entry that is served
@@ -66,12 +54,6 @@ pub record AreAllThatDie (queue : ℕ → List Sent) (dying deaths : List ℕ) :
   pub least : (dies : ℕ → Bool) → ((endpoint : ℕ) → among endpoint dying ≡ true → dies endpoint ≡ true) → IsClosedOver queue dies →
       (endpoint : ℕ) → among endpoint deaths ≡ true → dies endpoint ≡ true
 
--- the one pass over what waits reaches them
-abbrev pub DeathsAreTheLeast : Type 0
-DeathsAreTheLeast =
-    (view : View) (sent : Sent) → IsFit view → head_in view sent.endpoint ≡ Some sent →
-    AreAllThatDie (queue_beside view sent) (first_deaths sent (outcome_in view sent)) (deaths_in view sent)
-
 -- no number but these, each once, in any order
 pub record IsListOf (numbers listed : List ℕ) : Type 0 where
   pub same : (number : ℕ) → among number listed ≡ among number numbers
@@ -81,11 +63,3 @@ pub record IsListOf (numbers listed : List ℕ) : Type 0 where
 pub record IsToldByMembers (view : View) (sent : Sent) (event : Event) (deaths : List ℕ) : Type 0 where
   pub follows : serving_in view sent (record event { deaths = deaths }) ≡ serving_in view sent event
   pub written : (trees : List Tree) (living : List Bound) → frames_of_serving trees living (record event { deaths = deaths }) ≡ frames_of_serving trees living event
-
-abbrev pub MembersTellDeaths : Type 0
-MembersTellDeaths =
-    (view : View) (sent : Sent) (event : Event) (deaths : List ℕ) → ((endpoint : ℕ) → among endpoint deaths ≡ among endpoint event.deaths) → IsToldByMembers view sent event deaths
-
--- the numbers of a list, once each, are any that rise and have the same members
-abbrev pub RisingNumbersAreSorted : Type 0
-RisingNumbersAreSorted = (numbers sorted : List ℕ) → IsStrictlySortedBy nat_cmp sorted → ((number : ℕ) → among number sorted ≡ among number numbers) → rising numbers ≡ sorted

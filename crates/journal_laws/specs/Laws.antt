@@ -111,9 +111,6 @@ pub record AreServedOnce (journal : Journal) (history : History) : Type 0 where
 abbrev pub PlacesRise : Type 0
 PlacesRise = (start : Start) (journal : Journal) → Lawful start journal → AreInOrder journal (history_of start journal)
 
-abbrev pub ServedOnce : Type 0
-ServedOnce = (start : Start) (journal : Journal) → Lawful start journal → AreServedOnce journal (history_of start journal)
-
 -- what is sent at the next place waits behind all others, where its endpoint isn't dead
 abbrev pub WhatIsSentWaits : Type 0
 WhatIsSentWaits =

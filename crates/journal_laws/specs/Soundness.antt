@@ -1,11 +1,11 @@
 -- What holds of each lawful journal from a start whose endpoints are apart.
-use Rattle.std.specs.Prelude.{◌≡◌, ◌≢◌, ◌+◌, ◌++◌, AllPairs, ◌<◌, ◌≤◌, ◌==◌, ◌⊎◌, ℕ, true, false, List, [], ◌∷◌, All, Contains, count_by, length, map, slice_get, Some}
+use Rattle.std.specs.Prelude.{◌≡◌, ◌≢◌, ◌+◌, ◌++◌, AllPairs, ◌<◌, ◌≤◌, ◌==◌, ◌⊎◌, ℕ, true, false, List, [], ◌∷◌, All, Contains, count_by, length, map, slice_get, Some, None}
 use Rattle.std.specs.List.{range_with_len}
 use Rattle.fidl_names.specs.declared.limits.TheConstants as limit
 use Rattle.io_messages.specs.declared.protocols.Protocol.TheVariants as protocol
 use Rattle.node_graph.specs.declared.nodes.NodeKind.TheVariants.{Directory, Mount}
 use Rattle.node_graph.specs.Tree.{IsSound, NodeRow, Tree, kind_of}
-use Rattle.session_start.specs.Accepted.{AreAccepted}
+use Rattle.session_start.specs.Accepted.{AreAccepted, HasFilesOfBytes}
 use Rattle.session_start.specs.Items.{Lists}
 use Rattle.session_start.specs.Sound.{HasOneEdge}
 use Rattle.endpoint_link.specs.declared.kinds.Mode.{Mode}
@@ -23,6 +23,7 @@ use Rattle.vfs_journal.specs.Serving.{outcome_of}
 use Rattle.vfs_journal.specs.Session.{head, sent_behind, after_serving, weight, drained, session, ended}
 use Rattle.vfs_journal.specs.Starts.{Bound, Start, start_of}
 use Rattle.vfs_journal.specs.Tokens.{all_given}
+use Rattle.journal_laws.specs.Contents.{HasBytes, HasNames}
 
 -- ---- starts
 
@@ -60,12 +61,14 @@ AreMountedOnce start trees = (index : ℕ) (end : Bound) → slice_get start.mou
 abbrev pub HasRoom : Start → Type 0
 HasRoom start = (server : ℕ) → count_by (λ bound. bound.server == server) (start.firsts ++ start.mounts) ≤ limit.MAX_CONNECTIONS
 
--- the trees are sound, and few, with a root and a node for each name at most; first connections are on clients' endpoints, and the ends of mounts on others, in the order of their
--- numbers; no endpoint stands twice, each is bound to a directory, and no server has more of them than it may; each mount has its end, and
--- one edge
+-- the trees are sound, and few, with a root and a node for each name at most; their names break no rule, and these and what is in files are
+-- bytes; first connections are on clients' endpoints, and the ends of mounts on others, in the order of their numbers; no endpoint stands
+-- twice, each is bound to a directory, and no server has more of them than it may; each mount has its end, and one edge
 pub record IsStart (start : Start) : Type 0 where
   pub few : length start.trees ≤ limit.MAX_SERVERS
   pub trees : All IsSound start.trees
+  pub names : All HasNames start.trees
+  pub bytes : All HasBytes start.trees
   pub small : All (λ tree. length tree.nodes ≤ 1 + limit.MAX_NAMES) start.trees
   pub firsts : All (λ bound. is_client bound.endpoint ≡ true) start.firsts
   pub ends : All (λ bound. is_client bound.endpoint ≡ false) start.mounts
@@ -82,15 +85,23 @@ pub record IsStart (start : Start) : Type 0 where
 abbrev pub Carries : History → Sent → ℕ → Type 0
 Carries history one endpoint = Contains (waiting history) one × (among endpoint (endpoints_in one) ≡ true)
 
+-- an endpoint travels behind another where what waits on that carries it, or carries one behind which it travels
+pub data TravelsBehind (history : History) : ℕ → ℕ → Type 0 where
+  carried : (one : Sent) (endpoint : ℕ) → Carries history one endpoint → TravelsBehind history endpoint one.endpoint
+  deeper : (one : Sent) (endpoint other : ℕ) → Carries history one endpoint → TravelsBehind history one.endpoint other → TravelsBehind history endpoint other
+
 -- an endpoint in transit is carried once, by one waiting entry, and is neither bound nor dead; each waiting entry's endpoint is bound or in
--- transit; and what carries an endpoint stands before what waits on it, or stands on an endpoint that nothing carries
+-- transit; none travels behind itself; an Open that went on waits on the end of a mount; and what else carries an endpoint was sent before
+-- what waits on that
 pub record AreInTransit (start : Start) (history : History) : Type 0 where
   pub once : (one other : Sent) (endpoint : ℕ) → Carries history one endpoint → Carries history other endpoint → one ≡ other
   pub unbound : (one : Sent) (endpoint : ℕ) → Carries history one endpoint → is_bound start history endpoint ≡ false
   pub alive : (one : Sent) (endpoint : ℕ) → Carries history one endpoint → is_dead history endpoint ≡ false
   pub reached : (one : Sent) → Contains (waiting history) one → (is_bound start history one.endpoint ≡ true) ⊎ (among one.endpoint (travelling history) ≡ true)
   pub apart : AllPairs (λ one other. one ≢ other) (travelling history)
-  pub before : (one other : Sent) → Carries history one other.endpoint → Contains (waiting history) other → (one.place < other.place) ⊎ (is_client one.endpoint ≡ false)
+  pub acyclic : (endpoint : ℕ) → TravelsBehind history endpoint endpoint → ⊥
+  pub onward : (one : Sent) (origin : ℕ) → Contains (waiting history) one → one.origin ≡ Some origin → Contains (mount_ends start) one.endpoint
+  pub before : (one other : Sent) → Carries history one other.endpoint → Contains (waiting history) other → one.origin ≡ None → one.place < other.place
 
 -- what is dead or bound was known: a first connection, or a number that a message carried, or an end of a mount, and these live; no
 -- endpoint is born twice; tokens are numbers of their own
@@ -110,9 +121,6 @@ DieTogether history sent deaths =
     (other : Sent) (endpoint : ℕ) → Contains (others history sent) other → among other.endpoint deaths ≡ true → among endpoint (endpoints_in other) ≡ true → among endpoint deaths ≡ true
 
 -- ---- laws
-
-abbrev pub EndpointsAreInTransit : Type 0
-EndpointsAreInTransit = (start : Start) (journal : Journal) → IsStart start → Lawful start journal → AreInTransit start (history_of start journal)
 
 abbrev pub EndpointsAreKnown : Type 0
 EndpointsAreKnown = (start : Start) (journal : Journal) → IsStart start → Lawful start journal → AreKnown start (history_of start journal)
@@ -150,9 +158,13 @@ abbrev pub SessionsServeAll : Type 0
 SessionsServeAll =
     (start : Start) (by : Mode) (frames : List Frame) → IsStart start → All (IsFrame ToServers) frames → IsDrained (history_of start (ended start by frames))
 
--- the start of each accepted tree
+-- the start of each accepted tree whose files are bytes
 abbrev pub AcceptedStartsAreStarts : Type 0
-AcceptedStartsAreStarts = (lists : Lists) → AreAccepted lists → IsStart (start_of lists)
+AcceptedStartsAreStarts = (lists : Lists) → AreAccepted lists → HasFilesOfBytes lists → IsStart (start_of lists)
+
+-- no more entries wait than may
+abbrev pub FewWait : Type 0
+FewWait = (start : Start) (journal : Journal) → Lawful start journal → length (waiting (history_of start journal)) ≤ limit.MAX_WAITING
 
 -- what goes on behind a mount waits behind all others
 abbrev pub WhatGoesOnWaits : Type 0

@@ -5,11 +5,10 @@ use Rattle.io_messages.specs.declared.protocols.Protocol.{Protocol}
 use Rattle.io_messages.specs.declared.protocols.Protocol.TheVariants as protocol
 use Rattle.node_graph.specs.declared.nodes.NodeKind.{NodeKind}
 use Rattle.node_graph.specs.declared.nodes.NodeKind.TheVariants.{Directory}
-use Rattle.node_graph.specs.Tree.{IsSound, Tree, kind_of}
+use Rattle.node_graph.specs.Tree.{Tree, kind_of}
 use Rattle.conn_rules.specs.Nodes.{is_directory, is_file, is_service}
 use Rattle.vfs_journal.specs.Entries.{Journal}
-use Rattle.vfs_journal.specs.History.{History, living, tree_at, trees_of}
-use Rattle.vfs_journal.specs.Lawful.{Lawful}
+use Rattle.vfs_journal.specs.History.{History, births, tree_at, trees_of}
 use Rattle.vfs_journal.specs.Outcomes.{Given}
 use Rattle.vfs_journal.specs.Past.{history_of}
 use Rattle.vfs_journal.specs.Starts.{Bound, Start}
@@ -36,19 +35,13 @@ pub record NamesDirectory (trees : List Tree) (given : Given) : Type 0 where
   pub server : given.server < length trees
   pub node : kind_of (tree_at trees given.server) given.node ≡ Some Directory
 
--- there are as many trees as at the start, and mounts have their one edge in them; who lives stands on a node, and tokens name directories
+-- there are as many trees as at the start, and mounts have their one edge in them; each endpoint that was ever bound, a watcher's too, stands
+-- on a node, also behind its death, and each token that was ever given names a directory
 pub record StandOnTrees (start : Start) (history : History) : Type 0 where
   pub many : length (trees_of start history) ≡ length start.trees
   pub mounts : AreMountedOnce start (trees_of start history)
-  pub placed : All (IsOnNode (trees_of start history)) (living start history)
+  pub placed : All (IsOnNode (trees_of start history)) (births start history)
   pub tokens : All (NamesDirectory (trees_of start history)) (all_given history)
-
-abbrev pub WhoLivesStandsOnTrees : Type 0
-WhoLivesStandsOnTrees = (start : Start) (journal : Journal) → IsStart start → Lawful start journal → StandOnTrees start (history_of start journal)
-
--- whatever is served leaves all trees sound
-abbrev pub TreesStaySound : Type 0
-TreesStaySound = (start : Start) (journal : Journal) → IsStart start → Lawful start journal → All IsSound (trees_of start (history_of start journal))
 
 -- each entry makes one node at most, so that no tree has more of them than a start's and one for each place of the journal
 abbrev pub TreesGrowSlowly : Type 0

@@ -2,8 +2,9 @@
 
 ghost use Rattle.fidl_wire.specs.Names.{AreDistinct};
 ghost use Rattle.journal_laws.specs.Carrying.{ServingsBindWhatTheyCarry};
-ghost use Rattle.journal_laws.specs.Laws.{HangUpsWait, PlacesRise, RefusalsChangeNothing, SendingsWaitLast, ServedOnce, ServingsTakeEffect, WhatIsSentWaits};
-ghost use Rattle.journal_laws.specs.Soundness.{AcceptedStartsAreStarts, DeathsReachAll, DrainsServeAll, EndpointsAreInTransit, EndpointsAreKnown, ServingsLowerTheWeight, SessionsAreLawful, SessionsServeAll, WhatGoesOnWaits};
+ghost use Rattle.journal_laws.specs.Laws.{HangUpsWait, PlacesRise, RefusalsChangeNothing, SendingsWaitLast, ServingsTakeEffect, WhatIsSentWaits};
+ghost use Rattle.journal_laws.specs.Soundness.{AcceptedStartsAreStarts, DeathsReachAll, DrainsServeAll, EndpointsAreKnown, FewWait, ServingsLowerTheWeight, SessionsAreLawful, SessionsServeAll, WhatGoesOnWaits};
+ghost use Rattle.journal_laws.specs.Trees.{TreesGrowSlowly};
 
 /// Behind a refusal all that is found by looking back is as it was.
 pub fn refusals_change_nothing()
@@ -26,11 +27,6 @@ pub fn places_rise()
     ensures { PlacesRise }
 {}
 
-/// In a lawful journal what is served was sent, nothing is served twice, and each endpoint is served in order of sending.
-pub fn served_once()
-    ensures { ServedOnce }
-{}
-
 /// In a lawful journal a hang-up waits until its endpoint is dead.
 pub fn hang_ups_wait()
     ensures { HangUpsWait }
@@ -40,12 +36,6 @@ pub fn hang_ups_wait()
 /// have equal ordinals.
 pub fn endpoints_are_known()
     ensures { AreDistinct → EndpointsAreKnown }
-{}
-
-/// In a lawful journal each endpoint in transit is carried by one waiting entry, without a cycle, and what waits is on an endpoint that is
-/// bound or in transit; where no two names have equal ordinals.
-pub fn endpoints_are_in_transit()
-    ensures { AreDistinct → EndpointsAreInTransit }
 {}
 
 /// In a lawful journal what a serving binds is an endpoint that the served entry carries; where no two names have equal ordinals.
@@ -79,7 +69,7 @@ pub fn sessions_serve_all()
     ensures { AreDistinct → SessionsServeAll }
 {}
 
-/// The start of each tree file that is read is a start as the laws of journals want it.
+/// The start of each tree file that is read is a start as the laws of journals want it: its files are bytes.
 pub fn accepted_starts_are_starts()
     ensures { AcceptedStartsAreStarts }
 {}
@@ -92,4 +82,14 @@ pub fn what_is_sent_waits()
 /// In a lawful journal an Open that goes on behind a mount waits behind all others; where no two names have equal ordinals.
 pub fn what_goes_on_waits()
     ensures { AreDistinct → WhatGoesOnWaits }
+{}
+
+/// In a lawful journal no more entries wait than may.
+pub fn few_wait()
+    ensures { FewWait }
+{}
+
+/// No tree has more nodes than a start's may have and the journal has places.
+pub fn trees_grow_slowly()
+    ensures { TreesGrowSlowly }
 {}

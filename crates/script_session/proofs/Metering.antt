@@ -19,7 +19,7 @@ use Rattle.vfs_journal.specs.Starts.{Start, start_of}
 use Rattle.vfs_script.proofs.ScriptFacts.{script_frames}
 use Rattle.vfs_script.specs.Kept.{ScriptValue}
 use Rattle.vfs_script.specs.Scripts.{frame_of, frames_of, script_lines}
-use Rattle.vfs_session.specs.World.{LeadsTo, StandsFor, World}
+use Rattle.vfs_world.specs.World.{LeadsTo, StandsFor, World}
 use Rattle.script_session.specs.Playing.{frames_since}
 use Rattle.script_session.specs.Steps.{IsScript}
 use Rattle.script_session.specs.Tallies.{Metered, Tallies}

@@ -17,7 +17,7 @@ use Rattle.vfs_journal.specs.Output.{frames_behind}
 use Rattle.vfs_journal.specs.Session.{steps}
 use Rattle.vfs_journal.specs.Starts.{Start}
 use Rattle.vfs_script.specs.Scripts.{Spoken, frame_of}
-use Rattle.vfs_session.specs.World.{LeadsTo, StandsFor, World}
+use Rattle.vfs_world.specs.World.{LeadsTo, StandsFor, World}
 use Rattle.io_client.specs.Calls.{Calls}
 use Rattle.script_session.specs.Playing.{Played, frames_since}
 use Rattle.script_session.specs.Steps.{Plays}

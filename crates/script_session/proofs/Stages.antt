@@ -24,7 +24,7 @@ use Rattle.script_session.specs.Telling.{IsOver, IsTold, IsWithin, last_of}
 use Rattle.script_session.specs.Transcript.{lines_of}
 use Rattle.endpoint_link.specs.declared.kinds.Mode.{Mode}
 use Rattle.vfs_journal.specs.Starts.{Start}
-use Rattle.vfs_session.specs.World.{World}
+use Rattle.vfs_world.specs.World.{World}
 use Rattle.script_session.specs.Playing.{Played, not_yet, play_line, play_lines}
 use Rattle.script_session.specs.Steps.{IsScript, Plays}
 use Rattle.script_session.proofs.Played.{Grows, counted, front_grows, play_more}

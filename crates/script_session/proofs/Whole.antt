@@ -14,7 +14,7 @@ use Rattle.session_start.specs.Items.{Lists}
 use Rattle.vfs_journal.specs.Starts.{Start, start_of}
 use Rattle.vfs_script.specs.Kept.{ScriptValue}
 use Rattle.vfs_script.specs.Scripts.{count_calls, script_lines}
-use Rattle.vfs_session.specs.World.{StandsFor, World}
+use Rattle.vfs_world.specs.World.{StandsFor, World}
 use Rattle.script_session.specs.Answering.{count_calls as calls_made}
 use Rattle.script_session.specs.Telling.{IsTold, Knows, Scribe}
 use Rattle.script_session.specs.Transcript.{lines_of, text_of}

@@ -7,7 +7,7 @@ use Rattle.io_client.specs.Calls.{Calls}
 use Rattle.vfs_journal.specs.Starts.{Start}
 use Rattle.vfs_script.specs.Kept.{ScriptValue}
 use Rattle.vfs_script.specs.Scripts.{calls_of, frames_of, script_mode}
-use Rattle.vfs_session.specs.World.{World, StandsFor}
+use Rattle.vfs_world.specs.World.{World, StandsFor}
 use Rattle.script_session.specs.Telling.{Knows}
 use Rattle.script_session.specs.Playing.{Played}
 

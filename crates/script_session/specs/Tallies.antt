@@ -7,7 +7,7 @@ use Rattle.sha2.specs.Hashers.{Holds256}
 use Rattle.vfs_journal.specs.Entries.{Journal}
 use Rattle.vfs_journal.specs.Output.{frames_behind}
 use Rattle.vfs_journal.specs.Starts.{Start}
-use Rattle.vfs_session.specs.World.{StandsFor, World}
+use Rattle.vfs_world.specs.World.{StandsFor, World}
 use Rattle.script_session.specs.declared.tally.Tally.{Tally}
 
 -- these frames were counted, and their bytes hashed

@@ -10,7 +10,7 @@ ghost use Rattle.vfs_journal.specs.Output.{frames_behind};
 ghost use Rattle.vfs_journal.specs.Session.{drained, session, steps};
 ghost use Rattle.vfs_journal.specs.Starts.{Start as TheStart, start_of};
 ghost use Rattle.vfs_script.specs.Scripts.{frames_of};
-ghost use Rattle.vfs_session.specs.World.{StandsFor};
+ghost use Rattle.vfs_world.specs.World.{StandsFor};
 ghost use Rattle.script_session.specs.Measured.{Measures, output_frames};
 ghost use Rattle.script_session.specs.Steps.{IsScript};
 ghost use Rattle.script_session.specs.Tallies.{Metered, Tallies};

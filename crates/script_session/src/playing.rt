@@ -12,7 +12,7 @@ ghost use Rattle.vfs_journal.specs.Starts.{Start as TheStart, start_of};
 ghost use Rattle.vfs_script.specs.Noting.{IsFree};
 ghost use Rattle.vfs_script.specs.Scripts.{Spoken, call_in, count_calls, frame_of as spoken_frame, frames_of, script_lines};
 ghost use Rattle.vfs_script.specs.declared.calls.Call.{Call};
-ghost use Rattle.vfs_session.specs.World.{StandsFor};
+ghost use Rattle.vfs_world.specs.World.{StandsFor};
 ghost use Rattle.script_session.specs.Answering.{count_calls as calls_made, one_of};
 ghost use Rattle.script_session.specs.Telling.{HasSinkCause, IsOver, IsTold, IsWithin, last_of};
 ghost use Rattle.script_session.specs.Transcript.{lines_of, text_of};

@@ -6,7 +6,7 @@ use Rattle.vfs_journal.specs.Entries.{Journal}
 use Rattle.vfs_journal.specs.Output.{output_of}
 use Rattle.vfs_journal.specs.Session.{drained, session, steps}
 use Rattle.vfs_journal.specs.Starts.{Start}
-use Rattle.vfs_session.specs.World.{World, StandsFor, LeadsTo}
+use Rattle.vfs_world.specs.World.{World, StandsFor, LeadsTo}
 use Rattle.link_session.specs.Serving.{HeardOne, HeardEnd}
 use Rattle.vfs_program.specs.TreeSession.{tree_course, StandsBehind}
 use Rattle.vfs_world.proofs.Growth.{session-append}

@@ -5,7 +5,7 @@ use Rattle.endpoint_link.specs.declared.kinds.Mode.{Mode}
 use Rattle.vfs_journal.specs.Output.{frames_behind}
 use Rattle.vfs_journal.specs.Session.{session, ended}
 use Rattle.vfs_journal.specs.Starts.{Start}
-use Rattle.vfs_session.specs.World.{World, StandsFor}
+use Rattle.vfs_world.specs.World.{World, StandsFor}
 use Rattle.link_session.specs.Session.{Course}
 
 -- what is written for the frames of a session so far, and with the last drain; memory may be

@@ -50,7 +50,7 @@ use Rattle.conn_rules.specs.Shared.{CanBeBound, is_spoken_at}
 use Rattle.conn_rules.specs.Walks.{Walk, arrives, missing, crosses, stops, walk, limit_of}
 use Rattle.vfs_server.specs.Serving.{HasMount}
 use Rattle.node_graph.specs.Tree.{HasNameLength}
-use Rattle.watch_seats.specs.Telling.{IsShort}
+use Rattle.vfs_server.specs.Telling.{IsShort}
 use Rattle.vfs_server.proofs.Walking.{IsNoMount, LeadsWell, walk_none}
 
 -- ---- acts
@@ -64,7 +64,7 @@ pub record CanBeWatched (p : Protocol) (in_use : Room) (change : Change) : Type 
 
 -- an answer that is given on a connection with this protocol, with so much in use, over this tree, and with this change of it
 abbrev pub CanAnswer : Protocol → Room → Tree → Change → Answer → Type 0
-CanAnswer p room tree change (replies (token number)) = p ≡ protocol.Directory
+CanAnswer p room tree change (replies (token number)) = (p ≡ protocol.Directory) × (room.token ≡ Some number)
 CanAnswer p room tree change (binds birth announced) = is_full room ≡ false
 CanAnswer p room tree change (watches mask) = CanBeWatched p room change
 CanAnswer p room tree change (forwards mount flags rest) = HasMount tree mount
@@ -161,9 +161,11 @@ module _ (m : Method) (home : home_of m ≡ homes.Directories) where
   directory_protocol protocol.Echo known here = absurd (let wrong : false ≡ true = sym (ap (has protocol.Echo) home) ∙ known in cc)
   directory_protocol protocol.Watcher known here = absurd (let wrong : false ≡ true = sym (ap (has protocol.Watcher) home) ∙ known in cc)
 
-token_acts : (p : Protocol) (room : Room) (tree : Tree) (position : Position) (next : Option ℕ) → p ≡ protocol.Directory → CanAct p room tree (only position (token_answer next))
-token_acts p room tree position None is = record { answer = tt; told = All-nil IsShort }
-token_acts p room tree position (Some number) is = record { answer = is; told = All-nil IsShort }
+token_acts : (p : Protocol) (room : Room) (tree : Tree) (position : Position) → p ≡ protocol.Directory → CanAct p room tree (only position (token_answer room.token))
+token_acts p room tree position is = by_next room.token refl where
+  by_next : (next : Option ℕ) → room.token ≡ next → CanAct p room tree (only position (token_answer next))
+  by_next None same = record { answer = tt; told = All-nil IsShort }
+  by_next (Some number) same = record { answer = (is, same); told = All-nil IsShort }
 
 watch_acts : (birth : Birth) (position : Position) (room : Room) (tree : Tree) (directory : ℕ → Option ℕ) (mask options : ℕ) → birth.protocol ≡ protocol.Directory →
     CanAct birth.protocol room tree (watch_act (context_with birth position room tree directory) mask options)
@@ -244,7 +246,7 @@ row_acts birth position room tree directory (asks.read_dirents most) here known 
     ∷ []))
     position method.ReadDirents _ (λ none. record { answer = tt; told = All-nil IsShort })
 row_acts birth position room tree directory asks.rewind here known mine = record { answer = tt; told = All-nil IsShort }
-row_acts birth position room tree directory asks.get_token here known mine = token_acts birth.protocol room tree position room.token (directory_protocol method.GetToken refl birth.protocol known mine)
+row_acts birth position room tree directory asks.get_token here known mine = token_acts birth.protocol room tree position (directory_protocol method.GetToken refl birth.protocol known mine)
 row_acts birth position room tree directory (asks.rename src number dst) here known mine =
     unless_acts birth.protocol room tree (two_names_refusal src dst (directory number)) position method.Rename
     (rename_into (context_with birth position room tree directory) src dst (directory number))

@@ -1,5 +1,6 @@
 -- What an answer that is given on a connection says of room, mounts and directories.
-use Rattle.std.proofs.Common.{◌≡◌, ◌∙◌, ℕ, false, Some, None, refl, sym, subst, rules}
+use Rattle.std.proofs.Common.{◌≡◌, ◌∙◌, ℕ, false, Some, None, refl, sym, ap, subst, rules}
+use Rattle.std.specs.Option.{option_map}
 use Rattle.fidl_wire.specs.Written.{Written}
 use Rattle.io_messages.specs.declared.protocols.Protocol.{Protocol}
 use Rattle.io_messages.specs.declared.protocols.Protocol.TheVariants as protocol
@@ -21,13 +22,14 @@ use Rattle.vfs_server.proofs.Acting.{CanAnswer, CanBeWatched}
 no_token : (asker : Asker) (answer : Answer) (found : outcomes.Given) → token_of asker answer ≡ None → token_of asker answer ≡ Some found → ⊥
 no_token asker answer found none is = let wrong : None ≡ Some found = sym none ∙ is in cc
 
-pub token_of_directory : (p : Protocol) (room : Room) (tree : Tree) (change : Change) (asker : Asker) (answer : Answer) (found : outcomes.Given) → CanAnswer p room tree change answer → token_of asker answer ≡ Some found → p ≡ protocol.Directory
+pub token_of_directory : (p : Protocol) (room : Room) (tree : Tree) (change : Change) (asker : Asker) (answer : Answer) (found : outcomes.Given) → CanAnswer p room tree change answer → token_of asker answer ≡ Some found →
+    (p ≡ protocol.Directory) × (room.token ≡ Some found.token)
 token_of_directory p room tree change asker (replies (done m)) found h is = absurd (no_token asker (replies (done m)) found refl is)
 token_of_directory p room tree change asker (replies (fails m s)) found h is = absurd (no_token asker (replies (fails m s)) found refl is)
 token_of_directory p room tree change asker (replies (counted m x)) found h is = absurd (no_token asker (replies (counted m x)) found refl is)
 token_of_directory p room tree change asker (replies (payload m bytes)) found h is = absurd (no_token asker (replies (payload m bytes)) found refl is)
 token_of_directory p room tree change asker (replies (settled m)) found h is = absurd (no_token asker (replies (settled m)) found refl is)
-token_of_directory p room tree change asker (replies (token n)) found h is = h
+token_of_directory p room tree change asker (replies (token n)) found h is = (h.0, h.1 ∙ ap (option_map (λ (given : outcomes.Given). given.token)) is)
 token_of_directory p room tree change asker (replies (attributes a)) found h is = absurd (no_token asker (replies (attributes a)) found refl is)
 token_of_directory p room tree change asker (replies (unknown ordinal)) found h is = absurd (no_token asker (replies (unknown ordinal)) found refl is)
 token_of_directory p room tree change asker closes found h is = absurd (no_token asker closes found refl is)

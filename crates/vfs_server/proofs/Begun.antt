@@ -30,7 +30,7 @@ use Rattle.vfs_journal.specs.History.{is_watcher, living, tree_at}
 use Rattle.vfs_journal.specs.Starts.{Bound, end_of, first_of_client, start_of}
 use Rattle.vfs_journal.specs.View.{at_in, bounds_in, view_of, with_position}
 use Rattle.start_graph.specs.Places.{Stands, path_cmp}
-use Rattle.watch_seats.specs.declared.watching.Seat.{Seat}
+use Rattle.vfs_server.specs.declared.watching.Seat.{Seat}
 use Rattle.vfs_server.specs.Binding.{Binds, HasPlace, IsDirectory}
 use Rattle.vfs_server.specs.Beginning.{HoldsJust, IsNextBound, begins_with, begun, bound_among, clients_among}
 use Rattle.vfs_server.specs.Holding.{HoldsAt, bound_to, if_at, living_at, named_by}

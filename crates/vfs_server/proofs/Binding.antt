@@ -14,14 +14,14 @@ use Rattle.conn_rules.specs.declared.births.Birth as code
 use Rattle.conn_rules.specs.Births.{Connection, Position, fresh}
 use Rattle.vfs_journal.specs.History.{is_watcher}
 use Rattle.vfs_journal.specs.Starts.{Bound}
-use Rattle.watch_seats.specs.declared.watching.Seat.{Seat}
+use Rattle.vfs_server.specs.declared.watching.Seat.{Seat}
 use Rattle.vfs_server.specs.Binding.{Binds, Unbinds}
 use Rattle.vfs_server.specs.Kept.{Connections, Tokens}
 use Rattle.vfs_server.specs.Servers.{Server, bound_with, connected, in_use, seen_as, watching}
-use Rattle.watch_seats.specs.Seats.{Seats, seat_at, without}
+use Rattle.vfs_server.specs.Seats.{Seats, seat_at, without}
 use Rattle.vfs_server.specs.Watched.{bound_at, bounds_at}
 use Rattle.vfs_server.proofs.Maps.{standing, same, other, get_put, get_put_other, get_cut, get_cut_other, longer, shorter}
-use Rattle.watch_seats.proofs.Seats.{at_more, length_less, other_less, without_none}
+use Rattle.vfs_server.proofs.SeatLists.{at_more, length_less, other_less, without_none}
 use Rattle.vfs_server.proofs.Seats.{bounds_left, seated, watching_as}
 
 -- a server of these

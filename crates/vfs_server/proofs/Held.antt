@@ -15,8 +15,8 @@ use Rattle.conn_rules.specs.declared.births.Birth as code
 use Rattle.conn_rules.specs.Births.{Connection}
 use Rattle.conn_rules.specs.Shared.{CanBeBound, is_spoken_at}
 use Rattle.vfs_server.specs.Binding.{IsDirectory}
-use Rattle.watch_seats.specs.declared.watching.Seat.{Seat}
-use Rattle.watch_seats.specs.Seats.{Seats, is_at, seat_at, watched_by}
+use Rattle.vfs_server.specs.declared.watching.Seat.{Seat}
+use Rattle.vfs_server.specs.Seats.{Seats, is_at, seat_at, watched_by}
 use Rattle.vfs_server.specs.Kept.{Connections, IsSound, Tokens, WatchDirectories, connected_to, naming}
 use Rattle.vfs_server.proofs.Maps.{one_if, count_cut, counts_few}
 

@@ -14,11 +14,11 @@ use Rattle.vfs_journal.specs.History.{tree_at}
 use Rattle.vfs_journal.specs.Starts.{Bound}
 use Rattle.vfs_journal.specs.View.{View}
 use Rattle.vfs_server.specs.Holding.{HoldsAt, bound_to, living_at, named_by}
-use Rattle.watch_seats.specs.Seats.{Seats, watched_by}
+use Rattle.vfs_server.specs.Seats.{Seats, watched_by}
 use Rattle.vfs_server.specs.Kept.{Connections, IsSound, Tokens, connected_to, naming}
 use Rattle.vfs_server.specs.KeptNodes.{is_bound_to, is_named_by, is_wanted, kept_in}
 use Rattle.vfs_server.specs.Servers.{Server}
-use Rattle.watch_seats.specs.declared.watching.Seat.{Seat}
+use Rattle.vfs_server.specs.declared.watching.Seat.{Seat}
 use Rattle.vfs_server.proofs.Counts.{either_passes, named_once, once, same_count, some_pass, sum_apart}
 use Rattle.vfs_server.proofs.Maps.{one_if}
 

@@ -3,11 +3,13 @@ pub mod Maps
 pub mod Counts
 mod FileReads
 mod Found
+pub mod SeatLists
 pub mod Seats
 pub mod Walking
 pub mod Acting
 pub mod Looked
 pub mod Allowed
+pub mod Taken
 pub mod Carried
 pub mod Handed
 pub mod Giving
@@ -19,5 +21,7 @@ pub mod Told
 pub mod Binding
 pub mod Naming
 pub mod Servings
+pub mod Settled
+pub mod Acted
 pub mod Begins
 pub mod Begun

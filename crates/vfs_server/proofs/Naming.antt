@@ -9,7 +9,7 @@ use Rattle.node_graph.specs.Graph.{Kept, HoldsNow, KeepsNames, Leads, holds_at, 
 use Rattle.node_graph.specs.Tree.{stay}
 use Rattle.vfs_server.specs.Binding.{Forgets, NamesBy}
 use Rattle.vfs_server.specs.Kept.{Connections, Tokens}
-use Rattle.watch_seats.specs.Seats.{Seats}
+use Rattle.vfs_server.specs.Seats.{Seats}
 use Rattle.vfs_server.proofs.Maps.{standing, same, other, get_put, get_put_other, get_cut, get_cut_other, nothing_cut}
 use Rattle.vfs_server.proofs.Binding.{server_of}
 

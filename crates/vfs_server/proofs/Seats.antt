@@ -5,9 +5,9 @@ use Rattle.std.specs.Option.{option_map}
 use Rattle.std.proofs.lemmas.Bool.{eqb-true, eq-eqb}
 use Rattle.conn_rules.specs.Births.{Position, fresh}
 use Rattle.vfs_journal.specs.Starts.{Bound}
-use Rattle.watch_seats.specs.declared.watching.Seat.{Seat}
-use Rattle.watch_seats.specs.Seats.{Seats, is_at, seat_at, without}
-use Rattle.watch_seats.proofs.Seats.{others, others_left, turned}
+use Rattle.vfs_server.specs.declared.watching.Seat.{Seat}
+use Rattle.vfs_server.specs.Seats.{Seats, is_at, seat_at, without}
+use Rattle.vfs_server.proofs.SeatLists.{others, others_left, turned}
 use Rattle.vfs_server.specs.Servers.{watching}
 use Rattle.vfs_server.specs.Watched.{bound_at, bounds_at}
 

@@ -8,7 +8,6 @@ use Rattle.std.specs.FinMap as finite
 use Rattle.std.specs.Option.{option_map, option_map_or}
 use Rattle.fidl_names.specs.declared.limits.TheConstants as limit
 use Rattle.fidl_names.specs.declared.methods.Handle.{Handle}
-use Rattle.fidl_wire.specs.Written.{Written}
 use Rattle.endpoint_link.specs.Frames.{Frame, spellings}
 use Rattle.io_messages.specs.declared.protocols.Protocol.{Protocol}
 use Rattle.io_messages.specs.declared.protocols.Protocol.TheVariants as protocol
@@ -32,17 +31,17 @@ use Rattle.vfs_journal.specs.Starts.{Bound}
 use Rattle.vfs_journal.specs.View.{moved}
 use Rattle.vfs_journal.specs.Watching.{first_frames, told_frames}
 use Rattle.vfs_server.specs.declared.asking.Asking.{Asking}
-use Rattle.vfs_server.specs.declared.fate.Fate.{Fate}
-use Rattle.vfs_server.specs.declared.fate.Fate.TheVariants as fates
-use Rattle.watch_seats.specs.declared.watching.Seat.{Seat}
+use Rattle.vfs_server.specs.declared.deed.Deed.{Deed}
+use Rattle.vfs_server.specs.declared.deed.Deed.TheVariants as deeds
+use Rattle.vfs_server.specs.declared.watching.Seat.{Seat}
 use Rattle.vfs_server.specs.Binding.{IsDirectory}
-use Rattle.vfs_server.specs.Effects.{effects_told}
+use Rattle.vfs_server.specs.Effects.{effects_done}
 use Rattle.vfs_server.specs.Kept.{Connections, IsSound, Tokens}
 use Rattle.vfs_server.specs.Servers.{bound_with, connected, in_use, seen_as}
-use Rattle.vfs_server.specs.Serving.{IsMomentOf, Serves, frames_here, room_at}
-use Rattle.vfs_server.specs.Steps.{Answers, AreNamed, CanBeTold, CanTell, Done, IsAskedAt, IsPassedOver, room_for}
-use Rattle.watch_seats.specs.Seats.{Seats, is_at, seat_at}
-use Rattle.watch_seats.specs.Telling.{IsShort, told_of}
+use Rattle.vfs_server.specs.Serving.{IsMomentOf, frames_here, room_at}
+use Rattle.vfs_server.specs.Steps.{Answers, AreNamed, CanBeTold, CanTell, Done, HasAnswered, IsAskedAt, IsPassedOver, room_for}
+use Rattle.vfs_server.specs.Seats.{Seats, is_at, seat_at}
+use Rattle.vfs_server.specs.Telling.{IsShort, told_of}
 use Rattle.vfs_server.specs.Watched.{bound_at, bounds_at, first_of}
 use Rattle.vfs_server.proofs.Answering.{no_watcher, ok_map}
 use Rattle.vfs_server.proofs.Binding.{in_use_is, seen_watching, server_of}
@@ -93,7 +92,7 @@ of_watcher moment bytes numbers is = ap (λ p. outcome_of_message moment p bytes
 
 -- ---- room
 
-below : (limit_is n : ℕ) → nat_le limit_is n ≡ false → n < limit_is
+pub below : (limit_is n : ℕ) → nat_le limit_is n ≡ false → n < limit_is
 below limit_is n free =
     let least : limit_is ≤ n → ⊥ = λ over. grind (arith, nat_tests) in
     omega (arith, least)
@@ -141,6 +140,10 @@ module _ (index : ℕ) (graph : Kept) (connections : Connections) (seats : Seats
   pub bound_is : moment.bound ≡ bound_with index asking.endpoint old.birth
   bound_is = sym (ap (λ (pair : Bound × Position). pair.0) both)
 
+  -- the moment speaks of this server
+  pub at_server : index ≡ moment.bound.server
+  at_server = sym (ap (λ (bound : Bound). bound.server) bound_is)
+
   node_is : moment.bound.birth.node ≡ number_of old.birth.node
   node_is = ap (λ (bound : Bound). bound.birth.node) bound_is
 
@@ -168,12 +171,12 @@ module _ (index : ℕ) (graph : Kept) (connections : Connections) (seats : Seats
     tree = asked.tree;
   }
 
-  module _ (changed : Kept) (new : Connection) (outcome : Outcome) (done : Done) (out : Written) (before between behind : List ℕ)
-      (answers : Answers moment outcome done out new graph changed before between) (keeps : KeepsHolds old new graph changed) (can_still : CanBeBound changed new.birth)
+  module _ (changed : Kept) (new : Connection) (outcome : Outcome) (done : Done) (before between behind : List ℕ)
+      (answers : Answers moment outcome done new graph changed before between) (keeps : KeepsHolds old new graph changed) (can_still : CanBeBound changed new.birth)
       (telling : behind ≡ between ++ spellings (first_of changed.edges done.fate ++ told_of seats done.told)) where
     firsts_are : option_map_or (λ bound. first_frames moment.tree bound) outcome.bound [] ≡ first_of changed.edges done.fate
     firsts_are =
-        first_is moment.tree changed outcome.change moment.bound.endpoint moment.bound.server done.fate out outcome.bound (answers.change moment.tree asked.tree)
+        first_is moment.tree changed outcome.change moment.bound.endpoint moment.bound.server done.fate outcome.bound (answers.change moment.tree asked.tree)
         (λ object mask directory is. let watched = answers.watched object mask directory is in watched.still) (ap (λ e. e.bound) answers.effects)
 
     told_are : told_frames (bounds_at index seats) moment.bound.server outcome.told ≡ told_of seats done.told
@@ -204,7 +207,7 @@ module _ (index : ℕ) (graph : Kept) (connections : Connections) (seats : Seats
         let few = not_full moment.room (in_use (server_of index graph connections seats tokens)) (ap (λ (room : Room). room.connections) asked.room) free in
         omega (arith, in_use_now, few)
 
-    pub serves : Serves moment outcome done.fate out (server_of index graph connections seats tokens) (server_of index changed served seats tokens) before behind
+    pub serves : HasAnswered moment outcome done.fate (server_of index graph connections seats tokens) (server_of index changed served seats tokens) before behind
     serves = record {
       frames = one_behind before between behind outcome.frames _ answers.frames telling ∙ ap (λ (fs : List Frame). before ++ spellings fs) (sym frames_are);
       effects = answers.effects;
@@ -223,7 +226,6 @@ module _ (index : ℕ) (graph : Kept) (connections : Connections) (seats : Seats
       tokens = refl;
       tree = answers.change;
       holds = keeps.holds;
-      names = keeps.names;
       has_place = λ object birth is. record { node = answers.bound object birth is; room = few_now (answers.room object birth is) };
       watched = λ object mask directory is.
           let watched = answers.watched object mask directory is in
@@ -242,17 +244,17 @@ module _ (index : ℕ) (graph : Kept) (connections : Connections) (seats : Seats
     }
 
   -- a message that was served on it
-  pub serves_message : (changed : Kept) (new : Connection) (bytes : List ℕ) (sent : List Handle) (done : Done) (out : Written) (before between behind : List ℕ) →
+  pub serves_message : (changed : Kept) (new : Connection) (bytes : List ℕ) (sent : List Handle) (done : Done) (before between behind : List ℕ) →
       numbers_of sent ≡ handles → AreByNumber sent → CanBeBound graph old.birth → KeepsHolds old new graph changed → CanBeBound changed new.birth →
-      Answers moment (outcome_of_read moment (request_of old.birth.protocol bytes sent)) done out new graph changed before between →
+      Answers moment (outcome_of_read moment (request_of old.birth.protocol bytes sent)) done new graph changed before between →
       behind ≡ between ++ spellings (first_of changed.edges done.fate ++ told_of seats done.told) →
-      Serves moment (outcome_of_sending moment (message bytes handles)) done.fate out
+      HasAnswered moment (outcome_of_sending moment (message bytes handles)) done.fate
       (server_of index graph connections seats tokens) (server_of index changed (finite.insert connections asking.endpoint new) seats tokens) before behind
-  serves_message changed new bytes sent done out before between behind same_handles numbered can keeps can_still answers telling =
+  serves_message changed new bytes sent done before between behind same_handles numbered can keeps can_still answers telling =
       let outcome_is = of_message moment old.birth.protocol bytes sent (ap (λ (bound : Bound). bound.birth.protocol) bound_is) (no_watcher old.birth.protocol _ can.spoken) numbered
       ∙ ap (λ (numbers : List ℕ). outcome_of_sending moment (message bytes numbers)) same_handles in
-      subst (λ outcome. Serves moment outcome done.fate out (server_of index graph connections seats tokens) (server_of index changed (finite.insert connections asking.endpoint new) seats tokens) before behind) outcome_is
-      (serves changed new (outcome_of_read moment (request_of old.birth.protocol bytes sent)) done out before between behind answers keeps can_still telling)
+      subst (λ outcome. HasAnswered moment outcome done.fate (server_of index graph connections seats tokens) (server_of index changed (finite.insert connections asking.endpoint new) seats tokens) before behind) outcome_is
+      (serves changed new (outcome_of_read moment (request_of old.birth.protocol bytes sent)) done before between behind answers keeps can_still telling)
 
 -- ---- on a watcher
 
@@ -268,6 +270,9 @@ module _ (index : ℕ) (graph : Kept) (connections : Connections) (seats : Seats
 
   watcher_is : moment.bound ≡ bound_at index (endpoint, seat)
   watcher_is = sym (ap (λ (pair : Bound × Position). pair.0) pair_is)
+
+  pub watched_at : index ≡ moment.bound.server
+  watched_at = sym (ap (λ (bound : Bound). bound.server) watcher_is)
 
   -- whoever is moved to its own position stays
   all_stay : (one : ℕ) (o : Option Connection) → finite.get connections one ≡ o →
@@ -286,15 +291,15 @@ module _ (index : ℕ) (graph : Kept) (connections : Connections) (seats : Seats
           seen_is ∙ sym (ap (option_map (moved moment.bound.endpoint moment.position)) seen_is
           ∙ ap (λ t. Some (if t then (moment.bound, moment.position) else (moment.bound, moment.position))) (eq-eqb moment.bound.endpoint moment.bound.endpoint refl))
 
-  pub passes_over : (bytes : List ℕ) (done : Done) (out : Written) (before between behind : List ℕ) → IsPassedOver done → between ≡ before →
+  pub passes_over : (bytes : List ℕ) (done : Done) (before between behind : List ℕ) → IsPassedOver done → between ≡ before →
       behind ≡ between ++ spellings (first_of graph.edges done.fate ++ told_of seats done.told) →
-      Serves moment (outcome_of_sending moment (message bytes handles)) done.fate out (server_of index graph connections seats tokens) (server_of index graph connections seats tokens) before behind
-  passes_over bytes done out before between behind passed kept telling =
-      subst (λ outcome. Serves moment outcome done.fate out (server_of index graph connections seats tokens) (server_of index graph connections seats tokens) before behind)
+      HasAnswered moment (outcome_of_sending moment (message bytes handles)) done.fate (server_of index graph connections seats tokens) (server_of index graph connections seats tokens) before behind
+  passes_over bytes done before between behind passed kept telling =
+      subst (λ outcome. HasAnswered moment outcome done.fate (server_of index graph connections seats tokens) (server_of index graph connections seats tokens) before behind)
       (sym (of_watcher moment bytes handles (ap (λ (bound : Bound). bound.birth.protocol) watcher_is)))
       (record {
         frames = telling ∙ (λ i. kept i ++ spellings (first_of graph.edges (passed.fate i) ++ told_of seats (passed.told i)));
-        effects = ap (λ (fate : Fate). effects_told moment.bound.endpoint moment.bound.server fate out) (sym passed.fate);
+        effects = ap (λ (fate : Deed). effects_done moment.bound.endpoint moment.bound.server fate) (sym passed.fate);
         index = refl;
         bound = λ one. all_stay one (finite.get connections one) refl;
         count = refl;
@@ -302,17 +307,16 @@ module _ (index : ℕ) (graph : Kept) (connections : Connections) (seats : Seats
         tokens = refl;
         tree = λ tree stands. stands;
         holds = λ number. refl;
-        names = λ node named still. (named, refl);
-        has_place = λ object birth is. absurd (let wrong : fates.Stays ≡ fates.Binds object birth = sym passed.fate ∙ is in search rules);
-        watched = λ object mask directory is. absurd (let wrong : fates.Stays ≡ fates.Watches object directory mask = sym passed.fate ∙ is in search rules);
-        given = λ given_token directory is. absurd (let wrong : fates.Stays ≡ fates.Gives given_token directory = sym passed.fate ∙ is in search rules);
-        mounted = λ mount object is. absurd (let wrong : fates.Stays ≡ fates.Forwards mount object = sym passed.fate ∙ is in search rules);
+        has_place = λ object birth is. absurd (let wrong : deeds.Stays ≡ deeds.Binds object birth = sym passed.fate ∙ is in search rules);
+        watched = λ object mask directory is. absurd (let wrong : deeds.Stays ≡ deeds.Watches object directory mask = sym passed.fate ∙ is in search rules);
+        given = λ given_token directory is. absurd (let wrong : deeds.Stays ≡ deeds.Gives given_token directory = sym passed.fate ∙ is in search rules);
+        mounted = λ mount object flags rest is. absurd (let wrong : deeds.Stays ≡ deeds.Forwards mount object flags rest = sym passed.fate ∙ is in search rules);
       })
 
 -- ---- what can be told
 
-pub can_be_told : (changed : Kept) (new : Connection) (done : Done) (before after : List ℕ) → CanBeBound changed new.birth → CanTell done new before after → CanBeTold changed done
-can_be_told changed new done before after can tells = record {
+pub can_be_told : (asking : Asking) (sent : List Handle) (changed : Kept) (new : Connection) (done : Done) (before after : List ℕ) → CanBeBound changed new.birth → CanTell asking sent done new before after → CanBeTold changed done
+can_be_told asking sent changed new done before after can tells = record {
   directory = λ object mask directory is.
       let on = tells.directory object mask directory is in
       subst (IsDirectory changed) on.node (is_directory changed new.birth can on.protocol);
@@ -321,25 +325,9 @@ can_be_told changed new done before after can tells = record {
 
 pub nothing_told_of : (graph : Kept) (done : Done) → IsPassedOver done → CanBeTold graph done
 nothing_told_of graph done passed = record {
-  directory = λ object mask directory is. absurd (let wrong : fates.Stays ≡ fates.Watches object directory mask = sym passed.fate ∙ is in search rules);
+  directory = λ object mask directory is. absurd (let wrong : deeds.Stays ≡ deeds.Watches object directory mask = sym passed.fate ∙ is in search rules);
   short = subst (All IsShort) (sym passed.told) (All-nil IsShort);
 }
-
--- what was written stands in front, or nothing was written
-pub front_of : {E : Type 0} (result : Result Done E) (new : Connection) (before after : List ℕ) → IfOk result (λ done. CanTell done new before after) → OnErr result (after ≡ before) → Begins before after
-front_of (Ok done) new before after tells none = tells.front
-front_of (Err e) new before after tells none = ([], none ∙ sym (append-nil before))
-
--- on a connection that is sound behind its serving
-pub can_of : {E : Type 0} (graph changed : Kept) (connections : Connections) (seats : Seats) (tokens : Tokens) (endpoint : ℕ) → IsSound graph connections seats tokens → (old new : Connection) →
-    finite.get connections endpoint ≡ Some old → KeepsHolds old new graph changed → (done_of : Fate → Done) (result : Result Fate E) (before after : List ℕ) → IfOk result (λ fate. CanTell (done_of fate) new before after) →
-    IfOk result (λ fate. CanBeTold changed (done_of fate))
-can_of graph changed connections seats tokens endpoint sound old new there keeps done_of result before after tells =
-    let behind = sound_served graph changed connections seats tokens endpoint old new sound there keeps in
-    ok_map _ _ result (λ fate told. can_be_told changed new (done_of fate) before after (behind.each endpoint new (get_put connections endpoint new)) told) tells
-
-pub none_of : {E : Type 0} (changed : Kept) (done_of : Fate → Done) (result : Result Fate E) → IfOk result (λ fate. IsPassedOver (done_of fate)) → IfOk result (λ fate. CanBeTold changed (done_of fate))
-none_of changed done_of result passed = ok_map _ _ result (λ fate over. nothing_told_of changed (done_of fate) over) passed
 
 pub ok_at : {X E : Type 0} (P : X → Type 0) (r : Result X E) (x : X) → r ≡ Ok x → IfOk r P → P x
 ok_at P r x is holds = subst (λ one. IfOk one P) is holds

@@ -12,12 +12,12 @@ use Rattle.conn_rules.specs.Births.{Connection}
 use Rattle.conn_rules.specs.Served.{KeepsHolds}
 use Rattle.conn_rules.specs.Shared.{CanBeBound}
 use Rattle.vfs_server.specs.Binding.{IsDirectory}
-use Rattle.watch_seats.specs.declared.watching.Seat.{Seat}
-use Rattle.watch_seats.specs.Seats.{Seats, seat_at, watched_by, without}
+use Rattle.vfs_server.specs.declared.watching.Seat.{Seat}
+use Rattle.vfs_server.specs.Seats.{Seats, seat_at, watched_by, without}
 use Rattle.vfs_server.specs.Kept.{Connections, IsSound, Tokens, naming}
 use Rattle.vfs_server.proofs.Maps.{standing, same, other, count_put, count_cut, count_again, get_put, get_put_other, get_cut, get_cut_other, longer, shorter, as_long}
 use Rattle.vfs_server.proofs.Held.{held_by, held_less, held_more, sound_again, to_node, at_node}
-use Rattle.watch_seats.proofs.Seats.{all_less, at_more, count_less, count_more, length_less, other_less}
+use Rattle.vfs_server.proofs.SeatLists.{all_less, at_more, count_less, count_more, length_less, other_less}
 
 -- ---- one connection more
 

@@ -4,7 +4,6 @@ use Rattle.std.specs.FinMap as finite
 use Rattle.std.specs.Option.{option_map_or}
 use Rattle.std.proofs.lemmas.Bool.{eq-eqb}
 use Rattle.std.proofs.lemmas.List.Elements.{filter_agree}
-use Rattle.fidl_wire.specs.Written.{Written}
 use Rattle.endpoint_link.specs.Frames.{Frame, spellings}
 use Rattle.endpoint_link.proofs.Runs.{spellings-append}
 use Rattle.node_graph.specs.declared.nodes.NodeRef.{NodeRef}
@@ -19,11 +18,11 @@ use Rattle.vfs_journal.specs.History.{watches_node}
 use Rattle.vfs_journal.specs.Starts.{Bound}
 use Rattle.vfs_journal.specs.Watching.{first_frames, told_frames}
 use Rattle.vfs_journal.specs.Watching as journal
-use Rattle.vfs_server.specs.declared.fate.Fate.{Fate}
-use Rattle.vfs_server.specs.declared.fate.Fate.TheVariants as fates
-use Rattle.vfs_server.specs.Effects.{effects_told}
-use Rattle.watch_seats.specs.Seats.{Seats, is_at, watcher_of, watchers_at}
-use Rattle.watch_seats.specs.Telling.{told_of, told_to}
+use Rattle.vfs_server.specs.declared.deed.Deed.{Deed}
+use Rattle.vfs_server.specs.declared.deed.Deed.TheVariants as deeds
+use Rattle.vfs_server.specs.Effects.{effects_done}
+use Rattle.vfs_server.specs.Seats.{Seats, is_at, watcher_of, watchers_at}
+use Rattle.vfs_server.specs.Telling.{told_of, told_to}
 use Rattle.vfs_server.specs.Watched.{bound_at, bounds_at, first_of}
 
 -- ---- changes
@@ -73,18 +72,18 @@ names_are edges directory views is =
     whole false = refl
 
 -- the edges stay where it is told of the names
-pub first_is : (tree : Tree) (changed : Kept) (change : Change) (endpoint server : ℕ) (fate : Fate) (out : Written) (bound : Option Bound) → StandsFor changed (after tree change) →
-    ((object mask : ℕ) (directory : NodeRef) → fate ≡ fates.Watches object directory mask → change ≡ stay) →
-    bound ≡ (effects_told endpoint server fate out).bound → option_map_or (λ one. first_frames tree one) bound [] ≡ first_of changed.edges fate
-first_is tree changed change endpoint server fates.Stays out bound stands still is = rw is refl
-first_is tree changed change endpoint server fates.Ends out bound stands still is = rw is refl
-first_is tree changed change endpoint server (fates.Binds object birth) out bound stands still is = rw is refl
-first_is tree changed change endpoint server (fates.Watches object directory mask) out bound stands still is =
+pub first_is : (tree : Tree) (changed : Kept) (change : Change) (endpoint server : ℕ) (fate : Deed) (bound : Option Bound) → StandsFor changed (after tree change) →
+    ((object mask : ℕ) (directory : NodeRef) → fate ≡ deeds.Watches object directory mask → change ≡ stay) →
+    bound ≡ (effects_done endpoint server fate).bound → option_map_or (λ one. first_frames tree one) bound [] ≡ first_of changed.edges fate
+first_is tree changed change endpoint server deeds.Stays bound stands still is = rw is refl
+first_is tree changed change endpoint server deeds.Ends bound stands still is = rw is refl
+first_is tree changed change endpoint server (deeds.Binds object birth) bound stands still is = rw is refl
+first_is tree changed change endpoint server (deeds.Watches object directory mask) bound stands still is =
     ap (λ o. option_map_or (λ one. first_frames tree one) o []) is
     ∙ ap (λ (edges : Edges). messages.first_frames object mask (names_in edges (number_of directory))) (ap (λ c. (after tree c).edges) (sym (still object mask directory refl)) ∙ sym stands.edges)
-first_is tree changed change endpoint server (fates.Refuses object) out bound stands still is = rw is refl
-first_is tree changed change endpoint server (fates.Forwards mount object) out bound stands still is = rw is refl
-first_is tree changed change endpoint server (fates.Gives token directory) out bound stands still is = rw is refl
+first_is tree changed change endpoint server (deeds.Refuses object) bound stands still is = rw is refl
+first_is tree changed change endpoint server (deeds.Forwards mount object flags rest) bound stands still is = rw is refl
+first_is tree changed change endpoint server (deeds.Gives token directory) bound stands still is = rw is refl
 
 -- ---- one behind the other
 

@@ -1,4 +1,5 @@
 -- What a server takes in and lets go.
+use Rattle.std.specs.FinMap as finite
 use Rattle.std.specs.Prelude.{◌≡◌, ℕ, ◌+◌, ◌-◌, ◌==◌, ◌<◌, not, if◌then◌else◌, List, [], ◌∷◌, ◌++◌, filter, length, Some, None}
 use Rattle.fidl_names.specs.declared.limits.TheConstants as limit
 use Rattle.node_graph.specs.declared.nodes.NodeKind.TheVariants.{Directory}
@@ -59,6 +60,12 @@ pub record CanWatch (server : Server) (node : NodeRef) : Type 0 where
   pub few : length (filter (λ bound. bound.birth.node == number_of node) server.watchers) < limit.MAX_WATCHERS
 
 -- ---- tokens
+
+-- a token that names nothing at a server can name a directory there
+pub record CanName (server : Server) (token : ℕ) (node : NodeRef) : Type 0 where
+  pub free : named server token ≡ None
+  pub directory : IsDirectory server.graph node
+  pub room : finite.len server.tokens < limit.MAX_TOKENS
 
 -- a token names a directory from now on and no other does; the directory has one hold more
 pub record NamesBy (old : Server) (token : ℕ) (directory : NodeRef) (new : Server) : Type 0 where

@@ -1,4 +1,4 @@
--- The code by which servers are told apart.
+-- The codes by which servers and seats are told apart.
 use Rattle.std.specs.Prelude.{ℕ, List, Bool, refl}
 use Rattle.std.specs.Coded.{Coded, code_by, coded×, coded_ℕ, coded_bool, coded_list}
 use Rattle.std.specs.FinMap as finite
@@ -11,6 +11,8 @@ use Rattle.node_graph.specs.Graph.{Kept}
 use Rattle.conn_rules.specs.Births.{Birth, Connection}
 use Rattle.conn_rules.specs.Codes.{connection_code, protocol_code}
 use Rattle.vfs_journal.specs.Starts.{Bound}
+use Rattle.vfs_server.specs.declared.watching.Seat.{Seat}
+use Rattle.vfs_server.specs.Seats.{Seats}
 use Rattle.vfs_server.specs.Servers.{Server}
 
 abbrev pub born_code : Coded Birth
@@ -28,6 +30,12 @@ connections_code = finite.code coded_ℕ connection_code
 
 abbrev pub tokens_code : Coded (finite.FinMap nat_cmp NodeRef)
 tokens_code = finite.code coded_ℕ node_code
+
+abbrev pub seat_code : Coded Seat
+seat_code = code_by (NodeRef × ℕ) (coded× node_code coded_ℕ) (λ s. (s.directory, s.mask)) (λ p. record { directory = p.0; mask = p.1 }) (λ _. refl)
+
+abbrev pub seats_code : Coded Seats
+seats_code = coded_list (coded× coded_ℕ seat_code)
 
 abbrev pub server_code : Coded Server
 server_code =

@@ -8,7 +8,7 @@ use Rattle.node_graph.specs.Graph.{Kept, holds_at, number_of}
 use Rattle.conn_rules.specs.Births.{Connection}
 use Rattle.conn_rules.specs.Shared.{CanBeBound}
 use Rattle.vfs_server.specs.Binding.{IsDirectory}
-use Rattle.watch_seats.specs.Seats.{Seats, seat_at, watched_by}
+use Rattle.vfs_server.specs.Seats.{Seats, seat_at, watched_by}
 
 abbrev pub Connections : Type 0
 Connections = finite.FinMap nat_cmp Connection

@@ -2,8 +2,11 @@ pub mod Servers
 pub mod Holding
 pub mod KeptNodes
 pub mod Effects
+pub mod Fates
 pub mod Binding
 pub mod Serving
+pub mod Seats
+pub mod Telling
 pub mod Watched
 pub mod Codes
 pub mod Kept

@@ -1,25 +1,28 @@
 -- The serving of a message on an endpoint that is bound at a server.
-use Rattle.std.specs.Prelude.{◌≡◌, ℕ, ◌==◌, ◌++◌, true, List, [], length, filter, Option, Some}
+use Rattle.std.specs.Prelude.{◌≡◌, ℕ, ◌==◌, ◌+◌, ◌<◌, ◌≤◌, ◌^◌, ◌++◌, true, if◌then◌else◌, List, [], length, filter, count_by, option_to_list, Option, Some, None}
+use Rattle.std.specs.FinMap as finite
 use Rattle.std.specs.Option.{option_map, option_map_or}
-use Rattle.fidl_wire.specs.Written.{Written}
+use Rattle.fidl_names.specs.declared.limits.TheConstants as limit
 use Rattle.endpoint_link.specs.Frames.{Frame, spellings}
 use Rattle.endpoint_link.specs.Numbering.{among}
 use Rattle.node_graph.specs.declared.nodes.NodeKind.TheVariants.{Mount}
-use Rattle.node_graph.specs.declared.nodes.NodeRef.{NodeRef}
-use Rattle.node_graph.specs.Graph.{KeepsNames, Leads, SameHolds, StandsFor}
+use Rattle.node_graph.specs.Graph.{Leads, StandsFor, holds_at}
 use Rattle.node_graph.specs.Tree.{Tree}
-use Rattle.conn_rules.specs.declared.births.Birth as code
 use Rattle.conn_rules.specs.declared.births.Room.{Room}
+use Rattle.conn_rules.specs.Births.{Position, fresh}
 use Rattle.conn_rules.specs.Nodes.{kind_here}
-use Rattle.vfs_journal.specs.Outcomes.{Outcome}
+use Rattle.vfs_journal.specs.Entries.{Sending, message}
+use Rattle.vfs_journal.specs.Handles.{numbers_of}
+use Rattle.vfs_journal.specs.Outcomes.{Given, Outcome}
 use Rattle.vfs_journal.specs.Serving.{Moment}
 use Rattle.vfs_journal.specs.Starts.{Bound}
 use Rattle.vfs_journal.specs.View.{moved}
 use Rattle.vfs_journal.specs.Watching.{first_frames, told_frames}
 use Rattle.vfs_server.specs.declared.fate.Fate.{Fate}
+use Rattle.vfs_server.specs.declared.message.Message.{Message}
 use Rattle.vfs_server.specs.declared.fate.Fate.TheVariants as fates
-use Rattle.vfs_server.specs.Binding.{CanWatch, HasPlace, IsDirectory}
-use Rattle.vfs_server.specs.Effects.{effects_of, effects_told}
+use Rattle.vfs_server.specs.Binding.{watching_behind}
+use Rattle.vfs_server.specs.Fates.{numbers_in, numbers_told}
 use Rattle.vfs_server.specs.Servers.{Server, in_use, named, seen}
 
 -- ---- moments
@@ -41,6 +44,19 @@ pub record IsMomentOf (server : Server) (endpoint : ℕ) (token : Option ℕ) (h
   -- a handle that comes with it names the directory that it names here
   pub directory : (number : ℕ) → among number handles ≡ true → moment.directory number ≡ named server number
 
+-- a message as a sending
+abbrev pub message_of : Message → Sending
+message_of sent = message sent.bytes.now (numbers_of sent.handles.now)
+
+-- a server can take what has these handles on an endpoint that is bound there, where this is the next token: no endpoint that comes with it
+-- is bound there, and the token names nothing there and has room
+pub record CanTake (server : Server) (endpoint : ℕ) (token : Option ℕ) (handles : List ℕ) : Type 0 where
+  pub moment : (moment : Moment) × IsMomentOf server endpoint token handles moment
+  pub made : server.graph.made < 2 ^ 63
+  pub unbound : (number : ℕ) → among number handles ≡ true → number < limit.FIRST_TOKEN → seen server number ≡ None
+  pub unnamed : (next : ℕ) → token ≡ Some next → named server next ≡ None
+  pub room : (next : ℕ) → token ≡ Some next → finite.len server.tokens < limit.MAX_TOKENS
+
 -- ---- servings
 
 -- a node of the tree is this mount
@@ -54,22 +70,38 @@ frames_here moment watchers outcome =
     ++ option_map_or (λ bound. first_frames moment.tree bound) outcome.bound []
     ++ told_frames watchers moment.bound.server outcome.told
 
--- a server does what an outcome says: it writes its frames, tells what becomes of endpoints and tokens, moves the endpoint that it serves
--- and no other, and changes the tree
-pub record Serves (moment : Moment) (outcome : Outcome) (fate : Fate) (out : Written) (old new : Server) (before after : List ℕ) : Type 0 where
+-- what an endpoint is bound to, where this is bound newly, if anything is, and that was seen of it before
+abbrev pub newly_seen : Option Bound → ℕ → Option (Bound × Position) → Option (Bound × Position)
+newly_seen None endpoint before = before
+newly_seen (Some newest) endpoint before = if endpoint == newest.endpoint then Some (newest, fresh) else before
+
+-- the directory that a token names, where this is given newly, if one is, and it named that before
+abbrev pub newly_named : Option Given → ℕ → Option ℕ → Option ℕ
+newly_named None token before = before
+newly_named (Some given) token before = if token == given.token then Some given.node else before
+
+-- how often a node is newly held: once by who is bound to it, and once by the token that names it
+abbrev pub newly_held : Outcome → ℕ → ℕ
+newly_held outcome number =
+    count_by (λ bound. bound.birth.node == number) (option_to_list outcome.bound)
+    + count_by (λ given. given.node == number) (option_to_list outcome.token)
+
+-- a server does what an outcome says: it writes its frames, changes the tree, moves the endpoint that it serves, binds the one that is to be
+-- bound, behind whoever watches if it is to watch, lets the token that is given name its directory, holds both nodes, and changes nothing else;
+-- and it tells what became of endpoints and tokens
+pub record Serves (moment : Moment) (outcome : Outcome) (fate : Fate) (old new : Server) (before after : List ℕ) : Type 0 where
   pub frames : after ≡ before ++ spellings (frames_here moment old.watchers outcome)
-  pub effects : effects_of outcome ≡ effects_told moment.bound.endpoint moment.bound.server fate out
+  pub tells : numbers_in outcome ≡ numbers_told moment.bound.endpoint fate
   pub index : new.index ≡ old.index
-  pub bound : (endpoint : ℕ) → seen new endpoint ≡ option_map (moved moment.bound.endpoint outcome.position) (seen old endpoint)
-  pub count : in_use new ≡ in_use old
-  pub watchers : new.watchers ≡ old.watchers
-  pub tokens : new.tokens ≡ old.tokens
+  pub bound : (endpoint : ℕ) →
+      seen new endpoint ≡ newly_seen outcome.bound endpoint (option_map (moved moment.bound.endpoint outcome.position) (seen old endpoint))
+  pub count : in_use new ≡ in_use old + length (option_to_list outcome.bound)
+  pub watchers : new.watchers ≡ option_map_or (watching_behind old.watchers) outcome.bound old.watchers
+  pub tokens : (token : ℕ) → named new token ≡ newly_named outcome.token token (named old token)
   pub tree : Leads old.graph new.graph outcome.change
-  pub holds : SameHolds old.graph new.graph
-  pub names : KeepsNames old.graph new.graph
-  -- what is to be bound has its place here, a directory can be watched, a token is to name one, and an Open goes on behind a mount of the
-  -- tree
-  pub has_place : (object : ℕ) (birth : code.Birth) → fate ≡ fates.Binds object birth → HasPlace new birth
-  pub watched : (object mask : ℕ) (directory : NodeRef) → fate ≡ fates.Watches object directory mask → CanWatch new directory
-  pub given : (token : ℕ) (directory : NodeRef) → fate ≡ fates.Gives token directory → IsDirectory new.graph directory
-  pub mounted : (mount object : ℕ) → fate ≡ fates.Forwards mount object → HasMount moment.tree mount
+  pub holds : (number : ℕ) → holds_at new.graph number ≡ holds_at old.graph number + newly_held outcome number
+  -- who is bound is bound here, and a token is given here, on the endpoint that is served
+  pub here : (bound : Bound) → outcome.bound ≡ Some bound → bound.server ≡ moment.bound.server
+  pub given : (given : Given) → outcome.token ≡ Some given → (given.server ≡ moment.bound.server) × (given.endpoint ≡ moment.bound.endpoint)
+  -- an Open goes on behind a mount of the tree
+  pub mounted : (mount object flags : ℕ) (rest : List (List ℕ)) → fate ≡ fates.Forwards mount object flags rest → HasMount moment.tree mount

@@ -1,12 +1,12 @@
 -- Words of the steps of a serving: who asks, what a connection gives, and what is done with it. No public clause needs these.
-use Rattle.std.specs.Prelude.{◌≡◌, ◌≢◌, ◌<◌, ℕ, true, false, nat_le, All, List, [], ◌∷◌, ◌++◌, length, filter, Option, Some, None, option_and_then}
+use Rattle.std.specs.Prelude.{◌≡◌, ◌≢◌, ◌<◌, ◌^◌, ℕ, true, false, nat_le, All, Contains, List, [], ◌∷◌, ◌++◌, length, filter, Option, Some, None, option_and_then}
 use Rattle.std.specs.FinMap as finite
 use Rattle.std.specs.Option.{option_map}
 use Rattle.std.specs.Str.{IsUtf8}
 use Rattle.fidl_names.specs.HandleNumber.{end_of_mount}
 use Rattle.fidl_names.specs.declared.limits.TheConstants as limit
 use Rattle.fidl_names.specs.declared.methods.Handle.{Handle}
-use Rattle.fidl_names.specs.declared.methods.Handle.TheVariants.{Token}
+use Rattle.fidl_names.specs.declared.methods.Handle.TheVariants.{Endpoint, Token}
 use Rattle.fidl_names.specs.declared.methods.Method.TheVariants as method
 use Rattle.fidl_wire.specs.Written.{Written}
 use Rattle.endpoint_link.specs.Frames.{Frame, frame_with, spellings}
@@ -15,15 +15,20 @@ use Rattle.endpoint_link.specs.declared.kinds.FrameKind.TheVariants as kind
 use Rattle.io_messages.specs.declared.protocols.Protocol.TheVariants as protocol
 use Rattle.io_messages.specs.declared.requests.RequestFault.{RequestFault}
 use Rattle.io_messages.specs.declared.requests.RequestFault.TheVariants.{UnknownTwoWay}
-use Rattle.io_messages.specs.Asked.{Asked}
+use Rattle.io_messages.specs.Asked.{Asked, method_of}
+use Rattle.io_messages.specs.Protocols.{has_method}
+use Rattle.io_messages.specs.Requests.{has_txid}
+use Rattle.io_messages.specs.Shapes.{is_one_way}
 use Rattle.io_messages.specs.Asked as asks
 use Rattle.io_messages.specs.declared.protocols.Protocol.{Protocol}
 use Rattle.io_messages.specs.Replies.{done, payload, settled}
 use Rattle.io_messages.specs.ReplyWriting.{PayloadFits}
 use Rattle.io_messages.specs.Tokens.{token_of}
 use Rattle.node_graph.specs.declared.nodes.NodeRef.{NodeRef}
-use Rattle.node_graph.specs.Graph.{Kept, Leads, StandsFor, number_of}
-use Rattle.node_graph.specs.Tree.{Change, stay}
+use Rattle.node_graph.specs.Graph.{Kept, Leads, SameHolds, StandsFor, number_of}
+use Rattle.node_graph.specs.Tree.{Change, Tree, stay}
+use Rattle.conn_rules.specs.Acts.{act_of}
+use Rattle.conn_rules.specs.Contexts.{context_of}
 use Rattle.conn_rules.specs.Answers.{Act, Answer, Happening, nothing_told, replies, closes, binds, watches, forwards, refuses, ends}
 use Rattle.conn_rules.specs.Births.{Connection, born, connection_with, fresh}
 use Rattle.conn_rules.specs.declared.births.Birth as code
@@ -42,22 +47,25 @@ use Rattle.vfs_journal.specs.Handles.{numbers_of}
 use Rattle.vfs_journal.specs.Outcomes as outcomes
 use Rattle.vfs_journal.specs.Outcomes.{Asker, Outcome, announcement, bound_of, close_frame, ending, ends_of, forward_of, frames_of}
 use Rattle.vfs_journal.specs.Output.{Begins}
+use Rattle.vfs_journal.specs.View.{moved}
 use Rattle.remote_forward.specs.Onward.{onward_bytes}
 use Rattle.vfs_journal.specs.Serving.{Moment, fault_answer, fault_txid}
 use Rattle.vfs_server.specs.declared.asking.Asking.{Asking}
 use Rattle.vfs_server.specs.declared.conn.Conn.{Conn}
 use Rattle.vfs_server.specs.declared.conn.Conn.TheVariants as conn
+use Rattle.vfs_server.specs.declared.deed.Deed.{Deed}
+use Rattle.vfs_server.specs.declared.deed.Deed.TheVariants as deeds
 use Rattle.vfs_server.specs.declared.fate.Fate.{Fate}
 use Rattle.vfs_server.specs.declared.fate.Fate.TheVariants as fates
 use Rattle.vfs_server.specs.declared.given.Given.{Given}
 use Rattle.vfs_server.specs.declared.given.Given.TheVariants as given
-use Rattle.vfs_server.specs.Binding.{IsDirectory}
-use Rattle.vfs_server.specs.Effects.{Effects, effects_of, effects_told, no_effects}
-use Rattle.vfs_server.specs.Kept.{Tokens}
-use Rattle.vfs_server.specs.Servers.{bound_with, watcher_with}
-use Rattle.vfs_server.specs.Serving.{HasMount}
-use Rattle.watch_seats.specs.Seats.{Seats, is_at}
-use Rattle.watch_seats.specs.Telling.{IsShort, told_of}
+use Rattle.vfs_server.specs.Binding.{Binds, CanName, CanWatch, HasPlace, IsDirectory, NamesBy}
+use Rattle.vfs_server.specs.Effects.{Effects, effects_of, effects_done, no_effects}
+use Rattle.vfs_server.specs.Kept.{NameDirectories, Tokens}
+use Rattle.vfs_server.specs.Servers.{Server, bound_with, in_use, seen, watcher_with}
+use Rattle.vfs_server.specs.Serving.{HasMount, frames_here}
+use Rattle.vfs_server.specs.Seats.{Seats, is_at}
+use Rattle.vfs_server.specs.Telling.{IsShort, told_of}
 use Rattle.vfs_server.specs.Watched.{first_of}
 
 -- ---- connections
@@ -150,9 +158,9 @@ token_given endpoint server node (Token number ∷ later) = Some (record { token
 token_given endpoint server node _ = None
 
 -- what becomes of the endpoint by a reply with these handles, on a connection to this node
-abbrev pub fate_by : NodeRef → List Handle → Fate
-fate_by node (Token number ∷ later) = fates.Gives number node
-fate_by node _ = fates.Stays
+abbrev pub fate_by : NodeRef → List Handle → Deed
+fate_by node (Token number ∷ later) = deeds.Gives number node
+fate_by node _ = deeds.Stays
 
 -- what becomes of endpoints and tokens then, at this server, where the output has these handles
 abbrev pub effects_given : ℕ → ℕ → ℕ → ℕ → Given → List Handle → Effects
@@ -201,23 +209,23 @@ pub record IsToWatch (node directory : NodeRef) (mask : ℕ) (what : Given) : Ty
   pub asked : what ≡ given.WatchBy mask
 
 -- what a connection to this node gave was done, where it had left this output
-pub record DoesGiven (endpoint object : ℕ) (node : NodeRef) (what : Given) (left : Written) (fate : Fate) (out : Written) (before after : List ℕ) : Type 0 where
+pub record DoesGiven (endpoint object : ℕ) (node : NodeRef) (what : Given) (left : Written) (fate : Deed) (before after : List ℕ) : Type 0 where
   pub some : what ≢ given.NoMemory
   pub frames : after ≡ before ++ spellings (frames_given endpoint object what left)
-  pub effects : (server : ℕ) → effects_given endpoint server (number_of node) object what left.handles ≡ effects_told endpoint server fate out
-  pub bound : (from : ℕ) (birth : code.Birth) → fate ≡ fates.Binds from birth → BindsBy birth what
-  pub watched : (from mask : ℕ) (directory : NodeRef) → fate ≡ fates.Watches from directory mask → IsToWatch node directory mask what
-  pub onward : (mount from : ℕ) → fate ≡ fates.Forwards mount from → GoesOnBehind mount what
-  pub given : (token : ℕ) (directory : NodeRef) → fate ≡ fates.Gives token directory → node ≡ directory
+  pub effects : (server : ℕ) → effects_given endpoint server (number_of node) object what left.handles ≡ effects_done endpoint server fate
+  pub bound : (from : ℕ) (birth : code.Birth) → fate ≡ deeds.Binds from birth → BindsBy birth what
+  pub watched : (from mask : ℕ) (directory : NodeRef) → fate ≡ deeds.Watches from directory mask → IsToWatch node directory mask what
+  pub onward : (mount from flags : ℕ) (rest : List (List ℕ)) → fate ≡ deeds.Forwards mount from flags rest → GoesOnBehind mount what
+  pub given : (token : ℕ) (directory : NodeRef) → fate ≡ deeds.Gives token directory → node ≡ directory
 
 -- a message that is no request was answered
-pub record DoesFault (endpoint : ℕ) (fault : RequestFault) (fate : Fate) (out : Written) (before after : List ℕ) : Type 0 where
+pub record DoesFault (endpoint : ℕ) (fault : RequestFault) (fate : Deed) (before after : List ℕ) : Type 0 where
   pub frames : (server node : ℕ) → after ≡ before ++ spellings (frames_of (asker_with endpoint server node (fault_txid fault) 0) (fault_answer fault))
-  pub effects : (server node : ℕ) → effects_by (asker_with endpoint server node (fault_txid fault) 0) (fault_answer fault) ≡ effects_told endpoint server fate out
-  pub bound : (from : ℕ) (birth : code.Birth) → fate ≢ fates.Binds from birth
-  pub watched : (from mask : ℕ) (directory : NodeRef) → fate ≢ fates.Watches from directory mask
-  pub onward : (mount from : ℕ) → fate ≢ fates.Forwards mount from
-  pub given : (token : ℕ) (directory : NodeRef) → fate ≢ fates.Gives token directory
+  pub effects : (server node : ℕ) → effects_by (asker_with endpoint server node (fault_txid fault) 0) (fault_answer fault) ≡ effects_done endpoint server fate
+  pub bound : (from : ℕ) (birth : code.Birth) → fate ≢ deeds.Binds from birth
+  pub watched : (from mask : ℕ) (directory : NodeRef) → fate ≢ deeds.Watches from directory mask
+  pub onward : (mount from flags : ℕ) (rest : List (List ℕ)) → fate ≢ deeds.Forwards mount from flags rest
+  pub given : (token : ℕ) (directory : NodeRef) → fate ≢ deeds.Gives token directory
 
 -- ---- tokens
 
@@ -254,6 +262,26 @@ abbrev pub looked_at : Asked → Room → Room
 looked_at (asks.watch mask options watcher) room = room
 looked_at _ room = record room { watchers = 0 }
 
+-- what a request on a connection does, with what is in use
+abbrev pub act_asked : Asking → Connection → Tree → (ℕ → Option ℕ) → Asked → Act
+act_asked asking connection tree directory request =
+    act_of (context_of connection (room_for asking (number_of connection.birth.node)) tree directory) request
+
+-- what each step of a serving on a connection stands on: the graph stands for a tree, has the connection's node, and can make more; tokens
+-- name directories of it; and nothing is to be told yet
+pub record CanServe (asking : Asking) (graph : Kept) (changes : Changes) (connection : Connection) : Type 0 where
+  pub tree : (tree : Tree) × StandsFor graph tree
+  pub made : graph.made < 2 ^ 63
+  pub node : CanBeBound graph connection.birth
+  pub directories : NameDirectories graph asking.tokens.now
+  pub none : told_by changes ≡ nothing_told
+
+-- a request of this protocol
+pub record IsRequestTo (p : Protocol) (id : ℕ) (request : Asked) : Type 0 where
+  pub method : has_method p (method_of request) ≡ true
+  pub txid : has_txid (is_one_way (method_of request)) id ≡ true
+  pub echo : CanEcho p request
+
 -- a moment of the serving on a connection at this server, over this graph
 pub record IsAskedAt (server : ℕ) (asking : Asking) (graph : Kept) (connection : Connection) (moment : Moment) : Type 0 where
   pub bound : moment.bound ≡ bound_with server asking.endpoint connection.birth
@@ -270,47 +298,93 @@ pub record MayWatch (in_use : Room) (change : Change) (directory : NodeRef) (con
 
 -- what was done with a message: what becomes of endpoints, and what watchers are to be told of it
 pub record Done : Type 0 where
-  pub fate : Fate
+  pub fate : Deed
   pub told : List Happening
 
-abbrev pub done_with : Fate → Changes → Done
+abbrev pub done_with : Deed → Changes → Done
 done_with fate changes = record { fate = fate; told = told_by changes }
 
 -- the endpoint stays, and watchers are told nothing
 abbrev pub stays : Done
-stays = record { fate = fates.Stays; told = nothing_told }
+stays = record { fate = deeds.Stays; told = nothing_told }
 
 -- a connection does what an outcome says, and changes the graph as it says; watchers aren't told yet
-pub record Answers (moment : Moment) (outcome : Outcome) (done : Done) (out : Written) (new : Connection) (graph changed : Kept) (before after : List ℕ) : Type 0 where
+pub record Answers (moment : Moment) (outcome : Outcome) (done : Done) (new : Connection) (graph changed : Kept) (before after : List ℕ) : Type 0 where
   pub frames : after ≡ before ++ spellings outcome.frames
-  pub effects : effects_of outcome ≡ effects_told moment.bound.endpoint moment.bound.server done.fate out
+  pub effects : effects_of outcome ≡ effects_done moment.bound.endpoint moment.bound.server done.fate
   pub told : outcome.told ≡ done.told
   pub position : new.position ≡ outcome.position
   pub change : Leads graph changed outcome.change
-  pub bound : (object : ℕ) (birth : code.Birth) → done.fate ≡ fates.Binds object birth → CanBeBound changed birth
-  pub room : (object : ℕ) (birth : code.Birth) → done.fate ≡ fates.Binds object birth → is_full moment.room ≡ false
-  pub watched : (object mask : ℕ) (directory : NodeRef) → done.fate ≡ fates.Watches object directory mask → MayWatch moment.room outcome.change directory new
-  pub given : (token : ℕ) (directory : NodeRef) → done.fate ≡ fates.Gives token directory → IsOnDirectory directory new
-  pub mounted : (mount object : ℕ) → done.fate ≡ fates.Forwards mount object → HasMount moment.tree mount
+  pub bound : (object : ℕ) (birth : code.Birth) → done.fate ≡ deeds.Binds object birth → CanBeBound changed birth
+  pub room : (object : ℕ) (birth : code.Birth) → done.fate ≡ deeds.Binds object birth → is_full moment.room ≡ false
+  pub watched : (object mask : ℕ) (directory : NodeRef) → done.fate ≡ deeds.Watches object directory mask → MayWatch moment.room outcome.change directory new
+  pub given : (token : ℕ) (directory : NodeRef) → done.fate ≡ deeds.Gives token directory → IsOnDirectory directory new
+  pub mounted : (mount object flags : ℕ) (rest : List (List ℕ)) → done.fate ≡ deeds.Forwards mount object flags rest → HasMount moment.tree mount
 
--- watchers can be told of what was done on a connection, behind what was written of it
-pub record CanTell (done : Done) (connection : Connection) (before after : List ℕ) : Type 0 where
+-- the endpoint that a deed binds, as a watcher or another
+abbrev pub Takes : Deed → ℕ → Type 0
+Takes (deeds.Binds object birth) endpoint = object ≡ endpoint
+Takes (deeds.Watches object directory mask) endpoint = object ≡ endpoint
+Takes _ endpoint = ⊥
+
+-- watchers can be told of what was done on a connection, behind what was written of it; who is to be bound came with the message, and the token
+-- that is given is the next one
+pub record CanTell (asking : Asking) (handles : List Handle) (done : Done) (connection : Connection) (before after : List ℕ) : Type 0 where
   pub front : Begins before after
-  pub directory : (object mask : ℕ) (directory : NodeRef) → done.fate ≡ fates.Watches object directory mask → IsOnDirectory directory connection
+  pub directory : (object mask : ℕ) (directory : NodeRef) → done.fate ≡ deeds.Watches object directory mask → IsOnDirectory directory connection
   pub short : All IsShort done.told
+  pub taken : (endpoint : ℕ) → Takes done.fate endpoint → Contains handles (Endpoint endpoint)
+  pub next : (token : ℕ) (directory : NodeRef) → done.fate ≡ deeds.Gives token directory → asking.token ≡ Some token
 
 -- nothing was done
 pub record IsPassedOver (done : Done) : Type 0 where
-  pub fate : done.fate ≡ fates.Stays
+  pub fate : done.fate ≡ deeds.Stays
   pub told : done.told ≡ nothing_told
 
 -- ---- what watchers are told
 
 -- a new watcher is at a directory that the graph keeps, and what is told are names
 pub record CanBeTold (graph : Kept) (done : Done) : Type 0 where
-  pub directory : (object mask : ℕ) (directory : NodeRef) → done.fate ≡ fates.Watches object directory mask → IsDirectory graph directory
+  pub directory : (object mask : ℕ) (directory : NodeRef) → done.fate ≡ deeds.Watches object directory mask → IsDirectory graph directory
   pub short : All IsShort done.told
 
 -- these watchers were told of what was done, over this graph
 abbrev pub IsTold : Seats → Kept → Done → List ℕ → List ℕ → Type 0
 IsTold seats graph what before after = after ≡ before ++ spellings (first_of graph.edges what.fate ++ told_of seats what.told)
+
+-- ---- the server behind the answer
+
+-- a server did what an outcome says but for binding and naming: that is yet to be done by the deed
+pub record HasAnswered (moment : Moment) (outcome : Outcome) (deed : Deed) (old new : Server) (before after : List ℕ) : Type 0 where
+  pub frames : after ≡ before ++ spellings (frames_here moment old.watchers outcome)
+  pub effects : effects_of outcome ≡ effects_done moment.bound.endpoint moment.bound.server deed
+  pub index : new.index ≡ old.index
+  pub bound : (endpoint : ℕ) → seen new endpoint ≡ option_map (moved moment.bound.endpoint outcome.position) (seen old endpoint)
+  pub count : in_use new ≡ in_use old
+  pub watchers : new.watchers ≡ old.watchers
+  pub tokens : new.tokens ≡ old.tokens
+  pub tree : Leads old.graph new.graph outcome.change
+  pub holds : SameHolds old.graph new.graph
+  pub has_place : (object : ℕ) (birth : code.Birth) → deed ≡ deeds.Binds object birth → HasPlace new birth
+  pub watched : (object mask : ℕ) (directory : NodeRef) → deed ≡ deeds.Watches object directory mask → CanWatch new directory
+  pub given : (token : ℕ) (directory : NodeRef) → deed ≡ deeds.Gives token directory → IsDirectory new.graph directory
+  pub mounted : (mount object flags : ℕ) (rest : List (List ℕ)) → deed ≡ deeds.Forwards mount object flags rest → HasMount moment.tree mount
+
+-- what a deed leaves to do can be done at a server: what is to be bound isn't bound there yet, and has its place; what is to be named is a
+-- directory, and the token has room
+abbrev pub CanSettle : Server → Deed → Type 0
+CanSettle server (deeds.Binds object birth) = (seen server object ≡ None) × HasPlace server birth
+CanSettle server (deeds.Watches object directory mask) = (seen server object ≡ None) × CanWatch server directory
+CanSettle server (deeds.Gives token directory) = CanName server token directory
+CanSettle server _ = Unit {0}
+
+-- it is done, and this tells it
+abbrev pub Settles : Server → Deed → Fate → Server → Type 0
+Settles old deeds.Stays fate new = (fate ≡ fates.Stays) × (new ≡ old)
+Settles old deeds.Ends fate new = (fate ≡ fates.Ends) × (new ≡ old)
+Settles old (deeds.Binds object birth) fate new = (fate ≡ fates.Binds object) × Binds old (bound_with old.index object birth) new
+Settles old (deeds.Watches object directory mask) fate new =
+    (fate ≡ fates.Binds object) × Binds old (watcher_with old.index object (number_of directory) mask) new
+Settles old (deeds.Refuses object) fate new = (fate ≡ fates.Refuses object) × (new ≡ old)
+Settles old (deeds.Forwards mount object flags rest) fate new = (fate ≡ fates.Forwards mount object flags rest) × (new ≡ old)
+Settles old (deeds.Gives token directory) fate new = (fate ≡ fates.Gives token) × NamesBy old token directory new

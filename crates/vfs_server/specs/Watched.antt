@@ -5,10 +5,10 @@ use Rattle.node_graph.specs.Graph.{number_of}
 use Rattle.node_graph.specs.Tree.{Edges, names_in}
 use Rattle.watch_events.specs.Messages.{first_frames}
 use Rattle.vfs_journal.specs.Starts.{Bound}
-use Rattle.watch_seats.specs.declared.watching.Seat.{Seat}
-use Rattle.watch_seats.specs.Seats.{Seats}
-use Rattle.vfs_server.specs.declared.fate.Fate.{Fate}
-use Rattle.vfs_server.specs.declared.fate.Fate.TheVariants as fates
+use Rattle.vfs_server.specs.declared.watching.Seat.{Seat}
+use Rattle.vfs_server.specs.Seats.{Seats}
+use Rattle.vfs_server.specs.declared.deed.Deed.{Deed}
+use Rattle.vfs_server.specs.declared.deed.Deed.TheVariants as deeds
 use Rattle.vfs_server.specs.Servers.{watcher_with}
 
 -- as it is bound at this server
@@ -19,6 +19,6 @@ abbrev pub bounds_at : ℕ → Seats → List Bound
 bounds_at index seats = map (bound_at index) seats
 
 -- what a new watcher is told first, where these are the edges
-abbrev pub first_of : Edges → Fate → List Frame
-first_of edges (fates.Watches object directory mask) = first_frames object mask (names_in edges (number_of directory))
+abbrev pub first_of : Edges → Deed → List Frame
+first_of edges (deeds.Watches object directory mask) = first_frames object mask (names_in edges (number_of directory))
 first_of edges _ = []

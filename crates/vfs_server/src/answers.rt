@@ -10,7 +10,7 @@ ghost use Rattle.vfs_server.specs.Steps.{BindsConnection, DoesFault, DoesGiven, 
 
 use crate::asking::Asking;
 use crate::conn::Conn;
-use crate::fate::Fate;
+use crate::deed::Deed;
 use crate::frames::{put_announcement, put_ending, put_last, put_message};
 use crate::given::Given;
 use conn_rules::Birth;
@@ -20,7 +20,6 @@ use fidl_wire::{Ordinals, Out};
 use io_messages::{Protocol, Reply, Request, RequestFault};
 use message_writer::write_reply;
 use node_graph::NodeRef;
-use remote_forward::forward;
 
 /// The endpoint that a request carries, 0 for none.
 fn object_of(request: &Request<'_>) -> u32
@@ -35,16 +34,16 @@ fn object_of(request: &Request<'_>) -> u32
 }
 
 /// Does what the connection that is asked gave to a request.
-pub(crate) fn answer(
+pub(crate) fn answer<'a>(
     asking: &Asking<'_>,
     conn: &Conn,
     request: &Request<'_>,
-    given: Given<'_>,
+    given: Given<'a>,
     out: &mut Out,
     outbox: &mut Outbox,
-) -> Result<Fate, NoMemory>
+) -> Result<Deed<'a>, NoMemory>
     requires connection { BindsConnection given }
-    ensures does { IfOk result (λ fate. DoesGiven asking.now.endpoint (object_of (asked request.now)) (connection_of conn.now).birth.node given.entry out.old fate out.new outbox.old outbox.new) }
+    ensures does { IfOk result (λ fate. DoesGiven asking.now.endpoint (object_of (asked request.now)) (connection_of conn.now).birth.node given.entry out.old fate outbox.old outbox.new) }
     ensures no_memory { OnErr result (outbox.new ≡ outbox.old) }
 {
     let endpoint = asking.endpoint;
@@ -52,27 +51,27 @@ pub(crate) fn answer(
         Given::Reply => put_reply(endpoint, conn.node(), out, outbox),
         Given::ReplyEnd => {
             put_last(endpoint, out, outbox)?;
-            Ok(Fate::Ends)
+            Ok(Deed::Ends)
         }
         Given::Bind(birth) => bind(asking.ordinals, object_of(request), birth, out, outbox),
         Given::WatchBy(mask) => {
             put_message(endpoint, out, outbox)?;
-            Ok(Fate::Watches {
+            Ok(Deed::Watches {
                 object: object_of(request),
                 directory: conn.node(),
                 mask,
             })
         }
-        Given::Forward { mount, flags, rest } => {
-            let object = object_of(request);
-            out.clear();
-            forward(asking.ordinals, flags, rest, object, out);
-            Ok(Fate::Forwards { mount, object })
-        }
+        Given::Forward { mount, flags, rest } => Ok(Deed::Forwards {
+            mount,
+            object: object_of(request),
+            flags,
+            rest,
+        }),
         Given::Refused(status) => {
             let object = object_of(request);
             put_ending(object, status, out, outbox)?;
-            Ok(Fate::Refuses { object })
+            Ok(Deed::Refuses { object })
         }
         Given::End(status) => end(endpoint, status, out, outbox),
         Given::NoMemory => Err(NoMemory),
@@ -83,20 +82,20 @@ pub(crate) fn answer(
 #[inline(always)]
 pub(crate) fn put_bare_reply(endpoint: u32, out: &Out, outbox: &mut Outbox) -> Result<(), NoMemory>
     requires bare { out.now.handles ≡ [] }
-    ensures does { (object : ℕ) (node : NodeRef) → OnOk result (DoesGiven endpoint object node Given.Reply out.now Fate.Stays out.now outbox.old outbox.new) }
+    ensures does { (object : ℕ) (node : NodeRef) → OnOk result (DoesGiven endpoint object node Given.Reply out.now Deed.Stays outbox.old outbox.new) }
     ensures no_memory { OnErr result (outbox.new ≡ outbox.old) }
 {
     write_message(outbox, endpoint, &[], out.as_bytes())
 }
 
 /// Writes the reply in an output on an endpoint, whose connection is to this node. A token that it has names the node.
-pub(crate) fn put_reply(
+pub(crate) fn put_reply<'a>(
     endpoint: u32,
     node: NodeRef,
     out: &Out,
     outbox: &mut Outbox,
-) -> Result<Fate, NoMemory>
-    ensures does { (object : ℕ) → IfOk result (λ fate. DoesGiven endpoint object node Given.Reply out.now fate out.now outbox.old outbox.new) }
+) -> Result<Deed<'a>, NoMemory>
+    ensures does { (object : ℕ) → IfOk result (λ fate. DoesGiven endpoint object node Given.Reply out.now fate outbox.old outbox.new) }
     ensures no_memory { OnErr result (outbox.new ≡ outbox.old) }
 {
     put_message(endpoint, out, outbox)?;
@@ -105,29 +104,29 @@ pub(crate) fn put_reply(
 
 /// What becomes of an endpoint by the reply in an output: a token that it has names this node.
 #[inline(always)]
-fn replied(node: NodeRef, out: &Out) -> Fate
+fn replied<'a>(node: NodeRef, out: &Out) -> Deed<'a>
     ensures { result ≡ fate_by node out.now.handles }
 {
     match out.handles().first() {
-        Some(Handle::Token(token)) => Fate::Gives {
+        Some(Handle::Token(token)) => Deed::Gives {
             token: *token,
             directory: node,
         },
-        _ => Fate::Stays,
+        _ => Deed::Stays,
     }
 }
 
 /// Binds an endpoint, and tells it there where that is asked for.
-fn bind(
+fn bind<'a>(
     ordinals: &Ordinals,
     object: u32,
     birth: Birth,
     out: &mut Out,
     outbox: &mut Outbox,
-) -> Result<Fate, NoMemory>
+) -> Result<Deed<'a>, NoMemory>
     requires watcher { birth.protocol ≢ Protocol.Watcher }
     ensures frames { OnOk result (outbox.new ≡ outbox.old ++ spellings (announcement object birth.protocol birth.announce)) }
-    ensures fate { IfOk result (λ fate. fate ≡ Fate.Binds object birth) }
+    ensures fate { IfOk result (λ fate. fate ≡ Deed.Binds object birth) }
     ensures no_memory { OnErr result (outbox.new ≡ outbox.old) }
 {
     put_announcement(
@@ -138,40 +137,45 @@ fn bind(
         out,
         outbox,
     )?;
-    Ok(Fate::Binds { object, birth })
+    Ok(Deed::Binds { object, birth })
 }
 
 /// Answers a message that is no request of the endpoint's protocol.
-pub(crate) fn answer_fault(
+pub(crate) fn answer_fault<'a>(
     asking: &Asking<'_>,
     fault: RequestFault,
     out: &mut Out,
     outbox: &mut Outbox,
-) -> Result<Fate, NoMemory>
+) -> Result<Deed<'a>, NoMemory>
     requires txid { HasTxid fault }
-    ensures does { IfOk result (λ fate. DoesFault asking.now.endpoint fault fate out.new outbox.old outbox.new) }
+    ensures does { IfOk result (λ fate. DoesFault asking.now.endpoint fault fate outbox.old outbox.new) }
     ensures no_memory { OnErr result (outbox.new ≡ outbox.old) }
 {
     let endpoint = asking.endpoint;
     match fault {
         RequestFault::Malformed(_) => end(endpoint, Status::InvalidArgs, out, outbox),
         RequestFault::UnknownStrict => end(endpoint, Status::NotSupported, out, outbox),
-        RequestFault::UnknownOneWay => Ok(Fate::Stays),
+        RequestFault::UnknownOneWay => Ok(Deed::Stays),
         RequestFault::UnknownTwoWay { txid, ordinal } => {
             out.clear();
             write_reply(asking.ordinals, txid, Reply::Unknown(ordinal), out);
             put_message(endpoint, out, outbox)?;
-            Ok(Fate::Stays)
+            Ok(Deed::Stays)
         }
     }
 }
 
 /// Ends the endpoint that is served.
-fn end(endpoint: u32, status: Status, out: &mut Out, outbox: &mut Outbox) -> Result<Fate, NoMemory>
+fn end<'a>(
+    endpoint: u32,
+    status: Status,
+    out: &mut Out,
+    outbox: &mut Outbox,
+) -> Result<Deed<'a>, NoMemory>
     ensures frames { OnOk result (outbox.new ≡ outbox.old ++ spellings (ending endpoint status)) }
-    ensures fate { IfOk result (λ fate. fate ≡ Fate.Ends) }
+    ensures fate { IfOk result (λ fate. fate ≡ Deed.Ends) }
     ensures no_memory { OnErr result (outbox.new ≡ outbox.old) }
 {
     put_ending(endpoint, status, out, outbox)?;
-    Ok(Fate::Ends)
+    Ok(Deed::Ends)
 }

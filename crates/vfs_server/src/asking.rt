@@ -4,20 +4,22 @@ ghost use Rattle.node_graph.specs.Graph.{Names, number_of};
 ghost use Rattle.vfs_server.specs.Steps.{connection_of, looked_at, room_for};
 
 use crate::conn::Conn;
+use crate::tokens::Tokens;
+use crate::watching::Watching;
 use conn_rules::Room;
 use fidl_wire::Ordinals;
 use io_messages::Request;
 use node_graph::Graph;
-use watch_seats::Watching;
 
 /// What every step of a serving reads: the names' ordinals, the endpoint that is served, how many
-/// connections are in use, who watches, and the next token.
+/// connections are in use, who watches, which directories tokens name, and the next token.
 #[derive(Clone, Copy)]
 pub(crate) struct Asking<'a> {
     pub ordinals: &'a Ordinals,
     pub endpoint: u32,
     pub connections: u32,
     pub watching: &'a Watching,
+    pub tokens: &'a Tokens,
     pub token: Option<u32>,
 }
 

@@ -1,27 +1,19 @@
 //! The connections to all kinds of node, as one.
 
-ghost use Rattle.std.specs.Prelude.{◌≡◌, ◌≢◌, ◌<◌, ◌^◌, ℕ, true, IfOk, Option};
-ghost use Rattle.io_messages.specs.Asked.{asked, method_of};
-ghost use Rattle.io_messages.specs.Protocols.{has_method};
-ghost use Rattle.io_messages.specs.Requests.{has_txid};
-ghost use Rattle.io_messages.specs.Shapes.{is_one_way};
+ghost use Rattle.std.specs.Prelude.{◌≡◌, ◌≢◌, ℕ, IfOk, Option};
+ghost use Rattle.io_messages.specs.Asked.{asked};
 ghost use Rattle.node_graph.specs.Graph.{StandsFor};
 ghost use Rattle.node_graph.specs.Tree.{Tree};
-ghost use Rattle.conn_rules.specs.Acts.{act_of};
-ghost use Rattle.conn_rules.specs.Answers.{nothing_told};
 ghost use Rattle.conn_rules.specs.Births.{fresh};
-ghost use Rattle.conn_rules.specs.Contexts.{context_of};
 ghost use Rattle.conn_rules.specs.Served.{HasNothing, KeepsHolds, told_by};
-ghost use Rattle.conn_rules.specs.Shared.{CanBeBound};
-ghost use Rattle.vfs_server.specs.Kept.{NameDirectories};
-ghost use Rattle.vfs_server.specs.Steps.{Acts, CanEcho, IsOfItsKind, NamesAsThere, connection_of};
+ghost use Rattle.vfs_server.specs.Steps.{Acts, CanServe, IsOfItsKind, IsRequestTo, NamesAsThere, act_asked, connection_of};
 
+use crate::asking::Asking;
 use crate::given::Given;
-use crate::tokens::Tokens;
-use conn_rules::{Birth, Changes, Room};
+use conn_rules::{Birth, Changes};
 use dir_conn::DirConn;
 use fidl_names::NoMemory;
-use fidl_wire::{Ordinals, Out};
+use fidl_wire::Out;
 use file_conn::FileConn;
 use io_messages::{Protocol, Request};
 use node_conn::{NodeConn, echo};
@@ -84,33 +76,28 @@ impl Conn {
     /// watchers are to be told is put into the changes.
     pub fn serve<'a>(
         &mut self,
-        ordinals: &Ordinals,
-        room: Room,
+        asking: &Asking<'_>,
         graph: &mut Graph,
-        tokens: &Tokens,
         txid: u32,
         request: &Request<'a>,
         out: &mut Out,
         changes: &mut Changes<'a>,
     ) -> Given<'a>
         requires kind { IsOfItsKind self.old }
-        requires made { graph.old.made < 2 ^ 63 }
-        requires node { CanBeBound graph.old (connection_of self.old).birth }
-        requires directories { NameDirectories graph.old tokens.now }
-        requires method { has_method (connection_of self.old).birth.protocol (method_of (asked request.now)) ≡ true }
-        requires txid { has_txid (is_one_way (method_of (asked request.now))) txid ≡ true }
-        requires echo { CanEcho (connection_of self.old).birth.protocol (asked request.now) }
+        requires can { CanServe asking.now graph.old changes.old (connection_of self.old) }
+        requires request { IsRequestTo (connection_of self.old).birth.protocol txid (asked request.now) }
         requires empty { HasNothing out.old }
-        requires none { told_by changes.old ≡ nothing_told }
         ensures acts { (tree : Tree) (directory : ℕ → Option ℕ) → StandsFor graph.old tree →
-            NamesAsThere tokens.now directory (asked request.now) → result ≢ Given.NoMemory →
-            Acts (act_of (context_of (connection_of self.old) room tree directory) (asked request.now)) txid result (told_by changes.new) out.new (connection_of self.new) graph.old graph.new }
+            NamesAsThere asking.now.tokens.now directory (asked request.now) → result ≢ Given.NoMemory →
+            Acts (act_asked asking.now (connection_of self.old) tree directory (asked request.now)) txid result (told_by changes.new) out.new (connection_of self.new) graph.old graph.new }
         ensures holds { KeepsHolds (connection_of self.old) (connection_of self.new) graph.old graph.new }
         ensures kind { IsOfItsKind self.new }
     {
+        let ordinals = asking.ordinals;
+        let room = asking.room(self, graph, request);
         match self {
             Conn::Directory(conn) => {
-                let target = tokens.target(request);
+                let target = asking.tokens.target(request);
                 let served = conn.serve(ordinals, graph, room, target, txid, *request, out);
                 Given::of_directory(served, changes)
             }

@@ -21,16 +21,16 @@ ghost use Rattle.vfs_journal.specs.Output.{Begins};
 ghost use Rattle.vfs_journal.specs.Serving.{Moment, outcome_of_read};
 ghost use Rattle.vfs_server.specs.Kept.{NameDirectories};
 ghost use Rattle.vfs_server.specs.declared.asking.Asking.{Asking};
-ghost use Rattle.vfs_server.specs.Steps.{Answers, AreNamed, CanEcho, CanTell, IsAskedAt, NamesAsThere, done_with, stays};
+ghost use Rattle.vfs_server.specs.Steps.{Answers, AreNamed, CanServe, CanTell, IsAskedAt, done_with, stays};
 
 use crate::answers::{answer, answer_fault, put_bare_reply};
 use crate::asking::Asking;
 use crate::conn::Conn;
-use crate::fate::Fate;
-use crate::tokens::Tokens;
+use crate::deed::Deed;
+use crate::message::Message;
 use conn_rules::{Birth, Changes, Room, Served};
 use endpoint_link::Outbox;
-use fidl_names::{Handle, NoMemory};
+use fidl_names::NoMemory;
 use fidl_wire::{Ordinals, Out};
 use file_conn::FileConn;
 use io_messages::{Protocol, Request};
@@ -76,40 +76,40 @@ impl Connection {
         self.conn.node()
     }
 
-    /// Serves a message: the frames of the answer are written, and the call tells what becomes of
-    /// endpoints. What watchers are to be told is put into the changes. An Open that goes on is left in
-    /// the output.
+    /// Serves a message: the frames of the answer are written, and the call tells what is to be done then. What
+    /// watchers are to be told is put into the changes.
     ///
     /// For want of memory no frame is written.
     #[inline(never)]
     pub fn serve<'a>(
         &mut self,
         asking: &Asking<'_>,
+        message: &Message<'a>,
         graph: &mut Graph,
-        tokens: &Tokens,
-        bytes: &'a [u8],
-        handles: &[Handle],
         out: &mut Out,
         outbox: &mut Outbox,
         changes: &mut Changes<'a>,
-    ) -> Result<Fate, NoMemory>
-        requires made { graph.old.made < 2 ^ 63 }
-        requires node { CanBeBound graph.old self.old.birth }
-        requires directories { NameDirectories graph.old tokens.now }
-        requires short { length bytes.now ≤ limit.MAX_BYTES }
-        requires none { told_by changes.old ≡ nothing_told }
+    ) -> Result<Deed<'a>, NoMemory>
+        requires can { CanServe asking.now graph.old changes.old self.old }
+        requires short { length message.now.bytes.now ≤ limit.MAX_BYTES }
         ensures answers { (server : ℕ) (moment : Moment) → IsAskedAt server asking.now graph.old self.old moment →
-            AreNamed tokens.now (numbers_of handles.now) moment.directory →
-            IfOk result (λ fate. Answers moment (outcome_of_read moment (request_of self.old.birth.protocol bytes.now handles.now)) (done_with fate changes.new) out.new self.new graph.old graph.new outbox.old outbox.new) }
-        ensures tells { IfOk result (λ fate. CanTell (done_with fate changes.new) self.new outbox.old outbox.new) }
+            AreNamed asking.now.tokens.now (numbers_of message.now.handles.now) moment.directory →
+            IfOk result (λ deed. Answers moment (outcome_of_read moment (request_of self.old.birth.protocol message.now.bytes.now message.now.handles.now)) (done_with deed changes.new) self.new graph.old graph.new outbox.old outbox.new) }
+        ensures tells { IfOk result (λ deed. CanTell asking.now message.now.handles.now (done_with deed changes.new) self.new outbox.old outbox.new) }
         ensures holds { KeepsHolds self.old self.new graph.old graph.new }
         ensures no_memory { OnErr result (outbox.new ≡ outbox.old) }
     {
         out.clear();
-        match read_request(asking.ordinals, self.conn.protocol(), bytes, handles) {
-            Ok((txid, request)) => self.serve_request(
-                asking, graph, tokens, txid, &request, out, outbox, changes,
-            ),
+        match read_request(
+            asking.ordinals,
+            self.conn.protocol(),
+            message.bytes,
+            message.handles,
+        ) {
+            Ok((txid, request)) => {
+                let given = self.conn.serve(asking, graph, txid, &request, out, changes);
+                answer(asking, &self.conn, &request, given, out, outbox)
+            }
             Err(fault) => answer_fault(asking, fault, out, outbox),
         }
     }
@@ -136,7 +136,7 @@ impl Connection {
         ensures reads { self.old.birth.protocol ≡ Protocol.File → IsSome result }
         ensures begins { Begins outbox.old outbox.new }
         ensures answers { (server : ℕ) (asking : Asking) (moment : Moment) → asking.endpoint ≡ endpoint → IsAskedAt server asking graph.old self.old moment →
-            IfSome result (λ replied. OnOk replied (Answers moment (outcome_of_read moment (Ok (txid, asked request.now))) stays out.new self.new graph.old graph.new outbox.old outbox.new)) }
+            IfSome result (λ replied. OnOk replied (Answers moment (outcome_of_read moment (Ok (txid, asked request.now))) stays self.new graph.old graph.new outbox.old outbox.new)) }
         ensures holds { KeepsHolds self.old self.new graph.old graph.new }
         ensures unchanged { result ≡ None → (self.new ≡ self.old) × (graph.new ≡ graph.old) × (outbox.new ≡ outbox.old) }
         ensures no_memory { IfSome result (λ replied. OnErr replied (outbox.new ≡ outbox.old)) }
@@ -149,49 +149,6 @@ impl Connection {
             Served::Reply => Some(put_bare_reply(endpoint, out, outbox)),
             _ => unreachable!(),
         }
-    }
-
-    /// Serves a request of the connection's protocol.
-    fn serve_request<'a>(
-        &mut self,
-        asking: &Asking<'_>,
-        graph: &mut Graph,
-        tokens: &Tokens,
-        txid: u32,
-        request: &Request<'a>,
-        out: &mut Out,
-        outbox: &mut Outbox,
-        changes: &mut Changes<'a>,
-    ) -> Result<Fate, NoMemory>
-        requires made { graph.old.made < 2 ^ 63 }
-        requires node { CanBeBound graph.old self.old.birth }
-        requires directories { NameDirectories graph.old tokens.now }
-        requires method { has_method self.old.birth.protocol (method_of (asked request.now)) ≡ true }
-        requires txid { has_txid (is_one_way (method_of (asked request.now))) txid ≡ true }
-        requires echo { CanEcho self.old.birth.protocol (asked request.now) }
-        requires empty { HasNothing out.old }
-        requires none { told_by changes.old ≡ nothing_told }
-        ensures answers { (server : ℕ) (moment : Moment) → IsAskedAt server asking.now graph.old self.old moment →
-            NamesAsThere tokens.now moment.directory (asked request.now) →
-            IfOk result (λ fate. Answers moment (outcome_of_read moment (Ok (txid, asked request.now))) (done_with fate changes.new) out.new self.new graph.old graph.new outbox.old outbox.new) }
-        ensures tells { IfOk result (λ fate. CanTell (done_with fate changes.new) self.new outbox.old outbox.new) }
-        ensures holds { KeepsHolds self.old self.new graph.old graph.new }
-        ensures no_memory { OnErr result (outbox.new ≡ outbox.old) }
-    {
-        // The graph stands for a tree, of which the rows speak.
-        let _root = graph.root();
-        let room = asking.room(&self.conn, graph, request);
-        let given = self.conn.serve(
-            asking.ordinals,
-            room,
-            graph,
-            tokens,
-            txid,
-            request,
-            out,
-            changes,
-        );
-        answer(asking, &self.conn, request, given, out, outbox)
     }
 }
 

@@ -1,28 +1,27 @@
 //! The connections of a server, by their endpoints.
 
-ghost use Rattle.std.specs.Prelude.{◌≡◌, ◌≤◌, ◌<◌, ◌^◌, ℕ, IfOk, IfSome, IsSome, OnErr, OnOk, Ok, Option, Some, None, length};
+ghost use Rattle.std.specs.Prelude.{◌≡◌, ◌≤◌, ◌<◌, ℕ, IfOk, IfSome, IsSome, OnErr, OnOk, Ok, Option, Some, None, length};
 ghost use Rattle.fidl_names.specs.declared.limits.TheConstants as limit;
 ghost use Rattle.std.specs.FinMap as finite;
 ghost use Rattle.conn_rules.specs.Births as births;
 ghost use Rattle.conn_rules.specs.Answers.{nothing_told};
 ghost use Rattle.conn_rules.specs.Served.{KeepsHolds, told_by};
 ghost use Rattle.conn_rules.specs.Shared.{CanBeBound};
-ghost use Rattle.vfs_server.specs.Kept.{NameDirectories};
 ghost use Rattle.io_messages.specs.Asked.{asked};
 ghost use Rattle.io_messages.specs.Requests.{request_of};
 ghost use Rattle.request_reader.specs.Parts.{AsksPart};
 ghost use Rattle.vfs_journal.specs.Handles.{numbers_of};
 ghost use Rattle.vfs_journal.specs.Serving.{Moment, outcome_of_read};
 ghost use Rattle.vfs_server.specs.declared.asking.Asking as asking;
-ghost use Rattle.vfs_server.specs.Steps.{Answers, AreNamed, CanTell, IsAskedAt, IsPassedOver, done_with, stays};
+ghost use Rattle.vfs_server.specs.Steps.{Answers, AreNamed, CanServe, CanTell, IsAskedAt, IsPassedOver, done_with, stays};
 
 use crate::asking::Asking;
 use crate::connection::Connection;
-use crate::fate::Fate;
-use crate::tokens::Tokens;
+use crate::deed::Deed;
+use crate::message::Message;
 use conn_rules::Changes;
 use endpoint_link::Outbox;
-use fidl_names::{Handle, NoMemory};
+use fidl_names::NoMemory;
 use fidl_wire::{Ordinals, Out};
 use io_messages::{Protocol, Request};
 use node_graph::Graph;
@@ -90,33 +89,29 @@ impl Connections {
     pub fn serve<'a>(
         &mut self,
         asking: &Asking<'_>,
+        message: &Message<'a>,
         graph: &mut Graph,
-        tokens: &Tokens,
-        bytes: &'a [u8],
-        handles: &[Handle],
         out: &mut Out,
         outbox: &mut Outbox,
         changes: &mut Changes<'a>,
-    ) -> Result<Fate, NoMemory>
-        requires short { length bytes.now ≤ limit.MAX_BYTES }
-        requires made { graph.old.made < 2 ^ 63 }
-        requires directories { NameDirectories graph.old tokens.now }
+    ) -> Result<Deed<'a>, NoMemory>
+        requires can { (connection : births.Connection) → finite.get self.old asking.now.endpoint ≡ Some connection → CanServe asking.now graph.old changes.old connection }
+        requires short { length message.now.bytes.now ≤ limit.MAX_BYTES }
         requires none { told_by changes.old ≡ nothing_told }
-        requires node { (connection : births.Connection) → finite.get self.old asking.now.endpoint ≡ Some connection → CanBeBound graph.old connection.birth }
         ensures served { (old : births.Connection) → finite.get self.old asking.now.endpoint ≡ Some old →
             (new : births.Connection) × KeepsHolds old new graph.old graph.new × (self.new ≡ finite.insert self.old asking.now.endpoint new)
-            × IfOk result (λ fate. CanTell (done_with fate changes.new) new outbox.old outbox.new)
+            × IfOk result (λ deed. CanTell asking.now message.now.handles.now (done_with deed changes.new) new outbox.old outbox.new)
             × ((server : ℕ) (moment : Moment) → IsAskedAt server asking.now graph.old old moment →
-            AreNamed tokens.now (numbers_of handles.now) moment.directory →
-            IfOk result (λ fate. Answers moment (outcome_of_read moment (request_of old.birth.protocol bytes.now handles.now)) (done_with fate changes.new) out.new new graph.old graph.new outbox.old outbox.new)) }
-        ensures passed_over { finite.get self.old asking.now.endpoint ≡ None → IfOk result (λ fate. IsPassedOver (done_with fate changes.new)) }
+            AreNamed asking.now.tokens.now (numbers_of message.now.handles.now) moment.directory →
+            IfOk result (λ deed. Answers moment (outcome_of_read moment (request_of old.birth.protocol message.now.bytes.now message.now.handles.now)) (done_with deed changes.new) new graph.old graph.new outbox.old outbox.new)) }
+        ensures passed_over { finite.get self.old asking.now.endpoint ≡ None → IfOk result (λ deed. IsPassedOver (done_with deed changes.new)) }
         ensures unchanged { finite.get self.old asking.now.endpoint ≡ None → (self.new ≡ self.old) × (graph.new ≡ graph.old) × (outbox.new ≡ outbox.old) }
         ensures no_memory { OnErr result (outbox.new ≡ outbox.old) }
     {
         let Some(connection) = self.kept.get_mut(&asking.endpoint) else {
-            return Ok(Fate::Stays);
+            return Ok(Deed::Stays);
         };
-        connection.serve(asking, graph, tokens, bytes, handles, out, outbox, changes)
+        connection.serve(asking, message, graph, out, outbox, changes)
     }
 
     /// Serves the request for a part of a file on the one of an endpoint, where that is to a file. No other
@@ -139,7 +134,7 @@ impl Connections {
             (new : births.Connection) × KeepsHolds old new graph.old graph.new × (self.new ≡ finite.insert self.old endpoint new)
             × IfSome result (λ read. old.birth.protocol ≡ Protocol.File)
             × ((server : ℕ) (asking : asking.Asking) (moment : Moment) → asking.endpoint ≡ endpoint → IsAskedAt server asking graph.old old moment →
-            IfSome result (λ read. OnOk read (Answers moment (outcome_of_read moment (Ok (txid, asked request.now))) stays out.new new graph.old graph.new outbox.old outbox.new))) }
+            IfSome result (λ read. OnOk read (Answers moment (outcome_of_read moment (Ok (txid, asked request.now))) stays new graph.old graph.new outbox.old outbox.new))) }
         ensures reads { (old : births.Connection) → finite.get self.old endpoint ≡ Some old → old.birth.protocol ≡ Protocol.File → IsSome result }
         ensures there { finite.get self.old endpoint ≡ None → result ≡ None }
         ensures unchanged { result ≡ None → (self.new ≡ self.old) × (graph.new ≡ graph.old) × (outbox.new ≡ outbox.old) }

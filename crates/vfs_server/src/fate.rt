@@ -1,37 +1,31 @@
-use conn_rules::Birth;
-use node_graph::NodeRef;
+use io_flags::OpenFlags;
+use path_walk::Path;
 
-/// What becomes of endpoints when an entry was served.
-#[derive(Clone, Copy)]
-pub enum Fate {
-    /// Nothing: the endpoint stays.
+/// What became of endpoints and tokens when a message was served, by their numbers.
+#[derive(Drop)]
+pub enum Fate<'a> {
+    /// Nothing: the endpoint that was served stays.
     Stays,
     /// The endpoint that was served ends.
     Ends,
-    /// The endpoint `object`, which the request carried, is bound.
+    /// The endpoint `object`, which the message carried, is bound at the server, as a watcher or another.
     Binds {
         object: u32,
-        birth: Birth,
     },
-    /// The endpoint `object`, which the request carried, is to watch a directory, for the events of a mask.
-    Watches {
-        object: u32,
-        directory: NodeRef,
-        mask: u32,
-    },
-    /// The endpoint `object`, which the request carried, ends.
+    /// The endpoint `object`, which the message carried, ends.
     Refuses {
         object: u32,
     },
-    /// The Open goes on to the end of a mount, by the mount's index, with the endpoint `object`. It
-    /// stands in the output.
+    /// The Open goes on to the end of a mount, by the mount's index, with the endpoint `object`, which it carried,
+    /// these flags and the names that are left of its path.
     Forwards {
         mount: u32,
         object: u32,
+        flags: OpenFlags,
+        rest: Path<'a>,
     },
-    /// The endpoint stays, and the client has a token that names a directory of this server.
+    /// The endpoint that was served stays, and its client has this token, which names a directory of the server.
     Gives {
         token: u32,
-        directory: NodeRef,
     },
 }

@@ -7,13 +7,17 @@ mod beginning;
 mod conn;
 mod connection;
 mod connections;
+mod deed;
 mod fate;
 mod firsts;
 mod frames;
 mod given;
+mod message;
 mod server;
 mod telling;
 mod tokens;
+mod watching;
 
 pub use fate::Fate;
+pub use message::Message;
 pub use server::Server;

@@ -15,15 +15,20 @@ ghost use Rattle.vfs_server.specs.Binding.{Binds, CanWatch, Forgets, HasPlace, I
 ghost use Rattle.vfs_server.specs.Holding.{HoldsAt};
 ghost use Rattle.vfs_server.specs.KeptNodes.{kept_in};
 ghost use Rattle.vfs_server.specs.Servers.{bound_with, in_use, named, seen, watcher_with};
-ghost use Rattle.vfs_server.specs.Serving.{IsMomentOf, Serves};
+ghost use Rattle.vfs_server.specs.Serving.{CanTake, IsMomentOf, Serves, message_of};
+ghost use Rattle.vfs_server.specs.Steps.{CanSettle, Settles};
+ghost use Rattle.vfs_journal.specs.Output.{Begins};
 
 use crate::asking::Asking;
 use crate::beginning;
 use crate::connection::Connection;
 use crate::connections::Connections;
+use crate::deed::Deed;
 use crate::fate::Fate;
+use crate::message::Message;
 use crate::telling::tell;
 use crate::tokens::Tokens;
+use crate::watching::Watching;
 use conn_rules::{Birth, Changes};
 use endpoint_link::Outbox;
 use fidl_names::{Handle, NoMemory};
@@ -33,7 +38,6 @@ use node_graph::{Graph, NodeRef};
 use session_start::Start;
 use std::alloc::Global;
 use std::marker::Model;
-use watch_seats::Watching;
 
 /// One server: its tree, what is connected to it, who watches, and the tokens that name directories of it.
 /// Each connection holds its node, and each watcher and each token its directory.
@@ -117,53 +121,118 @@ impl Server {
         self.graph.kept()
     }
 
-    /// Serves a message on an endpoint that is bound here: the frames of the answer are written to the
-    /// outbox, behind them what watchers are told of it, and the call tells what becomes of endpoints and
-    /// tokens. `token` is the number that the next token gets, `None` where none is given any more. An Open
-    /// that goes on is left in the output; what stands there otherwise is of no account. What the answer
-    /// binds or lets watch isn't bound yet, what ends is bound still, and a token that it gives names
-    /// nothing yet. A message to a watcher is passed over.
+    /// Serves a message on an endpoint that is bound here, and does what that answers: the frames of the answer are
+    /// written to the outbox, behind them what watchers are told of it; an endpoint that is to be bound is bound, and
+    /// holds its node; a token that is given names its directory, and holds that. `token` is the number that the next
+    /// token gets, `None` where none is given any more. The call tells what became of endpoints and tokens, by their
+    /// numbers: what ends is bound still, and an Open that goes on is to be sent on. A message to a watcher is passed
+    /// over. What stands in the output then is of no account.
     ///
-    /// For want of memory no frame is written.
+    /// For want of memory no frame is written; what became of the server is of no account then, and it is sound.
     #[inline(always)]
-    pub fn serve(
+    pub fn serve<'a>(
         &mut self,
         ordinals: &Ordinals,
-        endpoint: u32,
         token: Option<u32>,
-        bytes: &[u8],
-        handles: &[Handle],
+        message: &Message<'a>,
         out: &mut Out,
         outbox: &mut Outbox,
-    ) -> Result<Fate, NoMemory>
-        requires bound { IsSome (seen self.old endpoint) }
-        requires handles { AreByNumber handles.now }
-        requires short { length bytes.now ≤ limit.MAX_BYTES }
-        requires made { self.old.graph.made < 2 ^ 63 }
-        ensures serves { (moment : Moment) → IsMomentOf self.old endpoint token (numbers_of handles.now) moment →
-            IfOk result (λ fate. Serves moment (outcome_of_sending moment (message bytes.now (numbers_of handles.now))) fate out.new self.old self.new outbox.old outbox.new) }
+    ) -> Result<Fate<'a>, NoMemory>
+        requires can { CanTake self.old message.now.endpoint token (numbers_of message.now.handles.now) }
+        requires handles { AreByNumber message.now.handles.now }
+        requires short { length message.now.bytes.now ≤ limit.MAX_BYTES }
+        ensures serves { (moment : Moment) → IsMomentOf self.old message.now.endpoint token (numbers_of message.now.handles.now) moment →
+            IfOk result (λ fate. Serves moment (outcome_of_sending moment (message_of message.now)) fate self.old self.new outbox.old outbox.new) }
         ensures no_memory { OnErr result (outbox.new ≡ outbox.old) }
+    {
+        let len = outbox.len();
+        match self.act(ordinals, token, message, out, outbox) {
+            Ok(fate) => Ok(fate),
+            Err(_) => {
+                outbox.truncate(len);
+                Err(NoMemory)
+            }
+        }
+    }
+
+    /// Serves a message, as `serve` does. For want of memory a front of the frames is written.
+    #[inline(always)]
+    fn act<'a>(
+        &mut self,
+        ordinals: &Ordinals,
+        token: Option<u32>,
+        message: &Message<'a>,
+        out: &mut Out,
+        outbox: &mut Outbox,
+    ) -> Result<Fate<'a>, NoMemory>
+        requires can { CanTake self.old message.now.endpoint token (numbers_of message.now.handles.now) }
+        requires handles { AreByNumber message.now.handles.now }
+        requires short { length message.now.bytes.now ≤ limit.MAX_BYTES }
+        ensures serves { (moment : Moment) → IsMomentOf self.old message.now.endpoint token (numbers_of message.now.handles.now) moment →
+            IfOk result (λ fate. Serves moment (outcome_of_sending moment (message_of message.now)) fate self.old self.new outbox.old outbox.new) }
+        ensures front { OnErr result (Begins outbox.old outbox.new) }
     {
         let asking = Asking {
             ordinals,
-            endpoint,
+            endpoint: message.endpoint,
             connections: self.connections(),
             watching: &self.watching,
+            tokens: &self.tokens,
             token,
         };
-        let len = outbox.len();
         let mut changes = Changes::none();
-        let fate = self.connections.serve(
+        let deed = self.connections.serve(
             &asking,
+            message,
             &mut self.graph,
-            &self.tokens,
-            bytes,
-            handles,
             out,
             outbox,
             &mut changes,
-        );
-        tell(&self.watching, &self.graph, fate, &changes, len, outbox)
+        )?;
+        tell(&self.watching, &self.graph, &deed, &changes, outbox)?;
+        self.settle(deed)
+    }
+
+    /// Does what a deed leaves to do with endpoints and tokens, and tells it. A birth that comes with a hold of its
+    /// own, as that of a file without a name will, is to be bound here: nothing looks at who holds what between the
+    /// change of the tree and this.
+    #[inline(always)]
+    fn settle<'a>(&mut self, deed: Deed<'a>) -> Result<Fate<'a>, NoMemory>
+        requires can { CanSettle self.old deed }
+        ensures { IfOk result (λ fate. Settles self.old deed.entry fate self.new) }
+    {
+        match deed {
+            Deed::Stays => Ok(Fate::Stays),
+            Deed::Ends => Ok(Fate::Ends),
+            Deed::Binds { object, birth } => {
+                self.bind(object, birth)?;
+                Ok(Fate::Binds { object })
+            }
+            Deed::Watches {
+                object,
+                directory,
+                mask,
+            } => {
+                self.watch(object, directory, mask)?;
+                Ok(Fate::Binds { object })
+            }
+            Deed::Refuses { object } => Ok(Fate::Refuses { object }),
+            Deed::Forwards {
+                mount,
+                object,
+                flags,
+                rest,
+            } => Ok(Fate::Forwards {
+                mount,
+                object,
+                flags,
+                rest,
+            }),
+            Deed::Gives { token, directory } => {
+                self.give(token, directory)?;
+                Ok(Fate::Gives { token })
+            }
+        }
     }
 
     /// Serves the request for a part of a file on an endpoint, where that is bound to a file here: its reply is
@@ -184,7 +253,7 @@ impl Server {
         requires part { AsksPart (asked request.now) }
         requires txid { 0 < txid }
         ensures serves { (bytes : List ℕ) (token : Option ℕ) (moment : Moment) → request_of Protocol.File bytes [] ≡ Ok (txid, asked request.now) → IsMomentOf self.old endpoint token [] moment →
-            IfSome result (λ read. OnOk read (Serves moment (outcome_of_sending moment (message bytes [])) Fate.Stays out.new self.old self.new outbox.old outbox.new)) }
+            IfSome result (λ read. OnOk read (Serves moment (outcome_of_sending moment (message bytes [])) Fate.Stays self.old self.new outbox.old outbox.new)) }
         ensures bound { IfSome result (λ read. IsSome (seen self.old endpoint)) }
         ensures reads { (bound : Bound) (position : Position) → seen self.old endpoint ≡ Some (bound, position) → bound.birth.protocol ≡ Protocol.File → IsSome result }
         ensures unchanged { result ≡ None → (self.new ≡ self.old) × (outbox.new ≡ outbox.old) }
@@ -204,7 +273,7 @@ impl Server {
     /// Binds an endpoint that isn't bound here, and holds its node. Of want of memory the server is as
     /// it was.
     #[inline(never)]
-    pub fn bind(&mut self, endpoint: u32, birth: Birth) -> Result<(), NoMemory>
+    pub(crate) fn bind(&mut self, endpoint: u32, birth: Birth) -> Result<(), NoMemory>
         requires free { seen self.old endpoint ≡ None }
         requires place { HasPlace self.old birth }
         ensures bound { OnOk result (Binds self.old (bound_with self.old.index endpoint birth) self.new) }
@@ -220,7 +289,12 @@ impl Server {
     /// Lets an endpoint that isn't bound here watch a directory, and holds that. Of want of memory the
     /// server is as it was.
     #[inline(never)]
-    pub fn watch(&mut self, endpoint: u32, directory: NodeRef, mask: u32) -> Result<(), NoMemory>
+    pub(crate) fn watch(
+        &mut self,
+        endpoint: u32,
+        directory: NodeRef,
+        mask: u32,
+    ) -> Result<(), NoMemory>
         requires free { seen self.old endpoint ≡ None }
         requires directory { CanWatch self.old directory }
         ensures watches { OnOk result (Binds self.old (watcher_with self.old.index endpoint (number_of directory) mask) self.new) }
@@ -234,7 +308,7 @@ impl Server {
     /// Lets a token name a directory of this server, and holds that. Of want of memory the server is as it
     /// was.
     #[inline(never)]
-    pub fn give(&mut self, token: u32, directory: NodeRef) -> Result<(), NoMemory>
+    pub(crate) fn give(&mut self, token: u32, directory: NodeRef) -> Result<(), NoMemory>
         requires free { named self.old token ≡ None }
         requires directory { IsDirectory self.old.graph directory }
         requires room { finite.len self.old.tokens < limit.MAX_TOKENS }

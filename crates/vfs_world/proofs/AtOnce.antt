@@ -37,14 +37,14 @@ use Rattle.journal_laws.proofs.Members.{found, kept_of, mapped_member}
 use Rattle.message_queues.specs.Queues.{Mailbox, Queues, Requeues, count, head_of, queue_of, server_of}
 use Rattle.message_queues.specs.Parcels.{sent_by}
 use Rattle.message_queues.proofs.Counting.{counts_its_list}
-use Rattle.vfs_session.specs.Heads.{Takes}
-use Rattle.vfs_session.specs.Running.{IsRunning}
-use Rattle.vfs_session.specs.Servings.{IsDrain, IsOldestOfAll, ServesOne, ServesTimes}
-use Rattle.vfs_session.specs.World.{LeadsTo, StandsFor, World}
-use Rattle.vfs_session.proofs.OneMore.{one_of_these}
-use Rattle.vfs_session.proofs.Serves.{drain_leads}
-use Rattle.vfs_session.proofs.Times.{goes_on}
-use Rattle.vfs_world.specs.Steps.{IsAdmitted, IsFree, IsPlain, Reaches, Sends, WaitsLast}
+use Rattle.vfs_world.specs.Heads.{Takes}
+use Rattle.vfs_world.specs.Running.{IsRunning}
+use Rattle.vfs_world.specs.Servings.{IsDrain, IsOldestOfAll, ServesOne, ServesTimes}
+use Rattle.vfs_world.specs.World.{LeadsTo, StandsFor, World}
+use Rattle.vfs_world.proofs.OneMore.{one_of_these}
+use Rattle.vfs_world.proofs.Serves.{drain_leads}
+use Rattle.vfs_world.proofs.Times.{goes_on}
+use Rattle.vfs_world.specs.Arrivals.{IsAdmitted, IsFree, IsPlain, Reaches, Sends, WaitsLast}
 use Rattle.vfs_world.proofs.Hearing.{hang_up_lasts, hang_up_leads, message_lasts, message_leads}
 
 -- ---- queues with one entry more

@@ -5,7 +5,7 @@ use Rattle.std.specs.List.{enumerate_from}
 use Rattle.std.specs.Option.{option_map, option_or}
 use Rattle.std.proofs.lemmas.Bool.{eqb-true, eqb-false, eq-eqb, ne_eqb}
 use Rattle.std.proofs.lemmas.List.{get_or-take, length-map, length-take-le, take_more}
-use Rattle.std.proofs.lemmas.List.Elements.{All-from_get_or, All-head, All-map, All-tail}
+use Rattle.std.proofs.lemmas.List.Elements.{All-from_get_or, All-head, All-map, All-tail, All-weaker}
 use Rattle.std.proofs.lemmas.List.Folds.{find-append, list_any_none}
 use Rattle.std.proofs.lemmas.List.FromFn.{length-enumerate_from, length-map-range_with_len}
 use Rattle.std.proofs.lemmas.Option.{get_or_from_slice_get, same_Some, slice_get-map, slice_get_within}
@@ -13,7 +13,7 @@ use Rattle.fidl_names.specs.HandleNumber.{end_of_mount, is_client}
 use Rattle.fidl_names.specs.declared.limits.TheConstants as limit
 use Rattle.endpoint_link.specs.Standings.{Known, Starts}
 use Rattle.endpoint_link.specs.Tables.{AreEachOnce}
-use Rattle.session_start.specs.Accepted.{AreAccepted}
+use Rattle.session_start.specs.Accepted.{AreAccepted, IsClient}
 use Rattle.session_start.specs.Items.{ClientItem, Lists, MountItem}
 use Rattle.session_start.specs.Numbering.{tree_of}
 use Rattle.session_start.proofs.Accepted.{few_of}
@@ -28,12 +28,11 @@ use Rattle.journal_laws.specs.Soundness.{IsOnDirectory, IsStart, OtherEndpoint}
 use Rattle.journal_laws.proofs.KnowingServes.{starts_known}
 use Rattle.journal_laws.proofs.KnowingStarts.{files_numbered}
 use Rattle.journal_laws.proofs.Lists.{pairs-head, pairs-map, pairs-tail}
-use Rattle.journal_laws.proofs.Starting.{accepted_starts_are_starts}
 use Rattle.message_queues.specs.Queues.{Binds, IsNew, Queues, server_of}
 use Rattle.vfs_server.specs.Holding.{HoldsAt}
 use Rattle.vfs_server.specs.Servers.{Server}
-use Rattle.vfs_session.specs.Holding.{HoldsEach, HoldsQueues}
-use Rattle.vfs_session.specs.World.{StandsFor}
+use Rattle.vfs_world.specs.Holding.{HoldsEach, HoldsQueues}
+use Rattle.vfs_world.specs.World.{StandsFor}
 use Rattle.vfs_world.specs.Beginning.{BindsJust}
 
 -- ---- lists
@@ -172,28 +171,28 @@ module _ (lists : Lists) (item : ℕ) where
       ap (λ (bounds : List Bound). (start_of lists).firsts ++ bounds) (split_at (start_of lists).mounts item (end_of lists (item, mount)) (mount_listed mount there))
       ∙ sym (append_assoc (start_of lists).firsts (take item (start_of lists).mounts) (end_of lists (item, mount) ∷ drop (suc item) (start_of lists).mounts))
 
-module _ (lists : Lists) (accepted : AreAccepted lists) (item : ℕ) (queues : Queues) where
+module _ (lists : Lists) (sound : IsStart (start_of lists)) (item : ℕ) (queues : Queues) where
   module _ (client : ClientItem) (there : slice_get lists.clients item ≡ Some client) (just : BindsJust (start_of lists) (take item (start_of lists).firsts) queues) where
     pub client_unbound : server_of queues client.endpoint ≡ None
-    client_unbound = unbound (start_of lists) (accepted_starts_are_starts lists accepted) (take item (start_of lists).firsts) (drop (suc item) (start_of lists).firsts ++ (start_of lists).mounts) (first_of_client lists client) (client_whole lists item client there) queues just
+    client_unbound = unbound (start_of lists) sound (take item (start_of lists).firsts) (drop (suc item) (start_of lists).firsts ++ (start_of lists).mounts) (first_of_client lists client) (client_whole lists item client there) queues just
 
     pub client_one_of : client.server < queues.servers
-    client_one_of = one_of (start_of lists) (accepted_starts_are_starts lists accepted) (take item (start_of lists).firsts) (drop (suc item) (start_of lists).firsts ++ (start_of lists).mounts) (first_of_client lists client) (client_whole lists item client there) queues just
+    client_one_of = one_of (start_of lists) sound (take item (start_of lists).firsts) (drop (suc item) (start_of lists).firsts ++ (start_of lists).mounts) (first_of_client lists client) (client_whole lists item client there) queues just
 
     pub client_bound : (new : Queues) → Binds queues client.endpoint client.server new → BindsJust (start_of lists) (take (item + 1) (start_of lists).firsts) new
     client_bound new binds =
         subst (λ (bounds : List Bound). BindsJust (start_of lists) bounds new) (sym (one_more (start_of lists).firsts item (first_of_client lists client) (client_listed lists item client there)))
-        (one_bound (start_of lists) (accepted_starts_are_starts lists accepted) (take item (start_of lists).firsts) (drop (suc item) (start_of lists).firsts ++ (start_of lists).mounts) (first_of_client lists client) (client_whole lists item client there) queues just new binds)
+        (one_bound (start_of lists) sound (take item (start_of lists).firsts) (drop (suc item) (start_of lists).firsts ++ (start_of lists).mounts) (first_of_client lists client) (client_whole lists item client there) queues just new binds)
 
   module _ (mount : MountItem) (there : slice_get lists.mounts item ≡ Some mount) (just : BindsJust (start_of lists) ((start_of lists).firsts ++ take item (start_of lists).mounts) queues) where
     pub mount_unbound : server_of queues (end_of_mount item) ≡ None
     mount_unbound =
-        unbound (start_of lists) (accepted_starts_are_starts lists accepted) ((start_of lists).firsts ++ take item (start_of lists).mounts) (drop (suc item) (start_of lists).mounts) (end_of lists (item, mount))
+        unbound (start_of lists) sound ((start_of lists).firsts ++ take item (start_of lists).mounts) (drop (suc item) (start_of lists).mounts) (end_of lists (item, mount))
         (mount_whole lists item mount there) queues just
 
     pub mount_one_of : mount.target < queues.servers
     mount_one_of =
-        one_of (start_of lists) (accepted_starts_are_starts lists accepted) ((start_of lists).firsts ++ take item (start_of lists).mounts) (drop (suc item) (start_of lists).mounts) (end_of lists (item, mount))
+        one_of (start_of lists) sound ((start_of lists).firsts ++ take item (start_of lists).mounts) (drop (suc item) (start_of lists).mounts) (end_of lists (item, mount))
         (mount_whole lists item mount there) queues just
 
     pub mount_bound : (new : Queues) → Binds queues (end_of_mount item) mount.target new → BindsJust (start_of lists) ((start_of lists).firsts ++ take (item + 1) (start_of lists).mounts) new
@@ -201,7 +200,7 @@ module _ (lists : Lists) (accepted : AreAccepted lists) (item : ℕ) (queues : Q
         subst (λ (bounds : List Bound). BindsJust (start_of lists) bounds new)
         (append_assoc (start_of lists).firsts (take item (start_of lists).mounts) (end_of lists (item, mount) ∷ [])
         ∙ sym (ap (λ (bounds : List Bound). (start_of lists).firsts ++ bounds) (one_more (start_of lists).mounts item (end_of lists (item, mount)) (mount_listed lists item mount there))))
-        (one_bound (start_of lists) (accepted_starts_are_starts lists accepted) ((start_of lists).firsts ++ take item (start_of lists).mounts) (drop (suc item) (start_of lists).mounts) (end_of lists (item, mount))
+        (one_bound (start_of lists) sound ((start_of lists).firsts ++ take item (start_of lists).mounts) (drop (suc item) (start_of lists).mounts) (end_of lists (item, mount))
         (mount_whole lists item mount there) queues just new binds)
 
 -- ---- the view of the start
@@ -241,7 +240,10 @@ module _ (lists : Lists) (accepted : AreAccepted lists) where
   numbered = files_numbered lists accepted.items.apart
 
   pub clients_are : All (λ n. is_client n ≡ true) (map (λ (bound : Bound). bound.endpoint) (start_of lists).firsts)
-  clients_are = All-map (λ (n : ℕ). is_client n ≡ true) (λ (bound : Bound). bound.endpoint) (start_of lists).firsts (accepted_starts_are_starts lists accepted).firsts
+  clients_are =
+      All-map (λ (n : ℕ). is_client n ≡ true) (λ (bound : Bound). bound.endpoint) (start_of lists).firsts
+      (All-map (λ (bound : Bound). is_client bound.endpoint ≡ true) (first_of_client lists) lists.clients
+      (All-weaker (IsClient (length lists.servers)) (λ (client : ClientItem). is_client client.endpoint ≡ true) (λ client is. is.endpoint) lists.clients accepted.items.clients))
 
   pub clients_distinct : AreEachOnce (map (λ (bound : Bound). bound.endpoint) (start_of lists).firsts)
   clients_distinct = distinct (map (λ (bound : Bound). bound.endpoint) (start_of lists).firsts) (pairs-map (λ (n m : ℕ). n ≢ m) (λ (bound : Bound). bound.endpoint) (start_of lists).firsts numbered.firsts)
@@ -264,13 +266,13 @@ module _ (lists : Lists) (accepted : AreAccepted lists) where
 
 -- ---- the whole
 
-pub stands : (lists : Lists) (servers : List Server) (queues : Queues) (known : Known) → AreAccepted lists → HoldsEach (view_of (start_of lists) []) servers →
+pub stands : (lists : Lists) (servers : List Server) (queues : Queues) (known : Known) → IsStart (start_of lists) → HoldsEach (view_of (start_of lists) []) servers →
     HoldsQueues (view_of (start_of lists) []) queues → Knows (start_of lists) [] known →
     StandsFor (start_of lists) (record { servers = servers; queues = queues; known = known; places = 0; spent = false; frames = 0 }) []
 unfolding history_of
-stands lists servers queues known accepted each bound knows = record {
+stands lists servers queues known sound each bound knows = record {
   able = refl;
-  sound = accepted_starts_are_starts lists accepted;
+  sound = sound;
   lawful = journals.begun;
   knows = knows;
   holds = record { servers = each; queues = bound; places = refl };

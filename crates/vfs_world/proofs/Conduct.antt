@@ -1,11 +1,11 @@
 -- How the calls of a world end.
 use Rattle.std.proofs.Common.{◌≡◌, ◌∙◌, ℕ, List, true, false, Ok, Err, sym}
 use Rattle.std.proofs.lemmas.Bool.{true≢false}
-use Rattle.vfs_session.specs.World.{World}
+use Rattle.vfs_world.specs.World.{World}
 use Rattle.vfs_world.specs.Conduct.{Conducts}
 use Rattle.vfs_world.specs.declared.world.WorldFault.{WorldFault}
 use Rattle.vfs_world.specs.declared.world.WorldFault.TheVariants as fault
-use Rattle.vfs_world.proofs.Answered.{not_err, not_spent}
+use Rattle.vfs_world.proofs.CallResults.{not_err, not_spent}
 
 module _ {A : Type 0} (old new : World) (before after : List ℕ) where
   -- what was done was done by a world that wasn't spent, and isn't

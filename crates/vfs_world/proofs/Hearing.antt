@@ -26,13 +26,13 @@ use Rattle.journal_laws.proofs.Below.{below}
 use Rattle.journal_laws.proofs.Fits.{views_fit}
 use Rattle.message_queues.specs.Queues.{Requeues, queue_of}
 use Rattle.message_queues.proofs.Counting.{counts_its_list}
-use Rattle.vfs_session.specs.Running.{IsRunning}
-use Rattle.vfs_session.specs.Servings.{IsPick, IsTurn}
-use Rattle.vfs_session.specs.World.{LeadsTo, StandsFor, World}
-use Rattle.vfs_session.proofs.Heard.{SendsIt, admits_same, hang_up_on, message_on, refused_on}
-use Rattle.vfs_session.proofs.Lasting.{lasts_hang_up, lasts_message, lasts_more, lasts_refused}
-use Rattle.vfs_session.proofs.Serves.{pick_leads, turn_leads}
-use Rattle.vfs_world.specs.Steps.{CanWait, IsAdmitted, WaitsLast}
+use Rattle.vfs_world.specs.Running.{IsRunning}
+use Rattle.vfs_world.specs.Servings.{IsPick, IsTurn}
+use Rattle.vfs_world.specs.World.{LeadsTo, StandsFor, World}
+use Rattle.vfs_world.proofs.Heard.{SendsIt, admits_same, hang_up_on, message_on, refused_on}
+use Rattle.vfs_world.proofs.Lasting.{lasts_hang_up, lasts_message, lasts_more, lasts_refused}
+use Rattle.vfs_world.proofs.Serves.{pick_leads, turn_leads}
+use Rattle.vfs_world.specs.Arrivals.{CanWait, IsAdmitted, WaitsLast}
 
 -- ---- the journal behind a frame
 

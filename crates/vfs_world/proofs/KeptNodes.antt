@@ -1,5 +1,5 @@
 -- The servers of a world that runs, and that each keeps few nodes.
-use Rattle.std.proofs.Common.{◌≡◌, ℕ, zero, suc, ◌+◌, ◌*◌, ◌^◌, ◌<◌, ◌≤◌, false, List, [], ◌∷◌, All, Some, length, refl, sym, ap, ◌∙◌, arith}
+use Rattle.std.proofs.Common.{◌≡◌, ℕ, zero, suc, ◌+◌, ◌^◌, ◌<◌, ◌≤◌, List, [], ◌∷◌, All, Some, length, refl, sym, ap, ◌∙◌, arith}
 use Rattle.std.specs.Prelude.{slice_get, slice_index_or}
 use Rattle.std.specs.FinMap as finite
 use Rattle.std.proofs.lemmas.List.Elements.{All-head, All-tail}
@@ -17,10 +17,8 @@ use Rattle.journal_laws.proofs.SoundTrees.{trees_sound}
 use Rattle.vfs_server.specs.KeptNodes.{kept_in}
 use Rattle.vfs_server.specs.Holding.{HoldsAt}
 use Rattle.vfs_server.specs.Servers.{Server}
-use Rattle.vfs_session.specs.Running.{IsRunning, IsWithin, whole}
-use Rattle.vfs_session.specs.World.{StandsFor, World}
-use Rattle.vfs_world.specs.declared.world.World.TheInside.{Inside}
-use Rattle.vfs_world.proofs.Worlds.{as_world, stands_inside}
+use Rattle.vfs_world.specs.Running.{IsRunning}
+use Rattle.vfs_world.specs.World.{StandsFor, World}
 
 -- it has as many servers as its queues tell
 pub many_servers : {most : ℕ} (world : World) → IsRunning most world → length world.servers ≡ world.queues.servers
@@ -45,28 +43,21 @@ pub kept_there : (start : Start) (world : World) (journal : Journal) → StandsF
 kept_there start world journal stands index server count there counts =
     counts (stands.holds.servers.each index server there) ∙ ap (kept_in (view_behind start journal)) (stands.holds.servers.index index server there)
 
--- ---- inside a world that isn't spent
+-- ---- in a session that runs
 
-module _ (inside : Inside) {now : World} (view : as_world (whole inside.session) inside.spent inside.frames ≡ now) (within : IsWithin (whole inside.session) inside.spent inside.frames) (able : now.spent ≡ false)
-    (index : ℕ) (known : index < now.queues.servers) where
-  run : IsRunning (limit.FRAME_PLACES * inside.frames) (whole inside.session)
-  run = (within (ap (λ (w : World). w.spent) view ∙ able)).0
-
-  pub is_there : index < length inside.session.servers.items
-  is_there =
-      let many = many_servers (whole inside.session) run in
-      let same : inside.session.queues.servers ≡ now.queues.servers = ap (λ (w : World). w.queues.servers) view in
-      omega (arith, many, same, known)
+module _ (world : World) (run : (most : ℕ) × IsRunning most world) (index : ℕ) (known : index < world.queues.servers) where
+  pub is_there : index < length world.servers
+  is_there = let many = many_servers world run.1 in omega (arith, many, known)
 
   -- the one that is found there
-  found : (server : Server) → server ≡ slice_index_or inside.session.servers.items index server → slice_get inside.session.servers.items index ≡ Some server
-  found server is = slice_get_read inside.session.servers.items _ index server refl is_there is
+  found : (server : Server) → server ≡ slice_index_or world.servers index server → slice_get world.servers index ≡ Some server
+  found server is = slice_get_read world.servers _ index server refl is_there is
 
-  pub count_low : (server : Server) (count : ℕ) → server ≡ slice_index_or inside.session.servers.items index server →
+  pub count_low : (server : Server) (count : ℕ) → server ≡ slice_index_or world.servers index server →
       count ≤ 1 + finite.len server.graph.edges + limit.MAX_CONNECTIONS + limit.MAX_TOKENS → count < 2 ^ 32
-  count_low server count is few = let names = few_names (whole inside.session) run index server (found server is) in omega (arith, few, names)
+  count_low server count is few = let names = few_names world run.1 index server (found server is) in omega (arith, few, names)
 
-  pub counted_there : (start : Start) (journal : Journal) → StandsFor start now journal → (server : Server) (count : ℕ) → server ≡ slice_index_or inside.session.servers.items index server →
+  pub counted_there : (start : Start) (journal : Journal) → StandsFor start world journal → (server : Server) (count : ℕ) → server ≡ slice_index_or world.servers index server →
       ((v : View) → HoldsAt v server → count ≡ kept_in v server.index) → count ≡ kept_in (view_behind start journal) index
   counted_there start journal stands server count is counts =
-      kept_there start (whole inside.session) journal (stands_inside inside view start journal stands) index server count (found server is) (counts (view_behind start journal))
+      kept_there start world journal stands index server count (found server is) (counts (view_behind start journal))

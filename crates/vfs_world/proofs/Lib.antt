@@ -1,9 +1,48 @@
-pub mod Answered
-pub mod Conduct
-pub mod Hearing
-pub mod Worlds
-pub mod KeptNodes
-pub mod AtOnce
-pub mod ReadAtOnce
-pub mod Begun
+mod Between
+mod PlacesLeft
+mod ServerSteps
+mod Outs
+mod LettingGo
+mod Moments
+mod EachServer
+mod Leaving
+mod Telling
+mod QueueSteps
+mod Spending
+mod Then
+mod AllGone
+mod Forgotten
+mod OneServed
+mod HeadServed
+mod Heard
+mod Lasting
+mod Chosen
+mod Times
+mod Counted
+mod Answered
+mod Ending
+mod Sorted
+mod Carried
+mod Serves
+mod Mounts
+mod Room
+mod Ready
+mod NoneDie
+mod Quiet
+mod Alone
+mod Taken
+mod Halves
+mod OneMore
+mod ReadTaken
+mod Spared
+mod Unbound
+mod CallResults
+mod Conduct
+mod Hearing
+mod Worlds
+mod KeptNodes
+mod AtOnce
+mod Admitting
+mod ReadAtOnce
+mod Begun
 pub mod Growth

@@ -11,7 +11,6 @@ use Rattle.std.proofs.lemmas.Option.{same_Some}
 use Rattle.fidl_names.specs.declared.limits.TheConstants as limit
 use Rattle.fidl_names.specs.First.{cause_if, first_of}
 use Rattle.fidl_names.specs.HandleNumber.{is_client}
-use Rattle.fidl_wire.specs.Written.{Written}
 use Rattle.io_messages.specs.Asked.{Asked}
 use Rattle.io_messages.specs.Requests.{request_of}
 use Rattle.io_messages.specs.declared.protocols.Protocol.TheVariants as protocol
@@ -36,29 +35,29 @@ use Rattle.vfs_server.specs.declared.fate.Fate.TheVariants as fates
 use Rattle.vfs_server.specs.Holding.{if_at}
 use Rattle.vfs_server.specs.Servers.{Server, seen}
 use Rattle.vfs_server.specs.Serving.{IsMomentOf, Serves}
-use Rattle.vfs_session.specs.Heads.{SettlesHead, Takes, TakesHead}
-use Rattle.vfs_session.specs.Running.{IsRunning}
-use Rattle.vfs_session.specs.Servings.{IsDrain, ServesOne}
-use Rattle.vfs_session.specs.Steps.{Answers}
-use Rattle.vfs_session.specs.World.{LeadsTo, StandsFor, World}
-use Rattle.vfs_session.proofs.Carried.{quiet_stays}
-use Rattle.vfs_session.proofs.Halves.{goes_on, one_served}
-use Rattle.vfs_session.proofs.Quiet.{settles_quietly}
-use Rattle.vfs_session.proofs.Taken.{takes_head}
-use Rattle.vfs_world.specs.Steps.{AnswersPart, CanBeServed, IsAdmitted, IsFree, Sends}
+use Rattle.vfs_world.specs.Heads.{SettlesHead, Takes, TakesHead}
+use Rattle.vfs_world.specs.Running.{IsRunning}
+use Rattle.vfs_world.specs.Servings.{IsDrain, ServesOne}
+use Rattle.vfs_world.specs.ServingSteps.{Answers}
+use Rattle.vfs_world.specs.World.{LeadsTo, StandsFor, World}
+use Rattle.vfs_world.proofs.Carried.{quiet_stays}
+use Rattle.vfs_world.proofs.Halves.{goes_on, one_served}
+use Rattle.vfs_world.proofs.Quiet.{settles_quietly}
+use Rattle.vfs_world.proofs.Taken.{takes_head}
+use Rattle.vfs_world.specs.Arrivals.{AnswersPart, CanBeServed, IsAdmitted, IsFree, Sends}
 use Rattle.vfs_world.proofs.AtOnce.{bound_lives, drained_behind, for_want_of_room, none_waits, nothing_waits, plain_admission, plain_admits, reached_at_once, sent_in, sent_lasts, taken_again, waits_in, waits_last}
 
 -- ---- at its server
 
-pub reads_there : (old : List Server) (at endpoint txid : ℕ) (a : Asked) (one now : Server) (out : Written) (before after : List ℕ) (served : Option (Result (Unit {0}) NoMemory)) → slice_get old at ≡ Some one →
+pub reads_there : (old : List Server) (at endpoint txid : ℕ) (a : Asked) (one now : Server) (before after : List ℕ) (served : Option (Result (Unit {0}) NoMemory)) → slice_get old at ≡ Some one →
     IfSome served (λ answer. IsSome (seen one endpoint)) →
     ((bytes : List ℕ) (token : Option ℕ) (moment : Moment) → request_of protocol.File bytes [] ≡ Ok (txid, a) → IsMomentOf one endpoint token [] moment →
-    IfSome served (λ answer. OnOk answer (Serves moment (outcome_of_sending moment (message bytes [])) fates.Stays out one now before after))) →
-    IfSome served (λ answer. OnOk answer (AnswersPart old at endpoint txid a out (slice_set old at now) before after))
-reads_there old at endpoint txid a one now out before after (Some (Ok x)) there bound serves =
+    IfSome served (λ answer. OnOk answer (Serves moment (outcome_of_sending moment (message bytes [])) fates.Stays one now before after))) →
+    IfSome served (λ answer. OnOk answer (AnswersPart old at endpoint txid a (slice_set old at now) before after))
+reads_there old at endpoint txid a one now before after (Some (Ok x)) there bound serves =
     record { one = one; there = there; bound = bound; answers = λ bytes token moment is here. (now, refl, serves bytes token moment is here) }
-reads_there old at endpoint txid a one now out before after (Some (Err e)) there bound serves = tt
-reads_there old at endpoint txid a one now out before after None there bound serves = tt
+reads_there old at endpoint txid a one now before after (Some (Err e)) there bound serves = tt
+reads_there old at endpoint txid a one now before after None there bound serves = tt
 
 -- ---- where it is bound
 
@@ -115,8 +114,8 @@ none_counted most world run none = run.stands.knows.waiting ∙ ap length (nothi
 
 -- ---- from its admission to the drain
 
-module _ (old : World) (run : IsRunning (limit.MAX_PLACES - limit.FRAME_PLACES) old) (frame : Frame) (is : IsFrame ToServers frame) (can : CanBeServed frame old) (at txid : ℕ) (a : Asked) (out : Written) (servers : List Server)
-    (before after : List ℕ) (asks : request_of protocol.File frame.bytes [] ≡ Ok (txid, a)) (answers : AnswersPart old.servers at frame.endpoint txid a out servers before after) where
+module _ (old : World) (run : IsRunning (limit.MAX_PLACES - limit.FRAME_PLACES) old) (frame : Frame) (is : IsFrame ToServers frame) (can : CanBeServed frame old) (at txid : ℕ) (a : Asked) (servers : List Server)
+    (before after : List ℕ) (asks : request_of protocol.File frame.bytes [] ≡ Ok (txid, a)) (answers : AnswersPart old.servers at frame.endpoint txid a servers before after) where
   abbrev now : World
   now = let_in old
 
@@ -163,7 +162,7 @@ module _ (old : World) (run : IsRunning (limit.MAX_PLACES - limit.FRAME_PLACES) 
   bare : handles_of sent.sending ≡ []
   bare = ap handles_of sending
 
-  serves : Answers old.servers at frame.endpoint (next_token_of old.known) sent fates.Stays out servers before after
+  serves : Answers old.servers at frame.endpoint (next_token_of old.known) sent fates.Stays servers before after
   serves one moment there here =
       let same = same_Some answers.one one (sym answers.there ∙ there) in
       let asked =
@@ -172,18 +171,18 @@ module _ (old : World) (run : IsRunning (limit.MAX_PLACES - limit.FRAME_PLACES) 
       let served = answers.answers frame.bytes (next_token_of old.known) moment asks asked in (
         served.0,
         served.1,
-        subst (λ (server : Server). Serves moment (outcome_of_sending moment sent.sending) fates.Stays out server served.0 before after) same
-            (subst (λ (s : Sending). Serves moment (outcome_of_sending moment s) fates.Stays out answers.one served.0 before after) (sym sending) served.2),
+        subst (λ (server : Server). Serves moment (outcome_of_sending moment sent.sending) fates.Stays server served.0 before after) same
+            (subst (λ (s : Sending). Serves moment (outcome_of_sending moment s) fates.Stays answers.one served.0 before after) (sym sending) served.2),
       )
 
   known_then : old.known ≡ record (with_one old.known) { waiting = old.known.waiting + 1 - 1 }
   known_then = let same : old.known.waiting ≡ old.known.waiting + 1 - 1 = omega arith in ap (λ (n : ℕ). let known : Known = record old.known { waiting = n } in known) same
 
-  head : TakesHead (waits_in now frame) frame.endpoint at sent fates.Stays out answered before after
-  head = takes_head (waits_in now frame) taken answered frame.endpoint at sent fates.Stays out servers before after takes serves (refl, refl) refl known_then refl
+  head : TakesHead (waits_in now frame) frame.endpoint at sent fates.Stays answered before after
+  head = takes_head (waits_in now frame) taken answered frame.endpoint at sent fates.Stays before after takes serves refl refl known_then refl
 
-  settles : SettlesHead answered sent fates.Stays out (record answered { places = answered.places + 1 }) after after
-  settles = settles_quietly answered sent fates.Stays out after (quiet_stays sent bare) (can.none ∙ sym (none_counted (limit.MAX_PLACES - limit.FRAME_PLACES) old run can.none))
+  settles : SettlesHead answered sent fates.Stays (record answered { places = answered.places + 1 }) after after
+  settles = settles_quietly answered sent fates.Stays after (quiet_stays sent bare) (can.none ∙ sym (none_counted (limit.MAX_PLACES - limit.FRAME_PLACES) old run can.none))
 
   runs : IsRunning limit.MAX_PLACES (waits_in now frame)
   runs = sent_lasts (limit.MAX_PLACES - limit.FRAME_PLACES) old now (waits_in now frame) frame run is sends admitted (waits_last now frame)
@@ -192,7 +191,7 @@ module _ (old : World) (run : IsRunning (limit.MAX_PLACES - limit.FRAME_PLACES) 
   two_more = let same : old.places + 2 ≡ old.places + 1 + 1 = omega arith in ap (λ (n : ℕ). record old { servers = servers; places = n }) same
 
   one : ServesOne (λ one. one ≡ frame.endpoint) (waits_in now frame) new before after
-  one = one_served (waits_in now frame) answered (record answered { places = answered.places + 1 }) new runs frame.endpoint at sent fates.Stays out before after after head settles two_more run.stands.able
+  one = one_served (waits_in now frame) answered (record answered { places = answered.places + 1 }) new runs frame.endpoint at sent fates.Stays before after after head settles two_more run.stands.able
 
   pub read_lasts : (most : ℕ) → IsRunning most old → IsRunning (most + limit.FRAME_PLACES) new
   read_lasts most running = goes_on (most + limit.FRAME_PLACES) (waits_in now frame) new (sent_lasts most old now (waits_in now frame) frame running is sends admitted (waits_last now frame)) frame.endpoint before after one

@@ -12,9 +12,12 @@ use Rattle.journal_laws.specs.Viewing.{view_behind}
 use Rattle.message_queues.specs.Oldest.{IsBound, NothingWaits}
 use Rattle.message_queues.specs.Queues.{count}
 use Rattle.message_queues.proofs.Counting.{counts_its_list}
-use Rattle.vfs_session.specs.Running.{IsRunning, IsWithin, whole}
-use Rattle.vfs_session.specs.World.{LeadsTo, StandsFor, World}
-use Rattle.vfs_session.proofs.Lasting.{lasts_more}
+use Rattle.session_laws.specs.Keeping.{KeepsLaws}
+use Rattle.session_laws.proofs.Keeping.{lawful_keep}
+use Rattle.vfs_world.specs.Conduct.{StandsForOne}
+use Rattle.vfs_world.specs.Running.{IsRunning, IsWithin, whole}
+use Rattle.vfs_world.specs.World.{LeadsTo, StandsFor, World}
+use Rattle.vfs_world.proofs.Lasting.{lasts_more}
 use Rattle.vfs_world.specs.declared.world.World.TheInside.{Inside}
 
 -- ---- what it stands for
@@ -63,6 +66,18 @@ module _ (inside : Inside) {now : World} (view : as_world (whole inside.session)
       LeadsTo start later (as_world new inside.spent frames) earlier before after
   leads_inside {start} {earlier} {later} {before} {after} new frames stands leads =
       record { stands = stands_as start new inside.spent frames later (able stands.able) leads.stands; part = leads.part; more = leads.more; written = leads.written }
+
+  -- one of the journals that it stands for
+  pub stands_for_one : IsWithin (whole inside.session) inside.spent inside.frames → StandsForOne now
+  stands_for_one within is =
+      let runs = (within (able is)).0 in
+      let world = as_world (whole inside.session) inside.spent inside.frames in
+      (runs.apart, (runs.start, (runs.journal, subst (λ (w : World). StandsFor runs.start w runs.journal) view (stands_as runs.start (whole inside.session) inside.spent inside.frames runs.journal (able is) runs.stands))))
+
+-- ---- the journal that a call leads to is lawful, and so keeps the laws
+
+pub keeps_laws : {start : Start} {earlier later : Journal} {new : World} {before after : List ℕ} → AreDistinct → LeadsTo start later new earlier before after → KeepsLaws start later
+keeps_laws {start} {earlier} {later} apart leads = lawful_keep apart start later leads.stands.sound leads.stands.lawful
 
 -- ---- what waits
 

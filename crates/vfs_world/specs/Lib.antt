@@ -1,3 +1,11 @@
-pub mod Steps
+pub mod World
+pub mod Holding
+pub mod Places
+pub mod ServingSteps
+pub mod Running
+pub mod Codes
+pub mod Servings
+pub mod Heads
+pub mod Arrivals
 pub mod Beginning
 pub mod Conduct

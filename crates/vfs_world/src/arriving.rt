@@ -1,29 +1,26 @@
 //! A frame that arrives: a refused one is answered, and for an admitted one what it asks is done.
 
-ghost use Rattle.std.specs.Prelude.{◌≡◌, ◌≤◌, ◌<◌, ◌+◌, ◌-◌, ◌++◌, ℕ, true, [], IfSome, OnOk, OnErr, length};
+ghost use Rattle.std.specs.Prelude.{◌≡◌, ◌+◌, ◌-◌, ℕ, [], OnOk};
 ghost use Rattle.fidl_names.specs.declared.limits.TheConstants as limit;
-ghost use Rattle.endpoint_link.specs.Frames.{IsFrame, spelling};
+ghost use Rattle.endpoint_link.specs.Frames.{IsFrame};
 ghost use Rattle.endpoint_link.specs.Numbers.{word_in};
 ghost use Rattle.endpoint_link.specs.Views.{frame_of, handle_numbers};
 ghost use Rattle.endpoint_link.specs.declared.kinds.Side.TheVariants as side;
-ghost use Rattle.vfs_journal.specs.Entries.{Journal, message};
+ghost use Rattle.vfs_journal.specs.Entries.{Journal};
 ghost use Rattle.vfs_journal.specs.Handles.{AreByNumber, numbers_of};
 ghost use Rattle.vfs_journal.specs.History.{waiting};
-ghost use Rattle.vfs_journal.specs.Output.{Begins, refused_frame};
+ghost use Rattle.vfs_journal.specs.Output.{Begins};
 ghost use Rattle.vfs_journal.specs.Past.{history_of};
 ghost use Rattle.vfs_journal.specs.Session.{arrives, drained, steps};
 ghost use Rattle.vfs_journal.specs.Starts.{Start};
-ghost use Rattle.vfs_session.specs.Running.{IsRunning, RunsOnByAFrame, whole};
-ghost use Rattle.vfs_session.specs.World.{LeadsTo, StandsFor, World};
-ghost use Rattle.vfs_world.specs.Steps.{CanWait, Hears, IsAdmitted, IsFree, IsPlain, Reaches, WaitsLast};
+ghost use Rattle.vfs_world.specs.Running.{IsRunning, RunsOnByAFrame, whole};
+ghost use Rattle.vfs_world.specs.World.{LeadsTo, StandsFor, World};
+ghost use Rattle.vfs_world.specs.Arrivals.{Hears, IsAdmitted, IsFree, Reaches};
 
-use crate::reading::hear_read;
-use endpoint_link::{
-    AdmitFault, FrameKind, FrameView, Mode, Outbox, Refusal, word_in, write_refused,
-};
-use fidl_names::{Handle, NoMemory, is_client};
-use message_queues::{Lent, Parcel, Sent, handles_in};
-use vfs_session::Session;
+use crate::session::Session;
+use endpoint_link::{AdmitFault, FrameKind, FrameView, Mode, Outbox, word_in};
+use fidl_names::{Handle, NoMemory};
+use message_queues::{Lent, Parcel, handles_in};
 
 /// Accepts a frame.
 fn arrive(session: &mut Session, frame: FrameView<'_>, outbox: &mut Outbox) -> Result<(), NoMemory>
@@ -34,9 +31,9 @@ fn arrive(session: &mut Session, frame: FrameView<'_>, outbox: &mut Outbox) -> R
     ensures running { RunsOnByAFrame result (whole session.old) (whole session.new) }
     ensures begins { Begins outbox.old outbox.new }
 {
-    match session.endpoints.admit(frame) {
+    match session.admit(frame) {
         Ok(()) => perform(session, frame, outbox),
-        Err(AdmitFault::Refused(why)) => refuse(session, frame.endpoint, why, outbox),
+        Err(AdmitFault::Refused(why)) => session.refuse(frame.endpoint, why, outbox),
         Err(AdmitFault::NoMemory) => Err(NoMemory),
     }
 }
@@ -59,7 +56,7 @@ pub(crate) fn hear(
 {
     match mode {
         // Most frames ask for parts of files, and have a way of their own.
-        Mode::Auto => match hear_read(session, frame, outbox) {
+        Mode::Auto => match session.hear_read(frame, outbox) {
             Some(heard) => heard,
             None => hear_out(session, frame, outbox),
         },
@@ -95,22 +92,9 @@ fn reach(session: &mut Session, frame: FrameView<'_>, outbox: &mut Outbox) -> Re
     ensures running { RunsOnByAFrame result (whole session.old) (whole session.new) }
     ensures begins { Begins outbox.old outbox.new }
 {
-    match free_server(session, frame) {
+    match session.free_server(frame) {
         Some(server) => serve_at_once(session, server, frame, outbox),
         None => arrive(session, frame, outbox),
-    }
-}
-
-/// The server at which what a frame sends can be served at once: its endpoint is bound there, and nothing
-/// waits.
-fn free_server(session: &Session, frame: FrameView<'_>) -> Option<u32>
-    ensures { IfSome result (λ server. IsFree (frame_of frame.entry) server (whole session.now)) }
-{
-    match frame.kind {
-        FrameKind::Message | FrameKind::Close if session.queues.len() == 0 => {
-            session.queues.server_of(frame.endpoint)
-        }
-        _ => None,
     }
 }
 
@@ -129,66 +113,9 @@ fn serve_at_once(
     ensures running { RunsOnByAFrame result (whole session.old) (whole session.new) }
     ensures begins { Begins outbox.old outbox.new }
 {
-    if is_plain(frame) {
-        serve_plain(session, server, frame, outbox)
-    } else {
-        serve_sending(session, server, frame, outbox)
-    }
-}
-
-/// Whether a frame is a message without handles on a client's endpoint. Where that is bound and nothing waits,
-/// only want of room can refuse it.
-pub(crate) fn is_plain(frame: FrameView<'_>) -> bool
-    ensures { result ≡ true → IsPlain (frame_of frame.entry) }
-{
-    match frame.kind {
-        FrameKind::Message => frame.handles.is_empty() && is_client(frame.endpoint),
-        _ => false,
-    }
-}
-
-/// Serves a message without handles, which waits nowhere, or answers that there is no room for it. It takes a
-/// place.
-fn serve_plain(
-    session: &mut Session,
-    server: u32,
-    frame: FrameView<'_>,
-    outbox: &mut Outbox,
-) -> Result<(), NoMemory>
-    requires frame { IsFrame side.ToServers (frame_of frame) }
-    requires running { IsRunning (limit.MAX_PLACES - limit.FRAME_PLACES) (whole session.old) }
-    requires free { IsFree (frame_of frame) server (whole session.old) }
-    requires plain { IsPlain (frame_of frame) }
-    ensures reached { (start : Start) (journal : Journal) → StandsFor start (whole session.old) journal →
-        OnOk result (Reaches start (arrives start journal (frame_of frame.entry)) (whole session.new) journal outbox.old outbox.new) }
-    ensures running { RunsOnByAFrame result (whole session.old) (whole session.new) }
-    ensures begins { Begins outbox.old outbox.new }
-{
-    match session.endpoints.admit_plain() {
-        Ok(()) => serve_with(session, server, frame, &[], outbox),
-        Err(why) => refuse(session, frame.endpoint, why, outbox),
-    }
-}
-
-/// Serves whatever a frame sends, which waits nowhere, or answers that it is refused. It takes a place.
-#[inline(never)]
-fn serve_sending(
-    session: &mut Session,
-    server: u32,
-    frame: FrameView<'_>,
-    outbox: &mut Outbox,
-) -> Result<(), NoMemory>
-    requires frame { IsFrame side.ToServers (frame_of frame) }
-    requires running { IsRunning (limit.MAX_PLACES - limit.FRAME_PLACES) (whole session.old) }
-    requires free { IsFree (frame_of frame) server (whole session.old) }
-    ensures reached { (start : Start) (journal : Journal) → StandsFor start (whole session.old) journal →
-        OnOk result (Reaches start (arrives start journal (frame_of frame.entry)) (whole session.new) journal outbox.old outbox.new) }
-    ensures running { RunsOnByAFrame result (whole session.old) (whole session.new) }
-    ensures begins { Begins outbox.old outbox.new }
-{
-    match session.endpoints.admit_live(frame) {
+    match session.admit_free(server, frame) {
         Ok(()) => serve_admitted(session, server, frame, outbox),
-        Err(AdmitFault::Refused(why)) => refuse(session, frame.endpoint, why, outbox),
+        Err(AdmitFault::Refused(why)) => session.refuse(frame.endpoint, why, outbox),
         Err(AdmitFault::NoMemory) => Err(NoMemory),
     }
 }
@@ -217,7 +144,7 @@ fn serve_admitted(
             serve_with(session, server, frame, &[handle], outbox)
         }
         _ => {
-            let handles = handles_in(session.alloc, frame.handles)?;
+            let handles = handles_in(session.alloc(), frame.handles)?;
             serve_with(session, server, frame, &handles, outbox)
         }
     }
@@ -243,8 +170,7 @@ fn serve_with(
         OnOk result (IsRunning (most + limit.FRAME_PLACES) (whole session.new)) }
     ensures begins { Begins outbox.old outbox.new }
 {
-    let sent = Lent::of_frame(session.places, frame, handles);
-    session.places += 1;
+    let sent = Lent::of_frame(session.take_place(), frame, handles);
     session.serve_taken(frame.endpoint, server, &sent, outbox)
 }
 
@@ -259,8 +185,8 @@ fn perform(session: &mut Session, frame: FrameView<'_>, outbox: &mut Outbox) -> 
     ensures begins { Begins outbox.old outbox.new }
 {
     match frame.kind {
-        FrameKind::Message => send_message(session, frame),
-        FrameKind::Close => send(session, frame.endpoint, Parcel::hang_up()),
+        FrameKind::Message => session.send_message(frame),
+        FrameKind::Close => session.send(frame.endpoint, Parcel::hang_up()),
         FrameKind::Turn => {
             session.turn(frame.endpoint, word_in(frame.bytes), outbox)?;
             Ok(())
@@ -271,51 +197,4 @@ fn perform(session: &mut Session, frame: FrameView<'_>, outbox: &mut Outbox) -> 
         }
         FrameKind::Refused => unreachable!(),
     }
-}
-
-/// Puts the message of a frame behind all that waits on its endpoint.
-fn send_message(session: &mut Session, frame: FrameView<'_>) -> Result<(), NoMemory>
-    requires room { CanWait (whole session.old) }
-    requires short { length frame.bytes.now ≤ limit.MAX_BYTES }
-    ensures { OnOk result (WaitsLast (whole session.old) frame.entry.endpoint (message frame.entry.bytes.now (handle_numbers frame.entry.handles)) (whole session.new)) }
-{
-    let room = match session.rooms.pop() {
-        Some(room) => room,
-        None => Vec::new(session.alloc),
-    };
-    let parcel = Parcel::of_message(session.alloc, room, frame)?;
-    send(session, frame.endpoint, parcel)
-}
-
-/// Puts what was sent behind all that waits on its endpoint. It takes a place.
-fn send(session: &mut Session, endpoint: u32, parcel: Parcel) -> Result<(), NoMemory>
-    requires room { CanWait (whole session.old) }
-    ensures { OnOk result (WaitsLast (whole session.old) endpoint parcel (whole session.new)) }
-{
-    let sent = Sent {
-        place: session.places,
-        endpoint,
-        parcel,
-        origin: None,
-    };
-    session.queues.push(sent)?;
-    session.places += 1;
-    Ok(())
-}
-
-/// Answers a frame that is refused. It takes a place.
-fn refuse(
-    session: &mut Session,
-    endpoint: u32,
-    why: Refusal,
-    outbox: &mut Outbox,
-) -> Result<(), NoMemory>
-    requires places { session.old.places ≤ limit.MAX_PLACES }
-    ensures place { OnOk result (whole session.new ≡ record (whole session.old) { places = session.old.places + 1 }) }
-    ensures written { OnOk result (outbox.new ≡ outbox.old ++ spelling (refused_frame endpoint why)) }
-    ensures begins { Begins outbox.old outbox.new }
-{
-    write_refused(outbox, endpoint, why)?;
-    session.places += 1;
-    Ok(())
 }

@@ -5,11 +5,13 @@ ghost use Rattle.session_start.specs.Accepted.{AreAccepted, HasFilesOfBytes};
 ghost use Rattle.vfs_journal.specs.Starts.{start_of};
 ghost use Rattle.vfs_journal.specs.View.{view_of};
 ghost use Rattle.journal_laws.specs.Knowing.{Knows};
-ghost use Rattle.vfs_session.specs.Holding.{HoldsEach, HoldsQueues};
-ghost use Rattle.vfs_session.specs.Running.{whole};
-ghost use Rattle.vfs_session.specs.World.{StandsFor};
+ghost use Rattle.journal_laws.specs.Soundness.{IsStart};
+ghost use Rattle.vfs_world.specs.Holding.{HoldsEach, HoldsQueues};
+ghost use Rattle.vfs_world.specs.Running.{whole};
+ghost use Rattle.vfs_world.specs.World.{StandsFor};
 ghost use Rattle.vfs_world.specs.Beginning.{BindsJust};
 
+use crate::session::Session;
 use endpoint_link::Endpoints;
 use fidl_names::{NoMemory, end_of_mount};
 use fidl_wire::{Ordinals, Out};
@@ -17,7 +19,6 @@ use message_queues::Queues;
 use session_start::Start;
 use std::alloc::Global;
 use vfs_server::Server;
-use vfs_session::Session;
 
 // Puts the servers of a start behind each other, by their indexes.
 fn add_servers(alloc: Global, start: &Start, servers: &mut Vec<Server>) -> Result<(), NoMemory>
@@ -42,7 +43,7 @@ fn begin_servers(alloc: Global, start: &Start) -> Result<Vec<Server>, NoMemory>
 
 // Binds the first connections, in the order of the file.
 fn bind_clients(start: &Start, queues: &mut Queues) -> Result<(), NoMemory>
-    requires accepted { AreAccepted start.now }
+    requires sound { IsStart (start_of start.now) }
     requires none { BindsJust (start_of start.now) [] queues.old }
     ensures { OnOk result (BindsJust (start_of start.now) (start_of start.now).firsts queues.new) }
 {
@@ -56,6 +57,7 @@ fn bind_clients(start: &Start, queues: &mut Queues) -> Result<(), NoMemory>
 // Binds the ends of the mounts behind the first connections, each at its target.
 fn bind_mounts(start: &Start, queues: &mut Queues) -> Result<(), NoMemory>
     requires accepted { AreAccepted start.now }
+    requires sound { IsStart (start_of start.now) }
     requires firsts { BindsJust (start_of start.now) (start_of start.now).firsts queues.old }
     ensures { OnOk result (BindsJust (start_of start.now) ((start_of start.now).firsts ++ (start_of start.now).mounts) queues.new) }
 {
@@ -69,6 +71,7 @@ fn bind_mounts(start: &Start, queues: &mut Queues) -> Result<(), NoMemory>
 // Binds all that is bound from the first on.
 fn bind_firsts(start: &Start, queues: &mut Queues) -> Result<(), NoMemory>
     requires accepted { AreAccepted start.now }
+    requires sound { IsStart (start_of start.now) }
     requires none { BindsJust (start_of start.now) [] queues.old }
     ensures { OnOk result (BindsJust (start_of start.now) ((start_of start.now).firsts ++ (start_of start.now).mounts) queues.new) }
 {
@@ -118,15 +121,5 @@ pub(crate) fn begin(alloc: Global, ordinals: Ordinals, start: &Start) -> Result<
     let out = Out::new(alloc)?;
     let endpoints = known_endpoints(alloc, start)?;
     let servers = begin_servers(alloc, start)?;
-    Ok(Session {
-        alloc,
-        ordinals,
-        servers,
-        queues,
-        endpoints,
-        places: 0,
-        out,
-        rooms: Vec::new(alloc),
-        dying: Vec::new(alloc),
-    })
+    Ok(Session::new(alloc, ordinals, servers, queues, endpoints, out))
 }

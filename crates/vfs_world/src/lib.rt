@@ -3,7 +3,11 @@
 
 mod arriving;
 mod beginning;
-mod reading;
+mod closing;
+mod deaths;
+mod forgetting;
+mod session;
+mod settling;
 mod world;
 
 pub use world::{Picked, World, WorldFault};

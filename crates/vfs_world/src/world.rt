@@ -12,18 +12,18 @@ ghost use Rattle.vfs_journal.specs.Starts.{Start, start_of};
 ghost use Rattle.journal_laws.specs.Viewing.{view_behind};
 ghost use Rattle.message_queues.specs.Queues.{count};
 ghost use Rattle.vfs_server.specs.KeptNodes.{kept_in};
-ghost use Rattle.vfs_session.specs.Servings.{served_in};
-ghost use Rattle.vfs_session.specs.World.{LeadsTo, StandsFor};
-ghost use Rattle.vfs_world.specs.Conduct.{Conducts};
+ghost use Rattle.vfs_world.specs.Servings.{served_in};
+ghost use Rattle.vfs_world.specs.World.{LeadsTo, StandsFor};
+ghost use Rattle.vfs_world.specs.Conduct.{Conducts, KeepsOn, StandsForOne};
 
 use crate::arriving::hear;
 use crate::beginning::begin;
+use crate::session::Session;
 use endpoint_link::{FrameView, Mode, Outbox};
 use fidl_names::NoMemory;
 use fidl_wire::Ordinals;
 use std::alloc::Global;
 use std::marker::Model;
-use vfs_session::Session;
 
 /// Why a call of a world did nothing.
 #[derive(Clone, Copy)]
@@ -57,9 +57,9 @@ pub struct World {
 }
 
 impl Model for World {
-    ghost use Rattle.vfs_session.specs.Codes.{world_code};
-    ghost use Rattle.vfs_session.specs.Running.{IsWithin, whole};
-    ghost use Rattle.vfs_session.specs.World as worlds;
+    ghost use Rattle.vfs_world.specs.Codes.{world_code};
+    ghost use Rattle.vfs_world.specs.Running.{IsWithin, whole};
+    ghost use Rattle.vfs_world.specs.World as worlds;
 
     ghost Value = { worlds.World };
 
@@ -97,6 +97,7 @@ impl World {
         requires few { self.old.frames < limit.MAX_FRAMES }
         ensures arrived { (start : Start) (journal : Journal) → StandsFor start self.old journal →
             OnOk result (LeadsTo start (arrives start journal (frame_of frame.entry)) self.new journal outbox.old outbox.new) }
+        ensures keeps { KeepsOn result self.old (λ start journal. arrives start journal (frame_of frame.entry)) }
         ensures frames { self.new.frames ≡ (if is_ok result then self.old.frames + 1 else self.old.frames) }
         ensures conduct { Conducts result self.old self.new outbox.old outbox.new }
     {
@@ -117,6 +118,7 @@ impl World {
             OnOk result (LeadsTo start (steps start mode journal (frame_of frame.entry)) self.new journal outbox.old outbox.new) }
         ensures none { mode ≡ Mode.Auto → (start : Start) (journal : Journal) → StandsFor start self.old journal →
             OnOk result (waiting (history_of start (steps start mode journal (frame_of frame.entry))) ≡ []) }
+        ensures keeps { KeepsOn result self.old (λ start journal. steps start mode journal (frame_of frame.entry)) }
         ensures frames { self.new.frames ≡ (if is_ok result then self.old.frames + 1 else self.old.frames) }
         ensures conduct { Conducts result self.old self.new outbox.old outbox.new }
     {
@@ -141,6 +143,7 @@ impl World {
             IfOk result (λ done. served_in journal + done ≡ served_in (turned start server n journal)) }
         ensures fewer { (start : Start) (journal : Journal) → StandsFor start self.old journal →
             IfOk result (λ done. done < n → oldest start (history_of start (turned start server n journal)) server ≡ None) }
+        ensures keeps { KeepsOn result self.old (λ start. turned start server n) }
         ensures idle { (start : Start) (journal : Journal) → StandsFor start self.old journal → oldest start (history_of start journal) server ≡ None → result ≡ Ok 0 }
         ensures frames { self.new.frames ≡ self.old.frames }
         ensures conduct { Conducts result self.old self.new outbox.old outbox.new }
@@ -160,6 +163,7 @@ impl World {
     pub fn pick(&mut self, endpoint: u32, outbox: &mut Outbox) -> Result<Picked, WorldFault>
         ensures picked { (start : Start) (journal : Journal) → StandsFor start self.old journal →
             OnOk result (LeadsTo start (picked start endpoint journal) self.new journal outbox.old outbox.new) }
+        ensures keeps { KeepsOn result self.old (λ start. picked start endpoint) }
         ensures idle { (start : Start) (journal : Journal) → StandsFor start self.old journal → head start (history_of start journal) endpoint ≡ None → result ≡ Ok Picked.Idle }
         ensures only_idle { (start : Start) (journal : Journal) → StandsFor start self.old journal → result ≡ Ok Picked.Idle → head start (history_of start journal) endpoint ≡ None }
         ensures frames { self.new.frames ≡ self.old.frames }
@@ -181,6 +185,7 @@ impl World {
             OnOk result (LeadsTo start (drained start journal) self.new journal outbox.old outbox.new) }
         ensures none { (start : Start) (journal : Journal) → StandsFor start self.old journal →
             OnOk result (waiting (history_of start (drained start journal)) ≡ []) }
+        ensures keeps { KeepsOn result self.old drained }
         ensures idle { (start : Start) (journal : Journal) → StandsFor start self.old journal → waiting (history_of start journal) ≡ [] → result ≡ Ok tt }
         ensures frames { self.new.frames ≡ self.old.frames }
         ensures conduct { Conducts result self.old self.new outbox.old outbox.new }
@@ -199,7 +204,7 @@ impl World {
     pub fn servers(&self) -> u32
         ensures { result ≡ self.now.queues.servers }
     {
-        self.session.queues.servers()
+        self.session.servers()
     }
 
     /// How many nodes of a server are kept: its root, those that names lead to, and those that the births of
@@ -212,7 +217,7 @@ impl World {
         if self.spent {
             return 0;
         }
-        self.session.servers[server as usize].kept() as u32
+        self.session.kept(server)
     }
 
     /// How many entries wait.
@@ -220,12 +225,13 @@ impl World {
         ensures count { result ≡ count self.now.queues }
         ensures waiting { (start : Start) (journal : Journal) → StandsFor start self.now journal → result ≡ length (waiting (history_of start journal)) }
     {
-        self.session.queues.len()
+        self.session.waiting()
     }
 
-    /// How many frames were accepted.
+    /// How many frames were accepted. A world that isn't spent stands for a journal, wherever it comes from.
     pub fn frames(&self) -> u64
-        ensures { result ≡ self.now.frames }
+        ensures frames { result ≡ self.now.frames }
+        ensures stands { StandsForOne self.now }
     {
         self.frames
     }

@@ -1,6 +1,6 @@
 use Rattle.std.proofs.Common.{◌≡◌, ◌++◌, OnOk, subst, sym}
 use Rattle.endpoint_link.specs.Frames.{spellings}
-use Rattle.vfs_server.specs.declared.fate.Fate.{Fate}
+use Rattle.vfs_server.specs.declared.deed.Deed.{Deed}
 use Rattle.vfs_server.specs.Watched.{first_of}
 use Rattle.vfs_server.proofs.telling.put_first.Goals as goal
 
@@ -9,5 +9,5 @@ put_names-requires c = record { directory = c.requires.directory c.in-Watches.ob
 
 pub returns-in-Watches-clause-told : goal.returns-in-Watches-clause-told
 returns-in-Watches-clause-told c =
-    subst (λ (fate : Fate). OnOk c.put_names.result (c.put_names.new.outbox ≡ c.args.outbox.now ++ spellings (first_of c.args.graph.now.edges fate)))
+    subst (λ (fate : Deed). OnOk c.put_names.result (c.put_names.new.outbox ≡ c.args.outbox.now ++ spellings (first_of c.args.graph.now.edges fate)))
     (sym c.in-Watches.is) c.put_names.ensures.told

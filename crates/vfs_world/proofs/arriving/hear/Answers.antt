@@ -6,9 +6,9 @@ use Rattle.vfs_journal.specs.History.{waiting}
 use Rattle.vfs_journal.specs.Output.{Begins}
 use Rattle.vfs_journal.specs.Past.{history_of}
 use Rattle.vfs_journal.specs.Session.{arrives, drained, steps}
-use Rattle.vfs_session.specs.Running.{IsRunning, whole}
-use Rattle.vfs_session.specs.World.{LeadsTo, StandsFor, World}
-use Rattle.vfs_session.proofs.Lasting.{lasts_more}
+use Rattle.vfs_world.specs.Running.{IsRunning, whole}
+use Rattle.vfs_world.specs.World.{LeadsTo, StandsFor, World}
+use Rattle.vfs_world.proofs.Lasting.{lasts_more}
 use Rattle.vfs_world.proofs.arriving.hear.Goals as goal
 
 -- ---- what was heard and answered at once
@@ -17,7 +17,7 @@ pub returns-in-Some-clause-heard : goal.returns-in-Some-clause-heard
 returns-in-Some-clause-heard c =
     λ start journal stands.
     subst
-    (λ (mode : Mode). OnOk c.in-Some.heard (LeadsTo start (steps start mode journal (frame_of c.args.frame)) (whole c.hear_read.new.session) journal c.args.outbox.now c.hear_read.new.outbox))
+    (λ (mode : Mode). OnOk c.in-Some.heard (LeadsTo start (steps start mode journal (frame_of c.args.frame)) (whole c.hear_read.new.self) journal c.args.outbox.now c.hear_read.new.outbox))
     (sym c.in-Auto.is) (c.in-Some.ensures.heard start journal stands)
 
 pub returns-in-Some-clause-none : goal.returns-in-Some-clause-none

@@ -2,9 +2,9 @@ use Rattle.std.proofs.Common.{◌+◌, ◌-◌}
 use Rattle.fidl_names.specs.declared.limits.TheConstants as limit
 use Rattle.endpoint_link.specs.Views.{frame_of}
 use Rattle.vfs_journal.specs.Session.{arrives}
-use Rattle.vfs_session.specs.Running.{whole}
-use Rattle.vfs_session.proofs.Halves.{begins_on}
-use Rattle.vfs_world.proofs.Answered.{on_ok}
+use Rattle.vfs_world.specs.Running.{whole}
+use Rattle.vfs_world.proofs.Halves.{begins_on}
+use Rattle.vfs_world.proofs.CallResults.{on_ok}
 use Rattle.vfs_world.proofs.AtOnce.{drained_behind}
 use Rattle.vfs_world.proofs.arriving.hear_out.Goals as goal
 

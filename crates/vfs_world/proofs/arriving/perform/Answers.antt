@@ -2,9 +2,9 @@ use Rattle.std.proofs.Common.{subst}
 use Rattle.fidl_names.specs.declared.limits.TheConstants as limit
 use Rattle.endpoint_link.specs.Views.{frame_of}
 use Rattle.vfs_journal.specs.Entries.{Sending}
-use Rattle.vfs_session.specs.Running.{whole}
-use Rattle.vfs_world.specs.Steps.{WaitsLast}
-use Rattle.vfs_world.proofs.Answered.{on_ok}
+use Rattle.vfs_world.specs.Running.{whole}
+use Rattle.vfs_world.specs.Arrivals.{WaitsLast}
+use Rattle.vfs_world.proofs.CallResults.{on_ok}
 use Rattle.vfs_world.proofs.Hearing.{hang_up_can_wait, hang_up_lasts, hang_up_leads, message_can_wait, message_lasts, message_leads, pick_on, pick_same, runs_now, runs_on, turn_on, turn_same}
 use Rattle.vfs_world.proofs.arriving.perform.Goals as goal
 
@@ -28,28 +28,28 @@ pub returns-in-Message-clause-arrived : goal.returns-in-Message-clause-arrived
 returns-in-Message-clause-arrived c =
     λ start journal before stands admitted.
     on_ok c.send_message.result
-    (message_leads c.requires.heard.running.apart start journal before (whole c.args.session.now) (whole c.send_message.new.session) (frame_of c.args.frame) c.args.outbox.now stands c.requires.frame c.in-Message.is admitted)
+    (message_leads c.requires.heard.running.apart start journal before (whole c.args.session.now) (whole c.send_message.new.self) (frame_of c.args.frame) c.args.outbox.now stands c.requires.frame c.in-Message.is admitted)
     c.send_message.ensures
 
 pub returns-in-Message-clause-running : goal.returns-in-Message-clause-running
 returns-in-Message-clause-running c =
     λ most before runs admitted.
     on_ok c.send_message.result
-    (message_lasts most before (whole c.args.session.now) (whole c.send_message.new.session) (frame_of c.args.frame) runs c.requires.frame c.in-Message.is admitted) c.send_message.ensures
+    (message_lasts most before (whole c.args.session.now) (whole c.send_message.new.self) (frame_of c.args.frame) runs c.requires.frame c.in-Message.is admitted) c.send_message.ensures
 
 pub returns-in-Close-clause-arrived : goal.returns-in-Close-clause-arrived
 returns-in-Close-clause-arrived c =
     λ start journal before stands admitted.
     on_ok c.send.result
-    (λ waits. hang_up_leads c.requires.heard.running.apart start journal before (whole c.args.session.now) (whole c.send.new.session) (frame_of c.args.frame) c.args.outbox.now stands c.requires.frame c.in-Close.is admitted
-    (subst (λ (sending : Sending). WaitsLast (whole c.args.session.now) c.args.frame.endpoint sending (whole c.send.new.session)) c.hang_up.ensures waits)) c.send.ensures
+    (λ waits. hang_up_leads c.requires.heard.running.apart start journal before (whole c.args.session.now) (whole c.send.new.self) (frame_of c.args.frame) c.args.outbox.now stands c.requires.frame c.in-Close.is admitted
+    (subst (λ (sending : Sending). WaitsLast (whole c.args.session.now) c.args.frame.endpoint sending (whole c.send.new.self)) c.hang_up.ensures waits)) c.send.ensures
 
 pub returns-in-Close-clause-running : goal.returns-in-Close-clause-running
 returns-in-Close-clause-running c =
     λ most before runs admitted.
     on_ok c.send.result
-    (λ waits. hang_up_lasts most before (whole c.args.session.now) (whole c.send.new.session) (frame_of c.args.frame) runs c.requires.frame c.in-Close.is admitted
-    (subst (λ (sending : Sending). WaitsLast (whole c.args.session.now) c.args.frame.endpoint sending (whole c.send.new.session)) c.hang_up.ensures waits)) c.send.ensures
+    (λ waits. hang_up_lasts most before (whole c.args.session.now) (whole c.send.new.self) (frame_of c.args.frame) runs c.requires.frame c.in-Close.is admitted
+    (subst (λ (sending : Sending). WaitsLast (whole c.args.session.now) c.args.frame.endpoint sending (whole c.send.new.self)) c.hang_up.ensures waits)) c.send.ensures
 
 pub returns-in_ok-turn-in-Turn-clause-arrived : goal.returns-in_ok-turn-in-Turn-clause-arrived
 returns-in_ok-turn-in-Turn-clause-arrived c =

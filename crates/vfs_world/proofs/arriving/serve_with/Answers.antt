@@ -1,23 +1,26 @@
-use Rattle.std.proofs.Common.{◌≡◌, ◌+◌, ◌-◌, ℕ, refl, sym, subst}
+use Rattle.std.proofs.Common.{◌≡◌, ◌∙◌, ◌+◌, ◌-◌, ℕ, None, ap, refl, sym, subst}
 use Rattle.fidl_names.specs.declared.limits.TheConstants as limit
 use Rattle.endpoint_link.specs.Frames.{Frame, IsFrame}
 use Rattle.endpoint_link.specs.declared.kinds.Side.TheVariants.{ToServers}
 use Rattle.endpoint_link.specs.Views.{frame_of}
 use Rattle.vfs_journal.specs.Entries.{Sent}
-use Rattle.vfs_session.specs.Heads.{Takes}
-use Rattle.vfs_session.specs.Running.{IsRunning, whole}
-use Rattle.vfs_session.specs.World.{World}
-use Rattle.vfs_world.specs.Steps.{Hears, IsFree}
-use Rattle.vfs_world.proofs.Answered.{on_ok}
+use Rattle.message_queues.specs.Parcels.{sent_by}
+use Rattle.vfs_world.specs.Heads.{Takes}
+use Rattle.vfs_world.specs.Running.{IsRunning, whole}
+use Rattle.vfs_world.specs.World.{World}
+use Rattle.vfs_world.specs.Arrivals.{Hears, IsFree}
+use Rattle.vfs_world.proofs.CallResults.{on_ok}
 use Rattle.vfs_world.proofs.AtOnce.{none_waits, reached_at_once, sent_in, sent_lasts, taken_again, waits_in, waits_last}
 use Rattle.vfs_world.proofs.arriving.serve_with.Goals as goal
 
 -- behind its place it stands as what waited and was taken
-takes : (now : World) (frame : Frame) (server : ℕ) (sent : Sent) → Hears (limit.MAX_PLACES - limit.FRAME_PLACES) frame now → IsFree frame server now → sent ≡ sent_in now frame →
-    Takes (waits_in now frame) frame.endpoint server sent (record now { places = now.places + 1 })
-takes now frame server sent heard free is =
-    subst (λ (s : Sent). Takes (waits_in now frame) frame.endpoint server s (record now { places = now.places + 1 })) (sym is)
-    (taken_again now.queues (sent_in now frame) (none_waits heard.before now (limit.MAX_PLACES - limit.FRAME_PLACES) heard.running heard.admitted.same free.none) server (record now { places = now.places + 1 }) free.bound refl)
+takes : (now next : World) (frame : Frame) (server place : ℕ) (sent : Sent) → Hears (limit.MAX_PLACES - limit.FRAME_PLACES) frame now → IsFree frame server now → place ≡ now.places →
+    sent ≡ record { place = place; endpoint = frame.endpoint; sending = sent_by frame.kind frame; origin = None } → next ≡ record now { places = now.places + 1 } → Takes (waits_in now frame) frame.endpoint server sent next
+takes now next frame server place sent heard free at is same =
+    subst (Takes (waits_in now frame) frame.endpoint server sent) (sym same)
+    (subst (λ (s : Sent). Takes (waits_in now frame) frame.endpoint server s (record now { places = now.places + 1 }))
+    (sym (is ∙ ap (λ (n : ℕ). let one : Sent = record { place = n; endpoint = frame.endpoint; sending = sent_by frame.kind frame; origin = None } in one) at))
+    (taken_again now.queues (sent_in now frame) (none_waits heard.before now (limit.MAX_PLACES - limit.FRAME_PLACES) heard.running heard.admitted.same free.none) server (record now { places = now.places + 1 }) free.bound refl))
 
 runs : (now : World) (frame : Frame) (server : ℕ) → Hears (limit.MAX_PLACES - limit.FRAME_PLACES) frame now → IsFrame ToServers frame → IsFree frame server now → IsRunning limit.MAX_PLACES (waits_in now frame)
 runs now frame server heard is free = sent_lasts (limit.MAX_PLACES - limit.FRAME_PLACES) heard.before now (waits_in now frame) frame heard.running is free.sends heard.admitted (waits_last now frame)
@@ -28,7 +31,7 @@ serve_taken-requires c = record {
     waits_in (whole c.args.session.now) (frame_of c.args.frame),
     (
       runs (whole c.args.session.now) (frame_of c.args.frame) c.args.server c.requires.heard c.requires.frame c.requires.free,
-      takes (whole c.args.session.now) (frame_of c.args.frame) c.args.server c.of_frame-sent.result c.requires.heard c.requires.free c.of_frame-sent.ensures,
+      takes (whole c.args.session.now) (whole c.take_place.new.self) (frame_of c.args.frame) c.args.server c.take_place.result c.of_frame-sent.result c.requires.heard c.requires.free c.take_place.ensures.place c.of_frame-sent.ensures c.take_place.ensures.taken,
     ),
   );
 }
@@ -43,7 +46,7 @@ returns-clause-reached c =
     (none_waits heard.before now (limit.MAX_PLACES - limit.FRAME_PLACES) heard.running heard.admitted.same c.requires.free.none)
     (served.served (waits_in now (frame_of c.args.frame))
     (runs now (frame_of c.args.frame) c.args.server heard c.requires.frame c.requires.free)
-    (takes now (frame_of c.args.frame) c.args.server c.of_frame-sent.result heard c.requires.free c.of_frame-sent.ensures))) c.serve_taken.ensures.served
+    (takes now (whole c.take_place.new.self) (frame_of c.args.frame) c.args.server c.take_place.result c.of_frame-sent.result heard c.requires.free c.take_place.ensures.place c.of_frame-sent.ensures c.take_place.ensures.taken))) c.serve_taken.ensures.served
 
 pub returns-clause-running : goal.returns-clause-running
 returns-clause-running c =
@@ -53,4 +56,4 @@ returns-clause-running c =
     served.running (most + limit.FRAME_PLACES) (waits_in now (frame_of c.args.frame))
     (runs now (frame_of c.args.frame) c.args.server c.requires.heard c.requires.frame c.requires.free)
     (sent_lasts most before now (waits_in now (frame_of c.args.frame)) (frame_of c.args.frame) run c.requires.frame c.requires.free.sends admitted (waits_last now (frame_of c.args.frame)))
-    (takes now (frame_of c.args.frame) c.args.server c.of_frame-sent.result c.requires.heard c.requires.free c.of_frame-sent.ensures)) c.serve_taken.ensures.served
+    (takes now (whole c.take_place.new.self) (frame_of c.args.frame) c.args.server c.take_place.result c.of_frame-sent.result c.requires.heard c.requires.free c.take_place.ensures.place c.of_frame-sent.ensures c.take_place.ensures.taken)) c.serve_taken.ensures.served

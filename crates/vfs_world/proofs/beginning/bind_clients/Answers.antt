@@ -7,14 +7,14 @@ use Rattle.vfs_world.proofs.Begun.{client_bound, client_one_of, client_unbound}
 use Rattle.vfs_world.proofs.beginning.bind_clients.Goals as goal
 
 pub bind-requires-clause-unbound : goal.bind-requires-clause-unbound
-bind-requires-clause-unbound c = client_unbound c.args.start.now c.requires.accepted c.loop-item.item c.loop-item.queues (client_item c.client_at-client.result) c.client_at-client.ensures c.loop-item.invariant
+bind-requires-clause-unbound c = client_unbound c.args.start.now c.requires.sound c.loop-item.item c.loop-item.queues (client_item c.client_at-client.result) c.client_at-client.ensures c.loop-item.invariant
 
 pub bind-requires-clause-one_of : goal.bind-requires-clause-one_of
-bind-requires-clause-one_of c = client_one_of c.args.start.now c.requires.accepted c.loop-item.item c.loop-item.queues (client_item c.client_at-client.result) c.client_at-client.ensures c.loop-item.invariant
+bind-requires-clause-one_of c = client_one_of c.args.start.now c.requires.sound c.loop-item.item c.loop-item.queues (client_item c.client_at-client.result) c.client_at-client.ensures c.loop-item.invariant
 
 pub loop-item-preserved : goal.loop-item-preserved
 loop-item-preserved c =
-    client_bound c.args.start.now c.requires.accepted c.loop-item.item c.loop-item.queues (client_item c.client_at-client.result) c.client_at-client.ensures c.loop-item.invariant c.bind.new.self c.in_ok-bind.ensures.bound
+    client_bound c.args.start.now c.requires.sound c.loop-item.item c.loop-item.queues (client_item c.client_at-client.result) c.client_at-client.ensures c.loop-item.invariant c.bind.new.self c.in_ok-bind.ensures.bound
 
 pub returns : goal.returns
 returns c =

@@ -24,14 +24,14 @@ end_of_mount-requires c =
 pub bind-requires-clause-unbound : goal.bind-requires-clause-unbound
 bind-requires-clause-unbound c =
     subst (λ (endpoint : ℕ). server_of c.loop-item.queues endpoint ≡ None) (sym c.end_of_mount.ensures)
-    (mount_unbound c.args.start.now c.requires.accepted c.loop-item.item c.loop-item.queues (mount_item c.mount_at-mount.result) c.mount_at-mount.ensures c.loop-item.invariant)
+    (mount_unbound c.args.start.now c.requires.sound c.loop-item.item c.loop-item.queues (mount_item c.mount_at-mount.result) c.mount_at-mount.ensures c.loop-item.invariant)
 
 pub bind-requires-clause-one_of : goal.bind-requires-clause-one_of
-bind-requires-clause-one_of c = mount_one_of c.args.start.now c.requires.accepted c.loop-item.item c.loop-item.queues (mount_item c.mount_at-mount.result) c.mount_at-mount.ensures c.loop-item.invariant
+bind-requires-clause-one_of c = mount_one_of c.args.start.now c.requires.sound c.loop-item.item c.loop-item.queues (mount_item c.mount_at-mount.result) c.mount_at-mount.ensures c.loop-item.invariant
 
 pub loop-item-preserved : goal.loop-item-preserved
 loop-item-preserved c =
-    mount_bound c.args.start.now c.requires.accepted c.loop-item.item c.loop-item.queues (mount_item c.mount_at-mount.result) c.mount_at-mount.ensures c.loop-item.invariant c.bind.new.self
+    mount_bound c.args.start.now c.requires.sound c.loop-item.item c.loop-item.queues (mount_item c.mount_at-mount.result) c.mount_at-mount.ensures c.loop-item.invariant c.bind.new.self
     (subst (λ (endpoint : ℕ). Binds c.loop-item.queues endpoint c.mount_at-mount.result.target c.bind.new.self) c.end_of_mount.ensures c.in_ok-bind.ensures.bound)
 
 pub returns : goal.returns

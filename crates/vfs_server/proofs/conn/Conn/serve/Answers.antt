@@ -3,47 +3,57 @@ use Rattle.std.specs.Option.{option_map}
 use Rattle.io_messages.specs.Asked.{asked}
 use Rattle.io_messages.specs.declared.protocols.Protocol.TheVariants as protocol
 use Rattle.conn_rules.specs.Acts.{act_of}
+use Rattle.conn_rules.specs.Answers.{Act}
 use Rattle.conn_rules.specs.Contexts.{context_of}
 use Rattle.conn_rules.specs.Served.{told_by}
 use Rattle.node_graph.specs.Graph.{number_of}
-use Rattle.vfs_server.specs.Steps.{Acts, IsOfItsKind, connection_of, of_directory}
+use Rattle.vfs_server.specs.Steps.{Acts, IsOfItsKind, act_asked, connection_of, of_directory}
 use Rattle.vfs_server.proofs.Carried.{target_is_directory}
 use Rattle.vfs_server.proofs.Giving.{acts_of_directory, given_other, some_of}
+use Rattle.vfs_server.proofs.Looked.{asked_alike}
 use Rattle.vfs_server.proofs.conn.Conn.serve.Goals as goal
 
 pub serve-served-requires-clause-target : goal.serve-served-requires-clause-target
 serve-served-requires-clause-target c node is =
-    let one = target_is_directory c.args.graph.now c.args.tokens.now c.requires.directories (asked c.args.request.now) node (sym c.target-target.ensures ∙ is) in
+    let one = target_is_directory c.args.graph.now c.args.asking.now.tokens.now c.requires.can.directories (asked c.args.request.now) node (sym c.target-target.ensures ∙ is) in
     (one.kept, one.kind)
 
 pub returns-in-Directory-clause-acts : goal.returns-in-Directory-clause-acts
 returns-in-Directory-clause-acts c tree directory stands named some =
-    subst (λ connection. Acts (act_of (context_of connection c.args.room tree directory) (asked c.args.request.now)) c.args.txid c.of_directory.result (told_by c.of_directory.new.changes) c.serve-served.new.out c.serve-served.new.self c.args.graph.now c.serve-served.new.graph)
+    subst (λ (act : Act). Acts act c.args.txid c.of_directory.result (told_by c.of_directory.new.changes) c.serve-served.new.out c.serve-served.new.self c.args.graph.now c.serve-served.new.graph)
+    (asked_alike c.args.asking.now (connection_of c.args.self.now) c.room-room.result tree directory (asked c.args.request.now) c.room-room.ensures)
+    (subst (λ connection. Acts (act_of (context_of connection c.room-room.result tree directory) (asked c.args.request.now)) c.args.txid c.of_directory.result (told_by c.of_directory.new.changes) c.serve-served.new.out c.serve-served.new.self c.args.graph.now c.serve-served.new.graph)
     (c.deref_mut.ensures.value ∙ sym (ap connection_of c.in-Directory.is))
-    (subst (λ one. Acts (act_of (context_of c.deref_mut.result.now c.args.room tree directory) (asked c.args.request.now)) c.args.txid one (told_by c.of_directory.new.changes) c.serve-served.new.out c.serve-served.new.self c.args.graph.now c.serve-served.new.graph)
+    (subst (λ one. Acts (act_of (context_of c.deref_mut.result.now c.room-room.result tree directory) (asked c.args.request.now)) c.args.txid one (told_by c.of_directory.new.changes) c.serve-served.new.out c.serve-served.new.self c.args.graph.now c.serve-served.new.graph)
     (sym c.of_directory.ensures.given)
-    (subst (λ told. Acts (act_of (context_of c.deref_mut.result.now c.args.room tree directory) (asked c.args.request.now)) c.args.txid (of_directory c.serve-served.result) told c.serve-served.new.out c.serve-served.new.self c.args.graph.now c.serve-served.new.graph)
+    (subst (λ told. Acts (act_of (context_of c.deref_mut.result.now c.room-room.result tree directory) (asked c.args.request.now)) c.args.txid (of_directory c.serve-served.result) told c.serve-served.new.out c.serve-served.new.self c.args.graph.now c.serve-served.new.graph)
     (sym c.of_directory.ensures.told)
     (acts_of_directory _ c.args.txid c.serve-served.result c.serve-served.new.out c.serve-served.new.self c.args.graph.now c.serve-served.new.graph
-    (c.serve-served.ensures.serves tree directory stands (named ∙ ap (option_map number_of) (sym c.target-target.ensures)) (λ e. some (c.of_directory.ensures.given ∙ ap of_directory e))))))
+    (c.serve-served.ensures.serves tree directory stands (named ∙ ap (option_map number_of) (sym c.target-target.ensures)) (λ e. some (c.of_directory.ensures.given ∙ ap of_directory e)))))))
 
 pub returns-in-File-clause-acts : goal.returns-in-File-clause-acts
 returns-in-File-clause-acts c tree directory stands named some =
-    subst (λ connection. Acts (act_of (context_of connection c.args.room tree directory) (asked c.args.request.now)) c.args.txid c.of.result (told_by c.args.changes.now) c.serve.new.out c.serve.new.self c.args.graph.now c.serve.new.graph)
+    subst (λ (act : Act). Acts act c.args.txid c.of.result (told_by c.args.changes.now) c.serve.new.out c.serve.new.self c.args.graph.now c.serve.new.graph)
+    (asked_alike c.args.asking.now (connection_of c.args.self.now) c.room-room.result tree directory (asked c.args.request.now) c.room-room.ensures)
+    (subst (λ connection. Acts (act_of (context_of connection c.room-room.result tree directory) (asked c.args.request.now)) c.args.txid c.of.result (told_by c.args.changes.now) c.serve.new.out c.serve.new.self c.args.graph.now c.serve.new.graph)
     (sym (ap connection_of c.in-File.is))
-    (given_other (act_of (context_of c.in-File.conn c.args.room tree directory) (asked c.args.request.now)) c.args.txid c.serve.result c.of.result (told_by c.args.changes.now) c.serve.new.out c.serve.new.self c.args.graph.now c.serve.new.graph c.of.ensures c.requires.none
-    (c.serve.ensures.serves tree directory stands (some_of c.serve.result (λ e. some (c.of.ensures ∙ e)))))
+    (given_other (act_of (context_of c.in-File.conn c.room-room.result tree directory) (asked c.args.request.now)) c.args.txid c.serve.result c.of.result (told_by c.args.changes.now) c.serve.new.out c.serve.new.self c.args.graph.now c.serve.new.graph c.of.ensures c.requires.can.none
+    (c.serve.ensures.serves tree directory stands (some_of c.serve.result (λ e. some (c.of.ensures ∙ e))))))
 
 pub returns-in-Node-clause-acts : goal.returns-in-Node-clause-acts
 returns-in-Node-clause-acts c tree directory stands named some =
-    subst (λ connection. Acts (act_of (context_of connection c.args.room tree directory) (asked c.args.request.now)) c.args.txid c.of-in-Node.result (told_by c.args.changes.now) c.serve-in-Node.new.out c.serve-in-Node.new.self c.args.graph.now c.serve-in-Node.new.graph)
+    subst (λ (act : Act). Acts act c.args.txid c.of-in-Node.result (told_by c.args.changes.now) c.serve-in-Node.new.out c.serve-in-Node.new.self c.args.graph.now c.serve-in-Node.new.graph)
+    (asked_alike c.args.asking.now (connection_of c.args.self.now) c.room-room.result tree directory (asked c.args.request.now) c.room-room.ensures)
+    (subst (λ connection. Acts (act_of (context_of connection c.room-room.result tree directory) (asked c.args.request.now)) c.args.txid c.of-in-Node.result (told_by c.args.changes.now) c.serve-in-Node.new.out c.serve-in-Node.new.self c.args.graph.now c.serve-in-Node.new.graph)
     (sym (ap connection_of c.in-Node.is))
-    (given_other (act_of (context_of c.in-Node.conn c.args.room tree directory) (asked c.args.request.now)) c.args.txid c.serve-in-Node.result c.of-in-Node.result (told_by c.args.changes.now) c.serve-in-Node.new.out c.serve-in-Node.new.self c.args.graph.now c.serve-in-Node.new.graph c.of-in-Node.ensures c.requires.none
-    (c.serve-in-Node.ensures.serves tree directory stands c.serve-in-Node.ensures.memory))
+    (given_other (act_of (context_of c.in-Node.conn c.room-room.result tree directory) (asked c.args.request.now)) c.args.txid c.serve-in-Node.result c.of-in-Node.result (told_by c.args.changes.now) c.serve-in-Node.new.out c.serve-in-Node.new.self c.args.graph.now c.serve-in-Node.new.graph c.of-in-Node.ensures c.requires.can.none
+    (c.serve-in-Node.ensures.serves tree directory stands c.serve-in-Node.ensures.memory)))
 
 pub returns-in-Echo-clause-acts : goal.returns-in-Echo-clause-acts
 returns-in-Echo-clause-acts c tree directory stands named some =
     let here = connection_of c.args.self.now in
     let kind : here.birth.protocol ≡ protocol.Echo = ap (λ connection. connection.birth.protocol) (ap connection_of c.in-Echo.is) ∙ subst IsOfItsKind c.in-Echo.is c.requires.kind in
-    given_other (act_of (context_of here c.args.room tree directory) (asked c.args.request.now)) c.args.txid c.echo.result c.of-in-Echo.result (told_by c.args.changes.now) c.echo.new.out here c.args.graph.now c.args.graph.now c.of-in-Echo.ensures c.requires.none
-    (c.echo.ensures.serves here c.args.graph.now c.args.room tree directory kind (c.requires.node.connects kind) c.echo.ensures.memory)
+    subst (λ (act : Act). Acts act c.args.txid c.of-in-Echo.result (told_by c.args.changes.now) c.echo.new.out here c.args.graph.now c.args.graph.now)
+    (asked_alike c.args.asking.now here c.room-room.result tree directory (asked c.args.request.now) c.room-room.ensures)
+    (given_other (act_of (context_of here c.room-room.result tree directory) (asked c.args.request.now)) c.args.txid c.echo.result c.of-in-Echo.result (told_by c.args.changes.now) c.echo.new.out here c.args.graph.now c.args.graph.now c.of-in-Echo.ensures c.requires.can.none
+    (c.echo.ensures.serves here c.args.graph.now c.room-room.result tree directory kind (c.requires.can.node.connects kind) c.echo.ensures.memory))

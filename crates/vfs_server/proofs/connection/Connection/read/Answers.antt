@@ -8,7 +8,7 @@ use Rattle.conn_rules.specs.Answers.{nothing_told}
 use Rattle.conn_rules.specs.Births.{Connection}
 use Rattle.conn_rules.specs.Shared.{CanBeBound}
 use Rattle.vfs_journal.specs.Serving.{object_of}
-use Rattle.vfs_server.specs.declared.fate.Fate.TheVariants as fates
+use Rattle.vfs_server.specs.declared.deed.Deed.TheVariants as deeds
 use Rattle.vfs_server.specs.declared.given.Given.TheVariants as given
 use Rattle.vfs_server.specs.Steps.{DoesGiven, IsAskedAt, IsOfItsKind, connection_of, frames_given, of_other, room_for, stays}
 use Rattle.vfs_server.proofs.Answering.{begins_by, on_ok, request_answers}
@@ -37,8 +37,8 @@ returns-clause-answers c server asking moment on is =
     (λ done.
     request_answers server asking c.args.graph.now c.serve_part.new.graph c.in-File.conn (subst (λ (connection : Connection). CanBeBound c.args.graph.now connection.birth) (sym (here c)) c.requires.node) moment asks c.args.txid (asked c.args.request.now)
     (subst (λ p. has_method p (method_of (asked c.args.request.now)) ≡ true) (sym (is_file c)) (file_has (asked c.args.request.now) c.requires.part)) given.Reply nothing_told c.serve_part.new.out c.serve_part.new.conn c.serve_part.ensures.holds.birth
-    acts stays refl c.serve_part.new.out c.args.outbox.now c.put_bare_reply.new.outbox
-    (subst (λ (endpoint : ℕ). DoesGiven endpoint (object_of (asked c.args.request.now)) c.in-File.conn.birth.node given.Reply c.serve_part.new.out fates.Stays c.serve_part.new.out c.args.outbox.now c.put_bare_reply.new.outbox) (sym on) done))
+    acts stays refl c.args.outbox.now c.put_bare_reply.new.outbox
+    (subst (λ (endpoint : ℕ). DoesGiven endpoint (object_of (asked c.args.request.now)) c.in-File.conn.birth.node given.Reply c.serve_part.new.out deeds.Stays c.args.outbox.now c.put_bare_reply.new.outbox) (sym on) done))
     (c.put_bare_reply.ensures.does (object_of (asked c.args.request.now)) c.in-File.conn.birth.node)
 
 pub returns-clause-begins : goal.returns-clause-begins

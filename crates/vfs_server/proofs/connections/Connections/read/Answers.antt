@@ -26,7 +26,7 @@ returns-clause-read c old is =
       subst (λ (was : Connection). IfSome c.read.result (λ read. was.birth.protocol ≡ protocol.File)) same c.read.ensures.file,
       subst
           (λ (was : Connection). (server : ℕ) (asking : Asking) (moment : Moment) → asking.endpoint ≡ c.args.endpoint → IsAskedAt server asking c.args.graph.now was moment →
-          IfSome c.read.result (λ read. OnOk read (Answers moment (outcome_of_read moment (Ok (c.args.txid, asked c.args.request.now))) stays c.read.new.out new c.args.graph.now c.read.new.graph c.args.outbox.now c.read.new.outbox)))
+          IfSome c.read.result (λ read. OnOk read (Answers moment (outcome_of_read moment (Ok (c.args.txid, asked c.args.request.now))) stays new c.args.graph.now c.read.new.graph c.args.outbox.now c.read.new.outbox)))
           same c.read.ensures.answers,
     )
 

@@ -10,9 +10,9 @@ use Rattle.vfs_server.specs.Steps.{Answers, AreNamed, IsAskedAt, done_with}
 use Rattle.vfs_server.proofs.Found.{is_found, looked_up, not_none, put_back}
 use Rattle.vfs_server.proofs.connections.Connections.serve.Goals as goal
 
-pub serve-requires-clause-node : goal.serve-requires-clause-node
-serve-requires-clause-node c =
-    c.requires.node c.in-Some.connection.now (looked_up c.self.inside.kept.entries c.args.self.now c.args.asking.now.endpoint (Some c.in-Some.connection.now) c.self.view_is c.in-Some.ensures.value)
+pub serve-requires-clause-can : goal.serve-requires-clause-can
+serve-requires-clause-can c =
+    c.requires.can c.in-Some.connection.now (looked_up c.self.inside.kept.entries c.args.self.now c.args.asking.now.endpoint (Some c.in-Some.connection.now) c.self.view_is c.in-Some.ensures.value)
 
 pub returns-clause-served : goal.returns-clause-served
 returns-clause-served c old is =
@@ -27,8 +27,8 @@ returns-clause-served c old is =
       c.serve.ensures.tells,
       subst
           (λ (was : Connection). (server : ℕ) (moment : Moment) → IsAskedAt server c.args.asking.now c.args.graph.now was moment →
-          AreNamed c.args.tokens.now (numbers_of c.args.handles.now) moment.directory →
-          IfOk c.serve.result (λ fate. Answers moment (outcome_of_read moment (request_of was.birth.protocol c.args.bytes.now c.args.handles.now)) (done_with fate c.serve.new.changes) c.serve.new.out new c.args.graph.now c.serve.new.graph c.args.outbox.now c.serve.new.outbox))
+          AreNamed c.args.asking.now.tokens.now (numbers_of c.args.message.now.handles.now) moment.directory →
+          IfOk c.serve.result (λ fate. Answers moment (outcome_of_read moment (request_of was.birth.protocol c.args.message.now.bytes.now c.args.message.now.handles.now)) (done_with fate c.serve.new.changes) new c.args.graph.now c.serve.new.graph c.args.outbox.now c.serve.new.outbox))
           same c.serve.ensures.answers,
     )
 

@@ -5,7 +5,7 @@ use Rattle.conn_rules.specs.Births.{fresh}
 use Rattle.vfs_server.specs.Binding.{Binds, HasPlace}
 use Rattle.vfs_server.specs.Kept.{Connections, IsSound}
 use Rattle.vfs_server.specs.Servers.{Server, bound_with, seen}
-use Rattle.watch_seats.specs.Seats.{seat_at}
+use Rattle.vfs_server.specs.Seats.{seat_at}
 use Rattle.vfs_server.proofs.Answering.{no_watcher}
 use Rattle.vfs_server.proofs.Binding.{binds_one, both_free, in_use_is, server_of}
 use Rattle.vfs_server.proofs.Held.{few_held}

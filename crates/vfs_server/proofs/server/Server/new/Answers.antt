@@ -1,7 +1,7 @@
 use Rattle.std.proofs.Common.{[], sym, subst}
 use Rattle.std.specs.FinMap as finite
 use Rattle.vfs_server.specs.Kept.{Connections, IsSound, Tokens}
-use Rattle.watch_seats.specs.Seats.{Seats}
+use Rattle.vfs_server.specs.Seats.{Seats}
 use Rattle.vfs_server.proofs.Begun.{sound_none}
 use Rattle.vfs_server.proofs.server.Server.new.Goals as goal
 

@@ -12,20 +12,22 @@ use Rattle.vfs_journal.specs.Entries.{message}
 use Rattle.vfs_journal.specs.Serving.{Moment, outcome_of_read, outcome_of_sending}
 use Rattle.vfs_journal.specs.Starts.{Bound}
 use Rattle.vfs_server.specs.declared.asking.Asking.{Asking}
+use Rattle.vfs_server.specs.declared.deed.Deed.TheVariants as deeds
 use Rattle.vfs_server.specs.declared.fate.Fate.TheVariants as fates
 use Rattle.vfs_server.specs.Kept.{Connections, IsSound}
-use Rattle.watch_seats.specs.declared.watching.Seat.{Seat}
+use Rattle.vfs_server.specs.declared.watching.Seat.{Seat}
 use Rattle.io_messages.specs.Asked.{asked}
 use Rattle.vfs_server.specs.Servers.{Server, connected, seen, seen_as}
 use Rattle.vfs_server.specs.Serving.{IsMomentOf, Serves}
 use Rattle.vfs_server.specs.Steps.{Answers, stays}
-use Rattle.watch_seats.specs.Seats.{Seats, seat_at}
+use Rattle.vfs_server.specs.Seats.{Seats, seat_at}
 use Rattle.vfs_server.specs.Watched.{bounds_at}
 use Rattle.vfs_server.proofs.Answering.{on_ok, some_both, some_none}
 use Rattle.vfs_server.proofs.Binding.{either_way, seen_watching, server_of}
 use Rattle.vfs_server.proofs.Maps.{get_put}
 use Rattle.vfs_server.proofs.Seats.{seated}
-use Rattle.vfs_server.proofs.Servings.{is_asked, serves_message}
+use Rattle.vfs_server.proofs.Servings.{at_server, is_asked, serves_message}
+use Rattle.vfs_server.proofs.Settled.{settled}
 use Rattle.vfs_server.proofs.Sound.{sound_served}
 use Rattle.vfs_server.proofs.server.Server.read.Goals as goal
 use Rattle.vfs_server.proofs.server.Server.read.Goals.{After-read}
@@ -60,12 +62,13 @@ asking c token = record {
   endpoint = c.args.endpoint;
   connections = finite.len c.self.inside.connections + length c.self.inside.watching;
   watching = record { ref_ptr = c.args.self.ref_ptr; now = c.self.inside.watching };
+  tokens = record { ref_ptr = c.args.self.ref_ptr; now = c.self.inside.tokens };
   token = token;
 }
 
 abbrev IsServing : (c : After-read) → Moment → List ℕ → Server → Connections → Type 0
 IsServing c moment bytes server connections =
-    Serves moment (outcome_of_sending moment (message bytes [])) fates.Stays c.read.new.out server (server_of c.self.inside.index c.read.new.graph connections c.self.inside.watching c.self.inside.tokens) c.args.outbox.now c.read.new.outbox
+    Serves moment (outcome_of_sending moment (message bytes [])) fates.Stays server (server_of c.self.inside.index c.read.new.graph connections c.self.inside.watching c.self.inside.tokens) c.args.outbox.now c.read.new.outbox
 
 on_connection : (c : After-read) (bytes : List ℕ) (token : Option ℕ) (moment : Moment) → request_of protocol.File bytes [] ≡ Ok (c.args.txid, asked c.args.request.now) → IsMomentOf (before c) c.args.endpoint token [] moment →
     (old : Connection) → finite.get c.self.inside.connections c.args.endpoint ≡ Some old → IfSome c.read.result (λ read. OnOk read (IsServing c moment bytes (before c) c.read.new.self))
@@ -77,12 +80,15 @@ on_connection c bytes token moment is here old there =
     (λ read file answered. on_ok read
     (λ answers.
     subst (λ (connections : Connections). IsServing c moment bytes (before c) connections) (sym served.2)
+    (settled moment _ deeds.Stays fates.Stays (before c) _ _ c.args.outbox.now c.read.new.outbox
     (serves_message c.self.inside.index c.self.inside.graph c.self.inside.connections c.self.inside.watching c.self.inside.tokens (asking c token) [] moment old there refl refl here
-    c.read.new.graph served.0 bytes [] stays c.read.new.out c.args.outbox.now c.read.new.outbox c.read.new.outbox
+    c.read.new.graph served.0 bytes [] stays c.args.outbox.now c.read.new.outbox c.read.new.outbox
     refl refl (c.self.invariant.each c.args.endpoint old there) served.1 (kept.each c.args.endpoint served.0 (get_put c.self.inside.connections c.args.endpoint served.0))
-    (subst (λ request. Answers moment (outcome_of_read moment request) stays c.read.new.out served.0 c.self.inside.graph c.read.new.graph c.args.outbox.now c.read.new.outbox)
+    (subst (λ request. Answers moment (outcome_of_read moment request) stays served.0 c.self.inside.graph c.read.new.graph c.args.outbox.now c.read.new.outbox)
     (sym (ap (λ (p : Protocol). request_of p bytes []) file ∙ is)) answers)
-    (sym (append-nil c.read.new.outbox)))) answered)
+    (sym (append-nil c.read.new.outbox)))
+    (at_server c.self.inside.index c.self.inside.graph c.self.inside.connections c.self.inside.watching c.self.inside.tokens (asking c token) [] moment old there refl refl here)
+    (refl, refl))) answered)
     served.3 (served.4 c.self.inside.index (asking c token) moment refl asked)
 
 pub returns-clause-serves : goal.returns-clause-serves

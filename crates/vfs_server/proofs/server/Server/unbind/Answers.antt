@@ -1,15 +1,15 @@
 use Rattle.std.proofs.Common.{◌≡◌, ◌∙◌, ◌<◌, ◌-◌, None, Some, ap, is_some, subst, sym}
 use Rattle.std.specs.FinMap as finite
 use Rattle.node_graph.specs.Graph.{HoldsNow, Names, holds_at, number_of}
-use Rattle.watch_seats.specs.declared.watching.Seat.{Seat}
+use Rattle.vfs_server.specs.declared.watching.Seat.{Seat}
 use Rattle.vfs_server.specs.Binding.{Unbinds}
 use Rattle.vfs_server.specs.Kept.{Connections, IsSound}
 use Rattle.vfs_server.specs.Servers.{Server}
-use Rattle.watch_seats.specs.Seats.{Seats, seat_at, without}
+use Rattle.vfs_server.specs.Seats.{Seats, seat_at, without}
 use Rattle.vfs_server.proofs.Binding.{seat_found, seat_none, server_of, unbinds_none, unbinds_one, unwatches_one}
 use Rattle.vfs_server.proofs.Held.{held_by_watcher, held_there, watched_there}
 use Rattle.vfs_server.proofs.Maps.{nothing_cut}
-use Rattle.watch_seats.proofs.Seats.{without_none}
+use Rattle.vfs_server.proofs.SeatLists.{without_none}
 use Rattle.vfs_server.proofs.Sound.{sound_less, sound_unwatched}
 use Rattle.vfs_server.proofs.server.Server.unbind.Goals as goal
 

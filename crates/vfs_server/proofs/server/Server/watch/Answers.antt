@@ -5,7 +5,7 @@ use Rattle.node_graph.specs.Graph.{number_of}
 use Rattle.vfs_server.specs.Binding.{Binds, CanWatch}
 use Rattle.vfs_server.specs.Kept.{IsSound}
 use Rattle.vfs_server.specs.Servers.{Server, seen, watcher_with}
-use Rattle.watch_seats.specs.Seats.{Seats, seat_at}
+use Rattle.vfs_server.specs.Seats.{Seats, seat_at}
 use Rattle.vfs_server.proofs.Binding.{both_free, in_use_is, server_of, watches_one}
 use Rattle.vfs_server.proofs.Held.{few_held}
 use Rattle.vfs_server.proofs.Seats.{counted_as}

@@ -1,10 +1,10 @@
 use Rattle.std.proofs.Common.{◌*◌, ◌∙◌, refl, sym}
 use Rattle.fidl_names.specs.declared.limits.TheConstants as limit
-use Rattle.vfs_session.specs.Running.{whole}
-use Rattle.vfs_session.proofs.Serves.{drain_leads}
-use Rattle.vfs_world.proofs.Answered.{not_err}
+use Rattle.vfs_world.specs.Running.{whole}
+use Rattle.vfs_world.proofs.Serves.{drain_leads}
+use Rattle.vfs_world.proofs.CallResults.{not_err}
 use Rattle.vfs_world.proofs.Conduct.{done, wanting}
-use Rattle.vfs_world.proofs.Worlds.{able_of, leads_inside, nothing_waits, runs_inside, stands_inside, taken_back}
+use Rattle.vfs_world.proofs.Worlds.{able_of, keeps_laws, leads_inside, nothing_waits, runs_inside, stands_inside, taken_back}
 use Rattle.vfs_world.proofs.world.World.drain.Goals as goal
 
 pub drain-requires : goal.drain-requires
@@ -47,3 +47,10 @@ returns-in-Err-clause-conduct c =
 
 pub returns-clause-conduct : goal.returns-clause-conduct
 returns-clause-conduct c = done _ _ _ _ tt (able_of c.self.inside c.self.view_is c.if-self.false) c.if-self.false
+
+pub returns-clause-keeps : goal.returns-clause-keeps
+returns-clause-keeps c =
+    λ start journal stands.
+    let apart = (runs_inside c.self.inside c.self.view_is c.self.invariant stands.able).apart in
+    keeps_laws apart
+    (drain_leads apart start journal (whole c.self.inside.session) (whole c.drain.new.self) c.args.outbox.now c.drain.new.outbox (stands_inside c.self.inside c.self.view_is start journal stands) c.in_default.ensures.drained).0

@@ -1,10 +1,10 @@
 use Rattle.std.proofs.Common.{◌≡◌, ◌∙◌, ◌+◌, ◌-◌, ◌*◌, ◌<◌, ap, arith}
 use Rattle.fidl_names.specs.declared.limits.TheConstants as limit
-use Rattle.vfs_session.specs.Running.{whole}
-use Rattle.vfs_session.specs.World.{World}
-use Rattle.vfs_session.proofs.Lasting.{lasts_more}
+use Rattle.vfs_world.specs.Running.{whole}
+use Rattle.vfs_world.specs.World.{World}
+use Rattle.vfs_world.proofs.Lasting.{lasts_more}
 use Rattle.vfs_world.proofs.Conduct.{done, wanting}
-use Rattle.vfs_world.proofs.Worlds.{able_of, leads_inside, stands_inside, taken_back, within_more}
+use Rattle.vfs_world.proofs.Worlds.{able_of, keeps_laws, leads_inside, stands_inside, taken_back, within_more}
 use Rattle.vfs_world.proofs.world.World.hear.Goals as goal
 
 pub hear-requires-clause-running : goal.hear-requires-clause-running
@@ -44,3 +44,8 @@ returns-in-Err-clause-conduct c =
 
 pub returns-clause-conduct : goal.returns-clause-conduct
 returns-clause-conduct c = done _ _ _ _ tt (able_of c.self.inside c.self.view_is c.if-self.false) c.if-self.false
+
+pub returns-clause-keeps : goal.returns-clause-keeps
+returns-clause-keeps c =
+    λ start journal stands.
+    keeps_laws (c.self.invariant c.if-self.false).0.apart (c.in_default.ensures.heard start journal (stands_inside c.self.inside c.self.view_is start journal stands))

@@ -1,5 +1,5 @@
 use Rattle.vfs_journal.specs.Starts.{start_of}
-use Rattle.vfs_session.specs.Running.{whole}
+use Rattle.vfs_world.specs.Running.{whole}
 use Rattle.vfs_world.proofs.Worlds.{begins_within}
 use Rattle.vfs_world.proofs.world.World.new.Goals as goal
 

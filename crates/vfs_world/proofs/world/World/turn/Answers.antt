@@ -1,9 +1,9 @@
 use Rattle.std.proofs.Common.{◌∙◌, sym}
-use Rattle.vfs_session.specs.Running.{whole}
-use Rattle.vfs_session.proofs.Serves.{turn_counts, turn_ends, turn_idle, turn_leads}
-use Rattle.vfs_world.proofs.Answered.{not_err, same_count}
+use Rattle.vfs_world.specs.Running.{whole}
+use Rattle.vfs_world.proofs.Serves.{turn_counts, turn_ends, turn_idle, turn_leads}
+use Rattle.vfs_world.proofs.CallResults.{not_err, same_count}
 use Rattle.vfs_world.proofs.Conduct.{done, wanting}
-use Rattle.vfs_world.proofs.Worlds.{able_of, leads_inside, runs_inside, stands_inside, taken_back}
+use Rattle.vfs_world.proofs.Worlds.{able_of, keeps_laws, leads_inside, runs_inside, stands_inside, taken_back}
 use Rattle.vfs_world.proofs.world.World.turn.Goals as goal
 
 pub turn-requires : goal.turn-requires
@@ -50,3 +50,10 @@ returns-in-Err-clause-conduct c =
 
 pub returns-in-Ok-clause-conduct : goal.returns-in-Ok-clause-conduct
 returns-in-Ok-clause-conduct c = done _ _ _ _ _ (able_of c.self.inside c.self.view_is c.if-self.false) c.if-self.false
+
+pub returns-in-Ok-clause-keeps : goal.returns-in-Ok-clause-keeps
+returns-in-Ok-clause-keeps c =
+    λ start journal stands.
+    let apart = (runs_inside c.self.inside c.self.view_is c.self.invariant stands.able).apart in
+    keeps_laws apart
+    (turn_leads apart start journal c.args.server c.args.n c.in-Ok.done (whole c.self.inside.session) (whole c.turn.new.self) c.args.outbox.now c.turn.new.outbox (stands_inside c.self.inside c.self.view_is start journal stands) c.in-Ok.ensures.turned)

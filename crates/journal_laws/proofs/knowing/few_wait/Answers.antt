@@ -1,5 +1,0 @@
-use Rattle.journal_laws.proofs.Waits.{lawful_wait}
-use Rattle.journal_laws.proofs.knowing.few_wait.Goals as goal
-
-pub returns : goal.returns
-returns c = lawful_wait

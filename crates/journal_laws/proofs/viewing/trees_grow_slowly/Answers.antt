@@ -1,5 +1,0 @@
-use Rattle.journal_laws.proofs.Growing.{trees_grow}
-use Rattle.journal_laws.proofs.viewing.trees_grow_slowly.Goals as goal
-
-pub returns : goal.returns
-returns c = trees_grow

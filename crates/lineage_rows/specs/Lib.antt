@@ -1,2 +1,0 @@
--- A worked row of lineages. No other crate needs it.
-pub mod Rows

@@ -1,9 +1,0 @@
-pub mod Forms
-pub mod Framed
-pub mod ShortIds
-pub mod Front
-pub mod Written
-pub mod Served
-pub mod Ordered
-pub mod Once
-pub mod Settled

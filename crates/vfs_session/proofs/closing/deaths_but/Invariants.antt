@@ -1,6 +1,0 @@
-use Rattle.std.proofs.Common.{◌≡◌, not, filter, take}
-use Rattle.vfs_session.specs.Steps.{is_it}
-use Rattle.vfs_session.proofs.closing.deaths_but.Given as goal
-
-abbrev pub invariant-loop-death : goal.invariant-loop-death
-invariant-loop-death l = l.others.items ≡ filter (λ number. not (is_it l.one number)) (take l.death-index l.dead)

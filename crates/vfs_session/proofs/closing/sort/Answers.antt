@@ -1,6 +1,0 @@
-use Rattle.std.proofs.lemmas.List.Filters.{dedup_is}
-use Rattle.vfs_session.proofs.Sorted.{sorted_once}
-use Rattle.vfs_session.proofs.closing.sort.Goals as goal
-
-pub returns : goal.returns
-returns c = sorted_once _ _ _ c.sort_unstable.ensures.permutation c.sort_unstable.ensures.sorted (dedup_is _ _ _ c.dedup.ensures.filtered)
