@@ -20,10 +20,11 @@ use Rattle.conn_rules.specs.Births.{Connection, Position}
 use Rattle.conn_rules.specs.Contexts.{Context, context_of}
 use Rattle.conn_rules.specs.FileRows.{reading_refusal}
 use Rattle.conn_rules.specs.Refusals.{unless}
-use Rattle.conn_rules.specs.Served.{Gives, IsServed, takes_memory}
+use Rattle.conn_rules.specs.Served.{Gives, IsServed, KeepsHolds, takes_memory}
 use Rattle.conn_rules.specs.declared.births.Room.{Room}
 use Rattle.conn_rules.specs.declared.served.Served.{Served}
 use Rattle.conn_rules.specs.declared.served.Served.TheVariants as served
+use Rattle.vfs_server.specs.Steps.{IsPartServed}
 use Rattle.vfs_server.proofs.Giving.{by_memory}
 
 -- it has a transaction id, since its method has a reply
@@ -101,3 +102,10 @@ module _ (old : Connection) (a : Asked) (is_part : AsksPart a) (txid : ℕ) (wha
   part_bare =
       let replied = part_replied (context_of old unused there.0 (λ number. None)) a is_part in
       (subst (λ (answer : Answer). Gives answer txid what out) replied.answer (part_served unused there.0 (λ number. None) there.1).answer).1.handles ∙ replied.bare
+
+  pub part_is_served : KeepsHolds old new graph changed → IsPartServed old a txid out new graph changed
+  part_is_served holds = record {
+    serves = λ room tree directory stands. subst (λ (one : Served). IsServed (act_of (context_of old room tree directory) a) txid one out new graph changed) part_reply (part_served room tree directory stands);
+    bare = part_bare;
+    holds = holds;
+  }

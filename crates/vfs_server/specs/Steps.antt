@@ -37,7 +37,7 @@ use Rattle.conn_rules.specs.declared.changes.Changes.{Changes}
 use Rattle.conn_rules.specs.declared.served.Served.{Served}
 use Rattle.conn_rules.specs.declared.served.Served.TheVariants as served
 use Rattle.conn_rules.specs.Opens.{is_full}
-use Rattle.conn_rules.specs.Served.{HasNothing, HasReply, IsBirth, told_by}
+use Rattle.conn_rules.specs.Served.{HasNothing, HasReply, IsBirth, IsServed, KeepsHolds, told_by}
 use Rattle.conn_rules.specs.Shared.{CanBeBound}
 use Rattle.dir_conn.specs.declared.served.DirServed.{DirServed}
 use Rattle.dir_conn.specs.declared.served.DirServed.TheVariants as dir
@@ -288,6 +288,13 @@ pub record IsAskedAt (server : ℕ) (asking : Asking) (graph : Kept) (connection
   pub position : moment.position ≡ connection.position
   pub room : moment.room ≡ room_for asking (number_of connection.birth.node)
   pub tree : StandsFor graph moment.tree
+
+-- a request for a part of a file was served on a connection, whatever is in use: its reply stands in the output, without handles
+pub record IsPartServed (old : Connection) (request : Asked) (txid : ℕ) (out : Written) (new : Connection) (graph changed : Kept) : Type 0 where
+  pub serves : (room : Room) (tree : Tree) (directory : ℕ → Option ℕ) → StandsFor graph tree →
+      IsServed (act_of (context_of old room tree directory) request) txid served.Reply out new graph changed
+  pub bare : out.handles ≡ []
+  pub holds : KeepsHolds old new graph changed
 
 -- a directory can be watched: a connection is to it, there is room, and its tree stays as it is
 pub record MayWatch (in_use : Room) (change : Change) (directory : NodeRef) (connection : Connection) : Type 0 where

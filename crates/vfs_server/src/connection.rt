@@ -1,34 +1,23 @@
 //! A connection, and the serving of what is sent to it.
 
-ghost use Rattle.std.specs.Prelude.{◌≡◌, ◌≤◌, ◌<◌, ◌^◌, ◌≢◌, ℕ, true, [], OnErr, OnOk, Option, IfOk, IfSome, IsSome, None, Ok, length};
+ghost use Rattle.std.specs.Prelude.{◌≡◌, ◌≤◌, ◌<◌, ◌≢◌, ℕ, true, false, OnErr, IfOk, length};
 ghost use Rattle.fidl_names.specs.declared.limits.TheConstants as limit;
-ghost use Rattle.io_messages.specs.Asked.{asked, method_of};
-ghost use Rattle.io_messages.specs.Protocols.{has_method};
-ghost use Rattle.io_messages.specs.Requests.{has_txid, request_of};
-ghost use Rattle.io_messages.specs.Shapes.{is_one_way};
-ghost use Rattle.node_graph.specs.Graph.{StandsFor};
-ghost use Rattle.node_graph.specs.Tree.{Tree};
+ghost use Rattle.io_messages.specs.Asked.{asked};
+ghost use Rattle.io_messages.specs.Requests.{request_of};
 ghost use Rattle.request_reader.specs.Parts.{AsksPart};
-ghost use Rattle.conn_rules.specs.Acts.{act_of};
-ghost use Rattle.conn_rules.specs.Answers.{nothing_told};
 ghost use Rattle.conn_rules.specs.Births.{fresh};
-ghost use Rattle.conn_rules.specs.Contexts.{context_of};
-ghost use Rattle.conn_rules.specs.Served.{HasNothing, IsServed, KeepsHolds, told_by};
+ghost use Rattle.conn_rules.specs.Served.{HasNothing, KeepsHolds};
 ghost use Rattle.conn_rules.specs.Shared.{CanBeBound};
-ghost use Rattle.conn_rules.specs.declared.births.Room.{Room};
 ghost use Rattle.vfs_journal.specs.Handles.{numbers_of};
-ghost use Rattle.vfs_journal.specs.Output.{Begins};
 ghost use Rattle.vfs_journal.specs.Serving.{Moment, outcome_of_read};
-ghost use Rattle.vfs_server.specs.Kept.{NameDirectories};
-ghost use Rattle.vfs_server.specs.declared.asking.Asking.{Asking};
-ghost use Rattle.vfs_server.specs.Steps.{Answers, AreNamed, CanServe, CanTell, IsAskedAt, done_with, stays};
+ghost use Rattle.vfs_server.specs.Steps.{Answers, AreNamed, CanServe, CanTell, IsAskedAt, IsPartServed, done_with};
 
-use crate::answers::{answer, answer_fault, put_bare_reply};
+use crate::answers::{answer, answer_fault};
 use crate::asking::Asking;
 use crate::conn::Conn;
 use crate::deed::Deed;
 use crate::message::Message;
-use conn_rules::{Birth, Changes, Room, Served};
+use conn_rules::{Birth, Changes, Room};
 use endpoint_link::Outbox;
 use fidl_names::NoMemory;
 use fidl_wire::{Ordinals, Out};
@@ -114,41 +103,31 @@ impl Connection {
         }
     }
 
-    /// Serves the request for a part of a file, where it is a connection to one: its reply is written, and the
-    /// endpoint stays. For any other connection `None`, and nothing is done.
-    ///
-    /// For want of memory no frame is written.
+    /// Serves the request for a part of a file, where it is a connection to one, and tells whether it did: its reply
+    /// stands in the output then. On any other connection nothing is done.
     #[inline(always)]
     pub fn read(
         &mut self,
         ordinals: &Ordinals,
-        endpoint: u32,
         graph: &mut Graph,
         txid: u32,
         request: &Request<'_>,
         out: &mut Out,
-        outbox: &mut Outbox,
-    ) -> Option<Result<(), NoMemory>>
+    ) -> bool
         requires node { CanBeBound graph.old self.old.birth }
         requires part { AsksPart (asked request.now) }
         requires txid { 0 < txid }
-        ensures file { IfSome result (λ replied. self.old.birth.protocol ≡ Protocol.File) }
-        ensures reads { self.old.birth.protocol ≡ Protocol.File → IsSome result }
-        ensures begins { Begins outbox.old outbox.new }
-        ensures answers { (server : ℕ) (asking : Asking) (moment : Moment) → asking.endpoint ≡ endpoint → IsAskedAt server asking graph.old self.old moment →
-            IfSome result (λ replied. OnOk replied (Answers moment (outcome_of_read moment (Ok (txid, asked request.now))) stays self.new graph.old graph.new outbox.old outbox.new)) }
-        ensures holds { KeepsHolds self.old self.new graph.old graph.new }
-        ensures unchanged { result ≡ None → (self.new ≡ self.old) × (graph.new ≡ graph.old) × (outbox.new ≡ outbox.old) }
-        ensures no_memory { IfSome result (λ replied. OnErr replied (outbox.new ≡ outbox.old)) }
+        ensures file { result ≡ true → self.old.birth.protocol ≡ Protocol.File }
+        ensures reads { self.old.birth.protocol ≡ Protocol.File → result ≡ true }
+        ensures served { result ≡ true → IsPartServed self.old (asked request.now) txid out.new self.new graph.old graph.new }
+        ensures unchanged { result ≡ false → (self.new ≡ self.old) × (graph.new ≡ graph.old) }
     {
         let Conn::File(conn) = &mut self.conn else {
-            return None;
+            return false;
         };
         out.clear();
-        match serve_part(conn, ordinals, graph, txid, request, out) {
-            Served::Reply => Some(put_bare_reply(endpoint, out, outbox)),
-            _ => unreachable!(),
-        }
+        serve_part(conn, ordinals, graph, txid, request, out);
+        true
     }
 }
 
@@ -161,17 +140,13 @@ fn serve_part(
     txid: u32,
     request: &Request<'_>,
     out: &mut Out,
-) -> Served
+)
     requires can { CanBeBound graph.old conn.old.birth }
     requires protocol { conn.old.birth.protocol ≡ Protocol.File }
     requires part { AsksPart (asked request.now) }
     requires txid { 0 < txid }
     requires empty { HasNothing out.old }
-    ensures serves { (room : Room) (tree : Tree) (directory : ℕ → Option ℕ) → StandsFor graph.old tree →
-        IsServed (act_of (context_of conn.old room tree directory) (asked request.now)) txid result out.new conn.new graph.old graph.new }
-    ensures reply { result ≡ Served.Reply }
-    ensures bare { out.new.handles ≡ [] }
-    ensures holds { KeepsHolds conn.old conn.new graph.old graph.new }
+    ensures { IsPartServed conn.old (asked request.now) txid out.new conn.new graph.old graph.new }
 {
     // The graph stands for a tree, over which a part is read without memory.
     let _root = graph.root();
@@ -183,8 +158,12 @@ fn serve_part(
     };
     // Each method has a call of its own, in which the compiler knows it.
     match request {
-        Request::Read { .. } => conn.serve(ordinals, graph, room, txid, request, out),
-        Request::ReadAt { .. } => conn.serve(ordinals, graph, room, txid, request, out),
+        Request::Read { .. } => {
+            conn.serve(ordinals, graph, room, txid, request, out);
+        }
+        Request::ReadAt { .. } => {
+            conn.serve(ordinals, graph, room, txid, request, out);
+        }
         _ => unreachable!(),
     }
 }

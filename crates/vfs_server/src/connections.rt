@@ -1,6 +1,6 @@
 //! The connections of a server, by their endpoints.
 
-ghost use Rattle.std.specs.Prelude.{◌≡◌, ◌≤◌, ◌<◌, ℕ, IfOk, IfSome, IsSome, OnErr, OnOk, Ok, Option, Some, None, length};
+ghost use Rattle.std.specs.Prelude.{◌≡◌, ◌≤◌, ◌<◌, ℕ, true, false, IfOk, OnErr, OnOk, Some, None, length};
 ghost use Rattle.fidl_names.specs.declared.limits.TheConstants as limit;
 ghost use Rattle.std.specs.FinMap as finite;
 ghost use Rattle.conn_rules.specs.Births as births;
@@ -12,8 +12,7 @@ ghost use Rattle.io_messages.specs.Requests.{request_of};
 ghost use Rattle.request_reader.specs.Parts.{AsksPart};
 ghost use Rattle.vfs_journal.specs.Handles.{numbers_of};
 ghost use Rattle.vfs_journal.specs.Serving.{Moment, outcome_of_read};
-ghost use Rattle.vfs_server.specs.declared.asking.Asking as asking;
-ghost use Rattle.vfs_server.specs.Steps.{Answers, AreNamed, CanServe, CanTell, IsAskedAt, IsPassedOver, done_with, stays};
+ghost use Rattle.vfs_server.specs.Steps.{Answers, AreNamed, CanServe, CanTell, IsAskedAt, IsPartServed, IsPassedOver, done_with};
 
 use crate::asking::Asking;
 use crate::connection::Connection;
@@ -114,8 +113,8 @@ impl Connections {
         connection.serve(asking, message, graph, out, outbox, changes)
     }
 
-    /// Serves the request for a part of a file on the one of an endpoint, where that is to a file. No other
-    /// changes. Where it has none or another, `None`, and nothing is done.
+    /// Serves the request for a part of a file on the one of an endpoint, where that is to a file, and tells whether
+    /// it did: its reply stands in the output then. No other changes. Otherwise nothing is done.
     #[inline(always)]
     pub fn read(
         &mut self,
@@ -125,22 +124,20 @@ impl Connections {
         txid: u32,
         request: &Request<'_>,
         out: &mut Out,
-        outbox: &mut Outbox,
-    ) -> Option<Result<(), NoMemory>>
+    ) -> bool
+        requires node { (connection : births.Connection) → finite.get self.old endpoint ≡ Some connection → CanBeBound graph.old connection.birth }
         requires part { AsksPart (asked request.now) }
         requires txid { 0 < txid }
-        requires node { (connection : births.Connection) → finite.get self.old endpoint ≡ Some connection → CanBeBound graph.old connection.birth }
-        ensures read { (old : births.Connection) → finite.get self.old endpoint ≡ Some old →
-            (new : births.Connection) × KeepsHolds old new graph.old graph.new × (self.new ≡ finite.insert self.old endpoint new)
-            × IfSome result (λ read. old.birth.protocol ≡ Protocol.File)
-            × ((server : ℕ) (asking : asking.Asking) (moment : Moment) → asking.endpoint ≡ endpoint → IsAskedAt server asking graph.old old moment →
-            IfSome result (λ read. OnOk read (Answers moment (outcome_of_read moment (Ok (txid, asked request.now))) stays new graph.old graph.new outbox.old outbox.new))) }
-        ensures reads { (old : births.Connection) → finite.get self.old endpoint ≡ Some old → old.birth.protocol ≡ Protocol.File → IsSome result }
-        ensures there { finite.get self.old endpoint ≡ None → result ≡ None }
-        ensures unchanged { result ≡ None → (self.new ≡ self.old) × (graph.new ≡ graph.old) × (outbox.new ≡ outbox.old) }
-        ensures no_memory { IfSome result (λ read. OnErr read (outbox.new ≡ outbox.old)) }
+        ensures read { (old : births.Connection) → finite.get self.old endpoint ≡ Some old → result ≡ true →
+            (old.birth.protocol ≡ Protocol.File)
+            × (new : births.Connection) × IsPartServed old (asked request.now) txid out.new new graph.old graph.new × (self.new ≡ finite.insert self.old endpoint new) }
+        ensures reads { (old : births.Connection) → finite.get self.old endpoint ≡ Some old → old.birth.protocol ≡ Protocol.File → result ≡ true }
+        ensures there { finite.get self.old endpoint ≡ None → result ≡ false }
+        ensures unchanged { result ≡ false → (self.new ≡ self.old) × (graph.new ≡ graph.old) }
     {
-        let connection = self.kept.get_mut(&endpoint)?;
-        connection.read(ordinals, endpoint, graph, txid, request, out, outbox)
+        let Some(connection) = self.kept.get_mut(&endpoint) else {
+            return false;
+        };
+        connection.read(ordinals, graph, txid, request, out)
     }
 }

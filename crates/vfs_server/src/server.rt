@@ -19,6 +19,7 @@ ghost use Rattle.vfs_server.specs.Serving.{CanTake, IsMomentOf, Serves, message_
 ghost use Rattle.vfs_server.specs.Steps.{CanSettle, Settles};
 ghost use Rattle.vfs_journal.specs.Output.{Begins};
 
+use crate::answers::put_bare_reply;
 use crate::asking::Asking;
 use crate::beginning;
 use crate::connection::Connection;
@@ -259,15 +260,13 @@ impl Server {
         ensures unchanged { result ≡ None → (self.new ≡ self.old) × (outbox.new ≡ outbox.old) }
         ensures no_memory { IfSome result (λ read. OnErr read (outbox.new ≡ outbox.old)) }
     {
-        self.connections.read(
-            ordinals,
-            endpoint,
-            &mut self.graph,
-            txid,
-            request,
-            out,
-            outbox,
-        )
+        let done = self
+            .connections
+            .read(ordinals, endpoint, &mut self.graph, txid, request, out);
+        if !done {
+            return None;
+        }
+        Some(put_bare_reply(endpoint, out, outbox))
     }
 
     /// Binds an endpoint that isn't bound here, and holds its node. Of want of memory the server is as
