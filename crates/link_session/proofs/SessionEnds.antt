@@ -66,7 +66,7 @@ module _ (side : Side) where
       }
 
   -- so the piece that makes a stream bad has the end of the bad fixed part
-  bad_in_piece : (bytes piece : List ℕ) (frames : List Frame) (rest : List ℕ) (at : ℕ) (why : FrameReason)
+  pub bad_in_piece : (bytes piece : List ℕ) (frames : List Frame) (rest : List ℕ) (at : ℕ) (why : FrameReason)
       → Frames side bytes frames rest → Bad side (bytes ++ piece) at why → length bytes < at + 12
   bad_in_piece bytes piece frames rest at why read bad =
       not_at_least (at + 12) (length bytes) (λ h. not_both side bytes frames rest at why read (bad_before bytes piece at why bad h))

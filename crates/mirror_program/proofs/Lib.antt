@@ -1,0 +1,2 @@
+mod WordLists
+mod Progressing

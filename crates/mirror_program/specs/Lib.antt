@@ -1,0 +1,5 @@
+pub mod Words
+pub mod Notes
+pub mod Texts
+pub mod Answers
+pub mod Steps
