@@ -34,10 +34,10 @@ is_close kind.Close = true
 is_close other = false
 
 abbrev pub is_message_on : ℕ → Frame → Bool
-is_message_on endpoint frame = (frame.endpoint == endpoint) && is_message frame.kind
+is_message_on endpoint frame = is_message frame.kind && (frame.endpoint == endpoint)
 
 abbrev pub is_close_on : ℕ → Frame → Bool
-is_close_on endpoint frame = (frame.endpoint == endpoint) && is_close frame.kind
+is_close_on endpoint frame = is_close frame.kind && (frame.endpoint == endpoint)
 
 -- ---- events
 

@@ -11,6 +11,7 @@ use Rattle.endpoint_link.specs.declared.kinds.FrameReason.{FrameReason}
 use Rattle.endpoint_link.specs.declared.kinds.Side.TheVariants.{Any}
 use Rattle.run_status.specs.Outside.{Streams, sink_of}
 use Rattle.run_status.specs.Texts.{GotAll}
+use Rattle.link_session.specs.Session.{IsWhole}
 use Rattle.dir_mirror.specs.Copies.{Copy, HasBadEvents, HasGoodEvents, Mirrors}
 use Rattle.mirror_program.specs.Texts.{text_of}
 use Rattle.mirror_program.specs.declared.statuses.MirrorStatus.{MirrorStatus}
@@ -114,3 +115,18 @@ Answers endpoint before after sink_same status.WriteFault =
     (copy : Copy) × IsWholeCopy endpoint before after copy × AppendsPart before.written after.written (text_of copy.names copy.ended)
     × Rose before.write_faults after.write_faults
 Answers endpoint before after sink_same other = sink_same × Stops endpoint before.left after.left before.read_faults after.read_faults other
+
+-- the input is told, has few enough bytes, and is whole frames, among which each message on the endpoint has good events
+pub record IsTakable (endpoint : ℕ) (before : Streams) : Type 0 where
+  pub whole : IsWhole Any before
+  pub good : All (HasGoodEvents endpoint) whole.frames
+
+-- no fault came from outside
+pub record MetNone (before after : Streams) : Type 0 where
+  pub source : Rose before.read_faults after.read_faults → ⊥
+  pub sink : Rose before.write_faults after.write_faults → ⊥
+
+abbrev pub IsDoneOrNoMemory : MirrorStatus → Type 0
+IsDoneOrNoMemory status.Done = Unit {0}
+IsDoneOrNoMemory status.NoMemory = Unit {0}
+IsDoneOrNoMemory _ = ⊥

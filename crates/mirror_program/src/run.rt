@@ -1,7 +1,13 @@
-ghost use Rattle.std.specs.Prelude.{◌≡◌, ℕ, map, string_bytes};
+ghost use Rattle.std.specs.Prelude.{◌≡◌, ℕ, List, Some, map, string_bytes};
+ghost use Rattle.endpoint_link.specs.Frames.{Frame};
+ghost use Rattle.endpoint_link.specs.declared.kinds.Mode.{Mode};
+ghost use Rattle.fidl_wire.specs.Names.{AreDistinct};
+ghost use Rattle.session_start.specs.Items.{Lists};
+ghost use Rattle.vfs_journal.specs.Starts.{Bound};
 ghost use Rattle.run_status.specs.Outside.{sink_told, streams_told};
 ghost use Rattle.run_status.specs.Texts.{Tells};
-ghost use Rattle.mirror_program.specs.Answers.{Answers};
+ghost use Rattle.mirror_program.specs.Answers.{Answers, IsDoneOrNoMemory, IsTakable, MetNone};
+ghost use Rattle.mirror_program.specs.Watched.{IsWatching, WroteItsNames, written_by};
 ghost use Rattle.mirror_program.specs.Notes.{note_of};
 ghost use Rattle.mirror_program.specs.Words.{Means, MeanNothing, IsEndpoint};
 ghost use Rattle.mirror_program.specs.declared.statuses.MirrorStatus.TheVariants as status;
@@ -33,6 +39,18 @@ pub fn mirror_words<S: Source, K: Sink, N: Sink>(
     ensures answers { let told = streams_told S.left S.last S.faults K.written K.flushed K.faults in
         (endpoint : ℕ) → Means (map string_bytes words.now) endpoint →
         Answers endpoint (told source.old sink.old) (told source.new sink.new) (sink.new ≡ sink.old) result }
+
+    // Where all of the input can be taken, and no fault is met, it is done unless memory runs out.
+    ensures complete { let told = streams_told S.left S.last S.faults K.written K.flushed K.faults in
+        (endpoint : ℕ) → Means (map string_bytes words.now) endpoint → IsTakable endpoint (told source.old sink.old) →
+        MetNone (told source.old sink.old) (told source.new sink.new) → IsDoneOrNoMemory result }
+
+    // Of the output of a session over an accepted tree, in which the endpoint watches a directory, it writes the names that the
+    // directory has behind the session's last drain; where no two methods' names have equal ordinals.
+    ensures watched { let told = streams_told S.left S.last S.faults K.written K.flushed K.faults in
+        AreDistinct → (lists : Lists) (by : Mode) (sent : List Frame) (watcher : Bound) → IsWatching lists by sent watcher →
+        Means (map string_bytes words.now) watcher.endpoint → S.left source.old ≡ Some (written_by lists by sent) → result ≡ status.Done →
+        WroteItsNames lists by sent watcher (told source.old sink.old) (told source.new sink.new) }
 
     // The note of the status is told last, and nothing else.
     ensures note { Tells (note_of result) (sink_told N.written N.flushed N.faults notes.old) (sink_told N.written N.flushed N.faults notes.new) }
