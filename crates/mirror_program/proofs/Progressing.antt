@@ -1,9 +1,10 @@
 -- How far a copy has come.
-use Rattle.std.proofs.Common.{◌≡◌, ◌≢◌, ◌<◌, ◌≤◌, ◌+◌, ◌-◌, ℕ, List, [], ◌∷◌, ◌++◌, Option, None, length, drop, refl, sym, ap, ◌∙◌, subst, arith, append-nil, append_assoc, length-append, inl}
-use Rattle.std.specs.Prelude.{take}
+use Rattle.std.proofs.Common.{◌≡◌, ◌≢◌, ◌<◌, ◌≤◌, ◌+◌, ◌-◌, ℕ, List, [], ◌∷◌, ◌++◌, Option, None, length, drop, refl, sym, ap, ◌∙◌, subst, arith, append-nil, append_assoc, length-append, inl, inr}
+use Rattle.std.specs.Prelude.{All, take}
+use Rattle.std.proofs.lemmas.Bool.{cases_lt}
 use Rattle.std.proofs.lemmas.List.{take_at}
 use Rattle.std.proofs.lemmas.List.Concat.{flat_map-append}
-use Rattle.std.proofs.lemmas.List.Elements.{All-append, All-cons, All-nil}
+use Rattle.std.proofs.lemmas.List.Elements.{All-append, All-cons, All-head, All-nil}
 use Rattle.std.specs.Io.KnownBytes.{IsAtEnd}
 use Rattle.fidl_names.specs.declared.limits.TheConstants as limit
 use Rattle.host_io.specs.Causes.{Rose}
@@ -11,6 +12,7 @@ use Rattle.endpoint_link.specs.Frames.{Bad, Frame, Frames, IsBadFront, IsFrame, 
 use Rattle.endpoint_link.specs.Views.{IsWholeFront}
 use Rattle.endpoint_link.specs.declared.kinds.FrameReason.{FrameReason}
 use Rattle.endpoint_link.specs.declared.kinds.Side.TheVariants.{Any}
+use Rattle.endpoint_link.proofs.Streams.{partial_no_front}
 use Rattle.link_session.specs.Pieces.{TakesPiece}
 use Rattle.link_session.specs.Serving.{HeardOne}
 use Rattle.link_session.proofs.Progress.{Grown, Grown-partial, Progress, Progress-heard, Progress-none}
@@ -98,6 +100,38 @@ module _ (endpoint : ℕ) (left left' : Option (List ℕ)) (faults faults' : ℕ
 pub heard_fits : (endpoint : ℕ) (copy : Copy) (before : List Frame) (bytes : List ℕ) (n : ℕ) → (h : TakesTo endpoint copy before bytes n) → n + length (drop n bytes) ≡ length bytes
 heard_fits endpoint copy before bytes n h = omega (arith, h.size, ap length h.split, length-append (spellings h.frames) (drop n bytes))
 
+-- one list cut in two ways, of which the first cut lies in front
+cut_in_front : (front more kept piece : List ℕ) → kept ++ piece ≡ front ++ more → length front ≤ length kept → (rest : List ℕ) × (kept ≡ front ++ rest)
+cut_in_front [] more kept piece e few = (kept, refl)
+cut_in_front (x ∷ front) more [] piece e few = absurd (omega (arith, few))
+cut_in_front (x ∷ front) more (y ∷ kept) piece e few =
+    let heads : y ≡ x = cc in
+    let tails : kept ++ piece ≡ front ++ more = cc in
+    let rest = cut_in_front front more kept piece tails (omega (arith, few)) in
+    (rest.0, ap (λ z. z ∷ kept) heads ∙ ap (λ l. x ∷ l) rest.1)
+
+-- a rest that has begun a frame at most is shorter than the first of the frames that more bytes make of it
+shorter : (kept piece more : List ℕ) (f : Frame) (frames : List Frame) → IsPartial Any kept → All (IsFrame Any) (f ∷ frames) → kept ++ piece ≡ spellings (f ∷ frames) ++ more
+    → length kept < length (spellings (f ∷ frames))
+shorter kept piece more f frames partial each e =
+    let joined : kept ++ piece ≡ spelling f ++ (spellings frames ++ more) = e ∙ append_assoc (spelling f) (spellings frames) more in
+    let long = length-append (spelling f) (spellings frames) in
+    elim (cases_lt (length kept) (length (spelling f))) as (λ _. length kept < length (spellings (f ∷ frames))) [
+      | inl less ↦ omega (arith, less, long)
+      | inr whole ↦
+          let cut = cut_in_front (spelling f) (spellings frames ++ more) kept piece joined whole in
+          absurd (partial_no_front Any kept partial f cut.0 (All-head (IsFrame Any) f frames each) cut.1)
+    ]
+
+some_shorter : (kept piece more : List ℕ) (frames : List Frame) (frame : Frame) → IsPartial Any kept → All (IsFrame Any) (frames ++ frame ∷ [])
+    → kept ++ piece ≡ spellings (frames ++ frame ∷ []) ++ more → length kept < length (spellings (frames ++ frame ∷ []))
+some_shorter kept piece more [] frame partial each e = shorter kept piece more frame [] partial each e
+some_shorter kept piece more (f ∷ frames) frame partial each e = shorter kept piece more f (frames ++ frame ∷ []) partial each e
+
+-- these frames and one more
+one_more : (frames : List Frame) (frame : Frame) → spellings (frames ++ frame ∷ []) ≡ spellings frames ++ spelling frame
+one_more frames frame = flat_map-append spelling frames (frame ∷ []) ∙ ap (λ l. spellings frames ++ l) (append-nil (spelling frame))
+
 module _ (endpoint : ℕ) (left left' left'' : Option (List ℕ)) (faults faults' : ℕ) (copy copy' : Copy) (t t' size n : ℕ) (kept kept' : List ℕ)
     (g : Progress Any silent (IsCopyOf endpoint copy) left left' None None t kept) (piece : TakesPiece left' left'' kept kept' size) (few : size ≤ limit.MAX_PIECE)
     (total : t' ≡ t + size) (within : t' ≤ limit.MAX_INPUT) (counted : length kept' ≤ t') (h : TakesTo endpoint copy' g.frames kept' n) (calm : faults' ≡ faults) where
@@ -141,8 +175,15 @@ module _ (endpoint : ℕ) (left left' left'' : Option (List ℕ)) (faults faults
   pub bad_events : (frame : Frame) (length_of : ℕ) → IsWholeFront Any (drop n kept') frame length_of → HasBadEvents endpoint frame
       → IsBadEvents endpoint left left'' faults faults' (t' - length kept' + n)
   bad_events frame length_of front bad =
-      let more : spellings (grown.frames ++ frame ∷ []) ≡ spellings grown.frames ++ spelling frame =
-      flat_map-append spelling grown.frames (frame ∷ []) ∙ ap (λ l. spellings grown.frames ++ l) (append-nil (spelling frame)) in
+      let more = one_more grown.frames frame in
+      let each = All-append (IsFrame Any) h.frames (frame ∷ []) h.each (All-cons (IsFrame Any) frame [] front.sound (All-nil (IsFrame Any))) in
+      let rest = drop length_of (drop n kept') in
+      let heard : kept ++ piece.0 ≡ spellings (h.frames ++ frame ∷ []) ++ rest =
+      sym piece.2 ∙ h.split ∙ ap (λ l. spellings h.frames ++ l) front.split ∙ sym (append_assoc (spellings h.frames) (spelling frame) rest)
+      ∙ ap (λ l. l ++ rest) (sym (one_more h.frames frame)) in
+      let less = some_shorter kept piece.0 rest h.frames frame g.read.partial each heard in
+      let size_of_all : length (spellings (h.frames ++ frame ∷ [])) ≡ n + length (spelling frame) =
+      ap length (one_more h.frames frame) ∙ omega (arith, length-append (spellings h.frames) (spelling frame), h.size) in
       record {
         taken = grown.bytes;
         frames = grown.frames;
@@ -156,6 +197,7 @@ module _ (endpoint : ℕ) (left left' left'' : Option (List ℕ)) (faults faults
               ∙ ap (λ l. l ++ drop length_of (drop n kept')) (sym more),
         );
         place = front_ends;
+        near = omega (arith, grown.size, total, few, less, size_of_all, counted, ap length piece.2, length-append kept piece.0, piece.3);
         good = grown.stands.good;
         bad = bad;
         calm = calm;

@@ -4,7 +4,7 @@ use Rattle.std.specs.Io.KnownBytes.{Consumes, IsAtEnd}
 use Rattle.fidl_names.specs.declared.limits.TheConstants as limit
 use Rattle.host_io.specs.Causes.{Rose}
 use Rattle.host_io.specs.Streams.{AppendsPart}
-use Rattle.endpoint_link.specs.Frames.{Bad, Frame, Frames, IsFrame, spellings}
+use Rattle.endpoint_link.specs.Frames.{Bad, Frame, Frames, IsFrame, spelling, spellings}
 use Rattle.endpoint_link.specs.Fronts.{Begins}
 use Rattle.endpoint_link.specs.declared.fixed.TheConstants as fixed
 use Rattle.endpoint_link.specs.declared.kinds.FrameReason.{FrameReason}
@@ -77,7 +77,8 @@ pub record IsBadFrame (endpoint : ℕ) (left left' : Option (List ℕ)) (faults 
   pub good : All (HasGoodEvents endpoint) frames
   pub calm : faults' ≡ faults
 
--- the first message on the endpoint that has no good events is the frame that stands there, behind whole frames
+-- the first message on the endpoint that has no good events is the frame that stands there, behind whole frames; nothing was read
+-- behind the piece in which it ended
 pub record IsBadEvents (endpoint : ℕ) (left left' : Option (List ℕ)) (faults faults' at : ℕ) : Type 0 where
   pub taken : List ℕ
   pub frames : List Frame
@@ -87,6 +88,7 @@ pub record IsBadEvents (endpoint : ℕ) (left left' : Option (List ℕ)) (faults
   pub each : All (IsFrame Any) (frames ++ frame ∷ [])
   pub begins : Begins (spellings (frames ++ frame ∷ [])) taken
   pub place : length (spellings frames) ≡ at
+  pub near : length taken < at + length (spelling frame) + limit.MAX_PIECE
   pub good : All (HasGoodEvents endpoint) frames
   pub bad : HasBadEvents endpoint frame
   pub calm : faults' ≡ faults
