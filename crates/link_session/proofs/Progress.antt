@@ -3,9 +3,9 @@ use Rattle.std.proofs.Common.{◌≡◌, ℕ, ◌+◌, ◌≤◌, List, [], ◌�
 use Rattle.std.specs.Prelude.{All, ◌⊎◌, min}
 use Rattle.std.proofs.lemmas.List.Elements.{All-append, All-nil}
 use Rattle.std.proofs.lemmas.List.Concat.{flat_map-append}
-use Rattle.std.specs.Io.KnownBytes.{Appends, Consumes, IsAtEnd}
+use Rattle.std.specs.Io.KnownBytes.{Appends, Consumes, IsAtEnd, Keeps}
 use Rattle.fidl_names.specs.declared.limits.TheConstants as limit
-use Rattle.std.proofs.KnownBytes.{Appends-trans, Appends-nil, Consumes-trans, Consumes-nil}
+use Rattle.std.proofs.KnownBytes.{Appends-trans, Appends-nil, Consumes-kept, Consumes-trans, Consumes-nil}
 use Rattle.host_io.specs.Streams.{AppendsPart, AreFlushed, IsFlushed}
 use Rattle.endpoint_link.specs.Frames.{Frame, Frames, IsFrame, spelling, spellings, IsPartial}
 use Rattle.endpoint_link.specs.Fronts.{Begins}
@@ -131,6 +131,19 @@ module _ (side : Side) where
     read = g.read;
     got = g.got;
     stands = s;
+  }
+
+  -- no more was taken
+  pub Progress-kept : (course : Course) (Stands : List Frame → Type 0) (l l' l'' w w' : Option (List ℕ)) (t : ℕ) (kept : List ℕ)
+      → Progress course Stands l l' w w' t kept → Keeps l' l'' → Progress course Stands l l'' w w' t kept
+  Progress-kept course Stands l l' l'' w w' t kept g same = record {
+    bytes = g.bytes;
+    frames = g.frames;
+    size = g.size;
+    took = Consumes-kept l l' l'' g.bytes g.took same;
+    read = g.read;
+    got = g.got;
+    stands = g.stands;
   }
 
   -- the end of the input changes nothing

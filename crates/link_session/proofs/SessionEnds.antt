@@ -1,5 +1,5 @@
 -- How a session ends.
-use Rattle.std.proofs.Common.{◌≡◌, ℕ, ◌+◌, ◌<◌, ◌≤◌, min, List, [], ◌∷◌, ◌++◌, Option, length, take, drop, refl, sym, ap, ◌∙◌, subst, arith, append_assoc, append-nil, length-append, ◌⊎◌, inl, inr}
+use Rattle.std.proofs.Common.{◌≡◌, ◌≢◌, ℕ, ◌+◌, ◌<◌, ◌≤◌, min, List, [], ◌∷◌, ◌++◌, Option, length, take, drop, refl, sym, ap, ◌∙◌, subst, arith, append_assoc, append-nil, length-append, ◌⊎◌, inl, inr}
 use Rattle.std.proofs.lemmas.List.{take_at}
 use Rattle.std.proofs.lemmas.Bool.{cases_lt}
 use Rattle.std.specs.Io.KnownBytes.{Appends, Keeps, IsAtEnd}
@@ -17,7 +17,7 @@ use Rattle.run_status.specs.declared.statuses.Status.TheVariants as status
 use Rattle.run_status.specs.Outside.{Streams}
 use Rattle.run_status.specs.Texts.{PassedOn}
 use Rattle.link_session.specs.Pieces.{TakesPiece}
-use Rattle.link_session.specs.Serving.{IsGrowing, Heard, HeardPart, Finishes, end_of}
+use Rattle.link_session.specs.Serving.{IsGrowing, Heard, HeardPart, Finishes}
 use Rattle.link_session.specs.Session.{Course, SessionAnswers, MetNoFault, WroteAll, IsCutOff, EndsBehind}
 use Rattle.link_session.proofs.Progress.{Progress, Progress-heard, Grown, IsPassedOn, empty, cut_off, cut_behind, part_so_far, heard_part, keeps_up}
 
@@ -66,7 +66,7 @@ module _ (side : Side) where
       }
 
   -- so the piece that makes a stream bad has the end of the bad fixed part
-  bad_in_piece : (bytes piece : List ℕ) (frames : List Frame) (rest : List ℕ) (at : ℕ) (why : FrameReason)
+  pub bad_in_piece : (bytes piece : List ℕ) (frames : List Frame) (rest : List ℕ) (at : ℕ) (why : FrameReason)
       → Frames side bytes frames rest → Bad side (bytes ++ piece) at why → length bytes < at + 12
   bad_in_piece bytes piece frames rest at why read bad =
       not_at_least (at + 12) (length bytes) (λ h. not_both side bytes frames rest at why read (bad_before bytes piece at why bad h))
@@ -130,44 +130,46 @@ module _ (side : Side) where
           f.2 ∙ still,
         )
 
-    -- between frames, or inside one
-    at_the_end : (written' : Option (List ℕ)) (t : ℕ) (kept last : List ℕ) → MetNoFault before after_it
-        → (g : Progress side course Stands before.left after_it.left before.written written' t kept) → t < limit.MAX_INPUT → IsAtEnd after_it.left
-        → course.by_end g.frames ≡ course.so_far g.frames ++ last → PassedOn written' after_it.written last after_it.flushed
-        → SessionAnswers side course before after_it same (end_of kept t)
-    at_the_end written' t [] last calm g few end e p = record {
-      taken = g.bytes;
-      frames = g.frames;
-      took = g.took;
-      few = omega (arith, g.size, few);
-      read = g.read;
-      at_end = end;
-      wrote = all_written course g.frames before after_it written' last g.got e p;
-      faultless = calm;
-    }
-    at_the_end written' t (byte ∷ kept) last calm g few end e p = record {
-      taken = g.bytes;
-      frames = g.frames;
-      rest = byte ∷ kept;
-      took = g.took;
-      few = omega (arith, g.size, few);
-      read = g.read;
-      inside = λ e. cc;
-      place = omega (arith, g.size, ap length g.read.split, length-append (spellings g.frames) (byte ∷ kept));
-      at_end = end;
-      wrote = all_written course g.frames before after_it written' last g.got e p;
-      faultless = calm;
-    }
-
-    -- the input ended
-    pub ended : (written' : Option (List ℕ)) (t : ℕ) (kept : List ℕ) (faults : ℕ)
+    -- the input ended between frames
+    pub ended_whole : (written' : Option (List ℕ)) (t : ℕ) (kept : List ℕ) (faults : ℕ) → kept ≡ []
         → (g : Progress side course Stands before.left after_it.left before.written written' t kept) → t < limit.MAX_INPUT → IsAtEnd after_it.left
         → IsPassedOn side course before.written g.bytes g.frames after_it.flushed → faults ≡ before.write_faults
-        → (answer : Status) → Finishes course g.frames (end_of kept t) [] written' after_it.written after_it.flushed faults after_it.write_faults answer
+        → (answer : Status) → Finishes course g.frames status.Done [] written' after_it.written after_it.flushed faults after_it.write_faults answer
         → SessionAnswers side course before after_it same answer
-    ended written' t kept faults g few end passed still =
-        ends written' t kept (end_of kept t) faults g (omega (arith, few)) (inl (kept, g.read, inl end)) passed still
-        (λ calm last e p. at_the_end written' t kept last calm g few end e p)
+    ended_whole written' t kept faults none g few end passed still =
+        ends written' t kept status.Done faults g (omega (arith, few)) (inl (kept, g.read, inl end)) passed still
+        (λ calm last e p. record {
+          taken = g.bytes;
+          frames = g.frames;
+          took = g.took;
+          few = omega (arith, g.size, few);
+          read = subst (Frames side g.bytes g.frames) none g.read;
+          at_end = end;
+          wrote = all_written course g.frames before after_it written' last g.got e p;
+          faultless = calm;
+        })
+
+    -- or inside the frame that begins there
+    pub ended_inside : (written' : Option (List ℕ)) (t : ℕ) (kept : List ℕ) (faults at : ℕ) → kept ≢ [] → at + length kept ≡ t
+        → (g : Progress side course Stands before.left after_it.left before.written written' t kept) → t < limit.MAX_INPUT → IsAtEnd after_it.left
+        → IsPassedOn side course before.written g.bytes g.frames after_it.flushed → faults ≡ before.write_faults
+        → (answer : Status) → Finishes course g.frames (status.Truncated at) [] written' after_it.written after_it.flushed faults after_it.write_faults answer
+        → SessionAnswers side course before after_it same answer
+    ended_inside written' t kept faults at some place g few end passed still =
+        ends written' t kept (status.Truncated at) faults g (omega (arith, few)) (inl (kept, g.read, inl end)) passed still
+        (λ calm last e p. record {
+          taken = g.bytes;
+          frames = g.frames;
+          rest = kept;
+          took = g.took;
+          few = omega (arith, g.size, few);
+          read = g.read;
+          inside = some;
+          place = omega (arith, place, g.size);
+          at_end = end;
+          wrote = all_written course g.frames before after_it written' last g.got e p;
+          faultless = calm;
+        })
 
     -- as many bytes were taken as one session takes
     pub long : (written' : Option (List ℕ)) (t : ℕ) (kept : List ℕ) (faults : ℕ)

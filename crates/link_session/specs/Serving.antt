@@ -1,5 +1,5 @@
 -- Words of steps: what one piece of the input led to, in a session that heard some frames before.
-use Rattle.std.specs.Prelude.{◌≡◌, ℕ, ◌+◌, ◌≤◌, ◌-◌, ◌⊎◌, IsTrue, List, [], ◌∷◌, ◌++◌, length, drop, All, Option}
+use Rattle.std.specs.Prelude.{◌≡◌, ℕ, ◌+◌, ◌≤◌, ◌⊎◌, IsTrue, List, [], ◌∷◌, ◌++◌, length, drop, All, Option}
 use Rattle.std.specs.Io.KnownBytes.{Appends}
 use Rattle.host_io.specs.Causes.{Rose}
 use Rattle.host_io.specs.Streams.{AppendsPart}
@@ -75,11 +75,6 @@ Leaves side bytes count count' served.Failed = Unit {0}
 abbrev pub HasWriteCause : ℕ → ℕ → Served → Type 0
 HasWriteCause before now served.Failed = Rose before now
 HasWriteCause before now _ = now ≡ before
-
--- the input ended: between frames, or inside the one that begins there
-abbrev pub end_of : List ℕ → ℕ → Status
-end_of [] taken = status.Done
-end_of (byte ∷ rest) taken = status.Truncated (taken - length (byte ∷ rest))
 
 -- the end behind some frames: what it adds is written behind what was held back, and all is
 -- flushed; or a part of that is written, since the sink failed; or it can't be had for want of

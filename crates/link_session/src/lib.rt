@@ -4,7 +4,9 @@
 #![tactic(auto)]
 
 mod input;
+mod pump;
 mod sessions;
 
 pub use input::Input;
+pub use pump::{Ended, next_piece};
 pub use sessions::{Session, run};

@@ -7,12 +7,13 @@ ghost use Rattle.endpoint_link.specs.Views.{frame_of};
 ghost use Rattle.endpoint_link.specs.declared.kinds.Side.{Side};
 ghost use Rattle.run_status.specs.Outside.{streams_told};
 ghost use Rattle.run_status.specs.Texts.{PassedOn};
-ghost use Rattle.link_session.specs.Serving.{IsGrowing, Passes, HeardOne, HeardEnd, HeardPart, IsServing, HasWriteCause, Leaves, Finishes, end_of};
+ghost use Rattle.link_session.specs.Serving.{IsGrowing, Passes, HeardOne, HeardEnd, HeardPart, IsServing, HasWriteCause, Leaves, Finishes};
 ghost use Rattle.link_session.specs.Session.{Course, SessionAnswers};
 
 use crate::input::Input;
+use crate::pump::{Ended, next_piece};
 use endpoint_link::{FrameReason, FrameView, Reading, Side, frame_at};
-use fidl_names::{MAX_INPUT, MAX_PIECE, NoMemory};
+use fidl_names::{MAX_PIECE, NoMemory};
 use host_io::{Failed, Sink, Source, write_whole};
 use run_status::Status;
 
@@ -95,17 +96,14 @@ pub fn run<H: Session, S: Source, K: Sink>(
         (sink.new ≡ sink.old) result }
 {
     let mut taken = 0;
-    while taken < MAX_INPUT {
-        let most = (MAX_INPUT - taken).min(MAX_PIECE as u64) as usize;
-        let n = match input.read(source, most) {
-            Ok(0) => {
-                let status = end_of(input.bytes(), taken);
-                return finish(session, sink, status);
-            }
-            Ok(n) => n,
-            Err(Failed) => return Status::ReadFault,
-        };
-        taken += n as u64;
+    loop {
+        match next_piece(input, source, taken) {
+            Ok(now) => taken = now,
+            Err(Ended::Failed) => return Status::ReadFault,
+            Err(Ended::Whole) => return finish(session, sink, Status::Done),
+            Err(Ended::Inside { at }) => return finish(session, sink, Status::Truncated { at }),
+            Err(Ended::TooLong) => return finish(session, sink, Status::InputTooLong),
+        }
         match serve(session, input.bytes(), sink) {
             Ok(Served::Rest(at)) => {
                 if let Err(Failed) = pass_on(session, sink) {
@@ -122,7 +120,6 @@ pub fn run<H: Session, S: Source, K: Sink>(
             Err(NoMemory) => return Status::NoMemory,
         }
     }
-    finish(session, sink, Status::InputTooLong)
 }
 
 /// Hears each whole frame at the front of the bytes, in order. What is written for them goes to the
@@ -214,18 +211,5 @@ fn finish<H: Session, K: Sink>(session: &mut H, sink: &mut K, status: Status) ->
     match pass_on(session, sink) {
         Ok(()) => status,
         Err(Failed) => Status::WriteFault,
-    }
-}
-
-/// The status of a session whose input ended, between frames or inside one.
-fn end_of(rest: &[u8], taken: u64) -> Status
-    requires { length rest.now ≤ taken }
-    ensures { result ≡ end_of rest.now taken }
-{
-    if rest.is_empty() {
-        return Status::Done;
-    }
-    Status::Truncated {
-        at: taken - rest.len() as u64,
     }
 }

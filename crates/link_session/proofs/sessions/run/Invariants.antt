@@ -7,8 +7,8 @@ use Rattle.link_session.specs.Session.{Course}
 use Rattle.link_session.proofs.Progress.{Progress}
 use Rattle.link_session.proofs.sessions.run.Given as goal
 
-abbrev pub invariant-loop-taken : goal.invariant-loop-taken
-invariant-loop-taken g l = record {
+abbrev pub invariant-loop-now : goal.invariant-loop-now
+invariant-loop-now g l = record {
   progress : (course : Course) → IsGrowing course → g.H.Session.stands l.initial.session course []
       → Progress g.H.Session.side course (g.H.Session.stands l.session course)
       (g.S.Source.left l.initial.source) (g.S.Source.left l.source) (g.K.Sink.written l.initial.sink) (g.K.Sink.written l.sink)
@@ -23,5 +23,5 @@ invariant-loop-taken g l = record {
   write_faults : g.K.Sink.faults l.sink ≡ g.K.Sink.faults l.initial.sink;
 }
 
-abbrev pub decreases-loop-taken : goal.decreases-loop-taken
-decreases-loop-taken g l = limit.MAX_INPUT - l.taken
+abbrev pub decreases-loop-now : goal.decreases-loop-now
+decreases-loop-now g l = limit.MAX_INPUT - l.taken

@@ -1,0 +1,4 @@
+mod Kept
+mod Walked
+mod Changed
+mod Copied

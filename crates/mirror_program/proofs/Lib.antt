@@ -1,0 +1,4 @@
+mod WordLists
+mod Progressing
+mod Complete
+mod Watching
