@@ -1,0 +1,3 @@
+pub mod StillActs
+pub mod QuietSends
+pub mod QuietSessions

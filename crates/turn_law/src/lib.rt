@@ -1,0 +1,6 @@
+//! Turns don't matter to readers: where nobody changes anything, what each endpoint is told is a matter of the frames that were sent.
+#![tactic(auto)]
+
+mod laws;
+
+pub use laws::quiet_sessions_stay_still;
