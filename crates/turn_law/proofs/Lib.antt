@@ -1,3 +1,4 @@
 pub mod StillActs
 pub mod QuietSends
 pub mod QuietSessions
+pub mod StepsMade

@@ -3,3 +3,5 @@
 pub mod Told
 pub mod Premises
 pub mod Quiet
+pub mod Steps
+pub mod Invariant

@@ -3,4 +3,4 @@
 
 mod laws;
 
-pub use laws::quiet_sessions_stay_still;
+pub use laws::{quiet_sessions_stay_still, sessions_are_steps, steps_are_lawful};

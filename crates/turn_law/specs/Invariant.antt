@@ -1,0 +1,139 @@
+-- The invariant of the one induction over steps: what a journal is, endpoint by endpoint, beside the table of the frames that made it.
+--
+-- The table runs ahead of the journal: it answers each frame as it comes, while in the journal it waits. So the journal is compared with the
+-- table before the frame that waits first, endpoint by endpoint. Of an endpoint, a frame counts that can be heard as far as frames say: it
+-- stands behind the frame that carries the endpoint, and before a Close. In steps that keep the premises
+--  - what waits on a bound endpoint are the last frames that count there, in order, and before them it has the life and was told the messages
+--    that the journal says (`IsBoundAs`);
+--  - on an endpoint that travels all that counts waits, and nothing was written. Its carrier is the frame that carries it, which counts and is
+--    served by the same rule, or the rest of an Open that was heard: what is sent on the end of a mount now makes of the endpoint what the
+--    whole Open made of it (`TravelsAs`);
+--  - any other endpoint has no life now, and was told what was written on it; nothing more can be heard on it, for whatever carried it is past
+--    (`IsGone`).
+-- Behind a drain nothing waits and nothing travels, so each endpoint was told what the table says.
+use Rattle.std.specs.Prelude.{◌≡◌, ◌==◌, ◌&&◌, ◌||◌, Bool, true, false, not, ℕ, zero, suc, List, [], ◌∷◌, ◌++◌, filter, filter_map, length, reverse, take, Option, Some, None, Contains, if◌then◌else◌}
+use Rattle.std.specs.List.{list_all, list_any}
+use Rattle.fidl_names.specs.HandleNumber.{is_client}
+use Rattle.endpoint_link.specs.declared.kinds.FrameKind.{FrameKind}
+use Rattle.endpoint_link.specs.declared.kinds.FrameKind.TheVariants as kind
+use Rattle.endpoint_link.specs.Frames.{Frame}
+use Rattle.endpoint_link.specs.Numbering.{among}
+use Rattle.conn_rules.specs.Births.{Position}
+use Rattle.vfs_journal.specs.Entries.{Journal, Sending, Sent}
+use Rattle.vfs_journal.specs.History.{History, bound_at, is_live, position_of, waiting}
+use Rattle.vfs_journal.specs.Output.{frames_behind}
+use Rattle.vfs_journal.specs.Past.{history_of}
+use Rattle.vfs_journal.specs.Starts.{Bound, Start}
+use Rattle.journal_laws.specs.Soundness.{Carries}
+use Rattle.turn_law.specs.Steps.{Step, frames_in, journal_of}
+use Rattle.turn_law.specs.Told.{Table, is_heard, is_new, messages_on, sending_by, sent_on, table_at_start, table_of}
+
+-- ---- what counts, as far as frames say
+
+abbrev pub is_close : FrameKind → Bool
+is_close kind.Close = true
+is_close _ = false
+
+-- frames count on an endpoint behind these, of which the newest stands first: it is a first connection, or one of them carries it, and no
+-- Close counted on it
+unfoldable pub is_open : Start → ℕ → List Frame → Bool
+is_open start endpoint [] = list_any (λ bound. bound.endpoint == endpoint) start.firsts
+is_open start endpoint (frame ∷ earlier) =
+    (among endpoint frame.handles && is_new start endpoint)
+    || (is_open start endpoint earlier && not (is_close frame.kind && (frame.endpoint == endpoint)))
+
+-- a frame counts on an endpoint behind earlier ones
+abbrev pub counts_on : Start → ℕ → List Frame → Frame → Bool
+counts_on start endpoint earlier frame =
+    (frame.endpoint == endpoint) && (is_open start endpoint earlier && list_all (is_new start) frame.handles)
+
+-- the frames that count on an endpoint, the newest first
+unfoldable pub counting : Start → ℕ → List Frame → List Frame
+counting start endpoint [] = []
+counting start endpoint (frame ∷ earlier) =
+    if counts_on start endpoint earlier frame then frame ∷ counting start endpoint earlier else counting start endpoint earlier
+
+-- the frames before the last so many that count on an endpoint; all of them for none
+unfoldable pub before : Start → ℕ → ℕ → List Frame → List Frame
+before start endpoint zero frames = frames
+before start endpoint (suc ahead) [] = []
+before start endpoint (suc ahead) (frame ∷ earlier) =
+    if counts_on start endpoint earlier frame then before start endpoint ahead earlier else before start endpoint (suc ahead) earlier
+
+-- what the last so many send, in their order
+abbrev pub last_sendings : Start → ℕ → ℕ → List Frame → List Sending
+last_sendings start endpoint ahead frames =
+    filter_map (λ frame. sending_by frame.kind frame) (reverse (take ahead (counting start endpoint frames)))
+
+-- ---- in the journal
+
+-- what waits on an endpoint, in order of sending
+abbrev pub queue_on : History → ℕ → List Sent
+queue_on history endpoint = filter (λ sent. sent.endpoint == endpoint) (waiting history)
+
+-- what these send
+abbrev pub sendings_of : List Sent → List Sending
+sendings_of ones = filter_map (λ one. Some one.sending) ones
+
+-- the messages that were written on an endpoint
+abbrev pub written_on : Start → Journal → ℕ → List Frame
+written_on start journal endpoint = messages_on endpoint (frames_behind start journal)
+
+-- ---- the invariant, of one endpoint
+
+-- an endpoint that is bound
+pub record IsBoundAs (start : Start) (journal : Journal) (frames : List Frame) (bound : Bound) : Type 0 where
+  pub queue : sendings_of (queue_on (history_of start journal) bound.endpoint)
+      ≡ last_sendings start bound.endpoint (length (queue_on (history_of start journal) bound.endpoint)) frames
+  pub life : (table_of start (before start bound.endpoint (length (queue_on (history_of start journal) bound.endpoint)) frames)).life bound.endpoint
+      ≡ Some (bound, position_of (history_of start journal) bound.endpoint)
+  pub told : (table_of start (before start bound.endpoint (length (queue_on (history_of start journal) bound.endpoint)) frames)).told bound.endpoint
+      ≡ written_on start journal bound.endpoint
+
+-- these say the same of an endpoint
+pub record SaySame (endpoint : ℕ) (one other : Table) : Type 0 where
+  pub life : one.life endpoint ≡ other.life endpoint
+  pub told : one.told endpoint ≡ other.told endpoint
+
+-- what waits is what a frame sent, which counts
+pub record IsOfFrame (start : Start) (frame : Frame) (earlier : List Frame) (one : Sent) : Type 0 where
+  pub on : frame.endpoint ≡ one.endpoint
+  pub sends : sending_by frame.kind frame ≡ Some one.sending
+  pub counts : counts_on start frame.endpoint earlier frame ≡ true
+
+-- what waits on the end of a mount is the rest of an Open that was heard: it makes of the endpoint that it carries what that made of it
+pub record IsRestOf (start : Start) (endpoint : ℕ) (frame : Frame) (earlier : List Frame) (one : Sent) : Type 0 where
+  pub heard : is_heard start (table_of start earlier) frame ≡ true
+  pub rest : SaySame endpoint (sent_on start one.endpoint one.sending (table_at_start start)) (table_of start (frame ∷ earlier))
+
+abbrev pub Comes : Start → ℕ → Frame → List Frame → Sent → Option ℕ → Type 0
+Comes start endpoint frame earlier one None = IsOfFrame start frame earlier one
+Comes start endpoint frame earlier one (Some origin) = IsRestOf start endpoint frame earlier one
+
+-- an endpoint that an entry carries
+pub record TravelsAs (start : Start) (journal : Journal) (frames : List Frame) (endpoint : ℕ) (one : Sent) : Type 0 where
+  pub queue : sendings_of (queue_on (history_of start journal) endpoint) ≡ filter_map (λ frame. sending_by frame.kind frame) (reverse (counting start endpoint frames))
+  pub silent : written_on start journal endpoint ≡ []
+  pub later : List Frame
+  pub frame : Frame
+  pub earlier : List Frame
+  pub split : frames ≡ later ++ frame ∷ earlier
+  pub carries : among endpoint frame.handles ≡ true
+  pub comes : Comes start endpoint frame earlier one one.origin
+
+-- any other
+pub record IsGone (start : Start) (journal : Journal) (frames : List Frame) (endpoint : ℕ) : Type 0 where
+  pub ended : (table_of start frames).life endpoint ≡ None
+  pub told : (table_of start frames).told endpoint ≡ written_on start journal endpoint
+
+pub record AgreesOn (start : Start) (journal : Journal) (frames : List Frame) (endpoint : ℕ) : Type 0 where
+  pub bound : (bound : Bound) → bound_at start (history_of start journal) endpoint ≡ Some bound → IsBoundAs start journal frames bound
+  pub travels : (one : Sent) → Carries (history_of start journal) one endpoint → TravelsAs start journal frames endpoint one
+  pub gone : is_live start (history_of start journal) endpoint ≡ false → IsGone start journal frames endpoint
+
+-- ---- and of all steps
+
+-- each client's endpoint agrees with the table, and on the ends of mounts nothing is written
+pub record Agrees (start : Start) (steps : List Step) : Type 0 where
+  pub clients : (endpoint : ℕ) → is_client endpoint ≡ true → AgreesOn start (journal_of start steps) (frames_in steps) endpoint
+  pub ends : (endpoint : ℕ) → is_client endpoint ≡ false → written_on start (journal_of start steps) endpoint ≡ []
