@@ -3,5 +3,6 @@
 pub mod Told
 pub mod Premises
 pub mod Quiet
+pub mod Room
 pub mod Steps
 pub mod Invariant

@@ -2,6 +2,7 @@
 
 ghost use Rattle.fidl_wire.specs.Names.{AreDistinct};
 ghost use Rattle.turn_law.specs.Quiet.{QuietSessionsStayStill};
+ghost use Rattle.turn_law.specs.Room.{AnswersAreStill};
 ghost use Rattle.turn_law.specs.Steps.{SessionsAreSteps, StepsAreLawful};
 
 /// Where clients send no request that changes something, the trees stay those of the start, no token is given, nobody watches, and what goes
@@ -18,4 +19,9 @@ pub fn steps_are_lawful()
 /// A session in either mode, with its last drain and without, is made by steps of which its Message and Close frames are those.
 pub fn sessions_are_steps()
     ensures { SessionsAreSteps }
+{}
+
+/// A request that changes nothing, on a server with its first tree, is answered as if nothing else were in use, or its answer tells of a limit.
+pub fn answers_are_still()
+    ensures { AnswersAreStill }
 {}

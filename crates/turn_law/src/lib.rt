@@ -3,4 +3,4 @@
 
 mod laws;
 
-pub use laws::{quiet_sessions_stay_still, sessions_are_steps, steps_are_lawful};
+pub use laws::{answers_are_still, quiet_sessions_stay_still, sessions_are_steps, steps_are_lawful};
