@@ -4,3 +4,6 @@ pub mod QuietSessions
 pub mod StepsMade
 pub mod RoomActs
 pub mod RoomSends
+pub mod BySteps
+pub mod Linked
+pub mod LinkedSteps

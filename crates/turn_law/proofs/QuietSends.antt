@@ -1,12 +1,10 @@
 -- A message that changes nothing is answered so that nothing changes, and what goes on of it behind a mount changes nothing either.
-use Rattle.std.proofs.Common.{◌≡◌, ℕ, ◌<◌, ◌^◌, ◌||◌, Bool, true, false, List, [], ◌∷◌, map, Option, Some, None, Result, Ok, Err, refl, sym, ap, ◌∙◌, subst}
+use Rattle.std.proofs.Common.{◌≡◌, ℕ, ◌<◌, ◌^◌, ◌||◌, Bool, true, false, List, [], ◌∷◌, map, Some, None, Result, Ok, Err, refl, sym, ap, ◌∙◌, subst}
 use Rattle.std.proofs.lemmas.Bool.{true≢false}
 use Rattle.fidl_names.specs.declared.methods.Handle.{Handle}
-use Rattle.fidl_names.specs.declared.methods.Method.{Method}
 use Rattle.fidl_names.specs.HandleNumber.{handle_with}
 use Rattle.fidl_wire.specs.declared.faults.WireFault.{WireFault}
 use Rattle.fidl_wire.specs.declared.headers.Header.{Header}
-use Rattle.fidl_wire.specs.Headers.{header_of}
 use Rattle.fidl_wire.specs.Names.{method_ordinal}
 use Rattle.fidl_wire.proofs.Rows.{method_ordinal-injective}
 use Rattle.wire_laws.specs.Laws.{SpelledWhereRead}
@@ -19,7 +17,7 @@ use Rattle.io_messages.specs.Asked as asks
 use Rattle.io_messages.specs.Protocols.{has_method}
 use Rattle.io_messages.specs.Replies.{Answered}
 use Rattle.io_messages.specs.Replies as answered
-use Rattle.io_messages.specs.Requests.{IsAsked, Reads, request_of}
+use Rattle.io_messages.specs.Requests.{IsAsked}
 use Rattle.io_messages.specs.declared.protocols.Protocol.{Protocol}
 use Rattle.io_messages.specs.declared.protocols.Protocol.TheVariants as protocol
 use Rattle.io_messages.specs.declared.requests.RequestFault.{RequestFault}
@@ -31,7 +29,7 @@ use Rattle.path_walk.specs.Paths.{IsPath, text_of}
 use Rattle.remote_forward.specs.Onward.{onward_bytes}
 use Rattle.conn_rules.specs.Answers.{Answer, replies, closes, binds, watches, forwards, refuses, ends, hangs_up, silent, Act}
 use Rattle.vfs_journal.specs.Entries.{Sending, message, hang_up}
-use Rattle.vfs_journal.specs.Outcomes.{Asker, Outcome, bound_of, outcome_with, token_in, token_of}
+use Rattle.vfs_journal.specs.Outcomes.{Asker, bound_of, outcome_with, token_in, token_of}
 use Rattle.vfs_journal.specs.History.{is_watcher}
 use Rattle.vfs_journal.specs.Serving.{Moment, Read, asker_of, context_at, fault_answer, outcome_of_message, outcome_of_read, outcome_of_sending, read_by, request_act}
 use Rattle.vfs_journal.specs.Starts.{Bound}

@@ -1,24 +1,21 @@
 -- Where clients send nothing that changes something, nothing changes: at each time of a session.
-use Rattle.std.proofs.Common.{◌≡◌, ℕ, ◌==◌, ◌⊎◌, Bool, true, false, List, [], ◌∷◌, ◌++◌, Option, Some, None, find, All, Contains, refl, sym, ap, ◌∙◌, subst, inl, inr, append-nil, arith}
+use Rattle.std.proofs.Common.{◌≡◌, ℕ, ◌==◌, ◌⊎◌, false, List, [], ◌∷◌, ◌++◌, Option, Some, None, All, Contains, refl, sym, ap, ◌∙◌, subst, inl, inr, append-nil}
 use Rattle.std.specs.Prelude.{option_to_list}
 use Rattle.std.proofs.lemmas.List.Elements.{All-nil, All-cons, All-append, All-contains, All-weaker, Contains-append_cases, Contains-append_left, Contains-append_right}
 use Rattle.endpoint_link.specs.declared.kinds.Refusal.{Refusal}
 use Rattle.io_messages.specs.Asked as asks
-use Rattle.node_graph.specs.Tree.{Change, Tree, stay}
-use Rattle.vfs_journal.specs.Entries.{Journal, Sent, Sending, message, refuses, serves, sends}
-use Rattle.vfs_journal.specs.History.{History, all_sent, births, changed, is_watcher, living, trees_of, bound_at}
+use Rattle.node_graph.specs.Tree.{Change, Tree}
+use Rattle.vfs_journal.specs.Entries.{Journal, Sent, refuses, serves, sends}
+use Rattle.vfs_journal.specs.History.{History, all_sent, births, changed, is_watcher, living, trees_of}
 use Rattle.vfs_journal.specs.Lawful.{Lawful}
-use Rattle.vfs_journal.specs.Outcomes.{Forwarded, Outcome}
+use Rattle.vfs_journal.specs.Outcomes.{Forwarded}
 use Rattle.vfs_journal.specs.Past.{behind, event_of, history_of}
-use Rattle.vfs_journal.specs.Serving.{moment_of, outcome_at, outcome_of, outcome_of_sending}
+use Rattle.vfs_journal.specs.Serving.{moment_of, outcome_at, outcome_of}
 use Rattle.vfs_journal.specs.Session.{head}
 use Rattle.vfs_journal.specs.Starts.{Bound, Start}
-use Rattle.vfs_journal.specs.Tokens.{all_given}
-use Rattle.journal_laws.specs.Laws.{HasSameEndpoints}
 use Rattle.journal_laws.specs.Soundness.{IsOnDirectory, IsStart}
-use Rattle.journal_laws.proofs.Among.{carried_is}
 use Rattle.journal_laws.proofs.Below.{Below}
-use Rattle.journal_laws.proofs.Kept.{IsServing, client_low, goes_right, is_serving, lawful_kept}
+use Rattle.journal_laws.proofs.Kept.{IsServing, goes_right, is_serving, lawful_kept}
 use Rattle.journal_laws.proofs.Members.{contains_cases, contains_here, contains_none, found}
 use Rattle.journal_laws.proofs.Stepping.{GoesOn, at_each, onward_of, stepped}
 use Rattle.journal_laws.proofs.Steps.{refusals_change_nothing, sendings_wait_last, servings_take_effect, trees_stay}

@@ -1,6 +1,6 @@
 -- What is in use at a server, and which directories tokens name, matter to no act of a request that is no change, but that it may be refused
 -- for want of room.
-use Rattle.std.proofs.Common.{◌≡◌, ◌⊎◌, ℕ, ◌||◌, Bool, true, false, List, [], ◌∷◌, ◌++◌, Option, Some, None, refl, sym, ap, ◌∙◌, subst, inl, inr}
+use Rattle.std.proofs.Common.{◌≡◌, ◌⊎◌, ℕ, Bool, true, false, List, [], ◌∷◌, ◌++◌, Option, Some, None, refl, ap, ◌∙◌, inl, inr}
 use Rattle.fidl_names.specs.First.{cause_if, first_of}
 use Rattle.fidl_names.specs.declared.methods.Method.{Method}
 use Rattle.fidl_names.specs.declared.methods.Method.TheVariants as method
@@ -17,7 +17,7 @@ use Rattle.conn_rules.specs.Answers.{Act, binds, only, refuses, failure_of}
 use Rattle.conn_rules.specs.Births.{Birth, Position}
 use Rattle.conn_rules.specs.Contexts.{Context, context_with}
 use Rattle.conn_rules.specs.Nodes.{is_file, kind_here}
-use Rattle.conn_rules.specs.Opens.{arrival, by_walk, connects_without_right, entry_refusals, is_full, is_other_kind, making, marks_file, open_act, other_kind_status}
+use Rattle.conn_rules.specs.Opens.{arrival, by_walk, connects_without_right, entry_refusals, is_full, is_other_kind, making, marks_file, other_kind_status}
 use Rattle.conn_rules.specs.Refusals.{as_status, unless}
 use Rattle.conn_rules.specs.Walks.{Walk, arrives, missing, crosses, stops, limit_of, walk}
 use Rattle.io_flags.specs.Words.{creates, has}

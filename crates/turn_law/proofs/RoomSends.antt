@@ -1,5 +1,5 @@
 -- A quiet sending is answered as in a moment with nothing in use, or its answer tells of a limit.
-use Rattle.std.proofs.Common.{◌≡◌, ◌⊎◌, ℕ, List, [], ◌∷◌, Ok, Err, Contains, refl, sym, ap, ◌∙◌, subst, inl, inr}
+use Rattle.std.proofs.Common.{◌≡◌, ◌⊎◌, ℕ, List, [], ◌∷◌, Ok, Err, refl, sym, ap, subst, inl, inr}
 use Rattle.fidl_names.specs.StatusNumber.{number_of}
 use Rattle.fidl_names.specs.declared.statuses.Status.TheVariants as status
 use Rattle.wire_laws.specs.Laws.{SpelledWhereRead}
@@ -12,10 +12,8 @@ use Rattle.io_messages.specs.declared.protocols.Protocol.TheVariants as protocol
 use Rattle.node_graph.specs.Tree.{Tree}
 use Rattle.conn_rules.specs.Answers.{Act, only, refuses}
 use Rattle.vfs_journal.specs.Entries.{Sending, message, hang_up}
-use Rattle.vfs_journal.specs.History.{tree_at}
 use Rattle.vfs_journal.specs.Outcomes.{Asker, Outcome, close_frame, outcome_with}
 use Rattle.vfs_journal.specs.Serving.{Moment, Read, asker_of, object_of, outcome_of_message, outcome_of_read, outcome_of_sending, read_by}
-use Rattle.vfs_journal.specs.Starts.{Start}
 use Rattle.journal_laws.proofs.Members.{contains_here}
 use Rattle.turn_law.specs.Premises.{Changes, TellsLimit}
 use Rattle.turn_law.specs.Premises as premises

@@ -44,6 +44,9 @@ steps_lawful start (arrival frame ∷ earlier) can =
     arrival_lawful start journal frame (steps_lawful start earlier can.1) can.0.0 can.0.1 (admission (look_ups start (history_of start journal)) frame) refl
 steps_lawful start (service sent ∷ earlier) can = lawful.served (journal_of start earlier) sent (steps_lawful start earlier can.1) can.0
 
+abbrev pub with_sending : FrameKind → Frame → List Frame → List Frame
+with_sending k frame frames = if is_sending k then frame ∷ frames else frames
+
 -- ---- made by steps
 
 -- steps make a journal of frames, the newest first
@@ -52,9 +55,6 @@ pub record Reaches (start : Start) (journal : Journal) (frames : List Frame) : T
   pub can : AreSteps start steps
   pub makes : journal_of start steps ≡ journal
   pub frames_are : frames_in steps ≡ frames
-
-abbrev with_sending : FrameKind → Frame → List Frame → List Frame
-with_sending k frame frames = if is_sending k then frame ∷ frames else frames
 
 service_reaches : (start : Start) (journal : Journal) (frames : List Frame) (one : Sent) → Reaches start journal frames → head start (history_of start journal) one.endpoint ≡ Some one → Reaches start (after_serving start journal one) frames
 unfolding journal_of

@@ -1,5 +1,5 @@
 -- A request that is no change changes nothing, tells nothing, gives no token and sets up no watcher.
-use Rattle.std.proofs.Common.{◌≡◌, ℕ, ◌||◌, Bool, true, false, not, nat_lt, if◌then◌else◌, List, [], ◌∷◌, Option, Some, None, refl, sym, ap, ◌∙◌, subst}
+use Rattle.std.proofs.Common.{◌≡◌, ℕ, ◌||◌, Bool, true, false, not, nat_lt, if◌then◌else◌, List, [], ◌∷◌, refl, sym, ap, ◌∙◌}
 use Rattle.std.proofs.lemmas.Bool.{true≢false}
 use Rattle.fidl_names.specs.First.{cause_if, first_of}
 use Rattle.fidl_names.specs.declared.methods.Method.{Method}
@@ -13,15 +13,14 @@ use Rattle.io_messages.specs.Asked as asks
 use Rattle.io_messages.specs.Failing.{failing_of}
 use Rattle.io_messages.specs.declared.failing.Failing.{Failing}
 use Rattle.io_messages.specs.declared.failing.Failing.TheVariants as failing
-use Rattle.io_messages.specs.declared.protocols.Protocol.{Protocol}
 use Rattle.io_messages.specs.declared.protocols.Protocol.TheVariants as protocol
-use Rattle.node_graph.specs.Tree.{Change, name_in, fill, stay}
+use Rattle.node_graph.specs.Tree.{name_in, fill, stay}
 use Rattle.node_graph.specs.declared.nodes.NodeKind.{NodeKind}
 use Rattle.node_graph.specs.declared.nodes.NodeKind.TheVariants.{Directory, File, Service, Mount}
 use Rattle.path_walk.specs.Paths.{names_of}
 use Rattle.conn_rules.specs.Acts.{act_of, method_refusals, row_act}
-use Rattle.conn_rules.specs.Answers.{Answer, replies, closes, binds, watches, forwards, refuses, ends, hangs_up, silent, Act, only, failure_of, failure_by, nothing_told}
-use Rattle.conn_rules.specs.Births.{Birth, Position}
+use Rattle.conn_rules.specs.Answers.{Answer, replies, closes, binds, watches, Act, only, failure_of, failure_by, nothing_told}
+use Rattle.conn_rules.specs.Births.{Position}
 use Rattle.conn_rules.specs.Contexts.{Context}
 use Rattle.conn_rules.specs.FileRows.{is_no_position, is_too_much, reading_refusal, seek_sum}
 use Rattle.dirents.specs.Listings.{fits_none, listing}

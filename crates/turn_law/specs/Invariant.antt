@@ -11,59 +11,19 @@
 --  - any other endpoint has no life now, and was told what was written on it; nothing more can be heard on it, for whatever carried it is past
 --    (`IsGone`).
 -- Behind a drain nothing waits and nothing travels, so each endpoint was told what the table says.
-use Rattle.std.specs.Prelude.{◌≡◌, ◌==◌, ◌&&◌, ◌||◌, Bool, true, false, not, ℕ, zero, suc, List, [], ◌∷◌, ◌++◌, filter, filter_map, length, reverse, take, Option, Some, None, Contains, if◌then◌else◌}
-use Rattle.std.specs.List.{list_all, list_any}
+use Rattle.std.specs.Prelude.{◌≡◌, ◌==◌, true, false, ℕ, List, [], ◌∷◌, ◌++◌, filter, filter_map, length, reverse, Option, Some, None}
 use Rattle.fidl_names.specs.HandleNumber.{is_client}
-use Rattle.endpoint_link.specs.declared.kinds.FrameKind.{FrameKind}
-use Rattle.endpoint_link.specs.declared.kinds.FrameKind.TheVariants as kind
 use Rattle.endpoint_link.specs.Frames.{Frame}
 use Rattle.endpoint_link.specs.Numbering.{among}
-use Rattle.conn_rules.specs.Births.{Position}
 use Rattle.vfs_journal.specs.Entries.{Journal, Sending, Sent}
 use Rattle.vfs_journal.specs.History.{History, bound_at, is_live, position_of, waiting}
 use Rattle.vfs_journal.specs.Output.{frames_behind}
 use Rattle.vfs_journal.specs.Past.{history_of}
 use Rattle.vfs_journal.specs.Starts.{Bound, Start}
 use Rattle.journal_laws.specs.Soundness.{Carries}
+use Rattle.turn_law.specs.Counting.{before, counting, counts_on, last_sendings}
 use Rattle.turn_law.specs.Steps.{Step, frames_in, journal_of}
-use Rattle.turn_law.specs.Told.{Table, is_heard, is_new, messages_on, sending_by, sent_on, table_at_start, table_of}
-
--- ---- what counts, as far as frames say
-
-abbrev pub is_close : FrameKind → Bool
-is_close kind.Close = true
-is_close _ = false
-
--- frames count on an endpoint behind these, of which the newest stands first: it is a first connection, or one of them carries it, and no
--- Close counted on it
-unfoldable pub is_open : Start → ℕ → List Frame → Bool
-is_open start endpoint [] = list_any (λ bound. bound.endpoint == endpoint) start.firsts
-is_open start endpoint (frame ∷ earlier) =
-    (among endpoint frame.handles && is_new start endpoint)
-    || (is_open start endpoint earlier && not (is_close frame.kind && (frame.endpoint == endpoint)))
-
--- a frame counts on an endpoint behind earlier ones
-abbrev pub counts_on : Start → ℕ → List Frame → Frame → Bool
-counts_on start endpoint earlier frame =
-    (frame.endpoint == endpoint) && (is_open start endpoint earlier && list_all (is_new start) frame.handles)
-
--- the frames that count on an endpoint, the newest first
-unfoldable pub counting : Start → ℕ → List Frame → List Frame
-counting start endpoint [] = []
-counting start endpoint (frame ∷ earlier) =
-    if counts_on start endpoint earlier frame then frame ∷ counting start endpoint earlier else counting start endpoint earlier
-
--- the frames before the last so many that count on an endpoint; all of them for none
-unfoldable pub before : Start → ℕ → ℕ → List Frame → List Frame
-before start endpoint zero frames = frames
-before start endpoint (suc ahead) [] = []
-before start endpoint (suc ahead) (frame ∷ earlier) =
-    if counts_on start endpoint earlier frame then before start endpoint ahead earlier else before start endpoint (suc ahead) earlier
-
--- what the last so many send, in their order
-abbrev pub last_sendings : Start → ℕ → ℕ → List Frame → List Sending
-last_sendings start endpoint ahead frames =
-    filter_map (λ frame. sending_by frame.kind frame) (reverse (take ahead (counting start endpoint frames)))
+use Rattle.turn_law.specs.Told.{Table, is_heard, messages_on, sending_by, sent_on, table_at_start, table_of}
 
 -- ---- in the journal
 

@@ -5,4 +5,5 @@ pub mod Premises
 pub mod Quiet
 pub mod Room
 pub mod Steps
+pub mod Counting
 pub mod Invariant

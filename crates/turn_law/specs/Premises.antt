@@ -1,11 +1,10 @@
 -- Which frames change nothing that another client could see, and what an output tells of limits.
-use Rattle.std.specs.Prelude.{◌≡◌, ◌≢◌, ℕ, ◌||◌, Bool, true, false, All, AllPairs, List, [], flat_map, map}
+use Rattle.std.specs.Prelude.{◌≡◌, ◌≢◌, ℕ, ◌||◌, Bool, true, false, All, AllPairs, List, flat_map, map}
 use Rattle.fidl_names.specs.HandleNumber.{handle_with}
 use Rattle.fidl_names.specs.StatusNumber.{number_of}
 use Rattle.fidl_names.specs.declared.statuses.Status.TheVariants as status
 use Rattle.fidl_wire.specs.Epitaphs.{IsEpitaph}
 use Rattle.endpoint_link.specs.declared.kinds.FrameKind.TheVariants as kind
-use Rattle.endpoint_link.specs.declared.kinds.Refusal.{Refusal}
 use Rattle.endpoint_link.specs.declared.kinds.Refusal.TheVariants as refusal
 use Rattle.endpoint_link.specs.Frames.{Frame}
 use Rattle.endpoint_link.specs.Refusals.{refused_frame}

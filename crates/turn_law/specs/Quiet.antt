@@ -1,5 +1,5 @@
 -- A session in which nobody changes anything: the trees stay the start's, no token is given, and nobody watches.
-use Rattle.std.specs.Prelude.{◌≡◌, All, Contains, false, List, [], Some, None}
+use Rattle.std.specs.Prelude.{◌≡◌, All, Contains, false, [], Some, None}
 use Rattle.node_graph.specs.Tree.{stay}
 use Rattle.conn_rules.specs.Answers.{nothing_told}
 use Rattle.vfs_journal.specs.Entries.{Journal, Sending, Sent, message, hang_up}

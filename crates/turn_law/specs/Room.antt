@@ -1,15 +1,12 @@
 -- What is in use at a server shows in no answer but a refusal for want of room.
 use Rattle.std.specs.Prelude.{◌≡◌, ◌⊎◌, Contains, List}
-use Rattle.fidl_names.specs.declared.statuses.Status.TheVariants as status
 use Rattle.endpoint_link.specs.Frames.{Frame}
-use Rattle.node_graph.specs.Tree.{Tree}
-use Rattle.vfs_journal.specs.Entries.{Journal, Sending}
+use Rattle.vfs_journal.specs.Entries.{Sending}
 use Rattle.vfs_journal.specs.History.{tree_at}
-use Rattle.vfs_journal.specs.Outcomes.{Outcome}
 use Rattle.vfs_journal.specs.Serving.{Moment, outcome_of_sending}
 use Rattle.vfs_journal.specs.Starts.{Start}
 use Rattle.turn_law.specs.Premises.{TellsLimit}
-use Rattle.turn_law.specs.Quiet.{IsNoWatcher, IsQuiet}
+use Rattle.turn_law.specs.Quiet.{IsQuiet}
 use Rattle.turn_law.specs.Told.{still}
 
 -- one of the frames tells of a limit

@@ -1,5 +1,5 @@
 -- The steps by which a journal is made. A journal keeps no refused frame; its steps do, so that they say which frames it was made of.
-use Rattle.std.specs.Prelude.{◌≡◌, Bool, true, false, ℕ, List, [], ◌∷◌, filter, reverse, Some, All, if◌then◌else◌}
+use Rattle.std.specs.Prelude.{◌≡◌, Bool, true, false, List, [], ◌∷◌, filter, reverse, Some, All, if◌then◌else◌}
 use Rattle.endpoint_link.specs.Admission.{admission}
 use Rattle.endpoint_link.specs.declared.kinds.FrameKind.{FrameKind}
 use Rattle.endpoint_link.specs.declared.kinds.FrameKind.TheVariants as kind

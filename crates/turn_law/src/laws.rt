@@ -1,6 +1,7 @@
 //! Laws of sessions in which nobody changes anything. They compute nothing: what they say is in their clauses.
 
 ghost use Rattle.fidl_wire.specs.Names.{AreDistinct};
+ghost use Rattle.turn_law.specs.Counting.{FramesAreLinked, FramesThatCountAreAdmitted};
 ghost use Rattle.turn_law.specs.Quiet.{QuietSessionsStayStill};
 ghost use Rattle.turn_law.specs.Room.{AnswersAreStill};
 ghost use Rattle.turn_law.specs.Steps.{SessionsAreSteps, StepsAreLawful};
@@ -24,4 +25,16 @@ pub fn sessions_are_steps()
 /// A request that changes nothing, on a server with its first tree, is answered as if nothing else were in use, or its answer tells of a limit.
 pub fn answers_are_still()
     ensures { AnswersAreStill }
+{}
+
+/// Where no handle stands twice, nothing changes and no limit is met, a number that was used is a first connection or one that a frame
+/// carried, and frames count on a live endpoint unless its client hung up; where no two names have equal ordinals.
+pub fn frames_are_linked()
+    ensures { AreDistinct → FramesAreLinked }
+{}
+
+/// There a frame is admitted where its endpoint is live and it counts. So one that doesn't count is refused, and one that counts only on an
+/// endpoint that is dead, or that no admitted frame carried.
+pub fn frames_that_count_are_admitted()
+    ensures { AreDistinct → FramesThatCountAreAdmitted }
 {}

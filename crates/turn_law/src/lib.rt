@@ -3,4 +3,7 @@
 
 mod laws;
 
-pub use laws::{answers_are_still, quiet_sessions_stay_still, sessions_are_steps, steps_are_lawful};
+pub use laws::{
+    answers_are_still, frames_are_linked, frames_that_count_are_admitted,
+    quiet_sessions_stay_still, sessions_are_steps, steps_are_lawful,
+};

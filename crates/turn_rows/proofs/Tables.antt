@@ -1,5 +1,5 @@
 -- The row, frame by frame: the table behind each is named by the answers that made it.
-use Rattle.std.proofs.Common.{◌≡◌, ◌≢◌, ℕ, zero, suc, ◌<◌, ◌^◌, ◌==◌, Bool, true, false, List, [], ◌∷◌, ◌++◌, Option, Some, None, Ok, codes, reverse, if◌then◌else◌, refl, sym, ap, ◌∙◌, lit<}
+use Rattle.std.proofs.Common.{◌≡◌, ◌≢◌, ℕ, suc, ◌<◌, ◌^◌, ◌==◌, Bool, true, false, List, [], ◌∷◌, ◌++◌, Option, Some, None, codes, reverse, if◌then◌else◌, refl, ap, ◌∙◌, lit<}
 use Rattle.std.specs.Option.{option_map}
 use Rattle.std.proofs.lemmas.Bool.{ne_eqb}
 use Rattle.fidl_names.specs.declared.methods.Method.TheVariants as method
@@ -12,15 +12,15 @@ use Rattle.io_messages.specs.Asked as asks
 use Rattle.io_messages.specs.Replies.{payload}
 use Rattle.io_messages.specs.ReplyWriting.{event_bytes, reply_bytes}
 use Rattle.io_messages.specs.declared.protocols.Protocol.TheVariants as protocol
-use Rattle.io_rights.specs.Operations.{all, set_of_bits}
-use Rattle.path_walk.specs.Paths.{IsPath, names_of, text_of}
+use Rattle.io_rights.specs.Operations.{all}
+use Rattle.path_walk.specs.Paths.{names_of, text_of}
 use Rattle.remote_forward.specs.Onward.{onward_bytes}
 use Rattle.conn_rules.specs.Acts.{act_of}
 use Rattle.conn_rules.specs.Answers.{Act, binds, forwards, hangs_up, only, refuses, replies}
 use Rattle.conn_rules.specs.Births.{Position, fresh}
 use Rattle.vfs_journal.specs.Entries.{Sending, hang_up, message}
 use Rattle.vfs_journal.specs.Outcomes.{Outcome, close_frame, outcome_with}
-use Rattle.vfs_journal.specs.Serving.{Read, asker_of, context_at, outcome_of_read, outcome_of_sending, read_by}
+use Rattle.vfs_journal.specs.Serving.{Read, asker_of, context_at, outcome_of_read, outcome_of_sending}
 use Rattle.vfs_journal.specs.Session.{weight_of_read}
 use Rattle.vfs_journal.specs.Starts.{Bound}
 use Rattle.vfs_journal.specs.View.{moved}

@@ -1,5 +1,5 @@
 -- The acts of the row, server by server.
-use Rattle.std.proofs.Common.{◌≡◌, ℕ, Bool, true, false, List, [], ◌∷◌, ◌++◌, Option, Some, None, All, codes, refl, sym, ap, ◌∙◌, lit≤, rules}
+use Rattle.std.proofs.Common.{◌≡◌, ℕ, Bool, true, false, List, [], ◌∷◌, Option, Some, None, codes, refl, ap, ◌∙◌, lit≤, rules}
 use Rattle.std.specs.FinMap as finite
 use Rattle.std.specs.Prelude.{not, ◌&&◌, is_some, if◌then◌else◌}
 use Rattle.std.specs.Option.{option_map}
@@ -16,24 +16,23 @@ use Rattle.io_flags.specs.Words.{flags_of, has_unnamed_bit, word_of}
 use Rattle.io_messages.specs.Asked as asks
 use Rattle.io_messages.specs.declared.protocols.Protocol.TheVariants as protocol
 use Rattle.io_rights.specs.declared.operations.Operation.TheVariants as op
-use Rattle.io_rights.specs.Operations.{OperationSet, all, is_within, join, meet, none, set_of_bits, single}
+use Rattle.io_rights.specs.Operations.{OperationSet, all, is_within, join, meet, set_of_bits, single}
 use Rattle.node_graph.specs.Keys.{edges_total}
-use Rattle.node_graph.specs.Tree.{EdgeKey, EdgeTo, Tree, stay}
-use Rattle.node_graph.specs.declared.nodes.NodeKind.{NodeKind}
+use Rattle.node_graph.specs.Tree.{EdgeKey, EdgeTo}
 use Rattle.node_graph.specs.declared.nodes.NodeKind.TheVariants.{Directory, Mount}
 use Rattle.path_walk.specs.declared.faults.PathFault.{PathFault}
 use Rattle.path_walk.specs.Names.{IsName, dot, name_fault}
-use Rattle.path_walk.specs.Paths.{IsPath, names_of, path_fault, text_of}
+use Rattle.path_walk.specs.Paths.{IsPath, names_of, text_of}
 use Rattle.path_walk.proofs.PathLemmas.{path_complete}
 use Rattle.conn_rules.specs.Acts.{act_of}
-use Rattle.conn_rules.specs.Answers.{Act, binds, failure_of, forwards, nothing_told, only, refuses}
+use Rattle.conn_rules.specs.Answers.{binds, forwards, only, refuses}
 use Rattle.conn_rules.specs.Births.{Birth, fresh}
 use Rattle.conn_rules.specs.Contexts.{Context}
 use Rattle.conn_rules.specs.Opens.{by_walk, entry_refusals}
 use Rattle.conn_rules.specs.Refusals.{lacks, unless}
-use Rattle.conn_rules.specs.Walks.{Walk, arrives, behind, crosses, inner_rights, inner_step, last_step, stops, walk}
+use Rattle.conn_rules.specs.Walks.{arrives, behind, crosses, inner_rights, inner_step, last_step, stops, walk}
 use Rattle.vfs_journal.specs.Serving.{context_at}
-use Rattle.vfs_journal.specs.Starts.{Bound, Start, directory_birth}
+use Rattle.vfs_journal.specs.Starts.{directory_birth}
 use Rattle.turn_law.specs.Told.{newborn, still}
 use Rattle.turn_rows.specs.Rows.{narrow, on_root, read_there, tell_and_traverse, three_servers, tree_with}
 
