@@ -7,3 +7,5 @@ pub mod RoomSends
 pub mod BySteps
 pub mod Linked
 pub mod LinkedSteps
+pub mod Within
+pub mod Touching

@@ -23,6 +23,7 @@ use Rattle.vfs_journal.specs.Starts.{Bound, Start}
 use Rattle.journal_laws.specs.Soundness.{Carries}
 use Rattle.turn_law.specs.Counting.{before, counting, counts_on, last_sendings}
 use Rattle.turn_law.specs.Steps.{Step, frames_in, journal_of}
+use Rattle.turn_law.specs.Tables.{SaySame}
 use Rattle.turn_law.specs.Told.{Table, is_heard, messages_on, sending_by, sent_on, table_at_start, table_of}
 
 -- ---- in the journal
@@ -49,11 +50,6 @@ pub record IsBoundAs (start : Start) (journal : Journal) (frames : List Frame) (
       ≡ Some (bound, position_of (history_of start journal) bound.endpoint)
   pub told : (table_of start (before start bound.endpoint (length (queue_on (history_of start journal) bound.endpoint)) frames)).told bound.endpoint
       ≡ written_on start journal bound.endpoint
-
--- these say the same of an endpoint
-pub record SaySame (endpoint : ℕ) (one other : Table) : Type 0 where
-  pub life : one.life endpoint ≡ other.life endpoint
-  pub told : one.told endpoint ≡ other.told endpoint
 
 -- what waits is what a frame sent, which counts
 pub record IsOfFrame (start : Start) (frame : Frame) (earlier : List Frame) (one : Sent) : Type 0 where

@@ -6,4 +6,5 @@ pub mod Quiet
 pub mod Room
 pub mod Steps
 pub mod Counting
+pub mod Tables
 pub mod Invariant

@@ -4,6 +4,7 @@ ghost use Rattle.fidl_wire.specs.Names.{AreDistinct};
 ghost use Rattle.turn_law.specs.Counting.{FramesAreLinked, FramesThatCountAreAdmitted};
 ghost use Rattle.turn_law.specs.Quiet.{QuietSessionsStayStill};
 ghost use Rattle.turn_law.specs.Room.{AnswersAreStill};
+ghost use Rattle.turn_law.specs.Tables.{FramesTouchTheirOwn};
 ghost use Rattle.turn_law.specs.Steps.{SessionsAreSteps, StepsAreLawful};
 
 /// Where clients send no request that changes something, the trees stay those of the start, no token is given, nobody watches, and what goes
@@ -37,4 +38,9 @@ pub fn frames_are_linked()
 /// endpoint that is dead, or that no admitted frame carried.
 pub fn frames_that_count_are_admitted()
     ensures { AreDistinct → FramesThatCountAreAdmitted }
+{}
+
+/// In the table a frame changes what is said of the endpoint that it is sent on and of those that it carries, and of no other client's.
+pub fn frames_touch_their_own()
+    ensures { FramesTouchTheirOwn }
 {}
