@@ -9,3 +9,4 @@ pub mod Linked
 pub mod LinkedSteps
 pub mod Within
 pub mod Touching
+pub mod Hearing

@@ -51,7 +51,7 @@ pub or_none : (b : Bool) → (b || false) ≡ b
 or_none true = refl
 or_none false = refl
 
-and_true : (b : Bool) → (b && true) ≡ b
+pub and_true : (b : Bool) → (b && true) ≡ b
 and_true true = refl
 and_true false = refl
 
@@ -83,7 +83,7 @@ once_carried n frame frames once here =
 
 -- ---- numbers that are new
 
-unheld : (history : History) (n : ℕ) → all_given history ≡ [] → is_held history n ≡ false
+pub unheld : (history : History) (n : ℕ) → all_given history ≡ [] → is_held history n ≡ false
 unheld history n none = ap (λ given. list_any (λ g. g.token == n) given && not (was_carried history n)) none
 
 first_alone : (start : Start) (n : ℕ) → is_client n ≡ true → list_any (λ bound. bound.endpoint == n) start.firsts ≡ false → is_new start n ≡ true
@@ -180,10 +180,10 @@ unfolding opened_by
 opened_old true opens = and_true opens
 opened_old false opens = and_true opens
 
-message_closes : (frame : Frame) (n : ℕ) → frame.kind ≡ kind.Message → (is_close frame.kind && (frame.endpoint == n)) ≡ false
+pub message_closes : (frame : Frame) (n : ℕ) → frame.kind ≡ kind.Message → (is_close frame.kind && (frame.endpoint == n)) ≡ false
 message_closes frame n is = ap (λ (k : FrameKind). is_close k && (frame.endpoint == n)) is
 
-close_closes : (frame : Frame) (n : ℕ) → frame.kind ≡ kind.Close → (is_close frame.kind && (frame.endpoint == n)) ≡ (frame.endpoint == n)
+pub close_closes : (frame : Frame) (n : ℕ) → frame.kind ≡ kind.Close → (is_close frame.kind && (frame.endpoint == n)) ≡ (frame.endpoint == n)
 close_closes frame n is = ap (λ (k : FrameKind). is_close k && (frame.endpoint == n)) is
 
 pub message_linked : Below → (start : Start) (journal : Journal) (frame : Frame) (frames : List Frame) → IsStart start → Lawful start journal → frame.kind ≡ kind.Message →

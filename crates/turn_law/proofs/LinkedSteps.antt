@@ -47,14 +47,14 @@ use Rattle.turn_law.proofs.StepsMade.{steps_lawful, with_sending}
 
 -- ---- what clients sent is quiet
 
-fewer_changes : (k : FrameKind) (frame : Frame) (frames : List Frame) → ChangeNothing (with_sending k frame frames) → ChangeNothing frames
+pub fewer_changes : (k : FrameKind) (frame : Frame) (frames : List Frame) → ChangeNothing (with_sending k frame frames) → ChangeNothing frames
 fewer_changes kind.Message frame frames h = All-tail (λ f. f.kind ≡ kind.Message → ¬ (Changes f.bytes f.handles)) frame frames h
 fewer_changes kind.Close frame frames h = All-tail (λ f. f.kind ≡ kind.Message → ¬ (Changes f.bytes f.handles)) frame frames h
 fewer_changes kind.Turn frame frames h = h
 fewer_changes kind.Pick frame frames h = h
 fewer_changes kind.Refused frame frames h = h
 
-abbrev Quiet : Start → Journal → List Frame → Type 0
+abbrev pub Quiet : Start → Journal → List Frame → Type 0
 Quiet start journal frames = ChangeNothing frames → ClientsAreQuiet (history_of start journal)
 
 quiet_more : (past : History) (start : Start) (one : Sent) → IsQuiet one.sending → ClientsAreQuiet past → ClientsAreQuiet (behind start (sends one) past)
@@ -98,24 +98,24 @@ right : (xs ys : List ℕ) → AllPairs (λ one other. one ≢ other) (xs ++ ys)
 right [] ys h = h
 right (x ∷ xs) ys h = right xs ys (pairs-tail (λ one other. one ≢ other) x (xs ++ ys) h)
 
-fewer_handles : (k : FrameKind) (frame : Frame) (frames : List Frame) → HandlesStandOnce (with_sending k frame frames) → HandlesStandOnce frames
+pub fewer_handles : (k : FrameKind) (frame : Frame) (frames : List Frame) → HandlesStandOnce (with_sending k frame frames) → HandlesStandOnce frames
 fewer_handles kind.Message frame frames h = right frame.handles (flat_map (λ f. f.handles) frames) h
 fewer_handles kind.Close frame frames h = right frame.handles (flat_map (λ f. f.handles) frames) h
 fewer_handles kind.Turn frame frames h = h
 fewer_handles kind.Pick frame frames h = h
 fewer_handles kind.Refused frame frames h = h
 
-limits_before : (start : Start) (journal : Journal) (one : Sent) (o : Option Forwarded) → MeetsNoLimit (frames_behind start (with_forward one.place (serves one ∷ journal) o)) → MeetsNoLimit (frames_behind start journal)
+pub limits_before : (start : Start) (journal : Journal) (one : Sent) (o : Option Forwarded) → MeetsNoLimit (frames_behind start (with_forward one.place (serves one ∷ journal) o)) → MeetsNoLimit (frames_behind start journal)
 unfolding history_of
 limits_before start journal one None h = all_left (λ frame. ¬ (TellsLimit frame)) (frames_behind start journal) _ h
 limits_before start journal one (Some forward) h = all_left (λ frame. ¬ (TellsLimit frame)) (frames_behind start journal) _ (all_left (λ frame. ¬ (TellsLimit frame)) _ _ h)
 
-entry_limits : (start : Start) (journal : Journal) (entry : Entry) → MeetsNoLimit (frames_behind start (entry ∷ journal)) → MeetsNoLimit (frames_behind start journal)
+pub entry_limits : (start : Start) (journal : Journal) (entry : Entry) → MeetsNoLimit (frames_behind start (entry ∷ journal)) → MeetsNoLimit (frames_behind start journal)
 unfolding history_of
 entry_limits start journal entry h = all_left (λ frame. ¬ (TellsLimit frame)) (frames_behind start journal) _ h
 
 -- no refusal is one for a limit
-no_limit : (start : Start) (journal : Journal) (endpoint : ℕ) (why : Refusal) → MeetsNoLimit (frames_behind start (refuses endpoint why ∷ journal)) → ¬ (TellsLimit (refused_frame endpoint why))
+pub no_limit : (start : Start) (journal : Journal) (endpoint : ℕ) (why : Refusal) → MeetsNoLimit (frames_behind start (refuses endpoint why ∷ journal)) → ¬ (TellsLimit (refused_frame endpoint why))
 unfolding history_of event_of
 no_limit start journal endpoint why h =
     All-contains (λ frame. ¬ (TellsLimit frame)) (frames_behind start (refuses endpoint why ∷ journal)) (refused_frame endpoint why) h
@@ -123,7 +123,7 @@ no_limit start journal endpoint why h =
 
 -- ---- the induction
 
-abbrev Linked : Start → Journal → List Frame → Type 0
+abbrev pub Linked : Start → Journal → List Frame → Type 0
 Linked start journal frames = KeepPremises start journal frames → AreLinked start (history_of start journal) frames
 
 first_linked : Below → (start : Start) → IsStart start → AreLinked start [] []
@@ -135,7 +135,7 @@ first_linked below start s = record {
   first_of_all : (n : ℕ) → is_used start [] n ≡ true → list_any (λ bound. bound.endpoint == n) start.firsts ≡ true
   first_of_all n used = sym (or_none (list_any (λ bound. bound.endpoint == n) start.firsts)) ∙ used
 
-linked_goes_on : Below → (start : Start) → IsStart start → StepsGoOn start (λ journal frames. Quiet start journal frames × Linked start journal frames)
+pub linked_goes_on : Below → (start : Start) → IsStart start → StepsGoOn start (λ journal frames. Quiet start journal frames × Linked start journal frames)
 unfolding history_of
 linked_goes_on below start s = record {
   begins = (λ nothing sent there origin. absurd (contains_none sent there), λ keeps. first_linked below start s);
@@ -195,7 +195,7 @@ frames_linked below start steps s can = (by_steps start (λ journal frames. Quie
 
 -- ---- a frame that arrives
 
-open_client : (start : Start) (n : ℕ) (frames : List Frame) → IsStart start → is_open start n frames ≡ true → is_client n ≡ true
+pub open_client : (start : Start) (n : ℕ) (frames : List Frame) → IsStart start → is_open start n frames ≡ true → is_client n ≡ true
 unfolding is_open
 open_client start n [] s h =
     let one = one_passes (λ (bound : Bound). bound.endpoint == n) start.firsts h in
@@ -211,7 +211,7 @@ each_new start (n ∷ handles) h =
     ap (λ (b : Bool). b && list_all (is_new start) handles) (h n (among_of n (n ∷ handles) (contains_here n handles)))
     ∙ each_new start handles (λ m there. h m (among_of m (n ∷ handles) (contains_later m n handles (member_of m handles there))))
 
-new_each : (start : Start) (handles : List ℕ) → list_all (is_new start) handles ≡ true → (n : ℕ) → Contains handles n → is_new start n ≡ true
+pub new_each : (start : Start) (handles : List ℕ) → list_all (is_new start) handles ≡ true → (n : ℕ) → Contains handles n → is_new start n ≡ true
 new_each start [] h n there = absurd (contains_none n there)
 new_each start (m ∷ handles) h n there =
     let parts = and_parts (is_new start m) (list_all (is_new start) handles) h in

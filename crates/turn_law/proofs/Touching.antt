@@ -27,7 +27,7 @@ use Rattle.turn_law.proofs.Within.{IsTouched, StaysWithin, sending_within}
 pub record AreNamed (table : Table) : Type 0 where
   pub own : (n : ℕ) (pair : Bound × Position) → table.life n ≡ Some pair → pair.0.endpoint ≡ n
 
-pair_same : {x y : Bound × Position} → Some x ≡ Some y → x ≡ y
+pub pair_same : {x y : Bound × Position} → Some x ≡ Some y → x ≡ y
 pair_same e = cc
 
 start_named : (start : Start) → AreNamed (table_at_start start)
@@ -121,10 +121,10 @@ answered_touches table served handles o n named within other uncarried = record 
 
 -- ---- all answers to one sending
 
-then_same : {n : ℕ} {one other third : Table} → SaySame n one other → SaySame n other third → SaySame n one third
+pub then_same : {n : ℕ} {one other third : Table} → SaySame n one other → SaySame n other third → SaySame n one third
 then_same h g = record { life = h.life ∙ g.life; told = h.told ∙ g.told }
 
-same_table : (n : ℕ) (table : Table) → SaySame n table table
+pub same_table : (n : ℕ) (table : Table) → SaySame n table table
 same_table n table = record { life = refl; told = refl }
 
 uncarried_object : (n object : ℕ) (handles : List ℕ) → among n handles ≡ false → among object handles ≡ true → among n (object ∷ []) ≡ false

@@ -1,11 +1,12 @@
 -- Which frames can be heard as far as frames say, whatever they are answered; and that a journal's frames are admitted just there.
-use Rattle.std.specs.Prelude.{◌≡◌, ◌==◌, ◌&&◌, ◌||◌, Bool, true, false, not, ℕ, zero, suc, List, [], ◌∷◌, filter_map, reverse, take, None, if◌then◌else◌}
+use Rattle.std.specs.Prelude.{◌≡◌, ◌==◌, ◌&&◌, ◌||◌, All, Bool, true, false, not, is_some, ℕ, zero, suc, List, [], ◌∷◌, filter_map, reverse, take, None, if◌then◌else◌}
 use Rattle.std.specs.List.{list_all, list_any}
 use Rattle.fidl_names.specs.HandleNumber.{is_client}
 use Rattle.endpoint_link.specs.Admission.{admission}
 use Rattle.endpoint_link.specs.declared.kinds.FrameKind.{FrameKind}
 use Rattle.endpoint_link.specs.declared.kinds.FrameKind.TheVariants as kind
-use Rattle.endpoint_link.specs.Frames.{Frame}
+use Rattle.endpoint_link.specs.declared.kinds.Side.TheVariants.{ToServers}
+use Rattle.endpoint_link.specs.Frames.{Frame, IsFrame}
 use Rattle.endpoint_link.specs.Numbering.{among}
 use Rattle.vfs_journal.specs.Entries.{Journal, Sending}
 use Rattle.vfs_journal.specs.History.{History, hung_up, is_live, is_used}
@@ -16,7 +17,7 @@ use Rattle.vfs_journal.specs.Starts.{Start}
 use Rattle.journal_laws.specs.Soundness.{IsStart}
 use Rattle.turn_law.specs.Premises.{ChangeNothing, HandlesStandOnce, MeetsNoLimit}
 use Rattle.turn_law.specs.Steps.{AreSteps, Step, arrival, frames_in, is_sending, journal_of}
-use Rattle.turn_law.specs.Told.{is_new, sending_by}
+use Rattle.turn_law.specs.Told.{is_heard, is_new, sending_by, table_of}
 
 -- ---- what counts, as far as frames say
 
@@ -89,3 +90,9 @@ abbrev pub FramesThatCountAreAdmitted : Type 0
 FramesThatCountAreAdmitted =
     (start : Start) (steps : List Step) (frame : Frame) → IsStart start → AreSteps start (arrival frame ∷ steps) → is_sending frame.kind ≡ true →
     KeepPremises start (journal_of start (arrival frame ∷ steps)) (frames_in (arrival frame ∷ steps)) → IsAdmittedJustThere start steps frame
+
+-- a frame is heard where its endpoint has a life, and the frame counts there
+abbrev pub FramesAreHeardWhereTheyCount : Type 0
+FramesAreHeardWhereTheyCount =
+    (start : Start) (frame : Frame) (earlier : List Frame) → IsStart start → All (IsFrame ToServers) (frame ∷ earlier) →
+    is_heard start (table_of start earlier) frame ≡ (is_some ((table_of start earlier).life frame.endpoint) && counts_on start frame.endpoint earlier frame)

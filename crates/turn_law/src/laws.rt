@@ -1,7 +1,7 @@
 //! Laws of sessions in which nobody changes anything. They compute nothing: what they say is in their clauses.
 
 ghost use Rattle.fidl_wire.specs.Names.{AreDistinct};
-ghost use Rattle.turn_law.specs.Counting.{FramesAreLinked, FramesThatCountAreAdmitted};
+ghost use Rattle.turn_law.specs.Counting.{FramesAreHeardWhereTheyCount, FramesAreLinked, FramesThatCountAreAdmitted};
 ghost use Rattle.turn_law.specs.Quiet.{QuietSessionsStayStill};
 ghost use Rattle.turn_law.specs.Room.{AnswersAreStill};
 ghost use Rattle.turn_law.specs.Tables.{FramesTouchTheirOwn};
@@ -43,4 +43,10 @@ pub fn frames_that_count_are_admitted()
 /// In the table a frame changes what is said of the endpoint that it is sent on and of those that it carries, and of no other client's.
 pub fn frames_touch_their_own()
     ensures { FramesTouchTheirOwn }
+{}
+
+/// A frame is heard just where its endpoint has a life in the table, and the frame counts there as far as frames say: behind the frame that
+/// carries its endpoint, before a Close, and with new handles.
+pub fn frames_are_heard_where_they_count()
+    ensures { FramesAreHeardWhereTheyCount }
 {}
