@@ -42,7 +42,7 @@ heard_parts start table frame h =
     let b = and_parts (is_some (table.life frame.endpoint)) (list_all (is_new start) frame.handles) a.1 in
     (a.0, b.0, b.1)
 
-first_open : (start : Start) (n : ℕ) (pair : Bound × Position) → IsStart start → is_client n ≡ true → (table_at_start start).life n ≡ Some pair → list_any (λ bound. bound.endpoint == n) start.firsts ≡ true
+pub first_open : (start : Start) (n : ℕ) (pair : Bound × Position) → IsStart start → is_client n ≡ true → (table_at_start start).life n ≡ Some pair → list_any (λ bound. bound.endpoint == n) start.firsts ≡ true
 first_open start n pair s client lives = by_find (find (λ bound. bound.endpoint == n) (start.firsts ++ start.mounts)) refl lives where
   by_side : (bound : Bound) → bound.endpoint ≡ n → Contains start.firsts bound ⊎ Contains start.mounts bound → list_any (λ b. b.endpoint == n) start.firsts ≡ true
   by_side bound at (inl there) = passes_any (λ b. b.endpoint == n) start.firsts bound there (eq-eqb bound.endpoint n at)
@@ -67,7 +67,7 @@ unfolding is_open
 opens_new start n frame frames carried new =
     or_left (among n frame.handles && is_new start n) _ (ap (λ (b : Bool). b && is_new start n) carried ∙ new)
 
-some_life : {o : Option (Bound × Position)} → is_some o ≡ true → (pair : Bound × Position) × (o ≡ Some pair)
+pub some_life : {o : Option (Bound × Position)} → is_some o ≡ true → (pair : Bound × Position) × (o ≡ Some pair)
 some_life {o} h = by_option o h where
   by_option : (x : Option (Bound × Position)) → is_some x ≡ true → (pair : Bound × Position) × (x ≡ Some pair)
   by_option None e = absurd (cc)

@@ -10,3 +10,4 @@ pub mod LinkedSteps
 pub mod Within
 pub mod Touching
 pub mod Hearing
+pub mod Arriving

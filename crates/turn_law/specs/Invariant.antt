@@ -4,17 +4,18 @@
 -- table before the frame that waits first, endpoint by endpoint. Of an endpoint, a frame counts that can be heard as far as frames say: it
 -- stands behind the frame that carries the endpoint, and before a Close. In steps that keep the premises
 --  - what waits on a bound endpoint are the last frames that count there, in order, and before them it has the life and was told the messages
---    that the journal says (`IsBoundAs`);
+--    that the journal says (`IsAsTold`);
 --  - on an endpoint that travels all that counts waits, and nothing was written. Its carrier is the frame that carries it, which counts and is
 --    served by the same rule, or the rest of an Open that was heard: what is sent on the end of a mount now makes of the endpoint what the
 --    whole Open made of it (`TravelsAs`);
 --  - any other endpoint has no life now, and was told what was written on it; nothing more can be heard on it, for whatever carried it is past
 --    (`IsGone`).
 -- Behind a drain nothing waits and nothing travels, so each endpoint was told what the table says.
-use Rattle.std.specs.Prelude.{◌≡◌, ◌==◌, true, false, ℕ, List, [], ◌∷◌, ◌++◌, filter, filter_map, length, reverse, Option, Some, None}
+use Rattle.std.specs.Prelude.{◌≡◌, ◌==◌, true, false, ℕ, List, [], ◌∷◌, ◌++◌, filter, filter_map, length, map, reverse, Option, Some, None}
 use Rattle.fidl_names.specs.HandleNumber.{is_client}
 use Rattle.endpoint_link.specs.Frames.{Frame}
 use Rattle.endpoint_link.specs.Numbering.{among}
+use Rattle.conn_rules.specs.Births.{Position}
 use Rattle.vfs_journal.specs.Entries.{Journal, Sending, Sent}
 use Rattle.vfs_journal.specs.History.{History, bound_at, is_live, position_of, waiting}
 use Rattle.vfs_journal.specs.Output.{frames_behind}
@@ -34,7 +35,7 @@ queue_on history endpoint = filter (λ sent. sent.endpoint == endpoint) (waiting
 
 -- what these send
 abbrev pub sendings_of : List Sent → List Sending
-sendings_of ones = filter_map (λ one. Some one.sending) ones
+sendings_of ones = map (λ one. one.sending) ones
 
 -- the messages that were written on an endpoint
 abbrev pub written_on : Start → Journal → ℕ → List Frame
@@ -42,14 +43,17 @@ written_on start journal endpoint = messages_on endpoint (frames_behind start jo
 
 -- ---- the invariant, of one endpoint
 
+-- who is bound, with what waits there, the position and what was written, is as frames tell
+pub record IsAsTold (start : Start) (frames : List Frame) (bound : Bound) (queue : List Sent) (position : Position) (written : List Frame) : Type 0 where
+  pub waits : sendings_of queue ≡ last_sendings start bound.endpoint (length queue) frames
+  pub life : (table_of start (before start bound.endpoint (length queue) frames)).life bound.endpoint ≡ Some (bound, position)
+  pub told : (table_of start (before start bound.endpoint (length queue) frames)).told bound.endpoint ≡ written
+
 -- an endpoint that is bound
-pub record IsBoundAs (start : Start) (journal : Journal) (frames : List Frame) (bound : Bound) : Type 0 where
-  pub queue : sendings_of (queue_on (history_of start journal) bound.endpoint)
-      ≡ last_sendings start bound.endpoint (length (queue_on (history_of start journal) bound.endpoint)) frames
-  pub life : (table_of start (before start bound.endpoint (length (queue_on (history_of start journal) bound.endpoint)) frames)).life bound.endpoint
-      ≡ Some (bound, position_of (history_of start journal) bound.endpoint)
-  pub told : (table_of start (before start bound.endpoint (length (queue_on (history_of start journal) bound.endpoint)) frames)).told bound.endpoint
-      ≡ written_on start journal bound.endpoint
+abbrev pub IsBoundAs : Start → Journal → List Frame → Bound → Type 0
+IsBoundAs start journal frames bound =
+    IsAsTold start frames bound (queue_on (history_of start journal) bound.endpoint) (position_of (history_of start journal) bound.endpoint)
+    (written_on start journal bound.endpoint)
 
 -- what waits is what a frame sent, which counts
 pub record IsOfFrame (start : Start) (frame : Frame) (earlier : List Frame) (one : Sent) : Type 0 where
