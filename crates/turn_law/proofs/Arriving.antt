@@ -94,11 +94,11 @@ unnamed_counting start (frame ∷ frames) n unnamed =
 
 -- ---- one frame more
 
-uncounted_more : (start : Start) (n : ℕ) (frame : Frame) (frames : List Frame) → counts_on start n frames frame ≡ false → counting start n (frame ∷ frames) ≡ counting start n frames
+pub uncounted_more : (start : Start) (n : ℕ) (frame : Frame) (frames : List Frame) → counts_on start n frames frame ≡ false → counting start n (frame ∷ frames) ≡ counting start n frames
 unfolding counting
 uncounted_more start n frame frames uncounted = ap (λ (b : Bool). if b then frame ∷ counting start n frames else counting start n frames) uncounted
 
-counted_more : (start : Start) (n : ℕ) (frame : Frame) (frames : List Frame) → counts_on start n frames frame ≡ true → counting start n (frame ∷ frames) ≡ frame ∷ counting start n frames
+pub counted_more : (start : Start) (n : ℕ) (frame : Frame) (frames : List Frame) → counts_on start n frames frame ≡ true → counting start n (frame ∷ frames) ≡ frame ∷ counting start n frames
 unfolding counting
 counted_more start n frame frames counts = ap (λ (b : Bool). if b then frame ∷ counting start n frames else counting start n frames) counts
 

@@ -11,3 +11,4 @@ pub mod Within
 pub mod Touching
 pub mod Hearing
 pub mod Arriving
+pub mod ArrivalsAgree

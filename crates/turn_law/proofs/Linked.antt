@@ -123,7 +123,7 @@ live_undead below start journal n s lawful live =
 
 -- ---- behind a sending
 
-live_behind : Below → (start : Start) (journal : Journal) (endpoint : ℕ) (sending : Sending) (n : ℕ) → Lawful start journal → is_dead (history_of start journal) endpoint ≡ false →
+pub live_behind : Below → (start : Start) (journal : Journal) (endpoint : ℕ) (sending : Sending) (n : ℕ) → Lawful start journal → is_dead (history_of start journal) endpoint ≡ false →
     is_live start (behind start (sends (sent_behind journal endpoint sending None)) (history_of start journal)) n
     ≡ (is_live start (history_of start journal) n || among n (endpoints_in (sent_behind journal endpoint sending None)))
 live_behind below start journal endpoint sending n lawful alive =
@@ -327,7 +327,7 @@ named_more : (start : Start) (n : ℕ) (frame : Frame) (frames : List Frame) →
 named_more start n frame frames h = shuffled (list_any (λ bound. bound.endpoint == n) start.firsts) (among n frame.handles) (list_any (λ f. among n f.handles) frames) h
 
 -- behind a refusal endpoints live and are closed as before
-live_same : (start : Start) (past : History) (endpoint : ℕ) (why : Refusal) (n : ℕ) → is_live start (behind start (refuses endpoint why) past) n ≡ is_live start past n
+pub live_same : (start : Start) (past : History) (endpoint : ℕ) (why : Refusal) (n : ℕ) → is_live start (behind start (refuses endpoint why) past) n ≡ is_live start past n
 live_same start past endpoint why n =
     let is = refusals_change_nothing start past endpoint why in
     ap (λ (b : Bool). b || among n (travelling (behind start (refuses endpoint why) past))) (ap is_some (is.same.bound n))

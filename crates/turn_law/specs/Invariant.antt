@@ -21,9 +21,9 @@ use Rattle.vfs_journal.specs.History.{History, bound_at, is_live, position_of, w
 use Rattle.vfs_journal.specs.Output.{frames_behind}
 use Rattle.vfs_journal.specs.Past.{history_of}
 use Rattle.vfs_journal.specs.Starts.{Bound, Start}
-use Rattle.journal_laws.specs.Soundness.{Carries}
-use Rattle.turn_law.specs.Counting.{before, counting, counts_on, last_sendings}
-use Rattle.turn_law.specs.Steps.{Step, frames_in, journal_of}
+use Rattle.journal_laws.specs.Soundness.{Carries, IsStart}
+use Rattle.turn_law.specs.Counting.{KeepPremises, before, counting, counts_on, last_sendings}
+use Rattle.turn_law.specs.Steps.{AreSteps, Step, arrival, frames_in, journal_of}
 use Rattle.turn_law.specs.Tables.{SaySame}
 use Rattle.turn_law.specs.Told.{Table, is_heard, messages_on, sending_by, sent_on, table_at_start, table_of}
 
@@ -97,3 +97,19 @@ pub record AgreesOn (start : Start) (journal : Journal) (frames : List Frame) (e
 pub record Agrees (start : Start) (steps : List Step) : Type 0 where
   pub clients : (endpoint : ℕ) → is_client endpoint ≡ true → AgreesOn start (journal_of start steps) (frames_in steps) endpoint
   pub ends : (endpoint : ℕ) → is_client endpoint ≡ false → written_on start (journal_of start steps) endpoint ≡ []
+
+-- ---- laws
+
+-- the premises of the law, of steps
+abbrev pub StepsKeepPremises : Start → List Step → Type 0
+StepsKeepPremises start steps = KeepPremises start (journal_of start steps) (frames_in steps)
+
+-- at the beginning all agree
+abbrev pub BeginningsAgree : Type 0
+BeginningsAgree = (start : Start) → IsStart start → Agrees start []
+
+-- and they do so behind each frame that arrives
+abbrev pub ArrivalsAgree : Type 0
+ArrivalsAgree =
+    (start : Start) (steps : List Step) (frame : Frame) → IsStart start → AreSteps start (arrival frame ∷ steps) → StepsKeepPremises start (arrival frame ∷ steps) →
+    Agrees start steps → Agrees start (arrival frame ∷ steps)
