@@ -57,11 +57,11 @@ told_same start frames bound queue queue' position position' written written' a 
 pub bound_on : (start : Start) (history : History) (n : ℕ) (bound : Bound) → bound_at start history n ≡ Some bound → bound.endpoint ≡ n
 bound_on start history n bound e = eqb-true bound.endpoint n (found (λ b. b.endpoint == n) (living start history) bound e).1
 
-bound_live : (start : Start) (history : History) (n : ℕ) (bound : Bound) → bound_at start history n ≡ Some bound → is_live start history n ≡ true
+pub bound_live : (start : Start) (history : History) (n : ℕ) (bound : Bound) → bound_at start history n ≡ Some bound → is_live start history n ≡ true
 bound_live start history n bound e = or_left (is_bound start history n) _ (ap is_some e)
 
 -- a frame counts only on its own endpoint
-elsewhere : (start : Start) (n : ℕ) (frames : List Frame) (frame : Frame) → frame.endpoint ≢ n → counts_on start n frames frame ≡ false
+pub elsewhere : (start : Start) (n : ℕ) (frames : List Frame) (frame : Frame) → frame.endpoint ≢ n → counts_on start n frames frame ≡ false
 elsewhere start n frames frame other = ap (λ (b : Bool). b && (is_open start n frames && list_all (is_new start) frame.handles)) (ne_eqb frame.endpoint n other)
 
 -- ---- an admitted frame
@@ -241,7 +241,7 @@ module _ (start : Start) (journal : Journal) (endpoint : ℕ) (why : Refusal) wh
   abbrev behind' : History
   behind' = history_of start (refuses endpoint why ∷ journal)
 
-  written_same : (n : ℕ) → written_on start (refuses endpoint why ∷ journal) n ≡ written_on start journal n
+  pub written_same : (n : ℕ) → written_on start (refuses endpoint why ∷ journal) n ≡ written_on start journal n
   unfolding history_of event_of
   written_same n = filter-append (λ (f : Frame). is_message f.kind && (f.endpoint == n)) (frames_behind start journal) (refused_frame endpoint why ∷ []) ∙ append-nil (messages_on n (frames_behind start journal))
 

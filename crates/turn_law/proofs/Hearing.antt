@@ -36,7 +36,7 @@ hung_life start table n pair lives own =
 
 -- ---- who lives is open
 
-heard_parts : (start : Start) (table : Table) (frame : Frame) → is_heard start table frame ≡ true → (is_client frame.endpoint ≡ true) × (is_some (table.life frame.endpoint) ≡ true) × (list_all (is_new start) frame.handles ≡ true)
+pub heard_parts : (start : Start) (table : Table) (frame : Frame) → is_heard start table frame ≡ true → (is_client frame.endpoint ≡ true) × (is_some (table.life frame.endpoint) ≡ true) × (list_all (is_new start) frame.handles ≡ true)
 heard_parts start table frame h =
     let a = and_parts (is_client frame.endpoint) _ h in
     let b = and_parts (is_some (table.life frame.endpoint)) (list_all (is_new start) frame.handles) a.1 in

@@ -12,3 +12,4 @@ pub mod Touching
 pub mod Hearing
 pub mod Arriving
 pub mod ArrivalsAgree
+pub mod Arrivals

@@ -38,7 +38,7 @@ use Rattle.turn_law.specs.Counting.{AreLinked, FramesAreLinked, FramesThatCountA
 use Rattle.turn_law.specs.Premises.{ChangeNothing, Changes, HandlesStandOnce, MeetsNoLimit, TellsLimit}
 use Rattle.turn_law.specs.Premises as premises
 use Rattle.turn_law.specs.Quiet.{ClientsAreQuiet, IsQuiet}
-use Rattle.turn_law.specs.Steps.{arrival, frames_in, is_sending, journal_of}
+use Rattle.turn_law.specs.Steps.{AreSteps, Step, arrival, frames_in, is_sending, journal_of, service}
 use Rattle.turn_law.specs.Told.{is_new}
 use Rattle.turn_law.proofs.BySteps.{StepsGoOn, by_steps}
 use Rattle.turn_law.proofs.Linked.{IsLimit, close_has_none, close_linked, close_refusal, live_stands, live_undead, live_used, message_linked, message_refusal, named_uncarried, not_true, or_none, refusal_linked, travels_new, unused_new}
@@ -277,7 +277,7 @@ module _ (below : Below) (start : Start) (journal : Journal) (frames : List Fram
   only_there kind.Refused is sending none = absurd (cc)
 
   -- what counts on a live endpoint is refused for a limit alone
-  refused_by : (why : Refusal) → HandlesStandOnce (frame ∷ frames) → is_live start (history_of start journal) frame.endpoint ≡ true → counts_on start frame.endpoint frames frame ≡ true →
+  pub refused_by : (why : Refusal) → HandlesStandOnce (frame ∷ frames) → is_live start (history_of start journal) frame.endpoint ≡ true → counts_on start frame.endpoint frames frame ≡ true →
       (k : FrameKind) → frame.kind ≡ k → is_sending k ≡ true → admission (look_ups start (history_of start journal)) frame ≡ Some why → IsLimit why
   refused_by why once live counts k is sending refused =
       by_kind k is sending (ap (λ (x : FrameKind). refusal_by x (look_ups start (history_of start journal)) frame.endpoint frame.handles) (sym is) ∙ refused) where
@@ -312,7 +312,7 @@ module _ (below : Below) (start : Start) (journal : Journal) (frames : List Fram
         by_kind kind.Refused is' sending' h = absurd (cc)
 
 -- the premises before a frame
-frame_limits : (start : Start) (journal : Journal) (frame : Frame) (k : FrameKind) → frame.kind ≡ k → is_sending k ≡ true → (o : Option Refusal) →
+pub frame_limits : (start : Start) (journal : Journal) (frame : Frame) (k : FrameKind) → frame.kind ≡ k → is_sending k ≡ true → (o : Option Refusal) →
     MeetsNoLimit (frames_behind start (by_refusal start journal frame o)) → MeetsNoLimit (frames_behind start journal)
 frame_limits start journal frame k is sending (Some why) h = entry_limits start journal (refuses frame.endpoint why) h
 frame_limits start journal frame kind.Message is sending None h =
@@ -371,3 +371,48 @@ just_there below start steps frame s can sending keeps =
       admitted_by live counts (Some why) e =
           absurd (refused_limit why e (tells why
           (refused_by below start journal frames frame s lawful' can.0.0 linked tokens why (subst HandlesStandOnce whole keeps.handles) live counts frame.kind refl sending e)))
+
+-- what steps say before a frame that arrives, where the premises hold behind it
+pub record IsBeforeFrame (start : Start) (steps : List Step) (frame : Frame) : Type 0 where
+  pub lawful : Lawful start (journal_of start steps)
+  pub linked : AreLinked start (history_of start (journal_of start steps)) (frames_in steps)
+  pub tokens : all_given (history_of start (journal_of start steps)) ≡ []
+  pub once : HandlesStandOnce (frame ∷ frames_in steps)
+  pub unlimited : (why : Refusal) → admission (look_ups start (history_of start (journal_of start steps))) frame ≡ Some why → ¬ (IsLimit why)
+
+pub before_frame : Below → (start : Start) (steps : List Step) (frame : Frame) → IsStart start → AreSteps start (arrival frame ∷ steps) → is_sending frame.kind ≡ true →
+    KeepPremises start (journal_of start (arrival frame ∷ steps)) (frames_in (arrival frame ∷ steps)) → IsBeforeFrame start steps frame
+unfolding journal_of
+before_frame below start steps frame s can sending keeps = record {
+  lawful = steps_lawful start steps can.1;
+  linked = both.1 earlier;
+  tokens = (stay_still below start journal s (steps_lawful start steps can.1) (both.0 earlier.changes)).tokens;
+  once = subst HandlesStandOnce (ap (λ (b : Bool). if b then frame ∷ frames_in steps else frames_in steps) sending) keeps.handles;
+  unlimited = λ why e limit.
+      no_limit start journal frame.endpoint why (subst (λ (o : Option Refusal). MeetsNoLimit (frames_behind start (by_refusal start journal frame o))) e keeps.limits) (tells why limit);
+} where
+  journal : Journal
+  journal = journal_of start steps
+
+  earlier : KeepPremises start journal (frames_in steps)
+  earlier = record {
+    changes = fewer_changes frame.kind frame (frames_in steps) keeps.changes;
+    handles = fewer_handles frame.kind frame (frames_in steps) keeps.handles;
+    limits = frame_limits start journal frame frame.kind refl sending (admission (look_ups start (history_of start journal)) frame) keeps.limits;
+  }
+
+  both : Quiet start journal (frames_in steps) × Linked start journal (frames_in steps)
+  both = by_steps start (λ j fs. Quiet start j fs × Linked start j fs) (linked_goes_on below start s) steps can.1
+
+  tells : (why : Refusal) → IsLimit why → TellsLimit (refused_frame frame.endpoint why)
+  tells why (inl e) = subst (λ (w : Refusal). TellsLimit (refused_frame frame.endpoint w)) (sym e) (premises.waits frame.endpoint)
+  tells why (inr e) = subst (λ (w : Refusal). TellsLimit (refused_frame frame.endpoint w)) (sym e) (premises.refuses frame.endpoint)
+
+-- what arrived are frames
+pub steps_are_frames : (start : Start) (steps : List Step) → AreSteps start steps → All (IsFrame ToServers) (frames_in steps)
+steps_are_frames start [] can = All-nil (IsFrame ToServers)
+steps_are_frames start (arrival frame ∷ steps) can = by_kind (is_sending frame.kind) (steps_are_frames start steps can.1) where
+  by_kind : (b : Bool) → All (IsFrame ToServers) (frames_in steps) → All (IsFrame ToServers) (if b then frame ∷ frames_in steps else frames_in steps)
+  by_kind true h = All-cons (IsFrame ToServers) frame (frames_in steps) can.0.0 h
+  by_kind false h = h
+steps_are_frames start (service one ∷ steps) can = steps_are_frames start steps can.1

@@ -2,6 +2,7 @@
 
 ghost use Rattle.fidl_wire.specs.Names.{AreDistinct};
 ghost use Rattle.turn_law.specs.Counting.{FramesAreHeardWhereTheyCount, FramesAreLinked, FramesThatCountAreAdmitted};
+ghost use Rattle.turn_law.specs.Invariant.{ArrivalsAgree, BeginningsAgree};
 ghost use Rattle.turn_law.specs.Quiet.{QuietSessionsStayStill};
 ghost use Rattle.turn_law.specs.Room.{AnswersAreStill};
 ghost use Rattle.turn_law.specs.Tables.{FramesTouchTheirOwn};
@@ -49,4 +50,15 @@ pub fn frames_touch_their_own()
 /// carries its endpoint, before a Close, and with new handles.
 pub fn frames_are_heard_where_they_count()
     ensures { FramesAreHeardWhereTheyCount }
+{}
+
+/// Before the first step each endpoint is as the table says.
+pub fn beginnings_agree()
+    ensures { BeginningsAgree }
+{}
+
+/// Where each endpoint is as the table says, it is so behind each frame that arrives, be it sent or refused, where no handle stands twice,
+/// nothing changes and no limit is met; where no two names have equal ordinals.
+pub fn arrivals_agree()
+    ensures { AreDistinct → ArrivalsAgree }
 {}

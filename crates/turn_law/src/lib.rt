@@ -4,6 +4,6 @@
 mod laws;
 
 pub use laws::{
-    answers_are_still, frames_are_heard_where_they_count, frames_are_linked, frames_that_count_are_admitted, frames_touch_their_own,
+    answers_are_still, arrivals_agree, beginnings_agree, frames_are_heard_where_they_count, frames_are_linked, frames_that_count_are_admitted, frames_touch_their_own,
     quiet_sessions_stay_still, sessions_are_steps, steps_are_lawful,
 };
