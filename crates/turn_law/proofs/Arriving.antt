@@ -110,7 +110,7 @@ before_uncounted start n (suc ahead) frame frames uncounted same =
     let e = ap (λ (b : Bool). table_of start (if b then before start n ahead frames else before start n (suc ahead) frames)) uncounted in
     record { life = ap (λ t. t.life n) e; told = ap (λ t. t.told n) e }
 
-before_counted : (start : Start) (n ahead : ℕ) (frame : Frame) (frames : List Frame) → counts_on start n frames frame ≡ true → before start n (suc ahead) (frame ∷ frames) ≡ before start n ahead frames
+pub before_counted : (start : Start) (n ahead : ℕ) (frame : Frame) (frames : List Frame) → counts_on start n frames frame ≡ true → before start n (suc ahead) (frame ∷ frames) ≡ before start n ahead frames
 unfolding before
 before_counted start n ahead frame frames counts = ap (λ (b : Bool). if b then before start n ahead frames else before start n (suc ahead) frames) counts
 

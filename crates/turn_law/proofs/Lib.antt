@@ -13,3 +13,5 @@ pub mod Hearing
 pub mod Arriving
 pub mod ArrivalsAgree
 pub mod Arrivals
+pub mod AllTold
+pub mod Counted

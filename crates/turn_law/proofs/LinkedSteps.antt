@@ -98,6 +98,9 @@ right : (xs ys : List ℕ) → AllPairs (λ one other. one ≢ other) (xs ++ ys)
 right [] ys h = h
 right (x ∷ xs) ys h = right xs ys (pairs-tail (λ one other. one ≢ other) x (xs ++ ys) h)
 
+pub fewer_once : (frame : Frame) (frames : List Frame) → HandlesStandOnce (frame ∷ frames) → HandlesStandOnce frames
+fewer_once frame frames h = right frame.handles (flat_map (λ f. f.handles) frames) h
+
 pub fewer_handles : (k : FrameKind) (frame : Frame) (frames : List Frame) → HandlesStandOnce (with_sending k frame frames) → HandlesStandOnce frames
 fewer_handles kind.Message frame frames h = right frame.handles (flat_map (λ f. f.handles) frames) h
 fewer_handles kind.Close frame frames h = right frame.handles (flat_map (λ f. f.handles) frames) h

@@ -113,3 +113,9 @@ abbrev pub ArrivalsAgree : Type 0
 ArrivalsAgree =
     (start : Start) (steps : List Step) (frame : Frame) → IsStart start → AreSteps start (arrival frame ∷ steps) → StepsKeepPremises start (arrival frame ∷ steps) →
     Agrees start steps → Agrees start (arrival frame ∷ steps)
+
+-- where they agree and nothing waits, what was written on a client's endpoint is what it is told
+abbrev pub WhereNothingWaitsAllIsTold : Type 0
+WhereNothingWaitsAllIsTold =
+    (start : Start) (steps : List Step) (endpoint : ℕ) → Agrees start steps → waiting (history_of start (journal_of start steps)) ≡ [] → is_client endpoint ≡ true →
+    written_on start (journal_of start steps) endpoint ≡ (table_of start (frames_in steps)).told endpoint

@@ -2,7 +2,7 @@
 
 ghost use Rattle.fidl_wire.specs.Names.{AreDistinct};
 ghost use Rattle.turn_law.specs.Counting.{FramesAreHeardWhereTheyCount, FramesAreLinked, FramesThatCountAreAdmitted};
-ghost use Rattle.turn_law.specs.Invariant.{ArrivalsAgree, BeginningsAgree};
+ghost use Rattle.turn_law.specs.Invariant.{ArrivalsAgree, BeginningsAgree, WhereNothingWaitsAllIsTold};
 ghost use Rattle.turn_law.specs.Quiet.{QuietSessionsStayStill};
 ghost use Rattle.turn_law.specs.Room.{AnswersAreStill};
 ghost use Rattle.turn_law.specs.Tables.{FramesTouchTheirOwn};
@@ -61,4 +61,9 @@ pub fn beginnings_agree()
 /// nothing changes and no limit is met; where no two names have equal ordinals.
 pub fn arrivals_agree()
     ensures { AreDistinct → ArrivalsAgree }
+{}
+
+/// Where each endpoint is as the table says, and nothing waits, the messages written on a client's endpoint are those that it is told.
+pub fn where_nothing_waits_all_is_told()
+    ensures { WhereNothingWaitsAllIsTold }
 {}
