@@ -1,5 +1,5 @@
 -- The frame that waits first on an endpoint: the table before it, and that nothing is said of the endpoint until the next frame that counts.
-use Rattle.std.proofs.Common.{◌≡◌, ◌≢◌, ℕ, zero, suc, ◌<◌, ◌≤◌, ◌==◌, ◌&&◌, ◌||◌, ◌⊎◌, Bool, true, false, not, is_some, List, [], ◌∷◌, ◌++◌, length, filter_map, reverse, take, Option, Some, None, All, if◌then◌else◌, refl, sym, ap, ◌∙◌, subst, inl, inr, arith}
+use Rattle.std.proofs.Common.{◌≡◌, ◌≢◌, ℕ, zero, suc, ◌<◌, ◌≤◌, ◌==◌, ◌&&◌, ◌||◌, ◌⊎◌, Bool, true, false, not, is_some, List, [], ◌∷◌, ◌++◌, length, filter_map, reverse, take, Option, Some, None, All, if◌then◌else◌, refl, sym, ap, ◌∙◌, subst, inl, inr, append-nil, append_assoc, arith}
 use Rattle.std.specs.List.{list_all, list_any}
 use Rattle.std.specs.Prelude.{option_to_list}
 use Rattle.std.proofs.lemmas.Bool.{and_parts, cases_Bool, eqb-false, eqb-true, false_from_ne_true, or_cases, or_left, or_right, true≢false}
@@ -74,3 +74,72 @@ sends_more : (start : Start) (n ahead : ℕ) (frame : Frame) (frames : List Fram
 sends_more start n ahead frame frames counts =
     ap (λ (fs : List Frame). filter_map (λ (f : Frame). sending_by f.kind f) (reverse (take (suc ahead) fs))) (counted_more start n frame frames counts)
     ∙ filter_map-more (λ (f : Frame). sending_by f.kind f) frame (take ahead (counting start n frames))
+
+counted_here : (start : Start) (n ahead : ℕ) (frame : Frame) (frames : List Frame) → counts_on start n frames frame ≡ true → ((k : ℕ) → suc k ≡ ahead → IsCounted start n k frames) → IsCounted start n ahead (frame ∷ frames)
+unfolding before
+counted_here start n zero frame frames counts rest = record {
+  frame = frame;
+  earlier = frames;
+  counts = counts;
+  is_before = before_counted start n 0 frame frames counts;
+  steady = same_table n (table_of start (frame ∷ frames));
+  first = sends_more start n 0 frame frames counts ∙ sym (append-nil (option_to_list (sending_by frame.kind frame)));
+}
+counted_here start n (suc ahead) frame frames counts rest =
+    let old = rest ahead refl in
+    record {
+      frame = old.frame;
+      earlier = old.earlier;
+      counts = old.counts;
+      is_before = before_counted start n (suc ahead) frame frames counts ∙ old.is_before;
+      steady = then_same (table_same n _ _ (ap (table_of start) (before_counted start n ahead frame frames counts))) old.steady;
+      first =
+          sends_more start n (suc ahead) frame frames counts
+          ∙ ap (λ (ss : List Sending). ss ++ option_to_list (sending_by frame.kind frame)) old.first
+          ∙ append_assoc (option_to_list (sending_by old.frame.kind old.frame)) (last_sendings start n ahead frames) (option_to_list (sending_by frame.kind frame))
+          ∙ sym (ap (λ (ss : List Sending). option_to_list (sending_by old.frame.kind old.frame) ++ ss) (sends_more start n ahead frame frames counts));
+    }
+
+counted_later : (start : Start) (n ahead : ℕ) (frame : Frame) (frames : List Frame) → counts_on start n frames frame ≡ false → SaySame n (table_of start (frame ∷ frames)) (table_of start frames) → IsCounted start n ahead frames → IsCounted start n ahead (frame ∷ frames)
+unfolding before
+counted_later start n ahead frame frames uncounted same old = record {
+  frame = old.frame;
+  earlier = old.earlier;
+  counts = old.counts;
+  is_before = before_later start n ahead frame frames uncounted ∙ old.is_before;
+  steady = then_same (steady_by ahead) old.steady;
+  first =
+      sends_later start n (suc ahead) frame frames uncounted
+      ∙ old.first
+      ∙ sym (ap (λ (ss : List Sending). option_to_list (sending_by old.frame.kind old.frame) ++ ss) (sends_later start n ahead frame frames uncounted));
+} where
+  steady_by : (k : ℕ) → SaySame n (table_of start (before start n k (frame ∷ frames))) (table_of start (before start n k frames))
+  steady_by zero = same
+  steady_by (suc k) = table_same n _ _ (ap (table_of start) (before_later start n k frame frames uncounted))
+
+counting_named : (start : Start) (n ahead : ℕ) (frames : List Frame) → ahead < length (counting start n frames) → is_named start frames n ≡ true
+counting_named start n ahead frames more = by_test (is_named start frames n) refl where
+  by_test : (b : Bool) → is_named start frames n ≡ b → is_named start frames n ≡ true
+  by_test true e = e
+  by_test false e = let none = ap length (unnamed_counting start frames n e) in absurd (omega arith)
+
+counted_by : SpelledWhereRead → (start : Start) (n ahead : ℕ) (frame : Frame) (frames : List Frame) → IsStart start → All (IsFrame ToServers) (frame ∷ frames) → HandlesStandOnce (frame ∷ frames) → is_client n ≡ true →
+    ahead < length (counting start n (frame ∷ frames)) → ((k : ℕ) → k < length (counting start n frames) → IsCounted start n k frames) → (counts_on start n frames frame ≡ true) ⊎ (counts_on start n frames frame ≡ false) → IsCounted start n ahead (frame ∷ frames)
+counted_by law start n ahead frame frames s all once client more rest (inl counts) =
+    let longer = ap length (counted_more start n frame frames counts) in
+    counted_here start n ahead frame frames counts (λ k e. rest k (omega (arith, longer, more, e)))
+counted_by law start n ahead frame frames s all once client more rest (inr uncounted) =
+    let same = ap length (uncounted_more start n frame frames uncounted) in
+    let still : ahead < length (counting start n frames) = omega (arith, same, more) in
+    counted_later start n ahead frame frames uncounted
+    (uncounted_steady law start n frame frames s all once client (counting_named start n ahead frames still) uncounted)
+    (rest ahead still)
+
+pub is_counted : SpelledWhereRead → (start : Start) (n ahead : ℕ) (frames : List Frame) → IsStart start → All (IsFrame ToServers) frames → HandlesStandOnce frames → is_client n ≡ true →
+    ahead < length (counting start n frames) → IsCounted start n ahead frames
+unfolding counting
+is_counted law start n ahead [] s all once client more = absurd (omega arith)
+is_counted law start n ahead (frame ∷ frames) s all once client more =
+    counted_by law start n ahead frame frames s all once client more
+    (λ k less. is_counted law start n k frames s (All-tail (IsFrame ToServers) frame frames all) (fewer_once frame frames once) client less)
+    (cases_Bool (counts_on start n frames frame))
