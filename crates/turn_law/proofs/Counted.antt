@@ -55,8 +55,10 @@ uncounted_steady law start n frame frames s all once client named uncounted = by
 
 -- the last but so many that counts on an endpoint: what stood before it, and that behind it nothing was said of the endpoint until the next
 pub record IsCounted (start : Start) (n ahead : ℕ) (frames : List Frame) : Type 0 where
+  pub later : List Frame
   pub frame : Frame
   pub earlier : List Frame
+  pub split : frames ≡ later ++ frame ∷ earlier
   pub counts : counts_on start n earlier frame ≡ true
   pub is_before : before start n (suc ahead) frames ≡ earlier
   pub steady : SaySame n (table_of start (before start n ahead frames)) (table_of start (frame ∷ earlier))
@@ -78,8 +80,10 @@ sends_more start n ahead frame frames counts =
 counted_here : (start : Start) (n ahead : ℕ) (frame : Frame) (frames : List Frame) → counts_on start n frames frame ≡ true → ((k : ℕ) → suc k ≡ ahead → IsCounted start n k frames) → IsCounted start n ahead (frame ∷ frames)
 unfolding before
 counted_here start n zero frame frames counts rest = record {
+  later = [];
   frame = frame;
   earlier = frames;
+  split = refl;
   counts = counts;
   is_before = before_counted start n 0 frame frames counts;
   steady = same_table n (table_of start (frame ∷ frames));
@@ -88,8 +92,10 @@ counted_here start n zero frame frames counts rest = record {
 counted_here start n (suc ahead) frame frames counts rest =
     let old = rest ahead refl in
     record {
+      later = frame ∷ old.later;
       frame = old.frame;
       earlier = old.earlier;
+      split = ap (λ (fs : List Frame). frame ∷ fs) old.split;
       counts = old.counts;
       is_before = before_counted start n (suc ahead) frame frames counts ∙ old.is_before;
       steady = then_same (table_same n _ _ (ap (table_of start) (before_counted start n ahead frame frames counts))) old.steady;
@@ -103,8 +109,10 @@ counted_here start n (suc ahead) frame frames counts rest =
 counted_later : (start : Start) (n ahead : ℕ) (frame : Frame) (frames : List Frame) → counts_on start n frames frame ≡ false → SaySame n (table_of start (frame ∷ frames)) (table_of start frames) → IsCounted start n ahead frames → IsCounted start n ahead (frame ∷ frames)
 unfolding before
 counted_later start n ahead frame frames uncounted same old = record {
+  later = frame ∷ old.later;
   frame = old.frame;
   earlier = old.earlier;
+  split = ap (λ (fs : List Frame). frame ∷ fs) old.split;
   counts = old.counts;
   is_before = before_later start n ahead frame frames uncounted ∙ old.is_before;
   steady = then_same (steady_by ahead) old.steady;

@@ -80,7 +80,7 @@ unclosed_elsewhere k e n other = ap (λ (b : Bool). is_close k && b) other ∙ n
   none false = refl
 
 -- the table of one frame more, where it is heard and where it isn't
-heard_table : (start : Start) (frame : Frame) (frames : List Frame) (b : Bool) → is_heard start (table_of start frames) frame ≡ b →
+pub heard_table : (start : Start) (frame : Frame) (frames : List Frame) (b : Bool) → is_heard start (table_of start frames) frame ≡ b →
     table_of start (frame ∷ frames) ≡ (if b then option_map_or (λ sending. sent_on start frame.endpoint sending (table_of start frames)) (sending_by frame.kind frame) (table_of start frames) else table_of start frames)
 unfolding table_of
 heard_table start frame frames b is =

@@ -15,3 +15,4 @@ pub mod ArrivalsAgree
 pub mod Arrivals
 pub mod AllTold
 pub mod Counted
+pub mod Heads
