@@ -69,7 +69,7 @@ beginnings start s = record { clients = λ n client. first_agrees start n; ends 
 
 -- ---- a frame
 
-written_sent : (start : Start) (journal : Journal) (one : Sent) (n : ℕ) → written_on start (sends one ∷ journal) n ≡ written_on start journal n
+pub written_sent : (start : Start) (journal : Journal) (one : Sent) (n : ℕ) → written_on start (sends one ∷ journal) n ≡ written_on start journal n
 unfolding history_of event_of
 written_sent start journal one n = ap (messages_on n) (append-nil (frames_behind start journal))
 

@@ -16,3 +16,4 @@ pub mod Arrivals
 pub mod AllTold
 pub mod Counted
 pub mod Heads
+pub mod Answering

@@ -58,8 +58,8 @@ ungiven : (asker : Asker) (answer : Answer) → IsStillAnswer answer → token_o
 ungiven asker (replies a) h = no_token asker a h
 ungiven asker _ h = refl
 
-unwatched : (asker : Asker) (answer : Answer) → IsStillAnswer answer → (bound : Bound) → bound_of asker answer ≡ Some bound → IsNoWatcher bound
-unwatched asker (binds birth announced) h bound e = subst IsNoWatcher (some_same e) h where
+unwatched : (asker : Asker) (answer : Answer) → IsStillAnswer answer → (bound : Bound) → bound_of asker answer ≡ Some bound → IsNoWatcher bound × (bound.mask ≡ 0)
+unwatched asker (binds birth announced) h bound e = subst (λ (b : Bound). IsNoWatcher b × (b.mask ≡ 0)) (some_same e) (h, refl) where
   some_same : {x y : Bound} → Some x ≡ Some y → x ≡ y
   some_same same = cc
 unwatched asker (watches mask) h bound e = absurd h

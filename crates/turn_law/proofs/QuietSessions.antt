@@ -83,24 +83,24 @@ served_stays start past one still h =
     record {
       trees = is.trees ∙ ap (λ (c : Change). changed (trees_of start past) outcome.server c) still.stays ∙ trees_stay (trees_of start past) outcome.server ∙ h.trees;
       tokens = is.tokens ∙ ap (λ tokens. tokens ++ option_to_list outcome.token) h.tokens ∙ option_none outcome.token still.ungiven;
-      born = subst (All IsNoWatcher) (sym is.born) (All-append IsNoWatcher (births start past) (option_to_list outcome.bound) h.born (new_born outcome.bound still.bound));
+      born = subst (All IsNoWatcher) (sym is.born) (All-append IsNoWatcher (births start past) (option_to_list outcome.bound) h.born (new_born outcome.bound (λ b e. (still.bound b e).0)));
       sent = λ sent there. h.sent sent (subst (λ (ones : List Sent). Contains ones sent) is.sent_same there);
     }
 
 -- ---- a serving
 
-serving_still : Below → (start : Start) (past : History) (one : Sent) → (serving' : IsServing start past one) → Contains (births start past) serving'.at → IsQuiet one.sending → StaysStill start past → IsStill (outcome_of start past one)
+pub serving_still : Below → (start : Start) (past : History) (one : Sent) → (serving' : IsServing start past one) → Contains (births start past) serving'.at → IsQuiet one.sending → StaysStill start past → IsStill (outcome_of start past one)
 serving_still below start past one serving' born quiet h =
     subst IsStill (sym (ap (outcome_at start past one) serving'.bound))
     (sending_still below.spelled (moment_of start past serving'.at) (All-contains IsNoWatcher (births start past) serving'.at h.born born) one.sending quiet)
 
 -- what is served was sent, and its endpoint was born
-record Heads (start : Start) (journal : Journal) (one : Sent) : Type 0 where
-  serving' : IsServing start (history_of start journal) one
-  was_sent : Contains (all_sent (history_of start journal)) one
-  born : Contains (births start (history_of start journal)) serving'.at
+pub record Heads (start : Start) (journal : Journal) (one : Sent) : Type 0 where
+  pub serving' : IsServing start (history_of start journal) one
+  pub was_sent : Contains (all_sent (history_of start journal)) one
+  pub born : Contains (births start (history_of start journal)) serving'.at
 
-heads : Below → (start : Start) (journal : Journal) (one : Sent) → IsStart start → Lawful start journal → head start (history_of start journal) one.endpoint ≡ Some one → Heads start journal one
+pub heads : Below → (start : Start) (journal : Journal) (one : Sent) → IsStart start → Lawful start journal → head start (history_of start journal) one.endpoint ≡ Some one → Heads start journal one
 heads below start journal one s lawful first =
     let past = history_of start journal in
     let steps = stepped start journal lawful in

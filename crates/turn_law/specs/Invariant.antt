@@ -20,12 +20,14 @@ use Rattle.vfs_journal.specs.Entries.{Journal, Sending, Sent}
 use Rattle.vfs_journal.specs.History.{History, bound_at, is_live, position_of, waiting}
 use Rattle.vfs_journal.specs.Output.{frames_behind}
 use Rattle.vfs_journal.specs.Past.{history_of}
+use Rattle.vfs_journal.specs.Serving.{outcome_of, outcome_of_sending}
+use Rattle.vfs_journal.specs.Session.{after_serving}
 use Rattle.vfs_journal.specs.Starts.{Bound, Start}
 use Rattle.journal_laws.specs.Soundness.{Carries, IsStart}
 use Rattle.turn_law.specs.Counting.{KeepPremises, before, counting, counts_on, last_sendings}
-use Rattle.turn_law.specs.Steps.{AreSteps, Step, arrival, frames_in, journal_of}
+use Rattle.turn_law.specs.Steps.{AreSteps, Step, arrival, frames_in, journal_of, service}
 use Rattle.turn_law.specs.Tables.{SaySame}
-use Rattle.turn_law.specs.Told.{Table, is_heard, messages_on, sending_by, sent_on, table_at_start, table_of}
+use Rattle.turn_law.specs.Told.{Table, is_heard, messages_on, sending_by, sent_on, still, table_at_start, table_of}
 
 -- ---- in the journal
 
@@ -119,3 +121,14 @@ abbrev pub WhereNothingWaitsAllIsTold : Type 0
 WhereNothingWaitsAllIsTold =
     (start : Start) (steps : List Step) (endpoint : ℕ) → Agrees start steps → waiting (history_of start (journal_of start steps)) ≡ [] → is_client endpoint ≡ true →
     written_on start (journal_of start steps) endpoint ≡ (table_of start (frames_in steps)).told endpoint
+
+-- a serving is answered as in a moment of the table, and on each endpoint the messages of the answer are what is written
+pub record IsAnsweredStill (start : Start) (journal : Journal) (one : Sent) (bound : Bound) : Type 0 where
+  pub outcome : outcome_of start (history_of start journal) one ≡ outcome_of_sending (still start (bound, position_of (history_of start journal) bound.endpoint)) one.sending
+  pub written : (endpoint : ℕ) → written_on start (after_serving start journal one) endpoint
+      ≡ written_on start journal endpoint ++ messages_on endpoint (outcome_of start (history_of start journal) one).frames
+
+abbrev pub ServingsAreAnsweredStill : Type 0
+ServingsAreAnsweredStill =
+    (start : Start) (steps : List Step) (one : Sent) (bound : Bound) → IsStart start → AreSteps start (service one ∷ steps) → StepsKeepPremises start (service one ∷ steps) →
+    bound_at start (history_of start (journal_of start steps)) one.endpoint ≡ Some bound → IsAnsweredStill start (journal_of start steps) one bound

@@ -30,7 +30,7 @@ pub record IsStill (outcome : Outcome) : Type 0 where
   pub stays : outcome.change ≡ stay
   pub untold : outcome.told ≡ nothing_told
   pub ungiven : outcome.token ≡ None
-  pub bound : (bound : Bound) → outcome.bound ≡ Some bound → IsNoWatcher bound
+  pub bound : (bound : Bound) → outcome.bound ≡ Some bound → IsNoWatcher bound × (bound.mask ≡ 0)
 
 -- and so looking back: the trees are the start's, no token was given, nobody watches, and what went on behind mounts is quiet too
 pub record StaysStill (start : Start) (history : History) : Type 0 where

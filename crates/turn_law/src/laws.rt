@@ -2,7 +2,7 @@
 
 ghost use Rattle.fidl_wire.specs.Names.{AreDistinct};
 ghost use Rattle.turn_law.specs.Counting.{FramesAreHeardWhereTheyCount, FramesAreLinked, FramesThatCountAreAdmitted};
-ghost use Rattle.turn_law.specs.Invariant.{ArrivalsAgree, BeginningsAgree, WhereNothingWaitsAllIsTold};
+ghost use Rattle.turn_law.specs.Invariant.{ArrivalsAgree, BeginningsAgree, ServingsAreAnsweredStill, WhereNothingWaitsAllIsTold};
 ghost use Rattle.turn_law.specs.Quiet.{QuietSessionsStayStill};
 ghost use Rattle.turn_law.specs.Room.{AnswersAreStill};
 ghost use Rattle.turn_law.specs.Tables.{FramesTouchTheirOwn};
@@ -66,4 +66,10 @@ pub fn arrivals_agree()
 /// Where each endpoint is as the table says, and nothing waits, the messages written on a client's endpoint are those that it is told.
 pub fn where_nothing_waits_all_is_told()
     ensures { WhereNothingWaitsAllIsTold }
+{}
+
+/// Where nothing changes and no limit is met, a serving is answered as in a moment with the start's tree and nothing in use, and the
+/// messages of that answer are all that is written; where no two names have equal ordinals.
+pub fn servings_are_answered_still()
+    ensures { AreDistinct → ServingsAreAnsweredStill }
 {}
