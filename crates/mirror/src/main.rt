@@ -2,22 +2,14 @@
 #![tactic(auto)]
 
 use host_io::{StdSink, StdSource};
-use mirror_program::{MirrorStatus, mirror_words};
-use std::io::ErrorKind;
+use mirror_program::mirror_words;
+use run_status::words_of;
 use std::process::ExitCode;
-use std::rt::Env;
-use std::{env, io};
-
-/// Where the words can't be had for another cause than memory, as when they aren't UTF-8.
-const NO_WORDS: u8 = 12;
 
 fn main(rt: HostRuntime) -> ExitCode {
     let words = match words_of(&rt) {
         Ok(words) => words,
-        Err(error) if error.kind() == ErrorKind::OutOfMemory => {
-            return ExitCode::from(MirrorStatus::NoMemory.exit_code());
-        }
-        Err(_) => return ExitCode::from(NO_WORDS),
+        Err(fault) => return ExitCode::from(fault.exit_code()),
     };
     let mut source = StdSource::new(rt.stdin());
     let mut sink = StdSink::new(rt.stdout());
@@ -30,11 +22,4 @@ fn main(rt: HostRuntime) -> ExitCode {
         &mut notes,
     );
     ExitCode::from(status.exit_code())
-}
-
-/// The words behind the program's name.
-fn words_of<R: Env + AllocGlobal>(rt: &R) -> io::Result<Vec<String>> {
-    let mut words = env::args(rt)?;
-    let _name = words.next();
-    Ok(words.collect(rt.alloc())?)
 }
