@@ -12,7 +12,7 @@ find . \( -name .git -o -name out -o -name build \) -prune -o -print | sed 's,^\
 # The words of the code and of the definitions, without comments.
 grep -E '^crates/.*\.(rt|antt)$' "$work/paths" | xargs sed -e 's,//.*,,' -e 's/^ *--.*//' |
     tr -cs 'A-Za-z0-9_' '\n' | sort -u > "$work/words"
-awk -f tools/contracts.awk crates/*/src/*.rt > "$work/contracts"
+awk -f tools/contracts.awk crates/*/src/*.rt crates/*/src/*/*.rt > "$work/contracts"
 sed -n 's/^\([a-z][a-z-]*\):.*/make \1/p' Makefile > "$work/targets"
 
 awk -v work="$work" -f tools/check-names.awk README.md docs/*.md

@@ -8,14 +8,11 @@ use Rattle.endpoint_link.specs.declared.kinds.Mode.{Mode}
 use Rattle.endpoint_link.specs.declared.kinds.Side.TheVariants as side
 use Rattle.fidl_names.specs.Numbers.{AreBytes}
 use Rattle.fidl_wire.specs.Names.{AreDistinct}
-use Rattle.frame_laws.proofs.Begun.{starts_have_bytes}
-use Rattle.session_start.specs.Accepted.{AreAccepted, HasFilesOfBytes}
-use Rattle.session_start.specs.Items.{Lists}
 use Rattle.vfs_journal.specs.Entries.{Journal}
 use Rattle.vfs_journal.specs.Output.{frames_behind}
 use Rattle.vfs_journal.specs.Past.{history_of}
 use Rattle.vfs_journal.specs.Session.{session, steps}
-use Rattle.vfs_journal.specs.Starts.{Start, start_of}
+use Rattle.vfs_journal.specs.Starts.{Start}
 use Rattle.vfs_script.proofs.ScriptFacts.{script_frames}
 use Rattle.vfs_script.specs.Kept.{ScriptValue}
 use Rattle.vfs_script.specs.Scripts.{frame_of, frames_of, script_lines}
@@ -42,13 +39,11 @@ none_by : (start : Start) → frames_behind start [] ≡ []
 unfolding history_of
 none_by start = refl
 
-pub metered_first : (lists : Lists) (world : World) (tally : Tally) → AreDistinct → AreAccepted lists → HasFilesOfBytes lists → StandsFor (start_of lists) world [] → Tallies [] tally →
-    Metered (start_of lists) [] world tally
-metered_first lists world tally distinct accepted files stands tallies = record {
+pub metered_first : (start : Start) (world : World) (tally : Tally) → AreDistinct → StandsFor start world [] → Tallies [] tally → Metered start [] world tally
+metered_first start world tally distinct stands tallies = record {
   distinct = distinct;
-  bytes = starts_have_bytes lists accepted files;
   stands = stands;
-  tallies = subst (λ (frames : List Frame). Tallies frames tally) (sym (none_by (start_of lists))) tallies;
+  tallies = subst (λ (frames : List Frame). Tallies frames tally) (sym (none_by start)) tallies;
 }
 
 -- the frames that a tally takes, by the bytes that spell them
@@ -59,11 +54,10 @@ TakesOn bytes tally tally' = (before more : List Frame) → Tallies before tally
 pub metered_on : (start : Start) (journal later : Journal) (old new : World) (tally tally' : Tally) (before after bytes : List ℕ) → before ≡ [] → bytes ≡ after → Metered start journal old tally →
     LeadsTo start later new journal before after → TakesOn bytes tally tally' → Metered start later new tally'
 metered_on start journal later old new tally tally' before after bytes none is metered led takes =
-    let back = comes_back start journal later new before after metered.distinct metered.bytes metered.stands.sound metered.stands.lawful led in
+    let back = comes_back start journal later new before after metered.distinct metered.stands.sound metered.stands.lawful led in
     let since = frames_since start journal later in
     record {
       distinct = metered.distinct;
-      bytes = metered.bytes;
       stands = led.stands;
       tallies = subst (λ (frames : List Frame). Tallies frames tally') (sym back.grown)
           (takes (frames_behind start journal) since metered.tallies back.each (is ∙ back.written ∙ ap (λ l. l ++ spellings since) none));

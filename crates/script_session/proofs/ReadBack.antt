@@ -7,7 +7,6 @@ use Rattle.endpoint_link.specs.declared.kinds.Side.TheVariants as side
 use Rattle.endpoint_link.specs.declared.kinds.Mode.{Mode}
 use Rattle.fidl_wire.specs.Names.{AreDistinct}
 use Rattle.frame_laws.proofs.Readings.{parts_are_read_back}
-use Rattle.frame_laws.specs.Bytes.{BeginsWithBytes}
 use Rattle.frame_laws.specs.Laws.{AreMore}
 use Rattle.journal_laws.proofs.Below.{below}
 use Rattle.journal_laws.specs.Soundness.{IsStart}
@@ -31,10 +30,10 @@ pub record ComesBack (start : Start) (earlier later : Journal) (before after : L
 since_is : (start : Start) (earlier later : Journal) (more : List Frame) → frames_behind start later ≡ frames_behind start earlier ++ more → frames_since start earlier later ≡ more
 since_is start earlier later more grown = ap (drop (length (frames_behind start earlier))) grown ∙ drop-append_seam (frames_behind start earlier) more
 
-pub comes_back : (start : Start) (earlier later : Journal) (new : World) (before after : List ℕ) → AreDistinct → BeginsWithBytes start → IsStart start → Lawful start earlier →
+pub comes_back : (start : Start) (earlier later : Journal) (new : World) (before after : List ℕ) → AreDistinct → IsStart start → Lawful start earlier →
     LeadsTo start later new earlier before after → ComesBack start earlier later before after
-comes_back start earlier later new before after distinct bytes sound lawful led =
-    let are : AreMore start earlier later led.part = parts_are_read_back (below distinct) start earlier later led.part sound bytes lawful led.stands.lawful led.more in
+comes_back start earlier later new before after distinct sound lawful led =
+    let are : AreMore start earlier later led.part = parts_are_read_back (below distinct) start earlier later led.part sound lawful led.stands.lawful led.more in
     let same = since_is start earlier later are.more are.grown in
     let spelled : led.part ≡ spellings are.more = are.read.reads.split ∙ append-nil (spellings are.more) in
     record {
@@ -51,7 +50,7 @@ pub record Came (start : Start) (earlier later : Journal) (bytes : List ℕ) : T
 pub came : (start : Start) (played : Played) (later : Journal) (old new : World) (calls : Calls) (before after bytes : List ℕ) → before ≡ [] → bytes ≡ after →
     Plays start played old calls → LeadsTo start later new played.journal before after → Came start played.journal later bytes
 came start played later old new calls before after bytes none is plays led =
-    let back = comes_back start played.journal later new before after plays.distinct plays.bytes plays.stands.sound plays.stands.lawful led in
+    let back = comes_back start played.journal later new before after plays.distinct plays.stands.sound plays.stands.lawful led in
     record { each = back.each; spelled = is ∙ back.written ∙ ap (λ l. l ++ spellings (frames_since start played.journal later)) none }
 
 -- and behind a line's frame

@@ -7,11 +7,8 @@ use Rattle.std.proofs.KnownBytes.{Appends-nil}
 use Rattle.endpoint_link.specs.declared.kinds.Mode.{Mode}
 use Rattle.fidl_names.specs.declared.methods.Method.{Method}
 use Rattle.fidl_wire.specs.Names.{AreDistinct}
-use Rattle.frame_laws.proofs.Begun.{starts_have_bytes}
 use Rattle.io_client.specs.Calls.{call_cmp, none_yet}
-use Rattle.session_start.specs.Accepted.{AreAccepted, HasFilesOfBytes}
-use Rattle.session_start.specs.Items.{Lists}
-use Rattle.vfs_journal.specs.Starts.{Start, start_of}
+use Rattle.vfs_journal.specs.Starts.{Start}
 use Rattle.vfs_script.specs.Kept.{ScriptValue}
 use Rattle.vfs_script.specs.Scripts.{count_calls, script_lines}
 use Rattle.vfs_world.specs.World.{StandsFor, World}
@@ -30,11 +27,10 @@ none_known = record {
   count = let none = len-empty call_cmp Method in omega (arith, none);
 }
 
-pub plays_first : (lists : Lists) (world : World) (scribe : Scribe) → AreDistinct → AreAccepted lists → HasFilesOfBytes lists → StandsFor (start_of lists) world [] →
-    scribe ≡ record { calls = none_yet; gathered = [] } → Plays (start_of lists) not_yet world scribe.calls
-plays_first lists world scribe distinct accepted files stands is = record {
+pub plays_first : (start : Start) (world : World) (scribe : Scribe) → AreDistinct → StandsFor start world [] →
+    scribe ≡ record { calls = none_yet; gathered = [] } → Plays start not_yet world scribe.calls
+plays_first start world scribe distinct stands is = record {
   distinct = distinct;
-  bytes = starts_have_bytes lists accepted files;
   stands = stands;
   knows = subst (Knows []) (sym (ap (λ (s : Scribe). s.calls) is)) none_known;
 }

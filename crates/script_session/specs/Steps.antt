@@ -2,7 +2,6 @@
 use Rattle.std.specs.Prelude.{◌≡◌, ℕ, List, Some}
 use Rattle.endpoint_link.specs.Frames.{spellings}
 use Rattle.fidl_wire.specs.Names.{AreDistinct}
-use Rattle.frame_laws.specs.Bytes.{BeginsWithBytes}
 use Rattle.io_client.specs.Calls.{Calls}
 use Rattle.vfs_journal.specs.Starts.{Start}
 use Rattle.vfs_script.specs.Kept.{ScriptValue}
@@ -17,10 +16,9 @@ pub record IsScript (text : List ℕ) (script : ScriptValue) : Type 0 where
   pub bytes : script.bytes ≡ spellings (frames_of text)
   pub calls : script.calls ≡ calls_of text
 
--- a script is played so far over a start of bytes: the world stands for its journal, and what is
--- known of calls is what happened
+-- a script is played so far: the world stands for its journal, and what is known of calls is what
+-- happened
 pub record Plays (start : Start) (played : Played) (world : World) (calls : Calls) : Type 0 where
   pub distinct : AreDistinct
-  pub bytes : BeginsWithBytes start
   pub stands : StandsFor start world played.journal
   pub knows : Knows played.past calls

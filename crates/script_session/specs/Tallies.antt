@@ -2,7 +2,6 @@
 use Rattle.std.specs.Prelude.{◌≡◌, List, length}
 use Rattle.endpoint_link.specs.Frames.{Frame, spellings}
 use Rattle.fidl_wire.specs.Names.{AreDistinct}
-use Rattle.frame_laws.specs.Bytes.{BeginsWithBytes}
 use Rattle.sha2.specs.Hashers.{Holds256}
 use Rattle.vfs_journal.specs.Entries.{Journal}
 use Rattle.vfs_journal.specs.Output.{frames_behind}
@@ -16,9 +15,8 @@ pub record Tallies (all : List Frame) (tally : Tally) : Type 0 where
   pub bytes : tally.bytes ≡ length (spellings all)
   pub hash : Holds256 tally.hasher (spellings all)
 
--- a session over a start of bytes, whose frames so far are tallied
+-- a session whose frames so far are tallied
 pub record Metered (start : Start) (journal : Journal) (world : World) (tally : Tally) : Type 0 where
   pub distinct : AreDistinct
-  pub bytes : BeginsWithBytes start
   pub stands : StandsFor start world journal
   pub tallies : Tallies (frames_behind start journal) tally

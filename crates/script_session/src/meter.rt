@@ -4,7 +4,6 @@ ghost use Rattle.std.specs.Prelude.{◌≡◌, ◌<◌, ◌≤◌, ◌+◌, ◌*
 ghost use Rattle.endpoint_link.specs.Frames.{IsFrame};
 ghost use Rattle.endpoint_link.specs.Views.{frame_of};
 ghost use Rattle.endpoint_link.specs.declared.kinds.Side.TheVariants as side;
-ghost use Rattle.session_start.specs.Accepted.{AreAccepted, HasFilesOfBytes};
 ghost use Rattle.vfs_journal.specs.Entries.{Journal};
 ghost use Rattle.vfs_journal.specs.Output.{frames_behind};
 ghost use Rattle.vfs_journal.specs.Session.{drained, session, steps};
@@ -43,8 +42,6 @@ impl Meter {
         mode: Mode,
     ) -> Result<Meter, NoMemory>
         ensures mode { IfOk result (λ meter. meter.mode ≡ mode) }
-        ensures accepted { AreAccepted start.now }
-        ensures bytes { HasFilesOfBytes start.now }
         ensures stands { IfOk result (λ meter. StandsFor (start_of start.now) meter.world []) }
         ensures frames { IfOk result (λ meter. meter.world.frames ≡ 0) }
         ensures tally { IfOk result (λ meter. Tallies [] meter.tally) }

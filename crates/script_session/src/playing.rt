@@ -7,7 +7,7 @@ ghost use Rattle.endpoint_link.specs.Views.{frame_of};
 ghost use Rattle.endpoint_link.specs.declared.kinds.Side.TheVariants as side;
 ghost use Rattle.host_io.specs.Streams.{AppendsPart, IsFlushed};
 ghost use Rattle.io_client.specs.Calls.{none_yet};
-ghost use Rattle.session_start.specs.Accepted.{AreAccepted, HasFilesOfBytes};
+ghost use Rattle.session_start.specs.Accepted.{HasFilesOfBytes};
 ghost use Rattle.vfs_journal.specs.Starts.{Start as TheStart, start_of};
 ghost use Rattle.vfs_script.specs.Noting.{IsFree};
 ghost use Rattle.vfs_script.specs.Scripts.{Spoken, call_in, count_calls, frame_of as spoken_frame, frames_of, script_lines};
@@ -70,7 +70,6 @@ impl Player {
     /// Nothing was played yet.
     fn new(alloc: Global, ordinals: Ordinals, start: &Start, mode: Mode) -> Result<Player, NoMemory>
         ensures mode { IfOk result (λ player. player.mode ≡ mode) }
-        ensures accepted { AreAccepted start.now }
         ensures bytes { HasFilesOfBytes start.now }
         ensures stands { IfOk result (λ player. StandsFor (start_of start.now) player.world []) }
         ensures frames { IfOk result (λ player. player.world.frames ≡ 0) }

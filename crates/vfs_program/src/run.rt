@@ -46,11 +46,13 @@ pub fn run_words<F: Files, S: Source, K: Sink, N: Sink>(
         (asks : Asks) → Means (map string_bytes words.now) asks → IsServable asks (told files.old source.old sink.old) →
         NoFault asks (told files.old source.old sink.old) (told files.new source.new sink.new) → IsDoneOrNoMemory result }
 
-    // What a session over a tree writes is the output of a lawful journal, which keeps the laws, or
-    // a front of it.
+    // Wherever a session over a tree began, what it wrote is the output of its one journal, all of
+    // it or a front, by the status; that journal is lawful and keeps the laws, and nothing waits in
+    // it where the session ended.
     ensures lawful { let told = outside_told F.told F.faults F.overlong S.left S.last S.faults K.written K.flushed K.faults in
         (asks : Asks) → Means (map string_bytes words.now) asks →
-        IsLawfulRun asks (told files.old source.old sink.old) (told files.new source.new sink.new) }
+        IsLawfulRun asks (told files.old source.old sink.old) (told files.new source.new sink.new)
+        (source.new ≡ source.old) (sink.new ≡ sink.old) result }
 
     // The note of the status is told last, and nothing else.
     ensures note { Tells (note_of result) (sink_told N.written N.flushed N.faults notes.old) (sink_told N.written N.flushed N.faults notes.new) }

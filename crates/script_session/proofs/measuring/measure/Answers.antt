@@ -8,10 +8,9 @@ use Rattle.script_session.proofs.measuring.measure.Goals as goal
 
 pub returns-clause-measured : goal.returns-clause-measured
 returns-clause-measured c = λ text is.
-    let lists = c.args.start.now in
-    let start = start_of lists in
+    let start = start_of c.args.start.now in
     let meter = c.in_ok-meter.meter in
-    let first = metered_first lists meter.world meter.tally c.args.ordinals.distinct c.in_ok-meter.ensures.accepted c.in_ok-meter.ensures.bytes c.in_ok-meter.ensures.stands c.in_ok-meter.ensures.tally in
+    let first = metered_first start meter.world meter.tally c.args.ordinals.distinct c.in_ok-meter.ensures.stands c.in_ok-meter.ensures.tally in
     if_ok c.hear_script.result (Measures (output_frames start meter.mode text)) (Measures (output_frames start c.args.script.now.mode text))
     (λ told are. subst (λ (by : Mode). Measures (output_frames start by text) told) (c.in_ok-meter.ensures.mode ∙ c.mode.ensures) are)
     (c.hear_script.ensures start text is first)

@@ -11,24 +11,22 @@ use Rattle.script_session.proofs.playing.play.Goals as goal
 
 pub returns-clause-whole : goal.returns-clause-whole
 returns-clause-whole g c = λ text is.
-    let lists = c.args.start.now in
-    let start = start_of lists in
+    let start = start_of c.args.start.now in
     let player = c.in_ok-player.player in
     let written = g.K.Sink.written c.args.sink.now in
     let now = g.K.Sink.written c.play_all.new.sink in
-    let plays = plays_first lists player.world player.scribe c.args.ordinals.distinct c.in_ok-player.ensures.accepted c.in_ok-player.ensures.bytes c.in_ok-player.ensures.stands c.in_ok-player.ensures.scribe in
+    let plays = plays_first start player.world player.scribe c.args.ordinals.distinct c.in_ok-player.ensures.stands c.in_ok-player.ensures.scribe in
     on_ok c.play_all.result (Appends written now (transcript start player.mode text)) (Appends written now (transcript start c.args.script.now.mode text))
     (λ all. subst (λ (by : Mode). Appends written now (transcript start by text)) (c.in_ok-player.ensures.mode ∙ c.mode.ensures) all)
     (c.play_all.ensures.whole start text written is plays (told_first written player.scribe c.in_ok-player.ensures.scribe))
 
 pub returns-clause-part : goal.returns-clause-part
 returns-clause-part g c = λ text is.
-    let lists = c.args.start.now in
-    let start = start_of lists in
+    let start = start_of c.args.start.now in
     let player = c.in_ok-player.player in
     let written = g.K.Sink.written c.args.sink.now in
     let now = g.K.Sink.written c.play_all.new.sink in
-    let plays = plays_first lists player.world player.scribe c.args.ordinals.distinct c.in_ok-player.ensures.accepted c.in_ok-player.ensures.bytes c.in_ok-player.ensures.stands c.in_ok-player.ensures.scribe in
+    let plays = plays_first start player.world player.scribe c.args.ordinals.distinct c.in_ok-player.ensures.stands c.in_ok-player.ensures.scribe in
     on_err c.play_all.result (AppendsPart written now (transcript start player.mode text)) (AppendsPart written now (transcript start c.args.script.now.mode text))
     (λ part. subst (λ (by : Mode). AppendsPart written now (transcript start by text)) (c.in_ok-player.ensures.mode ∙ c.mode.ensures) part)
     (c.play_all.ensures.part start text written is plays (told_first written player.scribe c.in_ok-player.ensures.scribe))

@@ -1,4 +1,3 @@
-use Rattle.std.proofs.Common.{ap}
 use Rattle.vfs_program.proofs.Complete.{complete}
 use Rattle.vfs_program.proofs.Lawful.{lawful}
 use Rattle.vfs_program.proofs.run.run_words.Goals as goal
@@ -16,7 +15,7 @@ pub returns-clause-complete : goal.returns-clause-complete
 returns-clause-complete g c = λ asks means. complete asks _ _ _ _ _ (c.answer-status.ensures.answers asks means)
 
 pub returns-clause-lawful : goal.returns-clause-lawful
-returns-clause-lawful g c = λ asks means. lawful asks _ _ _ _ _ (ap g.K.Sink.written) (c.answer-status.ensures.answers asks means)
+returns-clause-lawful g c = λ asks means. lawful asks _ _ _ _ _ (c.answer-status.ensures.answers asks means)
 
 pub returns-clause-note : goal.returns-clause-note
 returns-clause-note g c = c.tell.ensures

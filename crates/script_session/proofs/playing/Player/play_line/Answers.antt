@@ -33,7 +33,7 @@ returns-clause-plays g c = λ start played said plays is at.
     is c.clear.ensures c.as_bytes.ensures plays (c.in-Ok.ensures.heard start) in
     let since = since_line start by played said in
     on_ok c.gets_all.result (Knows (with_frames past since) c.gets_all.new.self.calls) (Plays start (play_line start by played said) c.hear.new.self c.gets_all.new.self.calls)
-    (λ knows. record { distinct = plays.distinct; bytes = plays.bytes; stands = line.stands; knows = knows })
+    (λ knows. record { distinct = plays.distinct; stands = line.stands; knows = knows })
     (c.gets_all.ensures.knows past since line.each line.spelled (c.in_ok-sends.ensures.knows played.past (call_in said) at plays.knows))
 
 pub returns-clause-told : goal.returns-clause-told
