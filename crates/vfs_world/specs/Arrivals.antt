@@ -1,5 +1,5 @@
 -- Words of the steps of a frame. No public clause needs these.
-use Rattle.std.specs.Prelude.{◌≡◌, ◌⊎◌, ◌≤◌, ◌<◌, ◌+◌, ℕ, true, IsSome, List, [], ◌∷◌, ◌++◌, None, Ok, Option, Some, slice_get, slice_set}
+use Rattle.std.specs.Prelude.{◌≡◌, ◌⊎◌, ◌≤◌, ◌<◌, ◌+◌, ℕ, true, IsSome, List, [], ◌∷◌, ◌++◌, None, Ok, OnOk, Option, Result, Some, slice_get, slice_set}
 use Rattle.fidl_names.specs.declared.limits.TheConstants as limit
 use Rattle.fidl_names.specs.HandleNumber.{is_client}
 use Rattle.endpoint_link.specs.Admission.{Admits, admission, look_ups}
@@ -7,6 +7,8 @@ use Rattle.endpoint_link.specs.Frames.{Frame}
 use Rattle.endpoint_link.specs.declared.kinds.FrameKind.{FrameKind}
 use Rattle.endpoint_link.specs.declared.kinds.FrameKind.TheVariants as kind
 use Rattle.vfs_journal.specs.Entries.{Journal, Sending, message}
+use Rattle.vfs_journal.specs.History.{waiting}
+use Rattle.vfs_journal.specs.Past.{history_of}
 use Rattle.vfs_journal.specs.Serving.{Moment, outcome_of_sending}
 use Rattle.vfs_journal.specs.Starts.{Start}
 use Rattle.message_queues.specs.Queues.{IsAbove, Requeues, count, queue_of, server_of}
@@ -18,7 +20,7 @@ use Rattle.io_messages.specs.Asked.{Asked}
 use Rattle.io_messages.specs.Requests.{request_of}
 use Rattle.vfs_world.specs.Running.{IsRunning}
 use Rattle.vfs_world.specs.Servings.{IsOldestOfAll, ServesTimes}
-use Rattle.vfs_world.specs.World.{LeadsTo, World}
+use Rattle.vfs_world.specs.World.{LeadsTo, StandsFor, World}
 
 -- a frame is admitted: what is known is as its admission leaves it, and all else is as it was
 pub record IsAdmitted (old : World) (frame : Frame) (new : World) : Type 0 where
@@ -83,3 +85,25 @@ pub record Reaches (start : Start) (later : Journal) (new : World) (earlier : Jo
   pub leads : LeadsTo start later there earlier before between
   pub done : ℕ
   pub serves : ServesTimes IsOldestOfAll done there new between after
+
+-- ---- where what is done leads, from whatever journal a world stood for
+
+-- to standing for this one
+abbrev pub LeadsOn : {A E : Type 0} → Result A E → World → (Start → Journal → Journal) → World → List ℕ → List ℕ → Type 0
+LeadsOn result old later new before after =
+    (start : Start) (journal : Journal) → StandsFor start old journal → OnOk result (LeadsTo start (later start journal) new journal before after)
+
+-- to there on the way to a drain
+abbrev pub ReachesOn : {A E : Type 0} → Result A E → World → (Start → Journal → Journal) → World → List ℕ → List ℕ → Type 0
+ReachesOn result old later new before after =
+    (start : Start) (journal : Journal) → StandsFor start old journal → OnOk result (Reaches start (later start journal) new journal before after)
+
+-- to one in which nothing waits
+abbrev pub LeavesNothing : {A E : Type 0} → Result A E → World → (Start → Journal → Journal) → Type 0
+LeavesNothing result old later =
+    (start : Start) (journal : Journal) → StandsFor start old journal → OnOk result (waiting (history_of start (later start journal)) ≡ [])
+
+-- and it keeps running in those places of a frame more, from wherever this frame was admitted
+abbrev pub RunsOnAdmitted : {A E : Type 0} → Result A E → Frame → World → World → Type 0
+RunsOnAdmitted result frame old new =
+    (most : ℕ) (before : World) → IsRunning most before → IsAdmitted before frame old → OnOk result (IsRunning (most + limit.FRAME_PLACES) new)

@@ -1,4 +1,4 @@
--- The two parts of a serving: what comes before the deaths, and what comes with them. Of these a public clause needs WasTaken and ServesTaken.
+-- The two parts of a serving: what comes before the deaths, and what comes with them. No public clause needs these.
 use Rattle.std.specs.Prelude.{◌≡◌, ◌≤◌, ◌<◌, ◌+◌, ◌-◌, ◌^◌, ◌++◌, ◌∷◌, [], ℕ, All, List, drop, fold, None, Ok, slice_get, Some, true}
 use Rattle.fidl_names.specs.declared.limits.TheConstants as limit
 use Rattle.endpoint_link.specs.Frames.{spellings}

@@ -1,5 +1,4 @@
--- Words of the steps of a world, which its private functions are told by. Public clauses that tell a serving by its steps (Servings) need them;
--- none that tells it by a journal does.
+-- Words of the steps of a serving, which the private functions of a world are told by. No public clause needs these.
 use Rattle.std.specs.Prelude.{◌≡◌, ◌≢◌, AllPairs, ℕ, ◌==◌, Bool, true, false, not, List, [], ◌∷◌, ◌++◌, length, map, filter, option_to_list, Option, Some, None, slice_get, slice_set}
 use Rattle.std.specs.FinMap as finite
 use Rattle.std.specs.Option.{option_map_or}

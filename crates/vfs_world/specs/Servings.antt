@@ -1,4 +1,5 @@
--- Servings by their steps: what the steps of one say together, and servings one after another, as a Turn, a Pick and a drain make them.
+-- Servings by their steps: what the steps of one say together, and servings one after another, as a Turn, a Pick and a drain make them. Of
+-- these a public clause needs served_in.
 use Rattle.std.specs.Prelude.{◌≡◌, ◌≤◌, ◌<◌, ◌+◌, ◌++◌, ℕ, zero, suc, false, is_some, List, drop, filter, fold, length, Some}
 use Rattle.endpoint_link.specs.Frames.{spellings}
 use Rattle.endpoint_link.specs.Standings.{ended, gone, next_token_of}
@@ -16,8 +17,8 @@ use Rattle.vfs_world.specs.World.{World}
 
 -- ---- one serving
 
--- the first entry of an endpoint is answered at its server and taken, what is bound by it is bound for what waits, whoever dies is buried and closed, the
--- tokens that are spent are forgotten, what goes on is sent, and what is known and how many places are taken follows
+-- the first entry of an endpoint is answered at its server and taken, what is bound by it is bound for what waits, whoever dies is buried
+-- and closed, the tokens that are spent are forgotten, what goes on is sent, and what is known and how many places are taken follows
 pub record ServesHead (old : World) (endpoint server : ℕ) (sent : Sent) (new : World) (before after : List ℕ) : Type 0 where
   pub fate : Fate
   pub answered : List Server

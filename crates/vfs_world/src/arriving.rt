@@ -1,21 +1,17 @@
 //! A frame that arrives: a refused one is answered, and for an admitted one what it asks is done.
 
-ghost use Rattle.std.specs.Prelude.{◌≡◌, ◌+◌, ◌-◌, ℕ, [], OnOk};
+ghost use Rattle.std.specs.Prelude.{◌≡◌, ◌-◌};
 ghost use Rattle.fidl_names.specs.declared.limits.TheConstants as limit;
 ghost use Rattle.endpoint_link.specs.Frames.{IsFrame};
 ghost use Rattle.endpoint_link.specs.Numbers.{word_in};
 ghost use Rattle.endpoint_link.specs.Views.{frame_of, handle_numbers};
 ghost use Rattle.endpoint_link.specs.declared.kinds.Side.TheVariants as side;
-ghost use Rattle.vfs_journal.specs.Entries.{Journal};
 ghost use Rattle.vfs_journal.specs.Handles.{AreByNumber, numbers_of};
-ghost use Rattle.vfs_journal.specs.History.{waiting};
 ghost use Rattle.vfs_journal.specs.Output.{Begins};
-ghost use Rattle.vfs_journal.specs.Past.{history_of};
 ghost use Rattle.vfs_journal.specs.Session.{arrives, drained, steps};
-ghost use Rattle.vfs_journal.specs.Starts.{Start};
 ghost use Rattle.vfs_world.specs.Running.{IsRunning, RunsOnByAFrame, whole};
-ghost use Rattle.vfs_world.specs.World.{LeadsTo, StandsFor, World};
-ghost use Rattle.vfs_world.specs.Arrivals.{Hears, IsAdmitted, IsFree, Reaches};
+ghost use Rattle.vfs_world.specs.World.{World};
+ghost use Rattle.vfs_world.specs.Arrivals.{Hears, IsAdmitted, IsFree, LeadsOn, LeavesNothing, ReachesOn, RunsOnAdmitted};
 
 use crate::session::Session;
 use endpoint_link::{AdmitFault, FrameKind, FrameView, Mode, Outbox, word_in};
@@ -26,8 +22,7 @@ use message_queues::{Lent, Parcel, handles_in};
 fn arrive(session: &mut Session, frame: FrameView<'_>, outbox: &mut Outbox) -> Result<(), NoMemory>
     requires frame { IsFrame side.ToServers (frame_of frame) }
     requires running { IsRunning limit.MAX_PLACES (whole session.old) }
-    ensures arrived { (start : Start) (journal : Journal) → StandsFor start (whole session.old) journal →
-        OnOk result (LeadsTo start (arrives start journal (frame_of frame.entry)) (whole session.new) journal outbox.old outbox.new) }
+    ensures arrived { LeadsOn result (whole session.old) (λ start journal. arrives start journal (frame_of frame.entry)) (whole session.new) outbox.old outbox.new }
     ensures running { RunsOnByAFrame result (whole session.old) (whole session.new) }
     ensures begins { Begins outbox.old outbox.new }
 {
@@ -47,10 +42,8 @@ pub(crate) fn hear(
 ) -> Result<(), NoMemory>
     requires frame { IsFrame side.ToServers (frame_of frame) }
     requires running { IsRunning (limit.MAX_PLACES - limit.FRAME_PLACES) (whole session.old) }
-    ensures heard { (start : Start) (journal : Journal) → StandsFor start (whole session.old) journal →
-        OnOk result (LeadsTo start (steps start mode journal (frame_of frame.entry)) (whole session.new) journal outbox.old outbox.new) }
-    ensures none { mode ≡ Mode.Auto → (start : Start) (journal : Journal) → StandsFor start (whole session.old) journal →
-        OnOk result (waiting (history_of start (steps start mode journal (frame_of frame.entry))) ≡ []) }
+    ensures heard { LeadsOn result (whole session.old) (λ start journal. steps start mode journal (frame_of frame.entry)) (whole session.new) outbox.old outbox.new }
+    ensures none { mode ≡ Mode.Auto → LeavesNothing result (whole session.old) (λ start journal. steps start mode journal (frame_of frame.entry)) }
     ensures running { RunsOnByAFrame result (whole session.old) (whole session.new) }
     ensures begins { Begins outbox.old outbox.new }
 {
@@ -72,10 +65,8 @@ fn hear_out(
 ) -> Result<(), NoMemory>
     requires frame { IsFrame side.ToServers (frame_of frame) }
     requires running { IsRunning (limit.MAX_PLACES - limit.FRAME_PLACES) (whole session.old) }
-    ensures heard { (start : Start) (journal : Journal) → StandsFor start (whole session.old) journal →
-        OnOk result (LeadsTo start (drained start (arrives start journal (frame_of frame.entry))) (whole session.new) journal outbox.old outbox.new) }
-    ensures none { (start : Start) (journal : Journal) → StandsFor start (whole session.old) journal →
-        OnOk result (waiting (history_of start (drained start (arrives start journal (frame_of frame.entry)))) ≡ []) }
+    ensures heard { LeadsOn result (whole session.old) (λ start journal. drained start (arrives start journal (frame_of frame.entry))) (whole session.new) outbox.old outbox.new }
+    ensures none { LeavesNothing result (whole session.old) (λ start journal. drained start (arrives start journal (frame_of frame.entry))) }
     ensures running { RunsOnByAFrame result (whole session.old) (whole session.new) }
     ensures begins { Begins outbox.old outbox.new }
 {
@@ -87,8 +78,7 @@ fn hear_out(
 fn reach(session: &mut Session, frame: FrameView<'_>, outbox: &mut Outbox) -> Result<(), NoMemory>
     requires frame { IsFrame side.ToServers (frame_of frame) }
     requires running { IsRunning (limit.MAX_PLACES - limit.FRAME_PLACES) (whole session.old) }
-    ensures reached { (start : Start) (journal : Journal) → StandsFor start (whole session.old) journal →
-        OnOk result (Reaches start (arrives start journal (frame_of frame.entry)) (whole session.new) journal outbox.old outbox.new) }
+    ensures reached { ReachesOn result (whole session.old) (λ start journal. arrives start journal (frame_of frame.entry)) (whole session.new) outbox.old outbox.new }
     ensures running { RunsOnByAFrame result (whole session.old) (whole session.new) }
     ensures begins { Begins outbox.old outbox.new }
 {
@@ -108,8 +98,7 @@ fn serve_at_once(
     requires frame { IsFrame side.ToServers (frame_of frame) }
     requires running { IsRunning (limit.MAX_PLACES - limit.FRAME_PLACES) (whole session.old) }
     requires free { IsFree (frame_of frame) server (whole session.old) }
-    ensures reached { (start : Start) (journal : Journal) → StandsFor start (whole session.old) journal →
-        OnOk result (Reaches start (arrives start journal (frame_of frame.entry)) (whole session.new) journal outbox.old outbox.new) }
+    ensures reached { ReachesOn result (whole session.old) (λ start journal. arrives start journal (frame_of frame.entry)) (whole session.new) outbox.old outbox.new }
     ensures running { RunsOnByAFrame result (whole session.old) (whole session.new) }
     ensures begins { Begins outbox.old outbox.new }
 {
@@ -131,10 +120,9 @@ fn serve_admitted(
     requires frame { IsFrame side.ToServers (frame_of frame) }
     requires heard { Hears (limit.MAX_PLACES - limit.FRAME_PLACES) (frame_of frame) (whole session.old) }
     requires free { IsFree (frame_of frame) server (whole session.old) }
-    ensures reached { (start : Start) (journal : Journal) (before : World) → StandsFor start before journal → IsAdmitted before (frame_of frame.entry) (whole session.old) →
-        OnOk result (Reaches start (arrives start journal (frame_of frame.entry)) (whole session.new) journal outbox.old outbox.new) }
-    ensures running { (most : ℕ) (before : World) → IsRunning most before → IsAdmitted before (frame_of frame.entry) (whole session.old) →
-        OnOk result (IsRunning (most + limit.FRAME_PLACES) (whole session.new)) }
+    ensures reached { (before : World) → IsAdmitted before (frame_of frame.entry) (whole session.old) →
+        ReachesOn result before (λ start journal. arrives start journal (frame_of frame.entry)) (whole session.new) outbox.old outbox.new }
+    ensures running { RunsOnAdmitted result (frame_of frame.entry) (whole session.old) (whole session.new) }
     ensures begins { Begins outbox.old outbox.new }
 {
     match frame.handles.len() {
@@ -164,10 +152,9 @@ fn serve_with(
     requires free { IsFree (frame_of frame) server (whole session.old) }
     requires handles { numbers_of handles.now ≡ handle_numbers frame.handles }
     requires by_number { AreByNumber handles.now }
-    ensures reached { (start : Start) (journal : Journal) (before : World) → StandsFor start before journal → IsAdmitted before (frame_of frame.entry) (whole session.old) →
-        OnOk result (Reaches start (arrives start journal (frame_of frame.entry)) (whole session.new) journal outbox.old outbox.new) }
-    ensures running { (most : ℕ) (before : World) → IsRunning most before → IsAdmitted before (frame_of frame.entry) (whole session.old) →
-        OnOk result (IsRunning (most + limit.FRAME_PLACES) (whole session.new)) }
+    ensures reached { (before : World) → IsAdmitted before (frame_of frame.entry) (whole session.old) →
+        ReachesOn result before (λ start journal. arrives start journal (frame_of frame.entry)) (whole session.new) outbox.old outbox.new }
+    ensures running { RunsOnAdmitted result (frame_of frame.entry) (whole session.old) (whole session.new) }
     ensures begins { Begins outbox.old outbox.new }
 {
     let sent = Lent::of_frame(session.take_place(), frame, handles);
@@ -178,10 +165,9 @@ fn serve_with(
 fn perform(session: &mut Session, frame: FrameView<'_>, outbox: &mut Outbox) -> Result<(), NoMemory>
     requires frame { IsFrame side.ToServers (frame_of frame) }
     requires heard { Hears limit.MAX_PLACES (frame_of frame) (whole session.old) }
-    ensures arrived { (start : Start) (journal : Journal) (before : World) → StandsFor start before journal → IsAdmitted before (frame_of frame.entry) (whole session.old) →
-        OnOk result (LeadsTo start (arrives start journal (frame_of frame.entry)) (whole session.new) journal outbox.old outbox.new) }
-    ensures running { (most : ℕ) (before : World) → IsRunning most before → IsAdmitted before (frame_of frame.entry) (whole session.old) →
-        OnOk result (IsRunning (most + limit.FRAME_PLACES) (whole session.new)) }
+    ensures arrived { (before : World) → IsAdmitted before (frame_of frame.entry) (whole session.old) →
+        LeadsOn result before (λ start journal. arrives start journal (frame_of frame.entry)) (whole session.new) outbox.old outbox.new }
+    ensures running { RunsOnAdmitted result (frame_of frame.entry) (whole session.old) (whole session.new) }
     ensures begins { Begins outbox.old outbox.new }
 {
     match frame.kind {

@@ -17,7 +17,7 @@ refuse-requires c =
     record { places = omega (arith, low, same) }
 
 pub returns-in-Ok-clause-arrived : goal.returns-in-Ok-clause-arrived
-returns-in-Ok-clause-arrived c = λ start journal stands. c.perform.ensures.arrived start journal (whole c.args.session.now) stands c.in-Ok.ensures.admitted
+returns-in-Ok-clause-arrived c = c.perform.ensures.arrived (whole c.args.session.now) c.in-Ok.ensures.admitted
 
 pub returns-in-Ok-clause-running : goal.returns-in-Ok-clause-running
 returns-in-Ok-clause-running c = λ most runs. c.perform.ensures.running most (whole c.args.session.now) runs c.in-Ok.ensures.admitted

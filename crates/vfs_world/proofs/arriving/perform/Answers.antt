@@ -26,7 +26,7 @@ pick-requires c =
 
 pub returns-in-Message-clause-arrived : goal.returns-in-Message-clause-arrived
 returns-in-Message-clause-arrived c =
-    λ start journal before stands admitted.
+    λ before admitted start journal stands.
     on_ok c.send_message.result
     (message_leads c.requires.heard.running.apart start journal before (whole c.args.session.now) (whole c.send_message.new.self) (frame_of c.args.frame) c.args.outbox.now stands c.requires.frame c.in-Message.is admitted)
     c.send_message.ensures
@@ -39,7 +39,7 @@ returns-in-Message-clause-running c =
 
 pub returns-in-Close-clause-arrived : goal.returns-in-Close-clause-arrived
 returns-in-Close-clause-arrived c =
-    λ start journal before stands admitted.
+    λ before admitted start journal stands.
     on_ok c.send.result
     (λ waits. hang_up_leads c.requires.heard.running.apart start journal before (whole c.args.session.now) (whole c.send.new.self) (frame_of c.args.frame) c.args.outbox.now stands c.requires.frame c.in-Close.is admitted
     (subst (λ (sending : Sending). WaitsLast (whole c.args.session.now) c.args.frame.endpoint sending (whole c.send.new.self)) c.hang_up.ensures waits)) c.send.ensures
@@ -53,7 +53,7 @@ returns-in-Close-clause-running c =
 
 pub returns-in_ok-turn-in-Turn-clause-arrived : goal.returns-in_ok-turn-in-Turn-clause-arrived
 returns-in_ok-turn-in-Turn-clause-arrived c =
-    λ start journal before stands admitted.
+    λ before admitted start journal stands.
     turn_on c.requires.heard.running.apart start journal before (whole c.args.session.now) (whole c.turn.new.self) (frame_of c.args.frame) c.word_in.result _ c.args.outbox.now c.turn.new.outbox stands c.in-Turn.is admitted c.word_in.ensures
     c.in_ok-turn-in-Turn.ensures.turned
 
@@ -65,7 +65,7 @@ returns-in_ok-turn-in-Turn-clause-running c =
 
 pub returns-in_ok-pick-in-Pick-clause-arrived : goal.returns-in_ok-pick-in-Pick-clause-arrived
 returns-in_ok-pick-in-Pick-clause-arrived c =
-    λ start journal before stands admitted.
+    λ before admitted start journal stands.
     pick_on c.requires.heard.running.apart start journal before (whole c.args.session.now) (whole c.pick.new.self) (frame_of c.args.frame) c.args.outbox.now c.pick.new.outbox stands c.in-Pick.is admitted
     c.in_ok-pick-in-Pick.ensures.picked
 

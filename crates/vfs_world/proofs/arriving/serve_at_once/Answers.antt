@@ -28,7 +28,7 @@ refuse-requires c =
     record { places = omega (arith, low, same) }
 
 pub returns-in-Ok-clause-reached : goal.returns-in-Ok-clause-reached
-returns-in-Ok-clause-reached c = λ start journal stands. c.serve_admitted.ensures.reached start journal (whole c.args.session.now) stands c.in-Ok.ensures.admitted
+returns-in-Ok-clause-reached c = c.serve_admitted.ensures.reached (whole c.args.session.now) c.in-Ok.ensures.admitted
 
 pub returns-in-Ok-clause-running : goal.returns-in-Ok-clause-running
 returns-in-Ok-clause-running c = λ most runs. c.serve_admitted.ensures.running most (whole c.args.session.now) runs c.in-Ok.ensures.admitted

@@ -38,7 +38,7 @@ serve_taken-requires c = record {
 
 pub returns-clause-reached : goal.returns-clause-reached
 returns-clause-reached c =
-    λ start journal before stands admitted.
+    λ before admitted start journal stands.
     let now : World = whole c.args.session.now in
     let heard = c.requires.heard in
     on_ok c.serve_taken.result (λ served.
