@@ -16,4 +16,5 @@ pub mod Arrivals
 pub mod AllTold
 pub mod Counted
 pub mod Heads
+pub mod ServedLines
 pub mod Answering

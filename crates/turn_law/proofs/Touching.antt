@@ -60,7 +60,7 @@ named_by n pair served o old own false false is e = by_old old own e where
   by_old None own' e' = absurd (cc)
   by_old (Some p) own' e' = ap (λ (q : Bound × Position). q.0.endpoint) (sym (pair_same e')) ∙ moved_endpoint served o.position p ∙ own' p refl
 
-answered_named : (table : Table) (served : ℕ) (o : Outcome) → AreNamed table → AreNamed (answered table served o)
+pub answered_named : (table : Table) (served : ℕ) (o : Outcome) → AreNamed table → AreNamed (answered table served o)
 unfolding life_by
 answered_named table served o named = record {
   own = λ n pair e. named_by n pair served o (table.life n) (named.own n) (among n o.ends) (option_map_or (λ bound. bound.endpoint == n) o.bound false) refl e;
@@ -97,7 +97,7 @@ untouched n served handles other uncarried m (inr h) same = true≢false (sym h 
 all_untouched : (n served : ℕ) (handles : List ℕ) (frames : List Frame) → served ≢ n → among n handles ≡ false → All (λ frame. IsTouched served handles frame.endpoint) frames → All (λ frame. frame.endpoint ≢ n) frames
 all_untouched n served handles frames other uncarried h = All-weaker (λ (f : Frame). IsTouched served handles f.endpoint) (λ (f : Frame). f.endpoint ≢ n) (λ f. untouched n served handles other uncarried f.endpoint) frames h
 
-unbound_by : (n : ℕ) (handles : List ℕ) → among n handles ≡ false → (o : Option Bound) → ((bound : Bound) → o ≡ Some bound → among bound.endpoint handles ≡ true) → option_map_or (λ bound. bound.endpoint == n) o false ≡ false
+pub unbound_by : (n : ℕ) (handles : List ℕ) → among n handles ≡ false → (o : Option Bound) → ((bound : Bound) → o ≡ Some bound → among bound.endpoint handles ≡ true) → option_map_or (λ bound. bound.endpoint == n) o false ≡ false
 unbound_by n handles uncarried None h = refl
 unbound_by n handles uncarried (Some bound) h = ne_eqb bound.endpoint n (λ e. true≢false (sym (h bound refl) ∙ ap (λ (k : ℕ). among k handles) e ∙ uncarried))
 
@@ -131,7 +131,7 @@ uncarried_object : (n object : ℕ) (handles : List ℕ) → among n handles ≡
 uncarried_object n object handles uncarried carried =
     ap (λ (b : Bool). b || false) (ne_eqb object n (λ e. true≢false (sym carried ∙ ap (λ (k : ℕ). among k handles) e ∙ uncarried)))
 
-onward_touches : (start : Start) (more : ℕ) (table : Table) (handles : List ℕ) (n : ℕ) →
+pub onward_touches : (start : Start) (more : ℕ) (table : Table) (handles : List ℕ) (n : ℕ) →
     ((endpoint : ℕ) (sending : Sending) (t : Table) → AreNamed t → endpoint ≢ n → among n (handles_of sending) ≡ false → SaySame n (answers more start endpoint sending t) t) →
     is_client n ≡ true → among n handles ≡ false → AreNamed table → (o : Option Forwarded) → ((forward : Forwarded) → o ≡ Some forward → (among forward.object handles ≡ true) × (is_client forward.endpoint ≡ false)) →
     SaySame n (onward (answers more start) o table) table
