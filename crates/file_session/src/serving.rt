@@ -5,7 +5,7 @@ ghost use Rattle.run_status.specs.Causes.{AfterNames};
 ghost use Rattle.run_status.specs.Outside.{files_told, streams_told};
 ghost use Rattle.run_status.specs.Reads.{ReadsOnly};
 ghost use Rattle.link_session.specs.Session.{SessionAnswers};
-ghost use Rattle.named_files.specs.FileCauses.{AfterFile};
+ghost use Rattle.run_status.specs.FileCauses.{AfterFile};
 ghost use Rattle.file_session.specs.Bound.{IsBoundTo};
 ghost use Rattle.file_session.specs.OneFile.{file_course, IsBehind};
 
@@ -15,8 +15,7 @@ use fidl_names::{MAX_FILE, MAX_PIECE, NoMemory};
 use fidl_wire::Ordinals;
 use host_io::{Files, Sink, Source};
 use link_session::{Input, Session, run};
-use named_files::read_file;
-use run_status::{Status, ordinals};
+use run_status::{Status, ordinals, read_file};
 use std::alloc::Global;
 
 /// The room in which output is gathered: a large piece, and one more answer.

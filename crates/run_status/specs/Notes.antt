@@ -6,6 +6,8 @@ use Rattle.run_status.specs.declared.notes.Note.{Note}
 use Rattle.run_status.specs.declared.notes.Note.TheVariants as note
 use Rattle.run_status.specs.declared.statuses.Status.{Status}
 use Rattle.run_status.specs.declared.statuses.Status.TheVariants as status
+use Rattle.run_status.specs.declared.words.NoWords.{NoWords}
+use Rattle.run_status.specs.declared.words.NoWords.TheVariants as words
 
 abbrev pub exit_of : Status → ℕ
 exit_of status.Done = 0
@@ -21,6 +23,11 @@ exit_of (status.Collision first second) = 9
 exit_of status.NoMemory = 10
 exit_of (status.BadFrame at why) = 6
 exit_of (status.Truncated at) = 7
+
+-- the exit number of a process that has no words
+abbrev pub exit_without : NoWords → ℕ
+exit_without words.NotText = 12
+exit_without words.NoMemory = 10
 
 -- the word of a reason
 abbrev pub word_of : FrameReason → List ℕ

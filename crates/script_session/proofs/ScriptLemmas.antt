@@ -2,7 +2,7 @@
 use Rattle.std.proofs.Common.{List, ℕ, subst}
 use Rattle.host_io.specs.Told.{Told}
 use Rattle.run_status.specs.Outside.{FilesTold}
-use Rattle.named_files.specs.Files.{StillTold}
+use Rattle.run_status.specs.Files.{StillTold}
 use Rattle.script_session.specs.Scripts.{Said, Says}
 
 -- the script that it is then, it was before both

@@ -5,7 +5,7 @@ use Rattle.run_status.specs.declared.statuses.Status.{Status}
 use Rattle.run_status.specs.declared.statuses.Status.TheVariants as status
 use Rattle.run_status.specs.Causes.{After}
 use Rattle.run_status.specs.Outside.{FilesTold}
-use Rattle.named_files.specs.FileCauses.{HasNoFile}
+use Rattle.run_status.specs.FileCauses.{HasNoFile}
 use Rattle.script_session.specs.Scripts.{IsBadAt, IsPlayable, Said}
 use Rattle.script_session.specs.Workloads.{IsReport}
 

@@ -6,7 +6,7 @@ use Rattle.endpoint_link.specs.declared.kinds.Side.TheVariants.{ToServers}
 use Rattle.fidl_names.specs.declared.limits.TheConstants as limit
 use Rattle.host_io.specs.Told.{Told}
 use Rattle.vfs_script.specs.Scripts.{bad_line, frames_of, script_mode}
-use Rattle.named_files.specs.Files.{IsWithin}
+use Rattle.run_status.specs.Files.{IsWithin}
 
 -- the text of a script, and the mode that it says
 pub record Said : Type 0 where

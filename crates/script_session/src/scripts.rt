@@ -6,7 +6,7 @@ ghost use Rattle.run_status.specs.Causes.{AfterNames};
 ghost use Rattle.run_status.specs.Outside.{files_told, sink_told};
 ghost use Rattle.run_status.specs.Reads.{ReadsOnly};
 ghost use Rattle.run_status.specs.Texts.{WritesPieces};
-ghost use Rattle.named_files.specs.FileCauses.{AfterTree};
+ghost use Rattle.run_status.specs.FileCauses.{AfterTree};
 ghost use Rattle.script_session.specs.ScriptCauses.{AfterScript, HasNoScript};
 ghost use Rattle.script_session.specs.Scripts.{Says};
 
@@ -14,8 +14,7 @@ use crate::playing::play;
 use fidl_names::MAX_TEXT;
 use fidl_wire::Ordinals;
 use host_io::{Files, Sink};
-use named_files::{read_file, read_start};
-use run_status::{Status, ordinals};
+use run_status::{Status, ordinals, read_file, read_start};
 use std::alloc::Global;
 use transcripts::TranscriptFault;
 use vfs_script::{Script, ScriptFault, script_of};

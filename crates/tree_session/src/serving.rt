@@ -9,7 +9,7 @@ ghost use Rattle.run_status.specs.Outside.{files_told, streams_told};
 ghost use Rattle.run_status.specs.Reads.{ReadsOnly};
 ghost use Rattle.link_session.specs.Serving.{HeardOne};
 ghost use Rattle.link_session.specs.Session.{SessionAnswers};
-ghost use Rattle.named_files.specs.FileCauses.{AfterTree};
+ghost use Rattle.run_status.specs.FileCauses.{AfterTree};
 ghost use Rattle.tree_session.specs.TreeSession.{tree_course, StandsBehind};
 
 use endpoint_link::{FrameView, Mode, Outbox, Side};
@@ -17,8 +17,7 @@ use fidl_names::{MAX_FRAMES, NoMemory};
 use fidl_wire::Ordinals;
 use host_io::{Files, Sink, Source};
 use link_session::{Input, Session, run};
-use named_files::read_start;
-use run_status::{Status, ordinals};
+use run_status::{Status, ordinals, read_start};
 use session_start::Start;
 use std::alloc::Global;
 use vfs_world::World;

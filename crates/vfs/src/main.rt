@@ -2,22 +2,14 @@
 #![tactic(auto)]
 
 use host_io::{DirFiles, StdSink, StdSource};
-use std::io::ErrorKind;
+use run_status::words_of;
 use std::process::ExitCode;
-use std::rt::Env;
-use std::{env, io};
-use vfs_program::{Status, run_words};
-
-/// Where the words can't be had for another cause than memory, as when they aren't UTF-8.
-const NO_WORDS: u8 = 12;
+use vfs_program::run_words;
 
 fn main(rt: HostRuntime) -> ExitCode {
     let words = match words_of(&rt) {
         Ok(words) => words,
-        Err(error) if error.kind() == ErrorKind::OutOfMemory => {
-            return ExitCode::from(Status::NoMemory.exit_code());
-        }
-        Err(_) => return ExitCode::from(NO_WORDS),
+        Err(fault) => return ExitCode::from(fault.exit_code()),
     };
     let mut files = DirFiles::new(&rt);
     let mut source = StdSource::new(rt.stdin());
@@ -32,11 +24,4 @@ fn main(rt: HostRuntime) -> ExitCode {
         &mut notes,
     );
     ExitCode::from(status.exit_code())
-}
-
-/// The words behind the program's name.
-fn words_of<R: Env + AllocGlobal>(rt: &R) -> io::Result<Vec<String>> {
-    let mut words = env::args(rt)?;
-    let _name = words.next();
-    Ok(words.collect(rt.alloc())?)
 }

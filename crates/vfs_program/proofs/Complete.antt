@@ -23,9 +23,9 @@ use Rattle.run_status.specs.Causes.{After, Collides}
 use Rattle.run_status.specs.Outside.{FilesTold, Outside, Streams, SinkTold, sink_of}
 use Rattle.run_status.specs.Texts.{WritesPieces, WritesText}
 use Rattle.link_session.specs.Session.{Course, SessionAnswers, IsWhole, IsTooLong, IsTruncated, IsBad}
-use Rattle.named_files.specs.FileCauses.{AfterFile, AfterTree, HasNoFile, HasNoStart}
-use Rattle.named_files.specs.Files.{IsFileFault, IsWithin}
-use Rattle.named_files.specs.Trees.{IsBroken, IsTree, Stands, line_of}
+use Rattle.run_status.specs.FileCauses.{AfterFile, AfterTree, HasNoFile, HasNoStart}
+use Rattle.run_status.specs.Files.{IsFileFault, IsWithin}
+use Rattle.run_status.specs.Trees.{IsBroken, IsTree, Stands, line_of}
 use Rattle.file_session.specs.OneFile.{file_course}
 use Rattle.tree_session.specs.TreeSession.{tree_course}
 use Rattle.frame_printer.specs.Shown.{lines_course}

@@ -39,8 +39,8 @@ use Rattle.run_status.specs.Causes.{After, Collides}
 use Rattle.run_status.specs.Outside.{Outside, SinkTold, Streams, sink_of}
 use Rattle.run_status.specs.Texts.{WritesPieces, WritesText}
 use Rattle.link_session.specs.Session.{EndsBehind, IsCutOff, IsPartByEnd, IsPartSoFar, SessionAnswers, Took, Wrote}
-use Rattle.named_files.specs.FileCauses.{AfterTree, HasNoStart}
-use Rattle.named_files.specs.Trees.{IsTree, Stands}
+use Rattle.run_status.specs.FileCauses.{AfterTree, HasNoStart}
+use Rattle.run_status.specs.Trees.{IsTree, Stands}
 use Rattle.tree_session.specs.TreeSession.{tree_course}
 use Rattle.script_session.specs.ScriptCauses.{AfterReport, AfterScript, HasNoScript, IsStarved}
 use Rattle.script_session.specs.Scripts.{IsPlayable, Said}

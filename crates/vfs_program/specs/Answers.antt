@@ -14,9 +14,9 @@ use Rattle.run_status.specs.Causes.{AfterNames}
 use Rattle.run_status.specs.Outside.{Outside, sink_of}
 use Rattle.run_status.specs.Texts.{WritesPieces, WritesText}
 use Rattle.link_session.specs.Session.{SessionAnswers, IsWhole}
-use Rattle.named_files.specs.FileCauses.{AfterFile, AfterTree}
-use Rattle.named_files.specs.Files.{IsFileFault}
-use Rattle.named_files.specs.Trees.{Stands, line_of}
+use Rattle.run_status.specs.FileCauses.{AfterFile, AfterTree}
+use Rattle.run_status.specs.Files.{IsFileFault}
+use Rattle.run_status.specs.Trees.{Stands, line_of}
 use Rattle.file_session.specs.OneFile.{file_course}
 use Rattle.tree_session.specs.TreeSession.{tree_course}
 use Rattle.frame_printer.specs.Shown.{lines_course}

@@ -23,7 +23,7 @@ use Rattle.session_laws.specs.Laws.{IsLawfulOutput, IsLawfulOver}
 use Rattle.workload.specs.Workload.{workload}
 use Rattle.run_status.specs.Outside.{Outside, Streams}
 use Rattle.link_session.specs.Session.{EndsBehind, Took, Wrote}
-use Rattle.named_files.specs.Trees.{Stands}
+use Rattle.run_status.specs.Trees.{Stands}
 use Rattle.frame_printer.specs.Shown.{lines_of}
 use Rattle.script_session.specs.Scripts.{Said, Says}
 use Rattle.script_session.specs.Workloads.{report_for}

@@ -8,8 +8,8 @@ use Rattle.run_status.specs.declared.statuses.Status.{Status}
 use Rattle.run_status.specs.declared.statuses.Status.TheVariants as status
 use Rattle.run_status.specs.Causes.{After}
 use Rattle.run_status.specs.Outside.{FilesTold}
-use Rattle.named_files.specs.Files.{IsFileFault, IsFileTooLarge, IsWithin}
-use Rattle.named_files.specs.Trees.{IsBroken, IsTree}
+use Rattle.run_status.specs.Files.{IsFileFault, IsFileTooLarge, IsWithin}
+use Rattle.run_status.specs.Trees.{IsBroken, IsTree}
 
 -- why a file isn't had; for want of memory nothing else is said
 abbrev pub IsFileCause : ℕ → List ℕ → FilesTold → FilesTold → FileFault → Type 0

@@ -1,5 +1,5 @@
 use Rattle.std.proofs.Common.{inr}
-use Rattle.named_files.proofs.checks.check_tree.Goals as goal
+use Rattle.run_status.proofs.checks.check_tree.Goals as goal
 
 pub returns-in-Ok-pass_on-clause-answers : goal.returns-in-Ok-pass_on-clause-answers
 returns-in-Ok-pass_on-clause-answers g c =

@@ -3,12 +3,13 @@ ghost use Rattle.run_status.specs.Outside.{files_told, sink_told};
 ghost use Rattle.run_status.specs.Reads.{ReadsOnly};
 ghost use Rattle.run_status.specs.Texts.{WritesText};
 ghost use Rattle.session_start.specs.Accepted.{HasFilesOfBytes};
-ghost use Rattle.named_files.specs.FileCauses.{AfterTree};
-ghost use Rattle.named_files.specs.Trees.{line_of};
+ghost use Rattle.run_status.specs.FileCauses.{AfterTree};
+ghost use Rattle.run_status.specs.Trees.{line_of};
 
+use crate::statuses::Status;
+use crate::texts::{pass_on, put_number};
 use crate::trees::read_start;
 use host_io::{Failed, Files, Sink};
-use run_status::{Status, pass_on, put_number};
 use session_start::Start;
 use std::alloc::{AllocError, Global};
 

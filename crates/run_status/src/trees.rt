@@ -1,13 +1,13 @@
 ghost use Rattle.std.specs.Prelude.{IfOk, IfErr};
 ghost use Rattle.run_status.specs.Outside.{files_told};
-ghost use Rattle.named_files.specs.FileCauses.{HasNoStart};
-ghost use Rattle.named_files.specs.Files.{StillTold};
-ghost use Rattle.named_files.specs.Trees.{Stands};
+ghost use Rattle.run_status.specs.FileCauses.{HasNoStart};
+ghost use Rattle.run_status.specs.Files.{StillTold};
+ghost use Rattle.run_status.specs.Trees.{Stands};
 
 use crate::files::read_file;
+use crate::statuses::Status;
 use fidl_names::MAX_TEXT;
 use host_io::Files;
-use run_status::Status;
 use session_start::Start;
 use std::alloc::Global;
 use tree_file::{TreeFault, start_of};

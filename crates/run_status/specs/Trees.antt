@@ -5,7 +5,7 @@ use Rattle.host_io.specs.Told.{Told}
 use Rattle.session_start.specs.Accepted.{HasFilesOfBytes}
 use Rattle.session_start.specs.Items.{Lists}
 use Rattle.tree_file.specs.Rules.{first_failure, start_from}
-use Rattle.named_files.specs.Files.{IsWithin}
+use Rattle.run_status.specs.Files.{IsWithin}
 
 -- the file is a tree that breaks no rule, and has these lists
 pub record Stands (told : Told) (lists : Lists) : Type 0 where
