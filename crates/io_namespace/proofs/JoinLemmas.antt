@@ -5,12 +5,12 @@ use Rattle.std.specs.List.{join_with_byte}
 use Rattle.path_walk.specs.Names.{slash, dot}
 use Rattle.path_walk.specs.Paths.{text_of}
 
-pub join_push : (steps : List (List ℕ)) (last : List ℕ) → 0 < length steps → join_with_byte slash (steps ++ last ∷ []) ≡ join_with_byte slash steps ++ slash ∷ last
-join_push [] last some = absurd (omega arith)
-join_push (step ∷ []) last some = refl
-join_push (step ∷ next ∷ steps) last some =
-    ap (λ rest. step ++ slash ∷ rest) (join_push (next ∷ steps) last (omega arith))
-    ∙ sym (append_assoc step (slash ∷ join_with_byte slash (next ∷ steps)) (slash ∷ last))
+pub join_push : (by : ℕ) (steps : List (List ℕ)) (last : List ℕ) → 0 < length steps → join_with_byte by (steps ++ last ∷ []) ≡ join_with_byte by steps ++ by ∷ last
+join_push by [] last some = absurd (omega arith)
+join_push by (step ∷ []) last some = refl
+join_push by (step ∷ next ∷ steps) last some =
+    ap (λ rest. step ++ by ∷ rest) (join_push by (next ∷ steps) last (omega arith))
+    ∙ sym (append_assoc step (by ∷ join_with_byte by (next ∷ steps)) (by ∷ last))
 
 pub text_of_none : (steps : List (List ℕ)) → length steps ≡ 0 → text_of steps ≡ dot
 unfolding text_of
@@ -30,5 +30,5 @@ step_on f steps i d before pushed after is push on low high =
     let some : 0 < length (map f (take i steps)) = omega (arith, n, m, low, high) in
     on ∙ ap (λ b. b ++ f (get_or steps i d)) (push ∙ ap (λ b. b ++ slash ∷ []) is)
     ∙ append_assoc (join_with_byte slash (map f (take i steps))) (slash ∷ []) (f (get_or steps i d))
-    ∙ sym (join_push (map f (take i steps)) (f (get_or steps i d)) some)
+    ∙ sym (join_push slash (map f (take i steps)) (f (get_or steps i d)) some)
     ∙ ap (join_with_byte slash) (sym (map_more f steps i d high))
