@@ -1,0 +1,5 @@
+pub mod Cleaning
+pub mod Entries
+pub mod Faults
+pub mod Kept
+pub mod Steps

@@ -1,0 +1,3 @@
+pub mod TableLemmas
+pub mod ScriptLemmas
+pub mod AnswerLemmas
