@@ -9,7 +9,8 @@ use Rattle.std.proofs.lemmas.List.Sums.{position_or_len_is}
 use Rattle.memchr.specs.Find.{IsFirstByte, is_byte}
 use Rattle.text_pieces.specs.Pieces.{pieces}
 
-abbrev is_by : ℕ → ℕ → Bool
+-- a byte is the one between pieces
+abbrev pub is_by : ℕ → ℕ → Bool
 is_by by byte = byte == by
 
 first_at : (by : ℕ) (text : List ℕ) (at : ℕ) → IsFirstByte (is_byte by) text (Some at) → position_or_len (is_by by) text ≡ at
@@ -43,7 +44,7 @@ pieces_few by (byte ∷ text) =
     more_pieces (is_by by byte) byte (pieces by text) (length text + 1) (pieces_few by text) some in
     omega (arith, few)
 
-tail_is : (n : ℕ) (xs : List ℕ) → take (length xs - n) (drop n xs) ≡ drop n xs
+pub tail_is : (n : ℕ) (xs : List ℕ) → take (length xs - n) (drop n xs) ≡ drop n xs
 tail_is n xs = take_all (length xs - n) (drop n xs) (let size = length-drop n xs in omega (arith, size))
 
 -- the first piece, and the pieces of what follows it

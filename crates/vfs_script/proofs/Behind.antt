@@ -7,7 +7,8 @@ use Rattle.vfs_script.specs.declared.verbs.Verb.{Verb}
 use Rattle.vfs_script.specs.declared.verbs.Verb.TheVariants as verb
 use Rattle.vfs_script.specs.Lines.{Line, request, turn, hang_up, pick, one, two, three, four, form_of, line_in, line_of, verb_of}
 use Rattle.vfs_script.specs.Parsed.{alone, behind, echo_line, first_in, names_and_token, open_behind, raw_line, text_and_long, write_at_line, write_line}
-use Rattle.vfs_script.specs.Words.{◌>>=◌, number_in, pieces, signed_of, space}
+use Rattle.vfs_script.specs.Words.{◌>>=◌, number_in, signed_of, space}
+use Rattle.text_pieces.specs.Pieces.{pieces}
 
 -- ---- the first word is the endpoint
 

@@ -26,7 +26,8 @@ use Rattle.vfs_script.specs.declared.verbs.Verb.{Verb}
 use Rattle.vfs_script.specs.declared.verbs.Verb.TheVariants as verb
 use Rattle.vfs_script.specs.Lines.{Line, request, raw, hang_up, turn, pick, one, two, three, four, plain_form, short_form, long_form, open_form, names_form, unlink_form, watch_form, read_at_form, write_form, write_at_form, echo_form, seek_form, hang_up_form, turn_form, pick_form, raw_form, form_of, line_in, line_of, verb_of, frame_at, fits_at}
 use Rattle.vfs_script.specs.Scripts.{Numbered, Spoken, behind_mode, frame_of, frames_of, is_skipped, lines_of, said_at, script_lines, spoken}
-use Rattle.vfs_script.specs.Words.{◌>>=◌, given, all_given, bytes_of, comma, handles_of, none_word, number_in, number_of, numbers_of, pieces, signed_of, space}
+use Rattle.vfs_script.specs.Words.{◌>>=◌, given, all_given, bytes_of, comma, handles_of, none_word, number_in, number_of, numbers_of, signed_of, space}
+use Rattle.text_pieces.specs.Pieces.{pieces}
 
 -- ---- words
 

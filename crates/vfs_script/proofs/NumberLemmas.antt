@@ -17,7 +17,8 @@ use Rattle.std.proofs.lemmas.Int.Digits.{digits_value-lt, digits_value_more}
 use Rattle.std.proofs.lemmas.List.{length-take-le, take_all}
 use Rattle.std.proofs.lemmas.List.Folds.{list_all_more}
 use Rattle.vfs_script.specs.Parsed.{first_in}
-use Rattle.vfs_script.specs.Words.{◌>>=◌, all_given, comma, given, has_prefix, is_decimal, is_decimal_digit, is_digit, is_hexadecimal, is_led, number_in, number_of, numbers_of, pieces}
+use Rattle.vfs_script.specs.Words.{◌>>=◌, all_given, comma, given, has_prefix, is_decimal, is_decimal_digit, is_digit, is_hexadecimal, is_led, number_in, number_of, numbers_of}
+use Rattle.text_pieces.specs.Pieces.{pieces}
 
 -- a digit is of ASCII and no sign
 digit_low : (radix c : ℕ) → radix ≤ 36 → digit_value c < radix → c < 123

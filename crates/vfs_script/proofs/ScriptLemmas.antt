@@ -10,7 +10,8 @@ use Rattle.io_client.specs.Calls.{watcher_of}
 use Rattle.endpoint_link.specs.declared.kinds.Mode.{Mode}
 use Rattle.vfs_script.specs.declared.calls.Call.{Call}
 use Rattle.vfs_script.specs.Lines.{Line, request, raw, hang_up, turn, pick, line_of, fits_at, call_of}
-use Rattle.vfs_script.specs.Words.{given, newline, pieces}
+use Rattle.vfs_script.specs.Words.{given, newline}
+use Rattle.text_pieces.specs.Pieces.{pieces}
 use Rattle.endpoint_link.specs.Frames.{spelling, spellings}
 use Rattle.fidl_names.specs.First.{first_of}
 use Rattle.vfs_script.specs.Kept.{Kept, kept_and, kept_with}

@@ -14,7 +14,8 @@ use Rattle.io_client.specs.Calls.{request_frame, watcher_of}
 use Rattle.vfs_script.specs.declared.calls.Call.{Call}
 use Rattle.vfs_script.specs.declared.verbs.Verb.{Verb}
 use Rattle.vfs_script.specs.declared.verbs.Verb.TheVariants as verb
-use Rattle.vfs_script.specs.Words.{◌>>=◌, given, pieces, space, number_in, signed_of, bytes_of, handles_of}
+use Rattle.vfs_script.specs.Words.{◌>>=◌, given, space, number_in, signed_of, bytes_of, handles_of}
+use Rattle.text_pieces.specs.Pieces.{pieces}
 
 -- what a line says: a request on an endpoint, a message as it is, an endpoint hung up, turns of a
 -- server, a pick

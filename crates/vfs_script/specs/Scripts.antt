@@ -9,7 +9,8 @@ use Rattle.fidl_names.specs.First.{cause_if, first_of}
 use Rattle.vfs_script.specs.declared.calls.Call.{Call}
 use Rattle.vfs_script.specs.declared.faults.ScriptFault.{ScriptFault}
 use Rattle.vfs_script.specs.declared.faults.ScriptFault.TheVariants as fault
-use Rattle.vfs_script.specs.Words.{◌>>=◌, given, pieces, newline}
+use Rattle.vfs_script.specs.Words.{◌>>=◌, given, newline}
+use Rattle.text_pieces.specs.Pieces.{pieces}
 use Rattle.vfs_script.specs.Lines.{Line, line_of, frame_at, fits_at, call_of}
 
 -- a line of a text, and its number

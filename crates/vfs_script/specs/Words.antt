@@ -1,11 +1,12 @@
 -- The words of a line: numbers, bytes as hexadecimal digits, handles.
 use Rattle.std.specs.Prelude.{ℕ, ℤ, pos, neg_ℤ, ◌==◌, ◌^◌, ◌&&◌, ◌||◌, nat_lt, nat_le, not, Bool, if◌then◌else◌, List, [], ◌∷◌, length, map, drop, slice_index, codes, Option, Some, None}
-use Rattle.std.specs.List.{list_all, slice_split}
+use Rattle.std.specs.List.{list_all}
 use Rattle.std.specs.Result.{result_ok}
 use Rattle.std.specs.Str.{bytes_eq}
 use Rattle.std.specs.Str.Parse.{digits_value}
 use Rattle.fidl_names.specs.declared.limits.TheConstants as limit
 use Rattle.hex.specs.Hex.{decode_of}
+use Rattle.text_pieces.specs.Pieces.{pieces}
 
 -- the second step where the first one has a value
 infixl 10 ◌>>=◌
@@ -34,10 +35,6 @@ space = 32
 
 abbrev pub comma : ℕ
 comma = 44
-
--- what stands between the bytes of this number
-abbrev pub pieces : ℕ → List ℕ → List (List ℕ)
-pieces by text = slice_split (λ byte. byte == by) text
 
 -- the word for none
 abbrev pub none_word : List ℕ

@@ -4,7 +4,8 @@ ghost use Rattle.std.specs.Prelude.{◌≡◌, ◌≢◌, ◌==◌, ◌∷◌, [
 ghost use Rattle.memchr.specs.Find.{IsFirstByte, is_byte};
 ghost use Rattle.vfs_script.specs.Lines.{one};
 ghost use Rattle.vfs_script.specs.Parsed.{first_in};
-ghost use Rattle.vfs_script.specs.Words.{number_in, pieces};
+ghost use Rattle.vfs_script.specs.Words.{number_in};
+ghost use Rattle.text_pieces.specs.Pieces.{pieces};
 
 use crate::numbers::{decimal_in_front, long};
 use memchr::memchr;
@@ -24,7 +25,7 @@ fn place_of(by: u8, text: &[u8]) -> Option<usize>
 }
 
 // The first piece of a text, which ends there or at the end of the text, and the pieces behind it.
-#[tactic(auto, using(crate::proofs::PieceLemmas::pieces_none))]
+#[tactic(auto, using(text_pieces::proofs::PieceLemmas::pieces_none))]
 #[inline(always)]
 fn cut<'a>(by: u8, text: &'a [u8], end: Option<usize>) -> (&'a [u8], Pieces<'a>)
     requires { IsFirstByte (is_byte by) text.now end }
@@ -53,7 +54,7 @@ pub(crate) struct Pieces<'a> {
 
 impl<'a> Model for Pieces<'a> {
     ghost use Rattle.std.specs.Prelude.{List, ℕ, [], if◌then◌else◌};
-    ghost use Rattle.vfs_script.specs.Words.{pieces};
+    ghost use Rattle.text_pieces.specs.Pieces.{pieces};
 
     ghost Value = { List (List ℕ) };
 

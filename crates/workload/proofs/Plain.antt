@@ -11,7 +11,8 @@ use Rattle.std.proofs.lemmas.List.Splits.{slice_split_at, slice_split_none}
 use Rattle.std.proofs.lemmas.List.Sums.{AllPass-from_list_all}
 use Rattle.std.proofs.lemmas.Str.{IsUtf8-from_ascii, is_utf8-from_IsUtf8}
 use Rattle.std.proofs.lemmas.Str.Ascii.{IsAscii-from_all}
-use Rattle.vfs_script.specs.Words.{newline, pieces, space}
+use Rattle.vfs_script.specs.Words.{newline, space}
+use Rattle.text_pieces.specs.Pieces.{pieces}
 use Rattle.workload.specs.Workload.{Words, texts}
 
 -- a byte of ASCII behind the space; and one from the space on

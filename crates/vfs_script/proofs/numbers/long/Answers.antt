@@ -1,6 +1,6 @@
 use Rattle.std.proofs.Common.{◌∙◌, sym}
 use Rattle.vfs_script.proofs.NumberLemmas.{number_prefixed, number_plain}
-use Rattle.vfs_script.proofs.PieceLemmas.{tail_is}
+use Rattle.text_pieces.proofs.PieceLemmas.{tail_is}
 use Rattle.vfs_script.proofs.numbers.long.Goals as goal
 
 pub returns-then-has_prefix : goal.returns-then-has_prefix

@@ -1,4 +1,4 @@
-use Rattle.vfs_script.proofs.PieceLemmas.{cut_found}
+use Rattle.text_pieces.proofs.PieceLemmas.{cut_found}
 use Rattle.vfs_script.proofs.pieces.cut.Goals as goal
 
 pub returns-in-Some : goal.returns-in-Some

@@ -1,7 +1,7 @@
 use Rattle.std.proofs.Common.{List, ℕ, ◌++◌, ap, ◌∙◌}
 use Rattle.std.specs.Prelude.{codes}
 use Rattle.fidl_names.specs.Numbers.{number_at}
-use Rattle.vfs_script.proofs.PieceLemmas.{tail_is}
+use Rattle.text_pieces.proofs.PieceLemmas.{tail_is}
 use Rattle.vfs_script.proofs.PrintLemmas.{label_read}
 use Rattle.vfs_script.proofs.printing.front_of.Goals as goal
 

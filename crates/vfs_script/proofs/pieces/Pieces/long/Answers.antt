@@ -1,6 +1,6 @@
 use Rattle.std.proofs.Common.{◌≡◌, sym, ap, ◌∙◌}
 use Rattle.vfs_script.specs.Parsed.{first_in}
-use Rattle.vfs_script.specs.Words.{pieces}
+use Rattle.text_pieces.specs.Pieces.{pieces}
 use Rattle.vfs_script.proofs.PieceLemmas.{first_is}
 use Rattle.vfs_script.proofs.pieces.Pieces.long.Goals as goal
 

@@ -2,7 +2,8 @@ use Rattle.std.proofs.Common.{length, arith, sym, ap, subst, lit<}
 use Rattle.vfs_script.specs.Scripts.{lines_of, numbered_from}
 use Rattle.vfs_script.specs.Parsed.{AreTexts}
 use Rattle.vfs_script.specs.Words.{newline}
-use Rattle.vfs_script.proofs.PieceLemmas.{pieces_are_texts, pieces_few}
+use Rattle.text_pieces.proofs.PieceLemmas.{pieces_few}
+use Rattle.vfs_script.proofs.PieceLemmas.{pieces_are_texts}
 use Rattle.vfs_script.proofs.ScriptLemmas.{length-numbered}
 use Rattle.vfs_script.proofs.script.Lines.new.Goals as goal
 
