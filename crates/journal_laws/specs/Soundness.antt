@@ -85,7 +85,7 @@ pub record IsStart (start : Start) : Type 0 where
 abbrev pub Carries : History → Sent → ℕ → Type 0
 Carries history one endpoint = Contains (waiting history) one × (among endpoint (endpoints_in one) ≡ true)
 
--- an endpoint travels behind another where what waits on that carries it, or carries one behind which it travels
+-- an endpoint travels behind the one on which its carrier waits, and behind whatever that one travels behind
 pub data TravelsBehind (history : History) : ℕ → ℕ → Type 0 where
   carried : (one : Sent) (endpoint : ℕ) → Carries history one endpoint → TravelsBehind history endpoint one.endpoint
   deeper : (one : Sent) (endpoint other : ℕ) → Carries history one endpoint → TravelsBehind history one.endpoint other → TravelsBehind history endpoint other
