@@ -1,0 +1,4 @@
+pub mod Tags
+pub mod Lent
+pub mod Places
+pub mod OneVerdict

@@ -1,0 +1,4 @@
+pub mod Records
+pub mod Fronts
+pub mod Recorded
+pub mod Verdicts
