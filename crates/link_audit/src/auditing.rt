@@ -1,4 +1,5 @@
 ghost use Rattle.std.specs.Prelude.{◌≡◌, ◌≤◌, IfOk, OnOk, length};
+ghost use Rattle.session_start.specs.Accepted.{HasFilesOfBytes};
 ghost use Rattle.vfs_journal.specs.Starts.{start_of};
 ghost use Rattle.link_audit.specs.Verdicts.{IsVerdict};
 ghost use Rattle.link_audit.specs.Vouching.{VouchesForLaws};
@@ -24,6 +25,9 @@ pub fn audit(
     recording: &[u8],
 ) -> Result<Verdict, NoMemory>
     requires { length recording.now ≤ MAX_RECORDING }
+    // What is in the files of a start are bytes.
+    ensures bytes { HasFilesOfBytes start.now }
+
     // It is lawful, or this is the first fault of the first record at which it isn't.
     ensures verdict { IfOk result (IsVerdict (start_of start.now) recording.now) }
 

@@ -33,9 +33,13 @@ pub(crate) struct Auditor {
 
 impl Model for Auditor {
     ghost use Rattle.std.specs.Prelude.{◌≤◌, ◌-◌, drop, length};
+    ghost use Rattle.std.specs.Coded.{codes};
+    ghost use Rattle.vfs_session.specs.Codes.{world_code};
     ghost use Rattle.link_audit.specs.Auditing.{Auditing};
 
     ghost Value = { Auditing };
+
+    ghost coded = { Prim.hlevel (codes, world_code) };
 
     ghost view = { λ a. record { world = a.world; owed = drop (length a.outbox - a.left) a.outbox } };
 
@@ -49,7 +53,8 @@ impl Auditor {
         ordinals: Ordinals,
         start: &Start,
     ) -> Result<Auditor, NoMemory>
-        ensures { IfOk result (Audits (start_of start.now) []) }
+        ensures bytes { HasFilesOfBytes start.now }
+        ensures audits { IfOk result (Audits (start_of start.now) []) }
     {
         let world = World::new(alloc, ordinals, start)?;
         Ok(Auditor {
