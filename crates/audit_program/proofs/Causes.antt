@@ -5,9 +5,16 @@ use Rattle.host_io.specs.Told.{IsAllOf, IsLongerThan, Told}
 use Rattle.named_files.specs.FileCauses.{HasNoFile, HasNoStart, LacksFile, LacksStart}
 use Rattle.named_files.specs.Files.{IsWithin, StillTold}
 use Rattle.run_status.specs.Causes.{Collides as CollidesThere}
-use Rattle.run_status.specs.Outside.{FilesTold}
+use Rattle.run_status.specs.Outside.{FilesTold, SinkTold}
 use Rattle.run_status.specs.declared.statuses.Status.{Status}
 use Rattle.run_status.specs.declared.statuses.Status.TheVariants as other
+use Rattle.link_audit.specs.Verdicts.{IsVerdict}
+use Rattle.link_audit.specs.Vouching.{VouchesForLaws}
+use Rattle.link_audit.specs.declared.verdicts.Verdict.{Verdict}
+use Rattle.vfs_journal.specs.Starts.{Start}
+use Rattle.audit_program.specs.Answers.{TellsVerdict, WritesLine}
+use Rattle.audit_program.specs.declared.statuses.AuditStatus.{AuditStatus}
+use Rattle.audit_program.specs.declared.statuses.AuditStatus.TheVariants as status
 use Rattle.audit_program.specs.Statuses.{Collides, fault_in, rule_in, status_as}
 
 pub collides_as : (there : Status) → CollidesThere there → Collides (status_as there)
@@ -63,3 +70,17 @@ lacks_file_as most name before mid after (other.Truncated at) still a = absurd a
 pub within_still : (most : ℕ) (name : List ℕ) (before mid : FilesTold) (bytes : List ℕ) → StillTold before mid → IsWithin most (mid.told name) bytes
     → IsWithin most (before.told name) bytes
 within_still most name before mid bytes still within = subst (λ (t : Told). IsWithin most t bytes) (still.told name) within
+
+-- the verdict that was told is that on the recording
+pub tells : (start : Start) (recording : List ℕ) (same : Type 0) (wrote writes : SinkTold) (verdict : Verdict) → IsVerdict start recording verdict
+    → VouchesForLaws start recording verdict → (answer : AuditStatus) → WritesLine verdict same wrote writes answer
+    → TellsVerdict start recording same wrote writes answer
+tells start recording same wrote writes verdict is laws status.NoMemory a = a
+tells start recording same wrote writes verdict is laws status.Done a = (verdict, is, laws, a)
+tells start recording same wrote writes verdict is laws status.Usage a = (verdict, is, laws, a)
+tells start recording same wrote writes verdict is laws (status.TreeRefused rule item) a = (verdict, is, laws, a)
+tells start recording same wrote writes verdict is laws status.WriteFault a = (verdict, is, laws, a)
+tells start recording same wrote writes verdict is laws status.FileFault a = (verdict, is, laws, a)
+tells start recording same wrote writes verdict is laws status.FileTooLarge a = (verdict, is, laws, a)
+tells start recording same wrote writes verdict is laws (status.Collision first second) a = (verdict, is, laws, a)
+tells start recording same wrote writes verdict is laws (status.Unlawful place why) a = (verdict, is, laws, a)

@@ -1,5 +1,5 @@
 -- With all that is needed, and without a fault, the verdict is told unless memory runs out.
-use Rattle.std.proofs.Common.{◌≡◌, ◌≤◌, ◌∙◌, ℕ, List, length, refl, sym, ap, subst, arith, inl, inr}
+use Rattle.std.proofs.Common.{◌≡◌, ◌≤◌, ◌∙◌, ℕ, List, is_some, true≢false, length, refl, sym, ap, subst, arith, inl, inr}
 use Rattle.std.specs.Prelude.{None, Option, Some}
 use Rattle.fidl_names.specs.declared.limits.TheConstants as limit
 use Rattle.fidl_wire.specs.Names.{AreDistinct}
@@ -34,11 +34,14 @@ not_large most told text e few long =
     let longer = subst (IsLongerThan most) e long in
     omega (arith, longer, few)
 
+-- a text that breaks a rule isn't one that breaks none
+no_first : (text : List ℕ) (first : ℕ × ℕ) → first_failure text ≡ Some first → first_failure text ≡ None → ⊥
+no_first text first some none = true≢false (ap is_some (sym some ∙ none))
+
 not_broken : (told : Told) (lists : Lists) (text : List ℕ) (rule item : ℕ) → told ≡ Holds text → Stands (Holds text) lists → IsBroken told rule item → ⊥
 not_broken told lists text rule item e stands broken =
     let texts : broken.text ≡ stands.text = same_text told text broken.text e broken.within.0 ∙ sym stands.within.0 in
-    let none : Some {A = ℕ × ℕ} (rule, item) ≡ None = sym broken.first ∙ (ap first_failure texts ∙ stands.unbroken) in
-    cc
+    no_first broken.text (rule, item) broken.first (ap first_failure texts ∙ stands.unbroken)
 
 module _ (tree recording : List ℕ) (before after : FilesTold) (wrote writes : SinkTold) (lists : Lists) (bytes : List ℕ) (verdict : Verdict)
   (all : HasAll tree recording before lists bytes verdict) (good : NoFault tree recording before after wrote writes) where

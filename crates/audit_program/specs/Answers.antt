@@ -1,5 +1,5 @@
 -- What `audit TREE RECORDING` may answer, and what it did by then.
-use Rattle.std.specs.Prelude.{◌≡◌, ◌≤◌, ◌⊎◌, ℕ, List, length}
+use Rattle.std.specs.Prelude.{◌≡◌, ◌≤◌, ◌⊎◌, ℕ, List, [], ◌∷◌, length}
 use Rattle.fidl_wire.specs.Names.{AreDistinct}
 use Rattle.host_io.specs.Causes.{Rose}
 use Rattle.host_io.specs.Streams.{AppendsPart}
@@ -19,6 +19,14 @@ use Rattle.vfs_journal.specs.Starts.{Start, start_of}
 use Rattle.audit_program.specs.Statuses.{Collides, fault_in, line_of, rule_in, status_of}
 use Rattle.audit_program.specs.declared.statuses.AuditStatus.{AuditStatus}
 use Rattle.audit_program.specs.declared.statuses.AuditStatus.TheVariants as status
+
+-- the words name a tree's file and a recording's
+abbrev pub AreNames : List (List ℕ) → List ℕ → List ℕ → Type 0
+AreNames words tree recording = words ≡ tree ∷ recording ∷ []
+
+-- they aren't two
+abbrev pub AreOthers : List (List ℕ) → Type 0
+AreOthers words = (tree recording : List ℕ) → AreNames words tree recording → ⊥
 
 -- the line of a verdict is written and flushed, and no call of the sink failed; or a front of it is written, and one failed; or memory was
 -- wanting, and nothing is written

@@ -4,7 +4,7 @@ ghost use Rattle.run_status.specs.Outside.{files_told, sink_told};
 ghost use Rattle.run_status.specs.Reads.{ReadsOnly};
 ghost use Rattle.run_status.specs.Texts.{Tells};
 ghost use Rattle.session_start.specs.Items.{Lists};
-ghost use Rattle.audit_program.specs.Answers.{Answers, HasAll, IsTold, NoFault, WritesLine};
+ghost use Rattle.audit_program.specs.Answers.{Answers, AreNames, AreOthers, HasAll, IsTold, NoFault, WritesLine};
 ghost use Rattle.audit_program.specs.Statuses.{line_of, note_of};
 ghost use Rattle.audit_program.specs.declared.statuses.AuditStatus.TheVariants as status;
 
@@ -29,23 +29,23 @@ pub fn audit_words<F: Files, K: Sink, N: Sink>(
     notes: &mut N,
 ) -> AuditStatus
     // Words that aren't two touch nothing.
-    ensures usage { ((tree recording : List ℕ) → map string_bytes words.now ≡ tree ∷ recording ∷ [] → ⊥) →
+    ensures usage { AreOthers (map string_bytes words.now) →
         (result ≡ status.Usage) × (files.new ≡ files.old) × (sink.new ≡ sink.old) }
 
     // What two words are answered, and what was done by then.
     ensures answers { let told = files_told F.told F.faults F.overlong in
         let wrote = sink_told K.written K.flushed K.faults in
-        (tree recording : List ℕ) → map string_bytes words.now ≡ tree ∷ recording ∷ [] →
+        (tree recording : List ℕ) → AreNames (map string_bytes words.now) tree recording →
         Answers tree recording (told files.old) (told files.new) (sink.new ≡ sink.old) (wrote sink.old) (wrote sink.new) result }
 
     // At most the tree's file is read, and then the recording's.
-    ensures reads { (tree recording : List ℕ) → map string_bytes words.now ≡ tree ∷ recording ∷ [] →
+    ensures reads { (tree recording : List ℕ) → AreNames (map string_bytes words.now) tree recording →
         ReadsOnly F.reads (tree ∷ recording ∷ []) files.old files.new }
 
     // Where all that is needed is there and no fault is met, the verdict on the recording is told, unless memory runs out. There is but one.
     ensures complete { let told = files_told F.told F.faults F.overlong in
         let wrote = sink_told K.written K.flushed K.faults in
-        (tree recording : List ℕ) → map string_bytes words.now ≡ tree ∷ recording ∷ [] →
+        (tree recording : List ℕ) → AreNames (map string_bytes words.now) tree recording →
         (lists : Lists) (bytes : List ℕ) (verdict : TheVerdict) → HasAll tree recording (told files.old) lists bytes verdict →
         NoFault tree recording (told files.old) (told files.new) (wrote sink.old) (wrote sink.new) → IsTold verdict result }
 
@@ -64,13 +64,13 @@ fn answer<F: Files, K: Sink>(
     files: &mut F,
     sink: &mut K,
 ) -> AuditStatus
-    ensures usage { ((tree recording : List ℕ) → map string_bytes words.now ≡ tree ∷ recording ∷ [] → ⊥) →
+    ensures usage { AreOthers (map string_bytes words.now) →
         (result ≡ status.Usage) × (files.new ≡ files.old) × (sink.new ≡ sink.old) }
     ensures answers { let told = files_told F.told F.faults F.overlong in
         let wrote = sink_told K.written K.flushed K.faults in
-        (tree recording : List ℕ) → map string_bytes words.now ≡ tree ∷ recording ∷ [] →
+        (tree recording : List ℕ) → AreNames (map string_bytes words.now) tree recording →
         Answers tree recording (told files.old) (told files.new) (sink.new ≡ sink.old) (wrote sink.old) (wrote sink.new) result }
-    ensures reads { (tree recording : List ℕ) → map string_bytes words.now ≡ tree ∷ recording ∷ [] →
+    ensures reads { (tree recording : List ℕ) → AreNames (map string_bytes words.now) tree recording →
         ReadsOnly F.reads (tree ∷ recording ∷ []) files.old files.new }
 {
     match words {
