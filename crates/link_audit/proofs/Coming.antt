@@ -1,6 +1,6 @@
 -- How far the auditor came in a recording, and what it says there.
-use Rattle.std.proofs.Common.{◌≡◌, ◌⊎◌, ◌<◌, ◌≤◌, ◌+◌, ◌-◌, ℕ, List, [], ◌∷◌, ◌++◌, drop, length, take, refl, sym, ap, ◌∙◌, subst, arith, append_assoc, append-nil, length-append, length-drop, inl, inr}
-use Rattle.std.specs.Prelude.{All, None, Option, Some}
+use Rattle.std.proofs.Common.{◌≡◌, ◌+◌, ◌-◌, ℕ, List, [], ◌∷◌, ◌++◌, drop, length, take, refl, sym, ap, ◌∙◌, arith, append-nil, length-append, length-drop}
+use Rattle.std.specs.Prelude.{None}
 use Rattle.std.proofs.lemmas.List.{take_all}
 use Rattle.std.proofs.lemmas.List.Elements.{All-nil}
 use Rattle.vfs_journal.specs.Starts.{Start}
@@ -9,9 +9,9 @@ use Rattle.link_audit.specs.Auditing.{Auditing, Audits, CameTo, IsFirstWrong, Ju
 use Rattle.link_audit.specs.Fronts.{record_of}
 use Rattle.link_audit.specs.declared.records.Record.{Record as Lent}
 use Rattle.link_audit.specs.declared.records.Record.TheVariants as lent
-use Rattle.link_audit.specs.Records.{GoesOn, HasNoRecord, InFront, IsRecord, Record, comes_in, ends, goes_out, served, spelling_of, spellings_of}
-use Rattle.link_audit.specs.Recorded.{EachStands, IsLawful, MayStand, journal_of}
-use Rattle.link_audit.specs.Verdicts.{HasFault, IsFirstFault, IsVerdict, IsWrong, rank_of}
+use Rattle.link_audit.specs.Records.{GoesOn, HasNoRecord, InFront, IsRecord, Record, ends, spelling_of, spellings_of}
+use Rattle.link_audit.specs.Recorded.{IsLawful, journal_of}
+use Rattle.link_audit.specs.Verdicts.{IsVerdict}
 use Rattle.link_audit.specs.Vouching.{VouchesForLaws}
 use Rattle.link_audit.specs.declared.verdicts.Verdict.{Verdict}
 use Rattle.link_audit.specs.declared.verdicts.Verdict.TheVariants as verdict
@@ -68,38 +68,46 @@ lawful_there start recording place rest more old new came front judged =
 pub vouched_there : (start : Start) (recording : List ℕ) (place : ℕ) (rest more : List ℕ) (old new : Auditing) (came : CameTo start recording place rest old)
     → InFront rest ends more → Judges start came.before ends new None → VouchesForLaws start recording (verdict.Lawful (place + 1))
 vouched_there start recording place rest more old new came front judged =
-    let stands = judged.1.stands in
-    (came.before ++ ends ∷ [], lawful_by start recording place rest more old new came front judged,
-      lawful_keep judged.1.distinct start (journal_of start (came.before ++ ends ∷ [])) stands.sound stands.lawful)
+    let stands = judged.1.stands in (
+      came.before ++ ends ∷ [],
+      lawful_by start recording place rest more old new came front judged,
+      lawful_keep judged.1.distinct start (journal_of start (came.before ++ ends ∷ [])) stands.sound stands.lawful,
+    )
 
 -- a record with which something is wrong
 pub unlawful_there : (start : Start) (recording : List ℕ) (place : ℕ) (rest more : List ℕ) (one : Record) (reason : Why) (old : Auditing)
     (came : CameTo start recording place rest old) → InFront rest one more → IsFirstWrong start came.before one reason
     → IsVerdict start recording (verdict.Unlawful place reason)
-unlawful_there start recording place rest more one reason old came front wrong =
-    (came.before, record {
-      rest = rest;
-      split = came.split;
-      sound = came.sound;
-      going = came.going;
-      stands = came.may;
-      fault = fault_in_front start came.before rest one more reason front wrong.wrong;
-      first = λ other less fault. wrong.first other less (fault_of_front start came.before rest one more other front fault);
-    }, came.count)
+unlawful_there start recording place rest more one reason old came front wrong = (
+  came.before,
+  record {
+    rest = rest;
+    split = came.split;
+    sound = came.sound;
+    going = came.going;
+    stands = came.may;
+    fault = fault_in_front start came.before rest one more reason front wrong.wrong;
+    first = λ other less fault. wrong.first other less (fault_of_front start came.before rest one more other front fault);
+  },
+  came.count,
+)
 
 -- and no record
 pub bad_there : (start : Start) (recording : List ℕ) (place : ℕ) (rest : List ℕ) (old : Auditing) → CameTo start recording place rest old → HasNoRecord rest
     → IsVerdict start recording (verdict.Unlawful place why.BadRecord)
-bad_there start recording place rest old came none =
-    (came.before, record {
-      rest = rest;
-      split = came.split;
-      sound = came.sound;
-      going = came.going;
-      stands = came.may;
-      fault = none;
-      first = λ other less fault. absurd (omega (arith, less));
-    }, came.count)
+bad_there start recording place rest old came none = (
+  came.before,
+  record {
+    rest = rest;
+    split = came.split;
+    sound = came.sound;
+    going = came.going;
+    stands = came.may;
+    fault = none;
+    first = λ other less fault. absurd (omega (arith, less));
+  },
+  came.count,
+)
 
 -- another verdict is this one
 pub only_one : (start : Start) (recording : List ℕ) (told : Verdict) → IsVerdict start recording told → (other : Verdict) → IsVerdict start recording other → told ≡ other

@@ -1,23 +1,19 @@
 -- What the reader of records finds.
-use Rattle.std.proofs.Common.{◌≡◌, ◌≤◌, ◌<◌, ◌+◌, ◌-◌, ◌^◌, ℕ, suc, Bool, true, false, List, [], ◌∷◌, ◌++◌, length, take, drop, refl, sym, ap, ◌∙◌, subst, arith, length-append, IsTrue}
-use Rattle.std.proofs.Math.Seq.{take-append_seam}
+use Rattle.std.proofs.Common.{◌≡◌, ◌≤◌, ℕ, false, List, ◌∷◌, ◌++◌, length, drop, refl, sym, ap, ◌∙◌, arith}
 use Rattle.std.proofs.lemmas.List.{take-append-drop}
-use Rattle.endpoint_link.specs.declared.frame.FrameView.{FrameView}
 use Rattle.endpoint_link.specs.declared.frame.Reading.{Reading}
 use Rattle.endpoint_link.specs.declared.frame.Reading.TheVariants as reading
 use Rattle.endpoint_link.specs.declared.kinds.Side.{Side}
 use Rattle.endpoint_link.specs.declared.kinds.Side.TheVariants as side
-use Rattle.endpoint_link.specs.Frames.{Frame, IsFrame, spelling}
-use Rattle.endpoint_link.specs.Numbers.{word_in, word_of}
-use Rattle.endpoint_link.specs.Views.{IsWholeFront, Reads, frame_of}
-use Rattle.endpoint_link.proofs.Spelled.{length-spelling, spelling-injective}
+use Rattle.endpoint_link.specs.Frames.{Frame}
+use Rattle.endpoint_link.specs.Numbers.{word_in}
+use Rattle.endpoint_link.specs.Views.{IsWholeFront, Reads}
+use Rattle.endpoint_link.proofs.Spelled.{spelling-injective}
 use Rattle.endpoint_link.proofs.Streams.{NoFront, bad_no_front, partial_no_front}
 use Rattle.endpoint_link.proofs.Words.{word_in-lt, word_of-word_in}
 use Rattle.fidl_names.specs.Numbers.{AreBytes}
-use Rattle.link_audit.specs.Records.{HasNoRecord, InFront, Record, comes_in, ends, goes_out, is_answering, is_sending, served, spelling_of}
-use Rattle.link_audit.specs.Fronts.{LiesSpelled, Shows, record_of}
-use Rattle.link_audit.specs.declared.records.Front.{Front}
-use Rattle.link_audit.specs.declared.records.Record.{Record as Lent}
+use Rattle.link_audit.specs.Records.{HasNoRecord, is_answering, is_sending}
+use Rattle.link_audit.specs.Fronts.{Shows}
 use Rattle.link_audit.specs.declared.records.Record.TheVariants as lent
 use Rattle.link_audit.proofs.Tags.{no_in, no_out}
 

@@ -1,17 +1,17 @@
 -- A recording has one verdict.
-use Rattle.std.proofs.Common.{◌≡◌, ◌⊎◌, ◌<◌, ◌≤◌, ◌+◌, ℕ, List, [], ◌∷◌, ◌++◌, length, refl, sym, ap, ◌∙◌, subst, arith, append_assoc, append-nil, inl, inr}
-use Rattle.std.specs.Prelude.{All, None, Some}
+use Rattle.std.proofs.Common.{◌≡◌, ℕ, List, [], ◌∷◌, ◌++◌, length, refl, sym, ap, ◌∙◌, subst, arith, append_assoc, append-nil, inl, inr}
+use Rattle.std.specs.Prelude.{All}
 use Rattle.std.proofs.lemmas.Bool.{cases_lt}
 use Rattle.vfs_journal.specs.Starts.{Start}
-use Rattle.link_audit.specs.Records.{GoesOn, HasNoRecord, InFront, IsRecord, Record, comes_in, ends, goes_out, served, spelling_of, spellings_of}
-use Rattle.link_audit.specs.Recorded.{EachStands, IsLawful, MayStand}
+use Rattle.link_audit.specs.Records.{GoesOn, InFront, IsRecord, Record, comes_in, ends, goes_out, served, spelling_of, spellings_of}
+use Rattle.link_audit.specs.Recorded.{IsLawful, MayStand}
 use Rattle.link_audit.specs.Verdicts.{HasFault, IsFirstFault, IsVerdict, IsWrong, rank_of}
 use Rattle.link_audit.specs.declared.verdicts.Verdict.{Verdict}
 use Rattle.link_audit.specs.declared.verdicts.Verdict.TheVariants as verdict
 use Rattle.link_audit.specs.declared.verdicts.Why.{Why}
 use Rattle.link_audit.specs.declared.verdicts.Why.TheVariants as why
 use Rattle.link_audit.proofs.Tags.{one_front}
-use Rattle.link_audit.proofs.Places.{GoesFurther, all_at, cut_bytes, cut_last, none_spelled}
+use Rattle.link_audit.proofs.Places.{all_at, cut_bytes, cut_last, none_spelled}
 
 -- ---- one record
 
@@ -136,9 +136,9 @@ same_reason : (start : Start) (recording : List ℕ) (xs ys : List Record) (reas
 same_reason start recording xs ys reason other x y =
     let same = same_place start recording xs ys reason other x y in
     let to_x : HasFault start xs x.rest other =
-        subst (λ (r : List ℕ). HasFault start xs r other) (sym same.1) (subst (λ (l : List Record). HasFault start l y.rest other) (sym same.0) y.fault) in
+    subst (λ (r : List ℕ). HasFault start xs r other) (sym same.1) (subst (λ (l : List Record). HasFault start l y.rest other) (sym same.0) y.fault) in
     let to_y : HasFault start ys y.rest reason =
-        subst (λ (r : List ℕ). HasFault start ys r reason) same.1 (subst (λ (l : List Record). HasFault start l x.rest reason) same.0 x.fault) in
+    subst (λ (r : List ℕ). HasFault start ys r reason) same.1 (subst (λ (l : List Record). HasFault start l x.rest reason) same.0 x.fault) in
     elim (cases_lt (rank_of reason) (rank_of other)) [
       | inl less ↦ absurd (y.first reason less to_y)
       | inr least ↦ elim (cases_lt (rank_of other) (rank_of reason)) [

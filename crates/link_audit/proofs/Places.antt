@@ -1,11 +1,11 @@
 -- Where records stand in a recording: lists of them, one behind another, and the bytes that they are.
-use Rattle.std.proofs.Common.{◌≡◌, ◌⊎◌, ◌<◌, ◌+◌, ℕ, List, [], ◌∷◌, ◌++◌, length, refl, sym, ap, ◌∙◌, subst, arith, append_assoc, append-nil, inl, inr}
+use Rattle.std.proofs.Common.{◌≡◌, ◌⊎◌, ℕ, List, [], ◌∷◌, ◌++◌, refl, sym, ap, ◌∙◌, subst, append_assoc, append-nil, inl, inr}
 use Rattle.std.specs.Prelude.{All}
 use Rattle.std.proofs.lemmas.List.Elements.{All-append, All-cons, All-head, All-nil, All-tail}
 use Rattle.endpoint_link.specs.Frames.{spelling}
 use Rattle.endpoint_link.specs.Numbers.{word_of}
 use Rattle.vfs_journal.specs.Starts.{Start}
-use Rattle.link_audit.specs.Records.{GoesOn, InFront, IsRecord, Record, comes_in, ends, goes_out, served, spelling_of, spellings_of}
+use Rattle.link_audit.specs.Records.{IsRecord, Record, comes_in, ends, goes_out, served, spelling_of, spellings_of}
 use Rattle.link_audit.specs.Recorded.{EachStands, MayStand}
 use Rattle.link_audit.proofs.Tags.{one_front}
 
@@ -86,7 +86,7 @@ cut_bytes [] ys p q hx hy e = inl (ys, refl, e)
 cut_bytes (x ∷ xs) [] p q hx hy e = inr (x ∷ xs, refl, sym e)
 cut_bytes (x ∷ xs) (y ∷ ys) p q hx hy e =
     let joined : spelling_of x ++ (spellings_of xs ++ p) ≡ spelling_of y ++ (spellings_of ys ++ q) =
-        sym (append_assoc (spelling_of x) (spellings_of xs) p) ∙ (e ∙ append_assoc (spelling_of y) (spellings_of ys) q) in
+    sym (append_assoc (spelling_of x) (spellings_of xs) p) ∙ (e ∙ append_assoc (spelling_of y) (spellings_of ys) q) in
     let same = one_front x y (spellings_of xs ++ p) (spellings_of ys ++ q) (All-head IsRecord x xs hx) (All-head IsRecord y ys hy) joined in
     elim (cut_bytes xs ys p q (All-tail IsRecord x xs hx) (All-tail IsRecord y ys hy) same.1) [
       | inl on ↦ inl (further_on x y xs ys p q same.0 on)

@@ -1,10 +1,9 @@
 -- What the auditor holds, from one record to the next.
-use Rattle.std.proofs.Common.{◌≡◌, ◌⊎◌, ◌<◌, ◌≤◌, ◌+◌, ◌-◌, ◌*◌, ℕ, List, [], ◌∷◌, ◌++◌, drop, length, fold, refl, sym, ap, ◌∙◌, subst, arith, append_assoc, append-nil, length-append, inl, inr}
+use Rattle.std.proofs.Common.{◌≡◌, ◌≤◌, ◌+◌, ◌-◌, ℕ, List, [], ◌∷◌, ◌++◌, drop, length, refl, sym, ap, ◌∙◌, subst, arith, append_assoc, append-nil, length-append}
 use Rattle.std.specs.Prelude.{All, None, Option, Some}
-use Rattle.std.specs.List.{flat_map}
 use Rattle.std.proofs.lemmas.List.{drop-drop, drop_all}
 use Rattle.std.proofs.lemmas.List.Concat.{flat_map-append}
-use Rattle.std.proofs.lemmas.List.Elements.{All-append, All-head, All-nil, All-tail}
+use Rattle.std.proofs.lemmas.List.Elements.{All-head, All-nil, All-tail}
 use Rattle.std.proofs.lemmas.List.Sums.{fold-append}
 use Rattle.endpoint_link.specs.declared.kinds.Side.TheVariants as side
 use Rattle.endpoint_link.specs.Frames.{Frame, IsFrame, spelling, spellings}
@@ -15,13 +14,13 @@ use Rattle.frame_laws.specs.Bytes.{BeginsWithBytes}
 use Rattle.frame_laws.specs.Laws.{AreMore}
 use Rattle.journal_laws.proofs.Below.{below}
 use Rattle.vfs_journal.specs.Entries.{Journal, Sent}
-use Rattle.vfs_journal.specs.Output.{frames_behind, output_of}
+use Rattle.vfs_journal.specs.Output.{frames_behind}
 use Rattle.vfs_journal.specs.Past.{history_of}
 use Rattle.vfs_journal.specs.Session.{head}
 use Rattle.vfs_journal.specs.Starts.{Start}
 use Rattle.vfs_session.specs.World.{LeadsTo, StandsFor, World}
 use Rattle.link_audit.specs.Auditing.{Auditing, Audits}
-use Rattle.link_audit.specs.Records.{Record, comes_in, ends, goes_out, served}
+use Rattle.link_audit.specs.Records.{Record, ends, goes_out}
 use Rattle.link_audit.specs.Recorded.{CanServe, IsAllOut, IsNext, behind_record, journal_of, out_of, outs}
 
 -- ---- records, one more
@@ -93,17 +92,19 @@ passed_on start before frame old new audits is same owed =
     let all : frames_behind start (journal_of start before) ≡ outs before ++ frame ∷ next.0 = audits.all ∙ ap (λ (l : List Frame). outs before ++ l) next.1 in
     let journal = journal_more start before (goes_out frame) in
     let out : outs (before ++ goes_out frame ∷ []) ++ next.0 ≡ outs before ++ frame ∷ next.0 =
-        ap (λ (l : List Frame). l ++ next.0) (outs_more before (goes_out frame)) ∙ append_assoc (outs before) (frame ∷ []) next.0 in
-    ((next.0, all), record {
-      distinct = audits.distinct;
-      bytes = audits.bytes;
-      stands = subst (StandsFor start new.world) (sym journal) (subst (λ (w : World). StandsFor start w (journal_of start before)) (sym same) audits.stands);
-      owing = next.0;
-      all = ap (frames_behind start) journal ∙ (all ∙ sym out);
-      each = All-tail (IsFrame side.Any) frame next.0 (subst (All (IsFrame side.Any)) next.1 audits.each);
-      owed = next.2;
-      few = omega (arith, audits.few, ap (λ (w : World). w.frames) same, length_more before (goes_out frame));
-    })
+    ap (λ (l : List Frame). l ++ next.0) (outs_more before (goes_out frame)) ∙ append_assoc (outs before) (frame ∷ []) next.0 in (
+      (next.0, all),
+      record {
+        distinct = audits.distinct;
+        bytes = audits.bytes;
+        stands = subst (StandsFor start new.world) (sym journal) (subst (λ (w : World). StandsFor start w (journal_of start before)) (sym same) audits.stands);
+        owing = next.0;
+        all = ap (frames_behind start) journal ∙ (all ∙ sym out);
+        each = All-tail (IsFrame side.Any) frame next.0 (subst (All (IsFrame side.Any)) next.1 audits.each);
+        owed = next.2;
+        few = omega (arith, audits.few, ap (λ (w : World). w.frames) same, length_more before (goes_out frame));
+      },
+    )
 
 -- the world went on: what it wrote is owed
 pub went_on : (start : Start) (before : List Record) (one : Record) (old new : Auditing) (held held' : List ℕ) (audits : Audits start before old)
@@ -115,9 +116,9 @@ went_on start before one old new held held' audits none quiet few led owes =
     let later = behind_record start earlier one in
     let journal = journal_more start before one in
     let more : AreMore start earlier later led.part =
-        parts_are_read_back (below audits.distinct) start earlier later led.part audits.stands.sound audits.bytes audits.stands.lawful led.stands.lawful led.more in
+    parts_are_read_back (below audits.distinct) start earlier later led.part audits.stands.sound audits.bytes audits.stands.lawful led.stands.lawful led.more in
     let out : outs (before ++ one ∷ []) ≡ frames_behind start earlier =
-        outs_more before one ∙ (ap (λ (l : List Frame). outs before ++ l) quiet ∙ (append-nil (outs before) ∙ all_out start before old audits none)) in
+    outs_more before one ∙ (ap (λ (l : List Frame). outs before ++ l) quiet ∙ (append-nil (outs before) ∙ all_out start before old audits none)) in
     record {
       distinct = audits.distinct;
       bytes = audits.bytes;

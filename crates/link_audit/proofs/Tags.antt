@@ -1,14 +1,12 @@
 -- A record in front of some bytes, by the tag that stands there; and that there is but one.
-use Rattle.std.proofs.Common.{◌≡◌, ◌≤◌, ◌<◌, ◌+◌, ◌^◌, ℕ, Bool, true, false, List, [], ◌∷◌, ◌++◌, length, take, drop, refl, sym, ap, ◌∙◌, subst, arith, append_assoc, length-append, IsTrue}
-use Rattle.std.specs.Prelude.{All}
+use Rattle.std.proofs.Common.{◌≡◌, ◌<◌, ◌^◌, ℕ, List, [], ◌∷◌, ◌++◌, length, drop, refl, sym, ap, ◌∙◌, arith, length-append, IsTrue}
 use Rattle.endpoint_link.specs.declared.kinds.Side.{Side}
 use Rattle.endpoint_link.specs.declared.kinds.Side.TheVariants as side
 use Rattle.endpoint_link.specs.Frames.{Frame, IsFrame, spelling}
 use Rattle.endpoint_link.specs.Numbers.{word_in, word_of}
 use Rattle.endpoint_link.proofs.Spelled.{spelling-injective}
-use Rattle.endpoint_link.proofs.Streams.{NoFront}
 use Rattle.endpoint_link.proofs.Words.{drop-word_of, length-word_of, word_in-word_of}
-use Rattle.link_audit.specs.Records.{HasNoRecord, InFront, IsRecord, Record, comes_in, ends, goes_out, is_answering, is_sending, served, spelling_of}
+use Rattle.link_audit.specs.Records.{HasNoRecord, IsRecord, Record, comes_in, ends, goes_out, is_answering, is_sending, served, spelling_of}
 
 -- ---- lists of bytes with a tag
 
@@ -70,9 +68,10 @@ abbrev pub AreSame : Record → Record → List ℕ → List ℕ → Type 0
 AreSame one other more rest = (one ≡ other) × (more ≡ rest)
 
 words_same : (a b : ℕ) (more rest : List ℕ) → a < 2 ^ 32 → b < 2 ^ 32 → word_of a ++ more ≡ word_of b ++ rest → (a ≡ b) × (more ≡ rest)
-words_same a b more rest p q e =
-    (sym (word_in-word_of a more p) ∙ (ap word_in e ∙ word_in-word_of b rest q),
-      sym (drop-word_of a more) ∙ (ap (drop 4) e ∙ drop-word_of b rest))
+words_same a b more rest p q e = (
+  sym (word_in-word_of a more p) ∙ (ap word_in e ∙ word_in-word_of b rest q),
+  sym (drop-word_of a more) ∙ (ap (drop 4) e ∙ drop-word_of b rest),
+)
 
 frames_same : (s : Side) (make : Frame → Record) (f g : Frame) (more rest : List ℕ) → IsFrame s f → IsFrame s g → spelling f ++ more ≡ spelling g ++ rest
     → AreSame (make f) (make g) more rest

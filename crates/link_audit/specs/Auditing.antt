@@ -1,5 +1,5 @@
 -- What the auditor holds behind records.
-use Rattle.std.specs.Prelude.{◌≡◌, ◌≤◌, ◌<◌, ◌+◌, ℕ, All, List, [], ◌∷◌, ◌++◌, Option, Some, None, length}
+use Rattle.std.specs.Prelude.{◌≡◌, ◌≤◌, ◌<◌, ℕ, All, List, [], ◌∷◌, ◌++◌, Option, Some, None, length}
 use Rattle.endpoint_link.specs.declared.kinds.Side.TheVariants as side
 use Rattle.endpoint_link.specs.Frames.{Frame, IsFrame, spellings}
 use Rattle.fidl_wire.specs.Names.{AreDistinct}

@@ -1,5 +1,5 @@
 -- What is said of a recording: that a recording is lawful, or the first record at which it isn't, with the first reason.
-use Rattle.std.specs.Prelude.{◌≡◌, ◌<◌, ℕ, All, List, [], ◌∷◌, ◌++◌, length, codes, None}
+use Rattle.std.specs.Prelude.{◌≡◌, ◌<◌, ℕ, All, List, ◌++◌, length, codes, None}
 use Rattle.vfs_journal.specs.Past.{history_of}
 use Rattle.vfs_journal.specs.Session.{head}
 use Rattle.vfs_journal.specs.Starts.{Start}

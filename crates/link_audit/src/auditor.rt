@@ -48,11 +48,7 @@ impl Model for Auditor {
 
 impl Auditor {
     /// The auditor of an accepted start, before the first record.
-    pub(crate) fn new(
-        alloc: Global,
-        ordinals: Ordinals,
-        start: &Start,
-    ) -> Result<Auditor, NoMemory>
+    pub(crate) fn new(alloc: Global, ordinals: Ordinals, start: &Start) -> Result<Auditor, NoMemory>
         ensures bytes { HasFilesOfBytes start.now }
         ensures audits { IfOk result (Audits (start_of start.now) []) }
     {

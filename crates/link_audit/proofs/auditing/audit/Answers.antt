@@ -1,9 +1,9 @@
-use Rattle.std.proofs.Common.{◌≡◌, ◌≤◌, ◌<◌, ◌+◌, ◌-◌, List, [], ◌∷◌, ℕ, ap, arith, drop, length, length-drop, refl, subst, sym, take}
-use Rattle.std.specs.Prelude.{None, Option, Some}
+use Rattle.std.proofs.Common.{◌≤◌, ◌<◌, ◌+◌, List, ℕ, ap, arith, drop, length, length-drop, refl, subst, sym}
+use Rattle.std.specs.Prelude.{None, Option}
 use Rattle.vfs_journal.specs.Starts.{start_of}
 use Rattle.link_audit.specs.Auditing.{CameTo, IsFirstWrong, Judges}
 use Rattle.link_audit.specs.Fronts.{record_of}
-use Rattle.link_audit.specs.Records.{GoesOn, InFront, Record, ends}
+use Rattle.link_audit.specs.Records.{InFront}
 use Rattle.link_audit.specs.declared.records.Record.{Record as Lent}
 use Rattle.link_audit.specs.declared.verdicts.Why.{Why}
 use Rattle.link_audit.proofs.Coming.{bad_there, came_on, goes_on_by, lawful_there, only_one, rest_is, unlawful_there, vouched_there}
@@ -15,7 +15,7 @@ returns-in-Some-2-clause-verdict c =
     let came = c.loop-front.invariant.came in
     let one = record_of c.in-Some.front.one in
     let wrong : IsFirstWrong start came.before one c.in-Some-2.why =
-        subst (λ (told : Option Why). Judges start came.before one c.judge.new.self told) c.in-Some-2.is (c.in_ok-why.ensures start came.before came.audits) in
+    subst (λ (told : Option Why). Judges start came.before one c.judge.new.self told) c.in-Some-2.is (c.in_ok-why.ensures start came.before came.audits) in
     unlawful_there start c.args.recording.now c.loop-front.place c.loop-front.rest.now (drop c.in-Some.front.size c.loop-front.rest.now) one c.in-Some-2.why c.loop-front.auditor came
     c.in-Some.ensures.shown.stands wrong
 
@@ -29,7 +29,7 @@ returns-in-End-clause-verdict c =
     let rest = c.loop-front.rest.now in
     let more = drop c.in-Some.front.size rest in
     let judged : Judges start came.before (record_of c.in-Some.front.one) c.judge.new.self None =
-        subst (λ (told : Option Why). Judges start came.before (record_of c.in-Some.front.one) c.judge.new.self told) c.in_default-2.is (c.in_ok-why.ensures start came.before came.audits) in
+    subst (λ (told : Option Why). Judges start came.before (record_of c.in-Some.front.one) c.judge.new.self told) c.in_default-2.is (c.in_ok-why.ensures start came.before came.audits) in
     lawful_there start c.args.recording.now c.loop-front.place rest more c.loop-front.auditor c.judge.new.self came
     (subst (λ (one : Lent). InFront rest (record_of one) more) c.in-End.is c.in-Some.ensures.shown.stands)
     (subst (λ (one : Lent). Judges start came.before (record_of one) c.judge.new.self None) c.in-End.is judged)
@@ -44,7 +44,7 @@ returns-in-End-clause-laws c =
     let rest = c.loop-front.rest.now in
     let more = drop c.in-Some.front.size rest in
     let judged : Judges start came.before (record_of c.in-Some.front.one) c.judge.new.self None =
-        subst (λ (told : Option Why). Judges start came.before (record_of c.in-Some.front.one) c.judge.new.self told) c.in_default-2.is (c.in_ok-why.ensures start came.before came.audits) in
+    subst (λ (told : Option Why). Judges start came.before (record_of c.in-Some.front.one) c.judge.new.self told) c.in_default-2.is (c.in_ok-why.ensures start came.before came.audits) in
     vouched_there start c.args.recording.now c.loop-front.place rest more c.loop-front.auditor c.judge.new.self came
     (subst (λ (one : Lent). InFront rest (record_of one) more) c.in-End.is c.in-Some.ensures.shown.stands)
     (subst (λ (one : Lent). Judges start came.before (record_of one) c.judge.new.self None) c.in-End.is judged)
@@ -59,7 +59,7 @@ loop-front-preserved c =
     let some : 0 < n = shown.some in
     let within : n ≤ length rest = shown.within in
     let judged : Judges start came.before (record_of c.in-Some.front.one) c.judge.new.self None =
-        subst (λ (told : Option Why). Judges start came.before (record_of c.in-Some.front.one) c.judge.new.self told) c.in_default-2.is (c.in_ok-why.ensures start came.before came.audits) in
+    subst (λ (told : Option Why). Judges start came.before (record_of c.in-Some.front.one) c.judge.new.self told) c.in_default-2.is (c.in_ok-why.ensures start came.before came.audits) in
     record {
       came =
           subst (λ (b : List ℕ). CameTo start c.args.recording.now (c.loop-front.place + 1) b c.judge.new.self) (sym (rest_is n rest))

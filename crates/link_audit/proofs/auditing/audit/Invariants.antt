@@ -1,4 +1,4 @@
-use Rattle.std.proofs.Common.{◌≡◌, ◌≤◌, ◌+◌, length}
+use Rattle.std.proofs.Common.{◌≤◌, ◌+◌, length}
 use Rattle.vfs_journal.specs.Starts.{start_of}
 use Rattle.link_audit.specs.Auditing.{CameTo}
 use Rattle.link_audit.proofs.auditing.audit.Given as goal

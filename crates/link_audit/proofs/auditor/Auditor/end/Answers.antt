@@ -1,4 +1,4 @@
-use Rattle.std.proofs.Common.{◌≡◌, ◌<◌, ◌∙◌, ℕ, List, [], ap, arith, length, refl, subst, sym}
+use Rattle.std.proofs.Common.{◌≡◌, ◌<◌, [], ap, arith, length, refl, subst, sym}
 use Rattle.vfs_journal.specs.History.{waiting}
 use Rattle.vfs_journal.specs.Past.{history_of}
 use Rattle.vfs_session.specs.World.{StandsFor, World}
@@ -24,6 +24,7 @@ pub returns : goal.returns
 returns c = λ start before audits.
     let none : c.args.self.now.owed ≡ [] = c.owes.ensures.none c.if-owes.false in
     let stands = subst (λ (w : World). StandsFor start w (journal_of start before)) (sym (ap (λ (a : Auditing). a.world) c.self.view_is)) audits.stands in
-    let count = c.waiting.ensures.waiting start (journal_of start before) stands in
-    ((all_out start before c.args.self.now audits none, no_length (waiting (history_of start (journal_of start before))) (omega (arith, c.if-waiting-gt0.false, count))),
-      ended_on start before c.args.self.now audits)
+    let count = c.waiting.ensures.waiting start (journal_of start before) stands in (
+      (all_out start before c.args.self.now audits none, no_length (waiting (history_of start (journal_of start before))) (omega (arith, c.if-waiting-gt0.false, count))),
+      ended_on start before c.args.self.now audits,
+    )

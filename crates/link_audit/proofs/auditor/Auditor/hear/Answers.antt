@@ -1,6 +1,5 @@
 use Rattle.std.proofs.Common.{◌≡◌, ◌-◌, List, [], ◌∷◌, ◌++◌, ℕ, arith, drop, length, refl, subst, sym}
 use Rattle.endpoint_link.specs.Views.{frame_of}
-use Rattle.vfs_journal.specs.Entries.{Journal}
 use Rattle.vfs_session.specs.World.{LeadsTo}
 use Rattle.link_audit.specs.Auditing.{Audits}
 use Rattle.link_audit.specs.Records.{comes_in}
@@ -17,8 +16,7 @@ pub returns : goal.returns
 returns c = λ start before audits.
     let one = comes_in (frame_of c.args.frame) in
     let none : c.args.self.now.owed ≡ [] = c.owes.ensures.none c.if-owes.false in
-    let old = c.self.inside in
-    (
+    let old = c.self.inside in (
       all_out start before c.args.self.now audits none,
       subst (λ (owed : List ℕ). Audits start (before ++ one ∷ []) (held_as c.accept.new.self owed)) (sym (all_left c.accept.new.outbox c.len-self-inside.result c.len-self-inside.ensures))
           (written_anew start before one c.args.self.now old.world c.accept.new.self c.accept.new.outbox (drop (length old.outbox - old.left) old.outbox) c.self.view_is audits none refl

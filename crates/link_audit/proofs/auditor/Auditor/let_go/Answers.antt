@@ -1,4 +1,4 @@
-use Rattle.std.proofs.Common.{◌≡◌, ◌≤◌, ◌-◌, ◌∙◌, ℕ, List, ap, arith, drop, length, length-drop, sym}
+use Rattle.std.proofs.Common.{◌≡◌, ◌≤◌, ◌-◌, ◌∙◌, ap, arith, drop, length, length-drop}
 use Rattle.link_audit.specs.Auditing.{Auditing}
 use Rattle.link_audit.proofs.Stepping.{held_as, less_left}
 use Rattle.link_audit.proofs.auditor.Auditor.let_go.Goals as goal

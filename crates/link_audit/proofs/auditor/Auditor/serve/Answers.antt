@@ -1,5 +1,4 @@
 use Rattle.std.proofs.Common.{◌≡◌, ◌-◌, List, [], ◌∷◌, ◌++◌, ℕ, Ok, arith, ap, drop, length, refl, subst, sym}
-use Rattle.vfs_journal.specs.Entries.{Journal}
 use Rattle.vfs_session.specs.World.{LeadsTo, StandsFor, World}
 use Rattle.link_audit.specs.Auditing.{Auditing, Audits}
 use Rattle.link_audit.specs.Records.{served}
@@ -24,13 +23,12 @@ returns c = λ start before audits.
     let one = served c.args.endpoint in
     let none : c.args.self.now.owed ≡ [] = c.owes.ensures.none c.if-owes.false in
     let old = c.self.inside in
-    let stands = subst (λ (w : World). StandsFor start w (journal_of start before)) (sym (ap (λ (a : Auditing). a.world) c.self.view_is)) audits.stands in
-    (
+    let stands = subst (λ (w : World). StandsFor start w (journal_of start before)) (sym (ap (λ (a : Auditing). a.world) c.self.view_is)) audits.stands in (
       (
         all_out start before c.args.self.now audits none,
         can_serve start before c.args.endpoint (λ nothing.
-        let idle = c.in_ok-pick.ensures.idle start (journal_of start before) stands nothing in
-        c.in_default.not-Idle (cc)),
+            let idle = c.in_ok-pick.ensures.idle start (journal_of start before) stands nothing in
+            c.in_default.not-Idle (cc)),
       ),
       subst (λ (owed : List ℕ). Audits start (before ++ one ∷ []) (held_as c.pick.new.self owed)) (sym (all_left c.pick.new.outbox c.len-self-inside.result c.len-self-inside.ensures))
           (written_anew start before one c.args.self.now old.world c.pick.new.self c.pick.new.outbox (drop (length old.outbox - old.left) old.outbox) c.self.view_is audits none refl
