@@ -1,0 +1,12 @@
+//! The auditor of recorded sessions: whether what a recording says is a run that the definitions of the journal allow.
+#![tactic(auto)]
+
+mod auditing;
+mod auditor;
+mod laws;
+mod records;
+mod verdicts;
+
+pub use auditing::{MAX_RECORDING, audit};
+pub use laws::one_verdict;
+pub use verdicts::{Verdict, Why};
